@@ -1,0 +1,102 @@
+-- What is written for a message that keeps the rules arrives as that message, stamped with its
+-- source where it is a request.
+use Rattle.std.proofs.Common.{◌≡◌, ◌⊎◌, inl, inr, ℕ, Bool, true, false, List, length, sym, ap, subst, ◌<◌, ◌≤◌}
+use Rattle.std.specs.Prelude.{nat_lt, Result, Ok, Err, Some, None, if◌then◌else◌}
+use Rattle.std.proofs.lemmas.Bool.{ltb-false, ltb-true}
+use Rattle.sip_message.specs.declared.addr.Addr.{Addr}
+use Rattle.sip_message.specs.declared.fault.ReadFault.{ReadFault}
+use Rattle.sip_message.specs.declared.fault.ReadFault.TheVariants as fault
+use Rattle.sip_message.specs.declared.id.Id.{Id}
+use Rattle.sip_message.specs.declared.key.Key.{Key}
+use Rattle.sip_message.specs.declared.message.Message.{Message}
+use Rattle.sip_message.specs.Message.{is_request_message}
+use Rattle.sip_message.specs.MessageKey.{key_of_message}
+use Rattle.sip_message.specs.Rules.{IsMessage}
+use Rattle.sip_message.specs.Source.{answer_address, stamped}
+use Rattle.sip_message.specs.Written.{written}
+use Rattle.sip_model.proofs.Ordered.{by_bool}
+use Rattle.sip_reader.specs.ReadMessage.{message_at, message_in}
+use Rattle.sip_reader.specs.SkippedEnds.{without_line_ends}
+use Rattle.sip_reader.proofs.RoundTrip.{written_spelled}
+use Rattle.sip_reader.proofs.Spelled.{spelled_again}
+use Rattle.sip_transactions.specs.declared.input.Input.{Input}
+use Rattle.sip_transactions.specs.declared.input.Input.TheVariants.{Receive}
+use Rattle.sip_transactions.specs.Shard.{is_stray, received}
+use Rattle.sip_round.specs.declared.config.Config.{Config}
+use Rattle.sip_round.specs.declared.round.Event.TheVariants.{Datagram}
+use Rattle.sip_round.specs.Arrivals.{arrival_for, arrival_of, datagram_arrival, message_arrival}
+use Rattle.sip_conversation.specs.Messages.{come_from}
+use Rattle.sip_conversation.proofs.Rounds.{ArrivalFits}
+
+-- a text that isn't too long is read as the message
+read_again : (message : Message) → IsMessage message → length (written message) ≤ 65535
+    → message_at (written message) ≡ Ok message
+read_again message rules short =
+    spelled_again (written message) message (written_spelled message rules short)
+
+what_comes : (message : Message) → IsMessage message
+    → (message_at (written message) ≡ Ok message)
+    ⊎ (message_at (written message) ≡ Err fault.TooLong)
+what_comes message rules =
+    let text = written message in
+    let read : Bool → Result Message ReadFault =
+    λ long. if long then Err fault.TooLong else message_in (without_line_ends text) in
+    by_bool (nat_lt 65535 (length text))
+    (λ long. inr (ap read long))
+    (λ short. inl (read_again message rules (ltb-false 65535 (length text) short)))
+
+pub read_or_long : (message : Message) → IsMessage message
+    → (message_at (written message) ≡ Ok message) ⊎ (65535 < length (written message))
+read_or_long message rules =
+    let text = written message in
+    by_bool (nat_lt 65535 (length text))
+    (λ long. inr (ltb-true 65535 (length text) long))
+    (λ short. inl (read_again message rules (ltb-false 65535 (length text) short)))
+
+module _ (config : Config) (Fits : Key → Input → Type 0) (id : Id) (from : Addr) where
+  abbrev ReceiptFits : Message → Addr → Type 0
+  ReceiptFits message reply_to = Fits (key_of_message message) (Receive id message reply_to)
+
+  stray_or_not : (stray : Bool) (message : Message) (reply_to : Addr)
+      → ReceiptFits message reply_to
+      → ArrivalFits config Fits (arrival_for (if stray then None
+      else Some (key_of_message message, Receive id message reply_to)))
+  stray_or_not true message reply_to fits = tt
+  stray_or_not false message reply_to fits = fits
+
+  -- all that is received of a message fits
+  by_request : (request : Bool) (message : Message)
+      → ((reply_to : Addr) → ReceiptFits (if request then stamped message from else message)
+      reply_to)
+      → ArrivalFits config Fits (if request
+      then arrival_for (received config.local id (stamped message from)
+      (answer_address message from))
+      else arrival_for (received config.local id message from))
+  by_request true message fits =
+      stray_or_not (is_stray config.local (stamped message from)) (stamped message from)
+      (answer_address message from) (fits (answer_address message from))
+  by_request false message fits =
+      stray_or_not (is_stray config.local message) message from (fits from)
+
+  long_or_read : (message : Message) (read : Result Message ReadFault)
+      → ((reply_to : Addr) → ReceiptFits (come_from from message) reply_to)
+      → (read ≡ Ok message) ⊎ (read ≡ Err fault.TooLong)
+      → ArrivalFits config Fits (datagram_arrival config.local id from read)
+  unfolding message_arrival
+  long_or_read message read fits (inl is) =
+      subst (λ r. ArrivalFits config Fits (datagram_arrival config.local id from r)) (sym is)
+      (by_request (is_request_message message) message fits)
+  long_or_read message read fits (inr long) =
+      subst (λ r. ArrivalFits config Fits (datagram_arrival config.local id from r)) (sym long) tt
+
+  -- what comes of the text of a message that keeps the rules fits, where that message does as it
+  -- comes from there; a text that is too long is dropped
+  pub text_fits : (message : Message) (bytes : List ℕ) → bytes ≡ written message
+      → IsMessage message
+      → ((reply_to : Addr) → ReceiptFits (come_from from message) reply_to)
+      → ArrivalFits config Fits (arrival_of config.local id (Datagram from bytes))
+  unfolding arrival_of
+  text_fits message bytes is rules fits =
+      subst (λ text. ArrivalFits config Fits
+      (datagram_arrival config.local id from (message_at text))) (sym is)
+      (long_or_read message (message_at (written message)) fits (what_comes message rules))

@@ -1,0 +1,12 @@
+pub mod Among
+pub mod Bridge
+pub mod Carrying
+pub mod Longer
+pub mod OneTransaction
+pub mod Provisionals
+pub mod Rounds
+pub mod Rules
+pub mod Sends
+pub mod Sides
+pub mod Unchanged
+pub mod Ups

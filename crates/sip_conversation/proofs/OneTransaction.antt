@@ -1,0 +1,338 @@
+-- What a transaction sends is the text of a message that it was given or made, and what it hands up
+-- is a message that came to it.
+use Rattle.std.proofs.Common.{◌≡◌, ℕ, Bool, true, false, cond, List, [], ◌∷◌, refl, sym, ap, ◌∙◌, codes}
+use Rattle.std.specs.Prelude.{Contains, IfSome, Option, None, Some, not, option_map, option_to_list}
+use Rattle.std.specs.List.{AllByRecursion}
+use Rattle.std.proofs.lemmas.Bool.{false≢true}
+use Rattle.std.proofs.lemmas.Option.{same_Some}
+use Rattle.sip_message.specs.declared.addr.Addr.{Addr}
+use Rattle.sip_message.specs.declared.id.Id.{Id}
+use Rattle.sip_message.specs.declared.key.Key.{Key}
+use Rattle.sip_message.specs.declared.message.Message.{Message}
+use Rattle.sip_message.specs.declared.start_line.StartLine.{StartLine}
+use Rattle.sip_message.specs.declared.start_line.StartLine.TheVariants as start
+use Rattle.sip_message.specs.HopByHop.{ack_of}
+use Rattle.sip_message.specs.Written.{written}
+use Rattle.sip_model.specs.Machine.{Timed, given_at, outputs_from}
+use Rattle.sip_transactions.specs.declared.input.Input.{Input}
+use Rattle.sip_transactions.specs.declared.input.Input.TheVariants.{Answer, Failed, Receive, Start}
+use Rattle.sip_transactions.specs.declared.life.Context.{Context}
+use Rattle.sip_transactions.specs.declared.life.Life.{Life}
+use Rattle.sip_transactions.specs.declared.output.Kind.{Kind}
+use Rattle.sip_transactions.specs.declared.output.Kind.TheVariants as kind
+use Rattle.sip_transactions.specs.declared.output.Out.{Out}
+use Rattle.sip_transactions.specs.declared.output.Out.TheVariants as out
+use Rattle.sip_transactions.specs.declared.state.Role.{Role}
+use Rattle.sip_transactions.specs.declared.state.Role.TheVariants as role
+use Rattle.sip_transactions.specs.declared.state.State.{State}
+use Rattle.sip_transactions.specs.declared.step.Handed.{Handed}
+use Rattle.sip_transactions.specs.declared.step.Handed.TheVariants as up
+use Rattle.sip_transactions.specs.declared.step.Sent.{Sent}
+use Rattle.sip_transactions.specs.declared.step.Sent.TheVariants as send
+use Rattle.sip_transactions.specs.declared.step.Step.{Step}
+use Rattle.sip_transactions.specs.declared.trigger.Trigger.{Trigger}
+use Rattle.sip_transactions.specs.declared.trigger.Trigger.TheVariants as on
+use Rattle.sip_transactions.specs.Input.{answer_of, arrival_of, arrived_in, class_of, is_same_method, message_in, role_of, trigger_of}
+use Rattle.sip_transactions.specs.Life.{acted_if, armed, begun, context_of, entered, keeps_request, last_of, life_after, life_in, state_of, stepped}
+use Rattle.sip_transactions.specs.Machine.{transaction_machine}
+use Rattle.sip_transactions.specs.Output.{handed_out, kind_of, made_bytes, made_of, outputs_of, send_out, sent_bytes, trying_of}
+use Rattle.sip_transactions.specs.Rows.{rows_of}
+use Rattle.sip_transactions.proofs.LawSteps.{RowFor, by_step}
+use Rattle.sip_transactions.proofs.RowFacts.{row_passes, table_passes}
+use Rattle.sip_common.proofs.Each.{both}
+use Rattle.sip_conversation.proofs.Among.{all_of}
+
+-- ---- the rows: what is given is sent at a command alone, and what is made of a message that came
+-- at no command
+
+abbrev is_order : Trigger → Bool
+is_order on.Start = true
+is_order on.RetransmitDue = false
+is_order on.TimeoutDue = false
+is_order on.Failed = false
+is_order on.Request = false
+is_order on.Ack = false
+is_order (on.Response c) = false
+is_order (on.Answer c) = true
+
+abbrev made_fits : Bool → Sent → Bool
+made_fits order send.Nothing = true
+made_fits order send.Given = order
+made_fits order send.Latest = true
+made_fits order send.Trying = not order
+made_fits order send.Ack = not order
+
+abbrev row_makes : Option State → Trigger → Step → Bool
+row_makes state trigger step = made_fits (is_order trigger) step.sent
+
+rows_make : (r : Role) → table_passes row_makes (rows_of r) ≡ true
+rows_make role.InviteClient = refl
+rows_make role.Client = refl
+rows_make role.InviteServer = refl
+rows_make role.Server = refl
+
+answer_orders : (line : StartLine) (trigger : Trigger) → answer_of line ≡ Some trigger
+    → is_order trigger ≡ true
+answer_orders (start.Request uri) trigger e = absurd cc
+answer_orders (start.Response status reason) trigger e =
+    sym (ap is_order (same_Some (on.Answer (class_of status)) trigger e))
+
+message_orders : (ack : Bool) → is_order (cond ack on.Ack on.Request) ≡ false
+message_orders true = refl
+message_orders false = refl
+
+arrival_orders : (line : StartLine) (method : List ℕ) → is_order (arrival_of line method) ≡ false
+arrival_orders (start.Request uri) method = message_orders (is_same_method method (codes "ACK"))
+arrival_orders (start.Response status reason) method = refl
+
+-- ---- what is said of each output, and of each input
+
+module _ (Says : Message → Type 0) where
+  -- the text of a message of which this is said
+  abbrev pub IsTextOf : List ℕ → Type 0
+  IsTextOf bytes = (message : Message) × (bytes ≡ written message) × Says message
+
+module _ (Came : Message → Type 0) where
+  -- a message that came, if any, is one of which this is said
+  abbrev pub KindCame : Kind → Type 0
+  KindCame (kind.Request message reply_to) = Came message
+  KindCame (kind.Ack message) = Came message
+  KindCame (kind.Response message) = Came message
+  KindCame kind.Timeout = Unit {0}
+  KindCame kind.Failed = Unit {0}
+
+module _ (Says Came : Message → Type 0) where
+  abbrev pub IsFaithful : Out → Type 0
+  IsFaithful (out.Up up) = KindCame Came up.kind
+  IsFaithful (out.Send key to bytes) = IsTextOf Says bytes
+  IsFaithful (out.Dropped place why) = Unit {0}
+
+module _ (all : List (Timed Input)) (Says Came : Message → Type 0) where
+  -- of each message that these inputs give to be sent, and that is made of one that came
+  pub record AreSaid : Type 0 where
+    pub started : (now : ℕ) (id : Id) (call_id : List ℕ) (message : Message) (to : Addr)
+        → Contains all (given_at now (Start id call_id message to)) → Says message
+    pub answered : (now : ℕ) (id : Id) (message : Message)
+        → Contains all (given_at now (Answer id message)) → Says message
+    pub tried : (now : ℕ) (id : Id) (request : Message) (reply_to : Addr)
+        → Contains all (given_at now (Receive id request reply_to)) → Says (trying_of request)
+    pub acknowledged : (now later : ℕ) (id answered : Id) (call_id : List ℕ)
+        (invite response : Message) (to reply_to : Addr)
+        → Contains all (given_at now (Start id call_id invite to))
+        → Contains all (given_at later (Receive answered response reply_to))
+        → Says (ack_of invite response)
+    pub came : (now : ℕ) (id : Id) (message : Message) (reply_to : Addr)
+        → Contains all (given_at now (Receive id message reply_to)) → Came message
+
+  -- a request that was started
+  abbrev WasStarted : Message → Type 0
+  WasStarted message = (now : ℕ) × (id : Id) × (call_id : List ℕ) × (to : Addr)
+      × Contains all (given_at now (Start id call_id message to))
+
+  record IsSound (context : Context) : Type 0 where
+    last : IfSome context.last (IsTextOf Says)
+    request : IfSome context.request WasStarted
+
+  abbrev IsSoundLife : Option Life → Type 0
+  IsSoundLife held = IfSome held (λ life. IsSound life.context)
+
+  module _ (said : AreSaid) where
+    -- ---- what a row makes
+
+    made_of_start : (request : Option Message) (s : Sent) (now : ℕ) (id : Id) (call_id : List ℕ)
+        (message : Message) (to : Addr)
+        → Contains all (given_at now (Start id call_id message to)) → made_fits true s ≡ true
+        → IfSome (option_map written (made_of request s message)) (IsTextOf Says)
+    unfolding made_of
+    made_of_start request send.Nothing now id call_id message to among fits = tt
+    made_of_start request send.Given now id call_id message to among fits =
+        (message, refl, said.started now id call_id message to among)
+    made_of_start request send.Latest now id call_id message to among fits = tt
+    made_of_start request send.Trying now id call_id message to among fits =
+        absurd (false≢true fits)
+    made_of_start request send.Ack now id call_id message to among fits =
+        absurd (false≢true fits)
+
+    made_of_answer : (request : Option Message) (s : Sent) (now : ℕ) (id : Id)
+        (message : Message) → Contains all (given_at now (Answer id message))
+        → made_fits true s ≡ true
+        → IfSome (option_map written (made_of request s message)) (IsTextOf Says)
+    unfolding made_of
+    made_of_answer request send.Nothing now id message among fits = tt
+    made_of_answer request send.Given now id message among fits =
+        (message, refl, said.answered now id message among)
+    made_of_answer request send.Latest now id message among fits = tt
+    made_of_answer request send.Trying now id message among fits = absurd (false≢true fits)
+    made_of_answer request send.Ack now id message among fits = absurd (false≢true fits)
+
+    made_of_arrival : (request : Option Message) → IfSome request WasStarted → (s : Sent) (now : ℕ)
+        (id : Id) (message : Message) (reply_to : Addr)
+        → Contains all (given_at now (Receive id message reply_to)) → made_fits false s ≡ true
+        → IfSome (option_map written (made_of request s message)) (IsTextOf Says)
+    unfolding made_of
+    made_of_arrival request started send.Nothing now id message reply_to among fits = tt
+    made_of_arrival request started send.Given now id message reply_to among fits =
+        absurd (false≢true fits)
+    made_of_arrival request started send.Latest now id message reply_to among fits = tt
+    made_of_arrival request started send.Trying now id message reply_to among fits =
+        (trying_of message, refl, said.tried now id message reply_to among)
+    made_of_arrival None started send.Ack now id message reply_to among fits = tt
+    made_of_arrival (Some invite) started send.Ack now id message reply_to among fits = (
+      ack_of invite message,
+      refl,
+      said.acknowledged started.0 now started.1 id started.2 invite message started.3 reply_to
+          started.4 among,
+    )
+
+    made : (request : Option Message) → IfSome request WasStarted → (s : Sent)
+        (held : Option Life) (now : ℕ) (input : Option Input) (trigger : Trigger)
+        → Contains all (record { moment = now; input = input })
+        → trigger_of held now input ≡ Some trigger → made_fits (is_order trigger) s ≡ true
+        → IfSome (made_bytes request s (message_in input)) (IsTextOf Says)
+    made request started s held now None trigger among is fits = tt
+    made request started s held now (Some (Failed id)) trigger among is fits = tt
+    made request started s held now (Some (Start id call_id message to)) trigger among is fits =
+        made_of_start request s now id call_id message to among
+        (ap (λ t. made_fits (is_order t) s) (same_Some on.Start trigger is) ∙ fits)
+    made request started s held now (Some (Answer id message)) trigger among is fits =
+        made_of_answer request s now id message among
+        (ap (λ b. made_fits b s) (sym (answer_orders message.start trigger is)) ∙ fits)
+    made request started s held now (Some (Receive id message reply_to)) trigger among is fits =
+        made_of_arrival request started s now id message reply_to among
+        (ap (λ b. made_fits b s) (sym (arrival_orders message.start message.cseq.method)
+        ∙ ap is_order (same_Some (arrival_of message.start message.cseq.method) trigger is))
+        ∙ fits)
+
+    -- ---- what a row leaves, and what it says
+
+    last_sound : (context : Context) (bytes : Option (List ℕ)) → IsSound context
+        → IfSome bytes (IsTextOf Says) → IsSound (last_of bytes context)
+    last_sound context None sound text = sound
+    last_sound context (Some bytes) sound text = record { last = text; request = sound.request }
+
+    after_sound : (context : Context) (step : Step) (now : ℕ) (bytes : Option (List ℕ))
+        (next : Option State) → IsSound (last_of bytes context)
+        → IsSoundLife (option_map (life_in (armed step.due now (last_of bytes context))) next)
+    after_sound context step now bytes None sound = tt
+    after_sound context step now bytes (Some state) sound =
+        record { last = sound.last; request = sound.request }
+
+    message_kind : (message : Message) (reply_to : Addr) (ack : Bool) → Came message
+        → KindCame Came (cond ack (kind.Ack message) (kind.Request message reply_to))
+    message_kind message reply_to true came = came
+    message_kind message reply_to false came = came
+
+    kind_came : (line : StartLine) (message : Message) (reply_to : Addr) → Came message
+        → KindCame Came (kind_of line message reply_to)
+    kind_came (start.Request uri) message reply_to came =
+        message_kind message reply_to (is_same_method message.cseq.method (codes "ACK")) came
+    kind_came (start.Response status reason) message reply_to came = came
+
+    handed_came : (key : Key) (context : Context) (handed : Handed)
+        (arrived : Option (Message × Addr)) → IfSome arrived (λ a. Came a.0)
+        → AllByRecursion (IsFaithful Says Came) (option_to_list (handed_out key context handed arrived))
+    unfolding handed_out
+    handed_came key context up.Nothing arrived came = tt
+    handed_came key context up.Message None came = tt
+    handed_came key context up.Message (Some arrived) came =
+        (kind_came arrived.0.start arrived.0 arrived.1 came, tt)
+    handed_came key context up.Timeout arrived came = (tt, tt)
+    handed_came key context up.Failed arrived came = (tt, tt)
+    handed_came key context up.NoTransaction arrived came = (tt, tt)
+
+    arrived_came : (now : ℕ) (input : Option Input)
+        → Contains all (record { moment = now; input = input })
+        → IfSome (arrived_in input) (λ a. Came a.0)
+    arrived_came now None among = tt
+    arrived_came now (Some (Receive id message reply_to)) among =
+        said.came now id message reply_to among
+    arrived_came now (Some (Start id call_id message to)) among = tt
+    arrived_came now (Some (Answer id message)) among = tt
+    arrived_came now (Some (Failed id)) among = tt
+
+    sent_text : (last : Option (List ℕ)) (s : Sent) (bytes : Option (List ℕ))
+        → IfSome last (IsTextOf Says) → IfSome bytes (IsTextOf Says) → IfSome (sent_bytes last s bytes) (IsTextOf Says)
+    sent_text last send.Nothing bytes before text = text
+    sent_text last send.Given bytes before text = text
+    sent_text last send.Latest bytes before text = before
+    sent_text last send.Trying bytes before text = text
+    sent_text last send.Ack bytes before text = text
+
+    sends_text : (key : Key) (to : Addr) (bytes : Option (List ℕ)) → IfSome bytes (IsTextOf Says)
+        → AllByRecursion (IsFaithful Says Came) (option_to_list (option_map (send_out key to) bytes))
+    sends_text key to None text = tt
+    sends_text key to (Some bytes) text = (text, tt)
+
+    -- ---- one input
+
+    abbrev After : Option Life × List Out → Type 0
+    After after = IsSoundLife after.0 × AllByRecursion (IsFaithful Says Came) after.1
+
+    begun_sound : (r : Role) (now : ℕ) (input : Option Input)
+        → Contains all (record { moment = now; input = input }) → IfSome (begun r input) IsSound
+    unfolding begun
+    begun_sound r now None among = tt
+    begun_sound r now (Some (Receive id message reply_to)) among =
+        record { last = tt; request = tt }
+    begun_sound r now (Some (Start id call_id message to)) among =
+        record { last = tt; request = kept (keeps_request r) }
+      where
+        kept : (keeps : Bool) → IfSome (cond keeps (Some message) None) WasStarted
+        kept true = (now, id, call_id, to, among)
+        kept false = tt
+    begun_sound r now (Some (Answer id message)) among = tt
+    begun_sound r now (Some (Failed id)) among = tt
+
+    context_sound : (r : Role) (held : Option Life) (now : ℕ) (input : Option Input)
+        → Contains all (record { moment = now; input = input }) → IsSoundLife held
+        → IfSome (context_of r held input) IsSound
+    context_sound r None now input among sound = begun_sound r now input among
+    context_sound r (Some life) now input among sound = sound
+
+    acted_sound : (key : Key) (held : Option Life) (now : ℕ) (input : Option Input)
+        (context : Option Context) (step : Step)
+        → Contains all (record { moment = now; input = input }) → IfSome context IsSound
+        → RowFor key held (record { moment = now; input = input }) step
+        → After (acted_if key now input (state_of held) context step)
+    unfolding life_after outputs_of
+    acted_sound key held now input None step among sound row = (tt, tt)
+    acted_sound key held now input (Some context) step among sound row =
+        let bytes = made_bytes context.request step.sent (message_in input) in
+        let text = made context.request sound.request step.sent held now input row.trigger among
+        row.triggered (row_passes row_makes (rows_of (role_of key)) (rows_make (role_of key))
+        (state_of held) row.trigger step row.row) in (
+          after_sound context step now bytes (entered step.next (state_of held))
+              (last_sound context bytes sound text),
+          both (IsFaithful Says Came) (option_to_list (handed_out key context step.handed (arrived_in input)))
+              (option_to_list (option_map (send_out key context.to)
+              (sent_bytes context.last step.sent bytes)))
+              (handed_came key context step.handed (arrived_in input)
+              (arrived_came now input among))
+              (sends_text key context.to (sent_bytes context.last step.sent bytes)
+              (sent_text context.last step.sent bytes sound.last text)),
+        )
+
+    one_input : (key : Key) (held : Option Life) (now : ℕ) (input : Option Input)
+        → Contains all (record { moment = now; input = input }) → IsSoundLife held
+        → After (stepped key held (record { moment = now; input = input }))
+    one_input key held now input among sound =
+        by_step After key held (record { moment = now; input = input }) (sound, tt)
+        (λ step row. acted_sound key held now input (context_of (role_of key) held input) step
+        among (context_sound (role_of key) held now input among sound) row)
+
+    -- ---- all inputs
+
+    faithful_from : (key : Key) (held : Option Life) (inputs : List (Timed Input))
+        → AllByRecursion (Contains all) inputs → IsSoundLife held
+        → AllByRecursion (IsFaithful Says Came) (outputs_from transaction_machine key held inputs)
+    faithful_from key held [] among sound = tt
+    faithful_from key held (timed ∷ inputs) among sound =
+        let after = one_input key held timed.moment timed.input among.0 sound in
+        both (IsFaithful Says Came) (stepped key held timed).1
+        (outputs_from transaction_machine key (stepped key held timed).0 inputs) after.1
+        (faithful_from key (stepped key held timed).0 inputs among.1 after.0)
+
+    pub faithful : (key : Key)
+        → AllByRecursion (IsFaithful Says Came) (outputs_from transaction_machine key None all)
+    faithful key =
+        faithful_from key None all (all_of (Contains all) all (λ timed among. among)) tt

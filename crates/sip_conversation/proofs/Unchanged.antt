@@ -1,0 +1,372 @@
+-- Messages come unchanged in a carried conversation.
+use Rattle.std.proofs.Common.{◌≡◌, ℕ, Bool, true, false, List, [], ◌∷◌, ◌++◌, refl, sym, ap, subst, append-nil, append_assoc, ◌<◌, ◌⊎◌, length}
+use Rattle.std.specs.Prelude.{Contains, IfSome, Ok, Option, None, Some, if◌then◌else◌}
+use Rattle.std.specs.List.{AllByRecursion}
+use Rattle.sip_message.specs.declared.addr.Addr.{Addr}
+use Rattle.sip_message.specs.declared.id.Id.{Id}
+use Rattle.sip_message.specs.declared.key.Key.{Key}
+use Rattle.sip_message.specs.declared.message.Message.{Message}
+use Rattle.sip_message.specs.Key.{key_cmp}
+use Rattle.sip_message.specs.Message.{is_request_message}
+use Rattle.sip_message.specs.Rules.{IsMessage}
+use Rattle.sip_message.specs.Source.{stamped}
+use Rattle.sip_message.specs.Written.{written}
+use Rattle.sip_model.specs.Laws.{EachKeyAlone}
+use Rattle.sip_model.specs.Machine.{given_at, outputs_from, tick_at}
+use Rattle.sip_reader.specs.ReadMessage.{message_at}
+use Rattle.sip_transactions.specs.declared.input.Command.{Command}
+use Rattle.sip_transactions.specs.declared.input.Command.TheVariants as command
+use Rattle.sip_transactions.specs.declared.input.Input.{Input}
+use Rattle.sip_transactions.specs.declared.input.Input.TheVariants as input
+use Rattle.sip_transactions.specs.declared.output.Kind.{Kind}
+use Rattle.sip_transactions.specs.declared.output.Kind.TheVariants as kind
+use Rattle.sip_transactions.specs.declared.output.Out.{Out}
+use Rattle.sip_transactions.specs.declared.output.Out.TheVariants as out
+use Rattle.sip_transactions.specs.Machine.{transaction_machine}
+use Rattle.sip_transactions.specs.Shard.{asked_by, command_key}
+use Rattle.sip_common.specs.declared.item.Item.TheVariants.{Up}
+use Rattle.sip_common.specs.declared.item.CallOut.{CallOut}
+use Rattle.sip_common.specs.declared.item.CallOut.TheVariants as call_out
+use Rattle.sip_round.specs.declared.config.Config.{Config}
+use Rattle.sip_round.specs.declared.output.Output.TheVariants.{Send}
+use Rattle.sip_round.specs.declared.round.Event.{Event}
+use Rattle.sip_round.specs.declared.round.Event.TheVariants as event
+use Rattle.sip_round.specs.declared.round.Round.{Round}
+use Rattle.sip_round.specs.Answers.{answers, no_past, past_of}
+use Rattle.sip_round.specs.Given.{all_given}
+use Rattle.sip_round.specs.Arrivals.{arrival_of}
+use Rattle.sip_round.specs.Laws.{call_inputs_of, inputs_of, said_of}
+use Rattle.sip_conversation.specs.Address.{IsAddress}
+use Rattle.sip_conversation.specs.Conversation.{Carried, CarriedAfter, IsCarried, Side, Turn, given_by, peer, rounds_of}
+use Rattle.sip_conversation.specs.Datagrams.{DatagramsAreTextsSaid, IsTextSaid}
+use Rattle.sip_conversation.specs.Messages.{CallSays, CallsHearUnchanged, CallsKeepRules, ComesUnchanged, IsSaid, KeepsRules, MessagesComeUnchanged, come_from, message_up}
+use Rattle.sip_conversation.specs.Messages.IsSaid.{Acknowledges, Asked, Direct, Trying}
+use Rattle.sip_conversation.proofs.Among.{all_go, all_of, each_of}
+use Rattle.sip_conversation.proofs.Bridge.{read_or_long, text_fits}
+use Rattle.sip_conversation.proofs.Carrying.{TurnHolds, all_carried, each_turn, in_rounds}
+use Rattle.sip_conversation.proofs.Longer.{rounds_of-append, says_longer}
+use Rattle.sip_conversation.proofs.OneTransaction.{AreSaid, IsFaithful, IsTextOf, KindCame, faithful}
+use Rattle.sip_conversation.proofs.Rounds.{ArrivalFits, OutFits, RoundFits, TimedFits, call_says, calls_give, inputs_fit}
+use Rattle.sip_conversation.proofs.Rules.{ack_keeps, stamped_keeps, trying_keeps}
+use Rattle.sip_conversation.proofs.Sends.{SendFits, direct_sends_fit, own_sends_fit}
+use Rattle.sip_conversation.proofs.Ups.{OutCame, TimedCame, inputs_came}
+use Rattle.sip_common.proofs.Each.{both}
+
+come_keeps : (source : Addr) → IsAddress source → (message : Message) → IsMessage message
+    → IsMessage (come_from source message)
+come_keeps source address message rules = by (is_request_message message)
+  where
+    by : (request : Bool) → IsMessage (if request then stamped message source else message)
+    by true = stamped_keeps source address message rules
+    by false = rules
+
+module _ (alone : EachKeyAlone key_cmp transaction_machine tick_at) where
+  -- ---- one agent, to which only messages come that keep the rules
+
+  module _ (config : Config) (rounds : List Round) where
+    -- it said the message, which keeps the rules
+    abbrev pub Says : Message → Type 0
+    Says message = IsMessage message × IsSaid config rounds message
+
+    -- what it is asked to send it said, and what comes keeps the rules
+    abbrev pub IsSoundInput : Key → Input → Type 0
+    IsSoundInput key (input.Receive id message reply_to) = IsMessage message
+    IsSoundInput key (input.Start id call_id message to) = Says message
+    IsSoundInput key (input.Answer id message) = Says message
+    IsSoundInput key (input.Failed id) = Unit {0}
+
+    -- what its calls say, and by the rules
+    abbrev IsSoundOut : CallOut → Type 0
+    IsSoundOut out = CallSays config rounds out × KeepsRules out
+
+    abbrev KeepAll : Type 0
+    KeepAll = (out : CallOut) → CallSays config rounds out → KeepsRules out
+
+    sound_command : (id : Id) (c : Command) → IsSoundOut (call_out.Command id c)
+        → IsSoundInput (command_key c) (asked_by id c)
+    sound_command id (command.Start key call_id message to) sound =
+        (sound.1, Asked id (command.Start key call_id message to) sound.0 refl)
+    sound_command id (command.Answer key message) sound =
+        (sound.1, Asked id (command.Answer key message) sound.0 refl)
+
+    out_fits : (out : CallOut) → IsSoundOut out → OutFits config IsSoundInput out
+    out_fits (call_out.Notice notice) sound = tt
+    out_fits (call_out.Command id c) sound = sound_command id c sound
+    out_fits (call_out.Direct to bytes) sound = tt
+
+    module _ (keep : KeepAll) (fit : AllByRecursion (RoundFits config IsSoundInput) rounds) where
+      sound_out : (out : CallOut) → Contains (calls_give config config.first no_past rounds) out
+          → IsSoundOut out
+      sound_out out among = let says = call_says config rounds out among in (says, keep out says)
+
+      sound_input : (key : Key) (now : ℕ) (i : Input)
+          → Contains (inputs_of config rounds key) (given_at now i) → IsSoundInput key i
+      sound_input key now i among =
+          each_of (TimedFits config IsSoundInput key) (inputs_of config rounds key)
+          (given_at now i)
+          (inputs_fit config IsSoundInput key rounds fit
+          (all_of (OutFits config IsSoundInput) (calls_give config config.first no_past rounds)
+          (λ out has. out_fits out (sound_out out has)))) among
+
+      said : (key : Key) → AreSaid (inputs_of config rounds key) Says IsMessage
+      said key = record {
+        started = λ now id call_id message to among.
+            sound_input key now (input.Start id call_id message to) among;
+        answered = λ now id message among. sound_input key now (input.Answer id message) among;
+        tried = λ now id request reply_to among. (
+          trying_keeps request
+              (sound_input key now (input.Receive id request reply_to) among),
+          Trying key id request reply_to (now, among) refl,
+        );
+        acknowledged = λ now later id answered call_id invite response to reply_to among came. (
+          ack_keeps invite response
+              (sound_input key now (input.Start id call_id invite to) among).0
+              (sound_input key later (input.Receive answered response reply_to) came),
+          Acknowledges key id answered call_id invite response to reply_to (now, among)
+              (later, came) refl,
+        );
+        came = λ now id message reply_to among.
+            sound_input key now (input.Receive id message reply_to) among;
+      }
+
+      -- what a transaction says
+      pub says_faithfully : (key : Key)
+          → AllByRecursion (IsFaithful Says IsMessage) (said_of config rounds key)
+      says_faithfully key =
+          subst (AllByRecursion (IsFaithful Says IsMessage))
+          (sym (alone [] (past_of config rounds).transactions key))
+          (faithful (inputs_of config rounds key) Says IsMessage (said key) key)
+
+      text_of : (o : Out) → IsFaithful Says IsMessage o → SendFits config rounds (IsTextOf Says) o
+      text_of (out.Up up) faithful = tt
+      text_of (out.Send key to bytes) faithful = faithful
+      text_of (out.Dropped place why) faithful = tt
+
+      -- each Send is the text of a message that it said, and that keeps the rules
+      pub text_sent : (key : Option Key) (to : Addr) (bytes : List ℕ)
+          → Contains (all_given (answers config rounds)) (Send key to bytes)
+          → IsTextOf Says bytes
+      text_sent (Some key) to bytes among =
+          own_sends_fit config rounds (IsTextOf Says)
+          (λ k. all_go {P = IsFaithful Says IsMessage} {Q = SendFits config rounds (IsTextOf Says)}
+          text_of (said_of config rounds k) (says_faithfully k)) key to bytes among
+      text_sent None to bytes among =
+          let sound = direct_sends_fit IsSoundOut config rounds
+          (all_of IsSoundOut (calls_give config config.first no_past rounds) sound_out) to bytes
+          among in (
+            (sound.1).0,
+            (sound.1).1,
+            (
+              (sound.1).2,
+              Direct to (subst (λ text. CallSays config rounds (call_out.Direct to text))
+                  (sound.1).1 sound.0),
+            ),
+          )
+
+  -- ---- both sides
+
+  module _ (configs : Side → Config) (addresses : (s : Side) → IsAddress (configs s).local) where
+    -- a datagram from the other side is the text of a message that keeps the rules
+    abbrev IsFine : Side → Event → Type 0
+    IsFine s (event.Datagram from bytes) = (from ≡ (configs (peer s)).local)
+        × (message : Message) × (bytes ≡ written message) × IsMessage message
+    IsFine s (event.Failed key) = Unit {0}
+    IsFine s (event.Command c) = Unit {0}
+
+    abbrev AreFine : List Turn → Type 0
+    AreFine turns = AllByRecursion (TurnHolds IsFine) turns
+
+    -- what arrives by it is sound
+    abbrev ArrivesSound : List Turn → Side → Event → Type 0
+    ArrivesSound turns s e = (id : Id) → ArrivalFits (configs s)
+        (IsSoundInput (configs s) (rounds_of s turns)) (arrival_of (configs s).local id e)
+
+    fine_sound : (turns : List Turn) (s : Side) (e : Event) → IsFine s e → ArrivesSound turns s e
+    unfolding arrival_of
+    fine_sound turns s (event.Datagram from bytes) fine id =
+        text_fits (configs s) (IsSoundInput (configs s) (rounds_of s turns)) id from fine.1 bytes
+        fine.2 fine.3
+        (λ reply_to. come_keeps from (subst IsAddress (sym fine.0) (addresses (peer s))) fine.1
+        fine.3)
+    fine_sound turns s (event.Failed key) fine id = tt
+    fine_sound turns s (event.Command c) fine id = tt
+
+    -- each Send is the text of a message that its side said
+    texts : (turns : List Turn) → AreFine turns → CallsKeepRules configs turns
+        → (s : Side) (key : Option Key) (to : Addr) (bytes : List ℕ)
+        → Contains (given_by configs turns s) (Send key to bytes)
+        → IsTextOf (Says (configs s) (rounds_of s turns)) bytes
+    texts turns fine keep s key to bytes among =
+        text_sent (configs s) (rounds_of s turns) (keep s)
+        (in_rounds (ArrivesSound turns) s turns
+        (each_turn {P = IsFine} {Q = ArrivesSound turns} (fine_sound turns) turns fine))
+        key to bytes among
+
+    carried_fine : (turns : List Turn) → AreFine turns → CallsKeepRules configs turns
+        → (s : Side) (e : Event) → IsCarried configs turns s e → IsFine s e
+    carried_fine turns fine keep s (event.Datagram from bytes) carried =
+        let text = texts turns fine keep (peer s) (carried.1).0 (configs s).local bytes
+        (carried.1).1 in
+        (carried.0, text.0, text.1, (text.2).0)
+    carried_fine turns fine keep s (event.Failed key) carried = tt
+    carried_fine turns fine keep s (event.Command c) carried = tt
+
+    -- in a front of the turns calls keep the rules too
+    front_keeps : (before turns : List Turn) → CallsKeepRules configs (before ++ turns)
+        → CallsKeepRules configs before
+    front_keeps before turns keep s out says =
+        keep s out (subst (λ rounds. CallSays (configs s) rounds out)
+        (sym (rounds_of-append s before turns))
+        (says_longer (configs s) (rounds_of s before) (rounds_of s turns) out says))
+
+    fine_after : (before turns : List Turn) → AreFine before → CarriedAfter configs before turns
+        → CallsKeepRules configs (before ++ turns) → AreFine (before ++ turns)
+    fine_after before [] fine carried keep = subst AreFine (sym (append-nil before)) fine
+    fine_after before (turn ∷ turns) fine carried keep =
+        let same = append_assoc before (turn ∷ []) turns in
+        let here = all_go {P = IsCarried configs before turn.side} {Q = IsFine turn.side}
+        (carried_fine before fine (front_keeps before (turn ∷ turns) keep) turn.side)
+        (turn.round).events carried.0 in
+        subst AreFine same
+        (fine_after (before ++ turn ∷ []) turns
+        (both (TurnHolds IsFine) before (turn ∷ []) fine (here, tt)) carried.1
+        (subst (CallsKeepRules configs) (sym same) keep))
+
+    -- ---- what comes
+
+    abbrev IsUnchanged : List Turn → Side → Key → Input → Type 0
+    IsUnchanged turns s key (input.Receive id message reply_to) =
+        ComesUnchanged configs turns s message
+    IsUnchanged turns s key (input.Start id call_id message to) = Unit {0}
+    IsUnchanged turns s key (input.Answer id message) = Unit {0}
+    IsUnchanged turns s key (input.Failed id) = Unit {0}
+
+    abbrev ArrivesUnchanged : List Turn → Side → Event → Type 0
+    ArrivesUnchanged turns s e = (id : Id) → ArrivalFits (configs s) (IsUnchanged turns s)
+        (arrival_of (configs s).local id e)
+
+    carried_unchanged : (turns : List Turn) → AreFine turns → CallsKeepRules configs turns
+        → (s : Side) (e : Event) → IsCarried configs turns s e → ArrivesUnchanged turns s e
+    unfolding arrival_of
+    carried_unchanged turns fine keep s (event.Datagram from bytes) carried id =
+        let text = texts turns fine keep (peer s) (carried.1).0 (configs s).local bytes
+        (carried.1).1 in
+        text_fits (configs s) (IsUnchanged turns s) id from text.0 bytes text.1 (text.2).0
+        (λ reply_to. record {
+          original = text.0;
+          said = (text.2).1;
+          rules = (text.2).0;
+          same = ap (λ source. come_from source text.0) carried.0;
+        })
+    carried_unchanged turns fine keep s (event.Failed key) carried id = tt
+    carried_unchanged turns fine keep s (event.Command c) carried id = tt
+
+    command_unchanged : (turns : List Turn) (s : Side) (id : Id) (c : Command)
+        → IsUnchanged turns s (command_key c) (asked_by id c)
+    command_unchanged turns s id (command.Start key call_id message to) = tt
+    command_unchanged turns s id (command.Answer key message) = tt
+
+    out_unchanged : (turns : List Turn) (s : Side) (out : CallOut)
+        → OutFits (configs s) (IsUnchanged turns s) out
+    out_unchanged turns s (call_out.Notice notice) = tt
+    out_unchanged turns s (call_out.Command id c) = command_unchanged turns s id c
+    out_unchanged turns s (call_out.Direct to bytes) = tt
+
+    pub messages_unchanged : (turns : List Turn) → Carried configs turns → CallsKeepRules configs turns
+        → MessagesComeUnchanged configs turns
+    messages_unchanged turns carried keep s key id message reply_to given =
+        let fine = fine_after [] turns tt carried keep in
+        let rounds = rounds_of s turns in
+        each_of (TimedFits (configs s) (IsUnchanged turns s) key)
+        (inputs_of (configs s) rounds key)
+        (given_at given.0 (input.Receive id message reply_to))
+        (inputs_fit (configs s) (IsUnchanged turns s) key rounds
+        (in_rounds (ArrivesUnchanged turns) s turns
+        (each_turn {P = IsCarried configs turns} {Q = ArrivesUnchanged turns}
+        (carried_unchanged turns fine keep) turns (all_carried configs [] turns carried)))
+        (all_of (OutFits (configs s) (IsUnchanged turns s))
+        (calls_give (configs s) (configs s).first no_past rounds)
+        (λ out among. out_unchanged turns s out))) given.1
+
+    -- ---- datagrams
+
+    abbrev IsSaidText : List Turn → Side → Event → Type 0
+    IsSaidText turns s (event.Datagram from bytes) = IsTextSaid configs turns s bytes
+    IsSaidText turns s (event.Failed key) = Unit {0}
+    IsSaidText turns s (event.Command c) = Unit {0}
+
+    carried_text : (turns : List Turn) → AreFine turns → CallsKeepRules configs turns → (s : Side)
+        (e : Event) → IsCarried configs turns s e → IsSaidText turns s e
+    carried_text turns fine keep s (event.Datagram from bytes) carried =
+        let text = texts turns fine keep (peer s) (carried.1).0 (configs s).local bytes
+        (carried.1).1 in
+        record {
+          original = text.0;
+          said = (text.2).1;
+          text = text.1;
+          read = subst (λ b. (message_at b ≡ Ok text.0) ⊎ (65535 < length b)) (sym text.1)
+              (read_or_long text.0 (text.2).0);
+        }
+    carried_text turns fine keep s (event.Failed key) carried = tt
+    carried_text turns fine keep s (event.Command c) carried = tt
+
+    pub datagrams_said : (turns : List Turn) → Carried configs turns → CallsKeepRules configs turns
+        → DatagramsAreTextsSaid configs turns
+    datagrams_said turns carried keep s round among from bytes has =
+        let fine = fine_after [] turns tt carried keep in
+        each_of (IsSaidText turns s) round.events (event.Datagram from bytes)
+        (each_of (λ r. AllByRecursion (IsSaidText turns s) r.events) (rounds_of s turns) round
+        (in_rounds (IsSaidText turns) s turns
+        (each_turn {P = IsCarried configs turns} {Q = IsSaidText turns}
+        (carried_text turns fine keep) turns (all_carried configs [] turns carried))) among) has
+
+    -- ---- what comes up to calls
+
+    abbrev Any : Message → Type 0
+    Any message = Unit {0}
+
+    out_came : (turns : List Turn) (s : Side) (o : Out)
+        → IsFaithful Any (ComesUnchanged configs turns s) o
+        → OutCame (ComesUnchanged configs turns s) o
+    out_came turns s (out.Up up) faithful = faithful
+    out_came turns s (out.Send key to bytes) faithful = tt
+    out_came turns s (out.Dropped place why) faithful = tt
+
+    pub inputs_unchanged : (turns : List Turn) → Carried configs turns
+        → CallsKeepRules configs turns → (s : Side) (call_id : List ℕ)
+        → AllByRecursion (TimedCame (ComesUnchanged configs turns s))
+        (call_inputs_of (configs s) (rounds_of s turns) call_id)
+    inputs_unchanged turns carried keep s call_id =
+        let rounds = rounds_of s turns in
+        let Came : Message → Type 0 = ComesUnchanged configs turns s in
+        inputs_came Came (configs s) rounds
+        (λ key. subst (AllByRecursion (OutCame Came))
+        (sym (alone [] (past_of (configs s) rounds).transactions key))
+        (all_go {P = IsFaithful Any Came} {Q = OutCame Came} (out_came turns s)
+        (outputs_from transaction_machine key None (inputs_of (configs s) rounds key))
+        (faithful (inputs_of (configs s) rounds key) Any Came (record {
+          started = λ now id call_id message to among. tt;
+          answered = λ now id message among. tt;
+          tried = λ now id request reply_to among. tt;
+          acknowledged = λ now later id answered call_id invite response to reply_to among came. tt;
+          came = λ now id message reply_to among.
+              messages_unchanged turns carried keep s key id message reply_to (now, among);
+        }) key))) call_id
+
+    kind_unchanged : (turns : List Turn) (s : Side) (k : Kind)
+        → KindCame (ComesUnchanged configs turns s) k
+        → IfSome (message_up k) (ComesUnchanged configs turns s)
+    kind_unchanged turns s (kind.Request message reply_to) came = came
+    kind_unchanged turns s (kind.Ack message) came = came
+    kind_unchanged turns s (kind.Response message) came = came
+    kind_unchanged turns s kind.Timeout came = tt
+    kind_unchanged turns s kind.Failed came = tt
+
+    pub calls_hear : (turns : List Turn) → Carried configs turns → CallsKeepRules configs turns
+        → CallsHearUnchanged configs turns
+    calls_hear turns carried keep s call_id up comes =
+        kind_unchanged turns s up.kind
+        (each_of (TimedCame (ComesUnchanged configs turns s))
+        (call_inputs_of (configs s) (rounds_of s turns) call_id)
+        (given_at comes.0 (comes.1, Up up))
+        (inputs_unchanged turns carried keep s call_id) comes.2)

@@ -1,0 +1,18 @@
+use Rattle.std.specs.Prelude.{List}
+use Rattle.sip_round.specs.declared.round.Round.{Round}
+use Rattle.sip_round.specs.Laws.{ProvisionalsInLives}
+use Rattle.sip_conversation.specs.Address.{IsAddress}
+use Rattle.sip_conversation.specs.Conversation.{of_sides}
+use Rattle.sip_conversation.proofs.Provisionals.{provisionals_said}
+use Rattle.sip_conversation.proofs.Sides.{each_side}
+use Rattle.sip_conversation.proofs.laws.provisionals_told_were_said.Goals as goal
+
+pub returns : goal.returns
+returns c =
+    provisionals_said (of_sides c.args.one c.args.other)
+    (each_side (λ config. IsAddress config.local) c.args.one c.args.other
+    c.numbers_fit.ensures c.numbers_fit-2.ensures)
+    c.laws_of_phases.ensures.each_key_alone
+    (each_side (λ config. (rounds : List Round) → ProvisionalsInLives config rounds)
+    c.args.one c.args.other c.provisionals_in_each_life.ensures
+    c.provisionals_in_each_life-2.ensures)

@@ -1,0 +1,75 @@
+-- A conversation of two agents, over a network that loses, doubles, delays and reorders datagrams.
+use Rattle.std.specs.Prelude.{◌≡◌, ℕ, Bool, true, false, List, [], ◌∷◌, ◌++◌, Contains, Option, filter, map}
+use Rattle.std.specs.List.{AllByRecursion}
+use Rattle.sip_message.specs.declared.key.Key.{Key}
+use Rattle.sip_round.specs.declared.config.Config.{Config}
+use Rattle.sip_round.specs.declared.output.Output.{Output}
+use Rattle.sip_round.specs.declared.output.Output.TheVariants.{Send}
+use Rattle.sip_round.specs.declared.round.Event.{Event}
+use Rattle.sip_round.specs.declared.round.Event.TheVariants.{Command, Datagram, Failed}
+use Rattle.sip_round.specs.declared.round.Round.{Round}
+use Rattle.sip_round.specs.Answers.{answers}
+use Rattle.sip_round.specs.Given.{all_given}
+
+-- the two sides
+pub data Side : Type 0 where
+  One : Side
+  Other : Side
+
+-- the other side
+abbrev pub peer : Side → Side
+peer One = Other
+peer Other = One
+
+-- whether it is this side
+abbrev pub is_side : Side → Side → Bool
+is_side One One = true
+is_side One Other = false
+is_side Other One = false
+is_side Other Other = true
+
+-- what belongs to each side
+abbrev pub of_sides : {X : Type 0} → X → X → Side → X
+of_sides one other One = one
+of_sides one other Other = other
+
+-- a round of one side
+pub record Turn : Type 0 where
+  pub side : Side
+  pub round : Round
+
+-- the rounds of a side among turns, in order
+abbrev pub rounds_of : Side → List Turn → List Round
+rounds_of side turns =
+    map (λ turn. turn.round) (filter (λ turn. is_side side turn.side) turns)
+
+module _ (configs : Side → Config) where
+  -- all that a side gives in its rounds, in order
+  abbrev pub given_by : List Turn → Side → List Output
+  given_by turns side = all_given (answers (configs side) (rounds_of side turns))
+
+  -- in these turns the other side sent these bytes to this side's address
+  abbrev pub WasSent : List Turn → Side → List ℕ → Type 0
+  WasSent turns side bytes = (key : Option Key)
+      × Contains (given_by turns (peer side)) (Send key (configs side).local bytes)
+
+  -- A datagram comes from the other side's address, and in these turns was sent from there. Of a
+  -- send that failed, and of a command, nothing is asked.
+  abbrev pub IsCarried : List Turn → Side → Event → Type 0
+  IsCarried turns side (Datagram from bytes) =
+      (from ≡ (configs (peer side)).local) × WasSent turns side bytes
+  IsCarried turns side (Failed key) = Unit {0}
+  IsCarried turns side (Command command) = Unit {0}
+
+  -- each datagram of these turns was sent in a turn before its own: in one of those before all of
+  -- these, or in one of these
+  abbrev pub CarriedAfter : List Turn → List Turn → Type 0
+  CarriedAfter before [] = Unit {0}
+  CarriedAfter before (turn ∷ turns) =
+      AllByRecursion (IsCarried before turn.side) (turn.round).events
+      × CarriedAfter (before ++ turn ∷ []) turns
+
+  -- Each datagram of each turn was sent in an earlier one. What was sent may never come, may come
+  -- again, late, and in another order.
+  abbrev pub Carried : List Turn → Type 0
+  Carried turns = CarriedAfter [] turns

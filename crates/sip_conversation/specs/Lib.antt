@@ -1,0 +1,5 @@
+pub mod Address
+pub mod Conversation
+pub mod Datagrams
+pub mod Messages
+pub mod Provisionals

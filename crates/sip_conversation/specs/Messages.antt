@@ -1,0 +1,111 @@
+-- What a message that comes is: one that the other side said.
+use Rattle.std.specs.Prelude.{◌≡◌, ℕ, List, Contains, Option, None, Some, IfSome, if◌then◌else◌}
+use Rattle.sip_message.specs.declared.addr.Addr.{Addr}
+use Rattle.sip_message.specs.declared.id.Id.{Id}
+use Rattle.sip_message.specs.declared.key.Key.{Key}
+use Rattle.sip_message.specs.declared.message.Message.{Message}
+use Rattle.sip_message.specs.HopByHop.{ack_of}
+use Rattle.sip_message.specs.Message.{is_request_message}
+use Rattle.sip_message.specs.Rules.{IsMessage}
+use Rattle.sip_message.specs.Source.{stamped}
+use Rattle.sip_message.specs.Written.{written}
+use Rattle.sip_model.specs.Machine.{given_at}
+use Rattle.sip_transactions.specs.declared.input.Command.{Command}
+use Rattle.sip_transactions.specs.declared.input.Command.TheVariants.{Answer, Start}
+use Rattle.sip_transactions.specs.declared.input.Input.{Input}
+use Rattle.sip_transactions.specs.declared.input.Input.TheVariants as input
+use Rattle.sip_transactions.specs.declared.output.Kind.{Kind}
+use Rattle.sip_transactions.specs.declared.output.Kind.TheVariants as kind
+use Rattle.sip_transactions.specs.declared.output.Up.{Up}
+use Rattle.sip_transactions.specs.Output.{trying_of}
+use Rattle.sip_common.specs.declared.item.CallOut.{CallOut}
+use Rattle.sip_common.specs.declared.item.CallOut.TheVariants as call_out
+use Rattle.sip_common.specs.declared.item.Item.TheVariants as item
+use Rattle.sip_round.specs.declared.config.Config.{Config}
+use Rattle.sip_round.specs.declared.round.Round.{Round}
+use Rattle.sip_round.specs.Laws.{call_inputs_of, inputs_of, said_of_call}
+use Rattle.sip_conversation.specs.Conversation.{Side, Turn, peer, rounds_of}
+
+-- the message that a command asks a transaction to send
+abbrev pub message_of : Command → Message
+message_of (Start key call_id message to) = message
+message_of (Answer key message) = message
+
+module _ (config : Config) (rounds : List Round) where
+  -- in these rounds a transaction was given this
+  abbrev pub IsGiven : Key → Input → Type 0
+  IsGiven key input =
+      (now : ℕ) × Contains (inputs_of config rounds key) (given_at now input)
+
+  -- in these rounds a call said this
+  abbrev pub CallSays : CallOut → Type 0
+  CallSays out = (call_id : List ℕ) × Contains (said_of_call config rounds call_id) out
+
+  -- In these rounds an agent said this message. A call asked a transaction to send it, or sent it
+  -- outside of any transaction. Or a transaction made it: 100 for a request that it was given
+  -- (RFC 3261, section 17.2.1), or the ACK of a response to an INVITE that it was given (17.1.1.3).
+  pub data IsSaid (message : Message) : Type 0 where
+    Asked : (id : Id) (command : Command) → CallSays (call_out.Command id command)
+        → message_of command ≡ message → IsSaid message
+    Direct : (to : Addr) → CallSays (call_out.Direct to (written message)) → IsSaid message
+    Trying : (key : Key) (id : Id) (request : Message) (reply_to : Addr)
+        → IsGiven key (input.Receive id request reply_to)
+        → message ≡ trying_of request → IsSaid message
+    Acknowledges : (key : Key) (id answered : Id) (call_id : List ℕ) (invite response : Message)
+        (to reply_to : Addr) → IsGiven key (input.Start id call_id invite to)
+        → IsGiven key (input.Receive answered response reply_to)
+        → message ≡ ack_of invite response → IsSaid message
+
+-- what calls ask to send keeps the rules of messages
+abbrev pub KeepsRules : CallOut → Type 0
+KeepsRules (call_out.Notice notice) = Unit {0}
+KeepsRules (call_out.Command id command) = IsMessage (message_of command)
+KeepsRules (call_out.Direct to bytes) =
+    (message : Message) × (bytes ≡ written message) × IsMessage message
+
+-- so on both sides, in all turns
+abbrev pub CallsKeepRules : (Side → Config) → List Turn → Type 0
+CallsKeepRules configs turns = (side : Side) (out : CallOut)
+    → CallSays (configs side) (rounds_of side turns) out → KeepsRules out
+
+-- a message as it comes from an address: a request is stamped with that (RFC 3261, section 18.2.1)
+abbrev pub come_from : Addr → Message → Message
+come_from source message =
+    if is_request_message message then stamped message source else message
+
+-- the message is one that the other side said in these turns, but for the stamp
+pub record ComesUnchanged (configs : Side → Config) (turns : List Turn) (side : Side)
+    (message : Message) : Type 0 where
+  pub original : Message
+  pub said : IsSaid (configs (peer side)) (rounds_of (peer side) turns) original
+  pub rules : IsMessage original
+  pub same : message ≡ come_from (configs (peer side)).local original
+
+-- so is each message that a transaction is given
+abbrev pub MessagesComeUnchanged : (Side → Config) → List Turn → Type 0
+MessagesComeUnchanged configs turns =
+    (side : Side) (key : Key) (id : Id) (message : Message) (reply_to : Addr)
+    → IsGiven (configs side) (rounds_of side turns) key (input.Receive id message reply_to)
+    → ComesUnchanged configs turns side message
+
+-- ---- what comes up to calls
+
+-- the message that comes up from a transaction, where one does
+abbrev pub message_up : Kind → Option Message
+message_up (kind.Request message reply_to) = Some message
+message_up (kind.Ack message) = Some message
+message_up (kind.Response message) = Some message
+message_up kind.Timeout = None
+message_up kind.Failed = None
+
+-- in these rounds this came up to the call
+abbrev pub ComesUp : Config → List Round → List ℕ → Up → Type 0
+ComesUp config rounds call_id up = (now : ℕ) × (event : Id)
+    × Contains (call_inputs_of config rounds call_id) (given_at now (event, item.Up up))
+
+-- so is each message that comes up to a call
+abbrev pub CallsHearUnchanged : (Side → Config) → List Turn → Type 0
+CallsHearUnchanged configs turns =
+    (side : Side) (call_id : List ℕ) (up : Up)
+    → ComesUp (configs side) (rounds_of side turns) call_id up
+    → IfSome (message_up up.kind) (ComesUnchanged configs turns side)

@@ -1,0 +1,73 @@
+//! Laws of conversations.
+
+ghost use Rattle.std.specs.Prelude.{List};
+ghost use Rattle.sip_conversation.specs.Address.{IsAddress};
+ghost use Rattle.sip_conversation.specs.Conversation.{Carried, Turn, of_sides};
+ghost use Rattle.sip_conversation.specs.Datagrams.{DatagramsAreTextsSaid};
+ghost use Rattle.sip_conversation.specs.Messages.{CallsHearUnchanged, CallsKeepRules, MessagesComeUnchanged};
+ghost use Rattle.sip_conversation.specs.Provisionals.{ProvisionalsToldAsSaid};
+
+use sip_message::Addr;
+use sip_model::laws_of_phases;
+use sip_round::{Config, provisionals_in_each_life};
+use sip_transactions::Transactions;
+
+/// In a carried conversation, each message that a transaction of one side is given is one that the
+/// other side said: that a call of it asked to send, or that its transaction made of what it was
+/// given. It comes unchanged, but for the stamp of its source in a request (RFC 3261, section
+/// 18.2.1). It takes that all that calls ask to send keeps the rules of messages.
+pub fn messages_come_unchanged(one: Config, other: Config)
+    ensures { (turns : List Turn) → Carried (of_sides one other) turns
+        → CallsKeepRules (of_sides one other) turns
+        → MessagesComeUnchanged (of_sides one other) turns }
+{
+    numbers_fit(one.local);
+    numbers_fit(other.local);
+    laws_of_phases(&Transactions);
+}
+
+/// So each datagram is the text of a message that the other side said. It is read as that message,
+/// unless it has more than 65535 bytes: none of it is unreadable otherwise.
+pub fn datagrams_are_texts_said(one: Config, other: Config)
+    ensures { (turns : List Turn) → Carried (of_sides one other) turns
+        → CallsKeepRules (of_sides one other) turns
+        → DatagramsAreTextsSaid (of_sides one other) turns }
+{
+    numbers_fit(one.local);
+    numbers_fit(other.local);
+    laws_of_phases(&Transactions);
+}
+
+/// Each message that comes up to a call is one that the other side said, too, but for the stamp.
+pub fn calls_hear_unchanged(one: Config, other: Config)
+    ensures { (turns : List Turn) → Carried (of_sides one other) turns
+        → CallsKeepRules (of_sides one other) turns
+        → CallsHearUnchanged (of_sides one other) turns }
+{
+    numbers_fit(one.local);
+    numbers_fit(other.local);
+    laws_of_phases(&Transactions);
+}
+
+/// In a carried conversation, of the reliable provisional responses to an INVITE in one life of a
+/// dialog a user is told of those with consecutive RSeqs, of each once; and of each of these RSeqs
+/// the other side said such a response (RFC 3262, section 4). It takes that all that calls ask to
+/// send keeps the rules of messages.
+pub fn provisionals_told_were_said(one: Config, other: Config)
+    ensures { (turns : List Turn) → Carried (of_sides one other) turns
+        → CallsKeepRules (of_sides one other) turns
+        → ProvisionalsToldAsSaid (of_sides one other) turns }
+{
+    numbers_fit(one.local);
+    numbers_fit(other.local);
+    laws_of_phases(&Transactions);
+    provisionals_in_each_life(&one);
+    provisionals_in_each_life(&other);
+}
+
+fn numbers_fit(address: Addr)
+    ensures { IsAddress address }
+{
+    let [_a, _b, _c, _d] = address.ip;
+    let _port = address.port;
+}
