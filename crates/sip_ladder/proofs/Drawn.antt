@@ -16,7 +16,8 @@ pub draws_file : (kind : FileKind) (input : List ℕ) (config : Config) (rounds 
     (made : List (Vec Output)) (text : List ℕ) → slice ≡ rounds
     → SpellsFile kind config rounds input → length input ≤ 2 ^ 26 → refused config slice ≡ None
     → map (λ outputs. outputs.items) made ≡ answers config slice
-    → Draws slice (map (λ outputs. outputs.items) made) text → DrawsFile kind input text
+    → Draws config.local slice (map (λ outputs. outputs.items) made) text
+    → DrawsFile kind input text
 draws_file kind input config rounds slice made text same spelled size unrefused given drawn =
     record {
       config = config;
@@ -25,8 +26,8 @@ draws_file kind input config rounds slice made text same spelled size unrefused 
       size = size;
       unrefused = ap (refused config) (sym same) ∙ unrefused;
       drawn =
-          let P : List Round → Type 0 = λ rs. Draws rs (answers config rs) text in
-          let Q : List (List Output) → Type 0 = λ os. Draws slice os text in
+          let P : List Round → Type 0 = λ rs. Draws config.local rs (answers config rs) text in
+          let Q : List (List Output) → Type 0 = λ os. Draws config.local slice os text in
           subst P same (subst Q given drawn);
     }
 

@@ -2,23 +2,27 @@
 use Rattle.std.specs.Prelude.{◌≡◌, ℕ, ◌≤◌, ◌^◌, List, ◌++◌, length, map, Option, None}
 use Rattle.std.specs.List.{flat_map}
 use Rattle.std.specs.Io.KnownBytes.{Appends}
+use Rattle.sip_message.specs.declared.addr.Addr.{Addr}
 use Rattle.sip_files.specs.EventFile.{SpellsFile}
 use Rattle.sip_files.specs.declared.version.FileKind.{FileKind}
 use Rattle.sip_round.specs.Answers.{answers, refused}
 use Rattle.sip_round.specs.declared.config.Config.{Config}
 use Rattle.sip_round.specs.declared.output.Output.{Output}
 use Rattle.sip_round.specs.declared.round.Round.{Round}
+use Rattle.sip_ladder.specs.Columns.{columns_of}
+use Rattle.sip_ladder.specs.Head.{head_text}
 use Rattle.sip_ladder.specs.Row.{row_line}
 use Rattle.sip_ladder.specs.Shapes.{shape, shapes}
-use Rattle.sip_ladder.specs.declared.columns.Columns.{Columns}
 use Rattle.sip_ladder.specs.declared.line.Line.{Line}
 
-pub record Draws (rounds : List Round) (outputs : List (List Output)) (text : List ℕ) : Type 0 where
-  pub head : List ℕ
-  pub columns : Columns
+-- The text is the ladder of the rounds and of what they gave, at an agent of this address.
+pub record Draws (local : Addr) (rounds : List Round) (outputs : List (List Output))
+    (text : List ℕ) : Type 0 where
   pub lines : List Line
   pub shown : map shape lines ≡ shapes rounds outputs
-  pub spelled : text ≡ head ++ flat_map (row_line columns) lines
+  pub spelled :
+      let columns = columns_of (map (λ line. line.way) lines) in
+      text ≡ head_text local columns ++ flat_map (row_line columns) lines
 
 -- the input is a file of the kind, no round of it is refused, and this is the ladder of its rounds
 -- and of what they give
@@ -28,7 +32,7 @@ pub record DrawsFile (kind : FileKind) (input text : List ℕ) : Type 0 where
   pub spelled : SpellsFile kind config rounds input
   pub size : length input ≤ 2 ^ 26
   pub unrefused : refused config rounds ≡ None
-  pub drawn : Draws rounds (answers config rounds) text
+  pub drawn : Draws config.local rounds (answers config rounds) text
 
 -- the writer took a whole ladder of the input
 abbrev pub DrawsAll : FileKind → Option (List ℕ) → Option (List ℕ) → List ℕ → Type 0

@@ -1,9 +1,11 @@
 //! The columns of a ladder.
 
-ghost use Rattle.std.specs.Prelude.{◌≡◌, ◌≤◌, length};
+ghost use Rattle.std.specs.Prelude.{◌≡◌, ◌≤◌, List, [], ◌∷◌, ◌++◌, length, map, take, IfOk, OnOk};
 ghost use Rattle.sip_ladder.specs.Row as row;
+ghost use Rattle.sip_ladder.specs.Columns as spec;
+ghost use Rattle.sip_message.specs.declared.addr.Addr as addr;
 
-use crate::line::{Line, Way};
+use crate::line::Line;
 use sip_message::Addr;
 use sip_text::Series;
 use std::alloc::{AllocError, Global};
@@ -27,28 +29,23 @@ pub struct Columns {
 
 impl Columns {
     /// A column for each peer of the lines, in the order in which they come.
-    pub(crate) fn of(alloc: Global, lines: &[Line]) -> Result<Columns, AllocError> {
-        let mut peers = Series::new(alloc);
-        let mut has_others = false;
+    #[tactic(auto, unfolding(crate::specs::Columns::columns_of))]
+    pub(crate) fn of(alloc: Global, lines: &[Line]) -> Result<Columns, AllocError>
+        ensures { IfOk result (λ columns.
+            columns ≡ spec.columns_of (map (λ line. line.way) lines.now)) }
+    {
+        let mut peers = Vec::new(alloc);
         for line in lines {
-            let (Way::In(peer) | Way::Out(peer)) = line.way else {
-                continue;
-            };
-            if place_in(peers.as_slice(), peer) < peers.len() {
-                continue;
-            }
-            if peers.len() < MOST_PEERS {
-                peers.push(peer)?;
-            } else {
-                has_others = true;
+            if let Some(peer) = line.way.peer() {
+                add_peer(&mut peers, peer)?;
             }
         }
-        let count = peers.len().saturating_add(usize::from(has_others));
-        let width = (SPACE / count.max(1)).min(MOST_WIDTH);
+        let count = peers.len();
+        peers.truncate(MOST_PEERS);
         Ok(Columns {
-            peers,
+            peers: Series::from_vec(peers),
             count,
-            width,
+            width: (SPACE / count.max(1)).min(MOST_WIDTH),
         })
     }
 
@@ -58,6 +55,19 @@ impl Columns {
     {
         place_in(self.peers.as_slice(), peer)
     }
+}
+
+// Adds a peer that isn't there, where another one may have a column.
+fn add_peer(peers: &mut Vec<Addr>, peer: Addr) -> Result<(), AllocError>
+    ensures { (all : List addr.Addr) → peers.old.items ≡ take 12 (spec.distinct all)
+        → OnOk result (peers.new.items ≡ take 12 (spec.distinct (all ++ peer ∷ []))) }
+{
+    let known = peers.len();
+    if known > MOST_PEERS || place_in(peers.as_slice(), peer) < known {
+        return Ok(());
+    }
+    peers.push(peer)?;
+    Ok(())
 }
 
 // How many peers stand before this one: all of them where it isn't there.

@@ -15,9 +15,9 @@ use sip_round::{Gate, run};
 use std::alloc::Global;
 use std::thread::Threads;
 
-/// Reads a file of this kind, runs its rounds as a replay does, and writes their ladder: a head,
-/// and a row of at most 100 characters for each event and each output, in order. Of a command the
-/// row has its line without its headers.
+/// Reads a file of this kind, runs its rounds as a replay does, and writes their ladder: a head
+/// that names the agent and its peers, and a row of at most 100 characters for each event and each
+/// output, in order. Of a command the row has its line without its headers.
 ///
 /// # Errors
 ///

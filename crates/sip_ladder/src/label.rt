@@ -1,6 +1,10 @@
 //! What is told beside an arrow, or of what has none.
 
-use sip_message::{Message, StartLine};
+ghost use Rattle.std.specs.Prelude.{◌≡◌, ◌++◌, take, IfOk, IsTrue, OnOk};
+ghost use Rattle.std.specs.List.{list_all};
+ghost use Rattle.sip_ladder.specs.Label as spec;
+
+use sip_message::{Message, ReadFault, StartLine};
 use sip_reader::read;
 use sip_text::{Text, cut, decimal};
 use std::alloc::{AllocError, Global};
@@ -18,16 +22,21 @@ const COOKIE: &[u8] = b"z9hG4bK";
 
 /// What is told of a datagram: its method or status and its CSeq, `again` where it is a repeat, and
 /// what tells it apart.
-pub(crate) fn of_datagram(alloc: Global, bytes: &[u8], is_again: bool) -> Result<Text, AllocError> {
-    let label = match read(alloc, bytes) {
-        Ok(message) => of_message(alloc, &message, is_again)?,
-        Err(_) => unread(alloc, bytes, is_again)?,
-    };
-    Ok(Text::from_vec(label))
+pub(crate) fn of_datagram(alloc: Global, bytes: &[u8], is_again: bool) -> Result<Text, AllocError>
+    ensures printable { IfOk result (λ label. IsTrue (list_all spec.is_printable label)) }
+    ensures label { IfOk result (λ label. label ≡ spec.datagram_label bytes.now is_again) }
+{
+    match read(alloc, bytes) {
+        Ok(message) => of_message(alloc, &message, is_again),
+        Err(ReadFault::NoMemory) => Err(AllocError),
+        Err(_) => unread(alloc, bytes, is_again),
+    }
 }
 
 /// The fields of a line, of which the long ones are cut.
-pub(crate) fn of_fields(alloc: Global, line: &[u8]) -> Result<Text, AllocError> {
+pub(crate) fn of_fields(alloc: Global, line: &[u8]) -> Result<Text, AllocError>
+    ensures printable { IfOk result (λ label. IsTrue (list_all spec.is_printable label)) }
+{
     let mut label = Vec::new(alloc);
     for field in line.split(|byte| *byte == b' ') {
         if !label.is_empty() {
@@ -38,81 +47,166 @@ pub(crate) fn of_fields(alloc: Global, line: &[u8]) -> Result<Text, AllocError> 
     Ok(Text::from_vec(label))
 }
 
-fn of_message(alloc: Global, message: &Message, is_again: bool) -> Result<Vec<u8>, AllocError> {
+#[tactic(auto, using(crate::proofs::Printable::message_is))]
+fn of_message(alloc: Global, message: &Message, is_again: bool) -> Result<Text, AllocError>
+    ensures printable { IfOk result (λ label. IsTrue (list_all spec.is_printable label)) }
+    ensures label { IfOk result (λ label. label ≡ spec.message_label message.now is_again) }
+{
     let mut label = Vec::new(alloc);
-    let is_request = message.is_request();
-    if let StartLine::Response { status, .. } = &message.start {
-        label.extend_from_slice(&decimal(u64::from(status.code())))?;
-        label.push(b' ')?;
-    }
-    push_word(&mut label, message.method().as_slice())?;
-    push_named(&mut label, b"", &decimal(u64::from(message.cseq.number)))?;
-    if is_again {
-        label.extend_from_slice(b" again")?;
-    }
-    push_reliability(&mut label, message)?;
-    let to = message.to.tag();
-    if is_request && to.is_empty() {
-        push_named(&mut label, b"from=", message.from.tag())?;
-    } else if !to.is_empty() {
-        push_named(&mut label, b"to=", to)?;
-    }
-    let branch = message.vias.top().branch();
-    push_named(
-        &mut label,
-        b"branch=",
-        branch.strip_prefix(COOKIE).unwrap_or(branch),
-    )?;
-    push_named(&mut label, b"call=", message.call_id.as_slice())?;
-    Ok(label)
+    push_summary(&mut label, message, is_again)?;
+    push_details(&mut label, message)?;
+    Ok(Text::from_vec(label))
 }
 
-// The RSeq of a reliable provisional response, or the one that a PRACK acknowledges.
-fn push_reliability(label: &mut Vec<u8>, message: &Message) -> Result<(), AllocError> {
-    if let Some(rseq) = message.rseq {
-        push_named(label, b"rseq=", &decimal(u64::from(rseq)))?;
+#[tactic(auto, unfolding(crate::specs::Label::summary))]
+fn push_summary(label: &mut Vec<u8>, message: &Message, is_again: bool) -> Result<(), AllocError>
+    ensures { OnOk result (label.new.items ≡ label.old.items
+        ++ spec.summary message.now is_again) }
+{
+    push_status(label, &message.start)?;
+    push_word(label, message.method().as_slice())?;
+    push_named(label, b"", &decimal(u64::from(message.cseq.number)))?;
+    push_again(label, is_again)
+}
+
+fn push_status(label: &mut Vec<u8>, start: &StartLine) -> Result<(), AllocError>
+    ensures { OnOk result (label.new.items ≡ label.old.items ++ spec.status_text start.now) }
+{
+    match start {
+        StartLine::Request { .. } => Ok(()),
+        StartLine::Response { status, .. } => {
+            push_word(label, &decimal(u64::from(status.code())))?;
+            label.push(b' ')?;
+            Ok(())
+        }
     }
-    if let Some(rack) = &message.rack {
-        push_named(label, b"rack=", &decimal(u64::from(rack.rseq)))?;
+}
+
+fn push_again(label: &mut Vec<u8>, is_again: bool) -> Result<(), AllocError>
+    ensures { OnOk result (label.new.items ≡ label.old.items ++ spec.again_text is_again) }
+{
+    if is_again {
+        label.extend_from_slice(b" again")?;
     }
     Ok(())
 }
 
-// The beginning of the first line of what is no message.
-fn unread(alloc: Global, bytes: &[u8], is_again: bool) -> Result<Vec<u8>, AllocError> {
-    let mut label = Vec::new(alloc);
-    label.extend_from_slice(if is_again { b"? again " } else { b"? " })?;
-    let line = cut(b'\r', bytes).map_or(bytes, |(line, _)| line);
-    push_shown(&mut label, line.get(..MOST_UNREAD).unwrap_or(line))?;
-    Ok(label)
+#[tactic(auto, unfolding(crate::specs::Label::details))]
+fn push_details(label: &mut Vec<u8>, message: &Message) -> Result<(), AllocError>
+    ensures { OnOk result (label.new.items ≡ label.old.items ++ spec.details message.now) }
+{
+    push_number(label, b"rseq=", message.rseq)?;
+    push_number(label, b"rack=", message.rack.as_ref().map(|rack| rack.rseq))?;
+    push_tag(label, message)?;
+    push_named(
+        label,
+        b"branch=",
+        without_cookie(message.vias.top().branch()),
+    )?;
+    push_named(label, b"call=", message.call_id.as_slice())
 }
 
-fn push_named(label: &mut Vec<u8>, name: &[u8], word: &[u8]) -> Result<(), AllocError> {
+#[tactic(auto, unfolding(crate::specs::Label::tag_text))]
+fn push_tag(label: &mut Vec<u8>, message: &Message) -> Result<(), AllocError>
+    ensures { OnOk result (label.new.items ≡ label.old.items ++ spec.tag_text message.now) }
+{
+    let to = message.to.tag();
+    if !to.is_empty() {
+        return push_named(label, b"to=", to);
+    }
+    if message.is_request() {
+        return push_named(label, b"from=", message.from.tag());
+    }
+    Ok(())
+}
+
+#[tactic(auto, unfolding(crate::specs::Label::without_cookie))]
+fn without_cookie(branch: &[u8]) -> &[u8]
+    ensures { result.now ≡ spec.without_cookie branch.now }
+{
+    match branch.strip_prefix(COOKIE) {
+        Some(mark) => mark,
+        None => branch,
+    }
+}
+
+// The beginning of the first line of what is no message.
+#[tactic(auto, using(crate::proofs::Printable::unread_is), unfolding(crate::specs::Label::unread_label))]
+fn unread(alloc: Global, bytes: &[u8], is_again: bool) -> Result<Text, AllocError>
+    ensures printable { IfOk result (λ label. IsTrue (list_all spec.is_printable label)) }
+    ensures label { IfOk result (λ label. label ≡ spec.unread_label bytes.now is_again) }
+{
+    let mut label = Vec::new(alloc);
+    label.push(b'?')?;
+    push_again(&mut label, is_again)?;
+    label.push(b' ')?;
+    push_shown(&mut label, front(first_line(bytes)))?;
+    Ok(Text::from_vec(label))
+}
+
+fn first_line(bytes: &[u8]) -> &[u8]
+    ensures { result.now ≡ spec.first_line bytes.now }
+{
+    match cut(b'\r', bytes) {
+        Some((line, _)) => line,
+        None => bytes,
+    }
+}
+
+#[tactic(auto, using(std::proofs::lemmas::List::take_min))]
+fn front(line: &[u8]) -> &[u8]
+    ensures { result.now ≡ take 40 line.now }
+{
+    &line[..MOST_UNREAD.min(line.len())]
+}
+
+// A number with its name, where there is one.
+fn push_number(label: &mut Vec<u8>, name: &[u8], number: Option<u32>) -> Result<(), AllocError>
+    ensures { OnOk result (label.new.items ≡ label.old.items
+        ++ spec.number_named name.now number) }
+{
+    match number {
+        Some(number) => push_named(label, name, &decimal(u64::from(number))),
+        None => Ok(()),
+    }
+}
+
+#[tactic(auto, unfolding(crate::specs::Label::named))]
+fn push_named(label: &mut Vec<u8>, name: &[u8], word: &[u8]) -> Result<(), AllocError>
+    ensures { OnOk result (label.new.items ≡ label.old.items ++ spec.named name.now word.now) }
+{
     label.push(b' ')?;
     label.extend_from_slice(name)?;
     push_word(label, word)
 }
 
 // A word, or the end of one that is long.
-fn push_word(label: &mut Vec<u8>, word: &[u8]) -> Result<(), AllocError> {
+#[tactic(auto, unfolding(crate::specs::Label::word))]
+fn push_word(label: &mut Vec<u8>, word: &[u8]) -> Result<(), AllocError>
+    ensures { OnOk result (label.new.items ≡ label.old.items ++ spec.word word.now) }
+{
     if word.len() <= WHOLE {
         return push_shown(label, word);
     }
     label.extend_from_slice(b"..")?;
-    push_shown(
-        label,
-        word.get(word.len().saturating_sub(END)..).unwrap_or(word),
-    )
+    push_shown(label, &word[word.len() - END..])
+}
+
+fn push_shown(label: &mut Vec<u8>, bytes: &[u8]) -> Result<(), AllocError>
+    ensures { OnOk result (label.new.items ≡ label.old.items ++ spec.shown bytes.now) }
+{
+    for byte in bytes {
+        label.push(shown(*byte))?;
+    }
+    Ok(())
 }
 
 // The characters of ASCII, and `?` for each other byte.
-fn push_shown(label: &mut Vec<u8>, bytes: &[u8]) -> Result<(), AllocError> {
-    for byte in bytes {
-        label.push(if matches!(*byte, b' '..=b'~') {
-            *byte
-        } else {
-            b'?'
-        })?;
+fn shown(byte: u8) -> u8
+    ensures { result ≡ spec.shown_byte byte }
+{
+    match byte {
+        b' '..=b'~' => byte,
+        _ => b'?',
     }
-    Ok(())
 }

@@ -4,6 +4,7 @@
 mod before;
 mod columns;
 mod drawing;
+mod head;
 mod label;
 mod line;
 mod lines;

@@ -1,5 +1,9 @@
 //! The lines of a ladder.
 
+ghost use Rattle.std.specs.Prelude.{IsTrue};
+ghost use Rattle.std.specs.List.{list_all};
+ghost use Rattle.sip_ladder.specs.Label.{is_printable};
+
 use sip_message::Addr;
 use sip_text::Text;
 
@@ -14,12 +18,28 @@ pub enum Way {
     Own,
 }
 
+impl Way {
+    ghost use Rattle.std.specs.Prelude.{◌≡◌};
+    ghost use Rattle.sip_ladder.specs.Columns.{peer_of};
+
+    /// The peer of an arrow.
+    pub(crate) fn peer(self) -> Option<Addr>
+        ensures { result ≡ peer_of self }
+    {
+        match self {
+            Way::In(peer) | Way::Out(peer) => Some(peer),
+            Way::Own => None,
+        }
+    }
+}
+
 /// A line of a ladder.
 #[derive(Drop)]
 pub struct Line {
     /// In ms.
     pub moment: u64,
     pub way: Way,
-    /// What is told beside the arrow.
+    /// What is told beside the arrow, without a line end.
     pub label: Text,
+    ghost printable: { IsTrue (list_all is_printable label) },
 }

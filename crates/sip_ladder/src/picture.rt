@@ -6,6 +6,7 @@ ghost use Rattle.sip_ladder.specs.Drawing.{Draws};
 ghost use Rattle.sip_ladder.specs.Row.{row_line};
 
 use crate::columns::Columns;
+use crate::head::head;
 use crate::line::Line;
 use crate::lines::lines_of;
 use crate::row::row;
@@ -21,7 +22,7 @@ pub(crate) fn draw(
     answers: &[Vec<Output>],
 ) -> Result<Vec<u8>, AllocError>
     ensures { IfOk result (λ text.
-        Draws rounds.now (map (λ outputs. outputs.items) answers.now) text.items) }
+        Draws local rounds.now (map (λ outputs. outputs.items) answers.now) text.items) }
 {
     let lines = lines_of(alloc, rounds, answers)?;
     let columns = Columns::of(alloc, &lines)?;
@@ -58,35 +59,4 @@ fn push_row(
     text.extend_from_slice(&row)?;
     text.push(b'\n')?;
     Ok(())
-}
-
-// Whose each column is, and a row with their names.
-fn head(alloc: Global, local: Addr, columns: &Columns) -> Result<Vec<u8>, AllocError> {
-    let width = columns.width;
-    let count = columns.count;
-    let mut legend = format!(in alloc; "        ua  {local}\n")?;
-    let mut names = String::from_str(alloc, "        ms  ua")?;
-    for (index, peer) in columns.peers.as_slice().iter().enumerate() {
-        let number = index.saturating_add(1);
-        let line = format!(in alloc; "{number:>10}  {peer}\n")?;
-        legend.push_str(line.as_str())?;
-    }
-    if count > columns.peers.len() {
-        let line = format!(in alloc; "{count:>10}  all others\n")?;
-        legend.push_str(line.as_str())?;
-    }
-    for number in 1..=count {
-        // The name of the agent's column has two characters.
-        let room = if number == 1 {
-            width.saturating_sub(1)
-        } else {
-            width
-        };
-        let name = format!(in alloc; "{number:>room$}")?;
-        names.push_str(name.as_str())?;
-    }
-    legend.push_str("\n")?;
-    legend.push_str(names.as_str())?;
-    legend.push_str("\n")?;
-    Ok(legend.into_bytes())
 }

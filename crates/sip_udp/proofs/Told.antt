@@ -1,6 +1,6 @@
 -- One line after another.
 use Rattle.std.proofs.Common.{◌≡◌, ℕ, Bool, List, [], ◌∷◌, ◌++◌, refl, sym, ap, ◌∙◌, append-nil, append_assoc, subst}
-use Rattle.std.specs.Prelude.{Option, Some, None}
+use Rattle.std.specs.Prelude.{Option, Some, None, Result, Ok, Err, OnOk}
 use Rattle.std.specs.List.{AllZip, flat_map}
 use Rattle.std.specs.Io.KnownBytes.{Appends}
 use Rattle.std.proofs.lemmas.List.{flat_map_more}
@@ -8,7 +8,8 @@ use Rattle.sip_round.specs.declared.output.PlacedOutput.{PlacedOutput}
 use Rattle.sip_round.specs.declared.round.Event.{Event}
 use Rattle.sip_files.specs.declared.version.FileKind.{FileKind}
 use Rattle.sip_files.proofs.HeadedLines.{zip_push}
-use Rattle.sip_udp.specs.Telling.{Tells, TellsAll}
+use Rattle.sip_reader.specs.declared.header_line.HeaderLine.{HeaderLine}
+use Rattle.sip_udp.specs.Telling.{AreHeadersOf, Tells, TellsAll, spelled_header, told_datagram, told_line}
 
 pub nothing_more : (now : Option (List ℕ)) → Appends now now []
 nothing_more None = tt
@@ -58,3 +59,20 @@ output_told kind drops events before now next outputs more placed text m (told, 
       },
       appended_more before now next told text has is,
     )
+
+-- its header lines and its line are told
+pub told_one : {E : Type 0} (result : Result (Unit {0}) E) (kind : FileKind) (drops : Bool)
+    (events : List Event) (placed : PlacedOutput) (headers : List HeaderLine)
+    (before now next : Option (List ℕ))
+    → AreHeadersOf (told_datagram kind events placed.place placed.output) headers
+    → Appends before now (flat_map spelled_header headers)
+    → OnOk result (Appends now next (told_line drops placed.output))
+    → OnOk result ((text : List ℕ) × Tells kind drops events placed text × Appends before next text)
+told_one (Ok done) kind drops events placed headers before now next are has is =
+    let front = flat_map spelled_header headers in
+    let line = told_line drops placed.output in (
+      front ++ line,
+      record { headers = headers; of_datagram = are; spelled = refl },
+      appended_more before now next front line has is,
+    )
+told_one (Err fault) kind drops events placed headers before now next are has is = tt

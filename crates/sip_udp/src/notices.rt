@@ -1,18 +1,18 @@
 //! Writes what the user is told of the outputs of a round.
 
-ghost use Rattle.std.specs.Prelude.{◌≡◌, List, OnOk, ℕ};
+ghost use Rattle.std.specs.Prelude.{◌≡◌, IfOk, List, OnOk, ℕ};
 ghost use Rattle.std.specs.List.{flat_map};
 ghost use Rattle.std.specs.Option.{option_copied};
 ghost use Rattle.std.specs.Io.KnownBytes.{Appends};
 ghost use Rattle.sip_files.specs.Outputs.{output_line};
-ghost use Rattle.sip_udp.specs.Telling.{Tells, TellsAll, spelled_header, told_datagram, told_line};
+ghost use Rattle.sip_udp.specs.Telling.{AreHeadersOf, Tells, TellsAll, spelled_header, told_datagram, told_line};
 
 use crate::fault::UaFault;
 use sip_files::{FileKind, write_header_line, write_output};
 use sip_reader::{HeaderLine, header_lines};
 use sip_round::{Event, Output, PlacedOutput, datagram_at};
-use sip_text::Text;
-use std::alloc::Global;
+use sip_text::{Series, Text};
+use std::alloc::{AllocError, Global};
 use std::io::{self, Write};
 
 /// What the user is told of.
@@ -55,11 +55,25 @@ fn tell<W: Write>(
         × Tells telling.kind telling.drops events.now placed.now text
         × Appends (W.contents writer.old) (W.contents writer.new) text) }
 {
-    if let Some(bytes) = datagram_of(telling.kind, events, placed) {
-        let headers = header_lines(alloc, bytes.as_slice())?;
-        write_headers(alloc, writer, headers.as_slice())?;
-    }
+    let headers = headers_of(alloc, telling.kind, events, placed)?;
+    write_headers(alloc, writer, headers.as_slice())?;
     tell_line(alloc, writer, telling.drops, &placed.output)
+}
+
+// The header lines that stand before an output.
+fn headers_of(
+    alloc: Global,
+    kind: FileKind,
+    events: &[Event],
+    placed: &PlacedOutput,
+) -> Result<Series<HeaderLine>, AllocError>
+    ensures { IfOk result
+        (AreHeadersOf (told_datagram kind events.now placed.now.place placed.now.output)) }
+{
+    match datagram_of(kind, events, placed) {
+        Some(bytes) => header_lines(alloc, bytes.as_slice()),
+        None => Ok(Series::new(alloc)),
+    }
 }
 
 // The datagram whose header lines stand before an output.
@@ -83,11 +97,18 @@ fn write_headers<W: Write>(
 {
     for header in headers {
         let line = write_header_line(alloc, header.name.as_slice(), header.value.as_slice())?;
-        if writer.write_all(&line).is_err() {
-            return Err(UaFault::Output);
-        }
+        write_text(writer, &line)?;
     }
     Ok(())
+}
+
+fn write_text<W: Write>(writer: &mut W, text: &[u8]) -> Result<(), UaFault>
+    ensures { OnOk result (Appends (W.contents writer.old) (W.contents writer.new) text.now) }
+{
+    match writer.write_all(text) {
+        Ok(()) => Ok(()),
+        Err(_) => Err(UaFault::Output),
+    }
 }
 
 fn tell_line<W: Write>(

@@ -1,3 +1,4 @@
+use Rattle.std.proofs.Common.{rules}
 use Rattle.std.proofs.lemmas.List.{take_all}
 use Rattle.sip_files.proofs.Pushed.{taken}
 use Rattle.sip_udp.specs.Telling.{spelled_header}
@@ -11,7 +12,7 @@ pub loop-header-preserved : goal.loop-header-preserved
 loop-header-preserved g c =
     let more = taken c.args.headers.now c.loop-header.header-index c.header-item.result
     c.loop-header-test.true c.header-item.is in
-    told_more spelled_header _ _ _ _ _ _ more c.loop-header.invariant c.in_ok-write_all.ensures
+    told_more spelled_header _ _ _ _ _ _ more c.loop-header.invariant (search rules)
 
 pub returns : goal.returns
 returns g c =
