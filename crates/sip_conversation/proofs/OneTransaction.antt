@@ -230,7 +230,8 @@ module _ (all : List (Timed Input)) (Says Came : Message → Type 0) where
 
     handed_came : (key : Key) (context : Context) (handed : Handed)
         (arrived : Option (Message × Addr)) → IfSome arrived (λ a. Came a.0)
-        → AllByRecursion (IsFaithful Says Came) (option_to_list (handed_out key context handed arrived))
+        → AllByRecursion (IsFaithful Says Came)
+        (option_to_list (handed_out key context handed arrived))
     unfolding handed_out
     handed_came key context up.Nothing arrived came = tt
     handed_came key context up.Message None came = tt
@@ -251,7 +252,8 @@ module _ (all : List (Timed Input)) (Says Came : Message → Type 0) where
     arrived_came now (Some (Failed id)) among = tt
 
     sent_text : (last : Option (List ℕ)) (s : Sent) (bytes : Option (List ℕ))
-        → IfSome last (IsTextOf Says) → IfSome bytes (IsTextOf Says) → IfSome (sent_bytes last s bytes) (IsTextOf Says)
+        → IfSome last (IsTextOf Says) → IfSome bytes (IsTextOf Says)
+        → IfSome (sent_bytes last s bytes) (IsTextOf Says)
     sent_text last send.Nothing bytes before text = text
     sent_text last send.Given bytes before text = text
     sent_text last send.Latest bytes before text = before
@@ -259,7 +261,8 @@ module _ (all : List (Timed Input)) (Says Came : Message → Type 0) where
     sent_text last send.Ack bytes before text = text
 
     sends_text : (key : Key) (to : Addr) (bytes : Option (List ℕ)) → IfSome bytes (IsTextOf Says)
-        → AllByRecursion (IsFaithful Says Came) (option_to_list (option_map (send_out key to) bytes))
+        → AllByRecursion (IsFaithful Says Came)
+        (option_to_list (option_map (send_out key to) bytes))
     sends_text key to None text = tt
     sends_text key to (Some bytes) text = (text, tt)
 
@@ -303,7 +306,8 @@ module _ (all : List (Timed Input)) (Says Came : Message → Type 0) where
         (state_of held) row.trigger step row.row) in (
           after_sound context step now bytes (entered step.next (state_of held))
               (last_sound context bytes sound text),
-          both (IsFaithful Says Came) (option_to_list (handed_out key context step.handed (arrived_in input)))
+          both (IsFaithful Says Came)
+              (option_to_list (handed_out key context step.handed (arrived_in input)))
               (option_to_list (option_map (send_out key context.to)
               (sent_bytes context.last step.sent bytes)))
               (handed_came key context step.handed (arrived_in input)

@@ -261,7 +261,8 @@ module _ (config : Config) (Fits : Key → Input → Type 0) where
         let next = past_after config number past round in
         let one = first config number past round in
         let two = third config number past round in
-        let rest = history key_cmp tick_at (transactions_from config (suc number) next rounds) key in
+        let rest = history key_cmp tick_at
+        (transactions_from config (suc number) next rounds) key in
         let parts = all_of_parts OutFits (given_second config number past round)
         (calls_give config (suc number) next rounds) asked in
         both (TimedFits key) (own_inputs key_cmp tick_at one key)

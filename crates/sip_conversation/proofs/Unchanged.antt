@@ -272,7 +272,8 @@ module _ (alone : EachKeyAlone key_cmp transaction_machine tick_at) where
     out_unchanged turns s (call_out.Command id c) = command_unchanged turns s id c
     out_unchanged turns s (call_out.Direct to bytes) = tt
 
-    pub messages_unchanged : (turns : List Turn) → Carried configs turns → CallsKeepRules configs turns
+    pub messages_unchanged : (turns : List Turn) → Carried configs turns
+        → CallsKeepRules configs turns
         → MessagesComeUnchanged configs turns
     messages_unchanged turns carried keep s key id message reply_to given =
         let fine = fine_after [] turns tt carried keep in
