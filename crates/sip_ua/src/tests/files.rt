@@ -12,8 +12,10 @@ use sip_message::{CallId, Spread};
 use sip_round::Output;
 use sip_served::{Notice, Refusal};
 use sip_text::Text;
+use std::alloc::Global;
 use std::io::{self, Read, Write};
 use std::test::Fail;
+use std::thread::Threads;
 
 // No event file can use up the numbers of a dialog.
 #[test]
@@ -113,12 +115,13 @@ fn one_more(count: Option<u64>) -> Option<u64>
 /// The event file of no round.
 const EVENTS: &[u8] = b"sip-events 1\nlocal 192.0.2.1:5060\n";
 
-fn replayed<W: CountedWrite>(
-    rt: &HostRuntime,
+fn replayed<T: Threads + Sync, W: CountedWrite>(
+    rt: &T,
+    alloc: Global,
     reader: &mut Counting<&[u8]>,
     writer: &mut W,
 ) -> Result<(), ReplayFault> {
-    let (alloc, kind) = (rt.alloc(), FileKind::Events);
+    let kind = FileKind::Events;
     replay(rt, alloc, kind, reader, writer, 1, 1, Spread, &Open)
 }
 
@@ -127,7 +130,7 @@ fn replayed<W: CountedWrite>(
 fn reads_are_counted(rt: HostRuntime) {
     let mut reader = Counting::new(EVENTS);
     let mut writer = Counting::new(Vec::new(rt.alloc()));
-    assert!(rt; replayed(&rt, &mut reader, &mut writer).is_ok());
+    assert!(rt; replayed(&rt, rt.alloc(), &mut reader, &mut writer).is_ok());
     assert!(rt; reader.reads == Some(2));
     assert!(rt; reader.failures == Some(0) && writer.failures == Some(0));
     assert!(rt; writer.is_flushed);
@@ -151,7 +154,7 @@ impl Write for Unflushed {
 fn a_failed_flush_is_told(rt: HostRuntime) {
     let mut reader = Counting::new(EVENTS);
     let mut writer = Counting::new(Unflushed);
-    let end = replayed(&rt, &mut reader, &mut writer);
+    let end = replayed(&rt, rt.alloc(), &mut reader, &mut writer);
     assert!(rt; end == Err(ReplayFault::Output));
     assert!(rt; writer.failures == Some(1));
 }

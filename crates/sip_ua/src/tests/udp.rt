@@ -89,8 +89,10 @@ fn an_outlet_that_fails_each_of_its_sends(rt: HostRuntime) -> Result<(), Fail> {
     let reason = DropReason::NotOurs;
     let mut outputs = Vec::new(alloc);
     outputs.push(output(alloc, b"a", b"1")?)?;
-    let output = Output::Dropped { place: 1, reason };
-    outputs.push(PlacedOutput { place: 1, output })?;
+    outputs.push(PlacedOutput {
+        place: 1,
+        output: Output::Dropped { place: 1, reason },
+    })?;
     outputs.push(output(alloc, b"", b"2")?)?;
     outputs.push(output(alloc, b"c", b"3")?)?;
     let cases = [
