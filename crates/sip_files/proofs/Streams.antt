@@ -13,7 +13,7 @@ use Rattle.sip_round.specs.declared.config.Config.{Config}
 use Rattle.sip_round.specs.declared.output.Output.{Output}
 use Rattle.sip_round.specs.declared.round.Round.{Round}
 use Rattle.sip_round.specs.Answers.{answers, refused}
-use Rattle.sip_files.specs.Counted.{Counts, CountsAtMost, failed_writes}
+use Rattle.sip_files.specs.Counted.{Counts, CountsAtMost, failures_of_write}
 use Rattle.sip_files.specs.Replay.{Replays, TellsReplay, answer_file}
 use Rattle.sip_files.specs.declared.events_fault.EventsFault.{EventsFault}
 use Rattle.sip_files.specs.declared.events_fault.EventsFault.TheVariants as events_fault
@@ -53,11 +53,11 @@ counts_none (Some now) = omega arith
 
 -- a write that took something didn't fail
 pub took_some : {E : Type 0} (before now : Option ℕ) (result : Result ℕ E) (count : ℕ)
-    → result ≡ Ok count → 0 < count → Counts before now (failed_writes result)
+    → result ≡ Ok count → 0 < count → Counts before now (failures_of_write result)
     → Counts before now 0
 took_some before now result zero is some counts = absurd (omega arith)
 took_some before now result (suc count) is some counts =
-    subst (λ r. Counts before now (failed_writes r)) is counts
+    subst (λ r. Counts before now (failures_of_write r)) is counts
 
 -- with one read more
 pub counts_within : (before now after : Option ℕ) (turns most : ℕ) → turns < most

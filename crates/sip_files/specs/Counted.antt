@@ -10,18 +10,13 @@ Counts (Some before) (Some after) more = after ≡ before + more
 abbrev pub CountsAtMost : Option ℕ → Option ℕ → ℕ → Type 0
 CountsAtMost old new most = (more : ℕ) × (more ≤ most) × Counts old new more
 
--- a read that failed
-abbrev pub failed_reads : {E : Type 0} → Result ℕ E → ℕ
-failed_reads (Ok count) = 0
-failed_reads (Err error) = 1
+-- a read or a flush that failed
+abbrev pub failures_of : {T E : Type 0} → Result T E → ℕ
+failures_of (Ok value) = 0
+failures_of (Err error) = 1
 
 -- a write that failed or took nothing
-abbrev pub failed_writes : {E : Type 0} → Result ℕ E → ℕ
-failed_writes (Ok zero) = 1
-failed_writes (Ok (suc count)) = 0
-failed_writes (Err error) = 1
-
--- a flush that failed
-abbrev pub failed_flushes : {E : Type 0} → Result (Unit {0}) E → ℕ
-failed_flushes (Ok done) = 0
-failed_flushes (Err error) = 1
+abbrev pub failures_of_write : {E : Type 0} → Result ℕ E → ℕ
+failures_of_write (Ok zero) = 1
+failures_of_write (Ok (suc count)) = 0
+failures_of_write (Err error) = 1

@@ -59,22 +59,22 @@ TellsReplay kind Output input = Unit {0}
 TellsReplay kind NoMemory input = Unit {0}
 
 -- how many reads failed in a call that ends so: one where it tells it, and else none
-abbrev pub reads_failed : {T : Type 0} → Result T ReplayFault → ℕ
-reads_failed (Ok value) = 0
-reads_failed (Err Input) = 1
-reads_failed (Err (Events fault)) = 0
-reads_failed (Err (Round index fault)) = 0
-reads_failed (Err Output) = 0
-reads_failed (Err NoMemory) = 0
+abbrev pub input_failures : {T : Type 0} → Result T ReplayFault → ℕ
+input_failures (Ok value) = 0
+input_failures (Err Input) = 1
+input_failures (Err (Events fault)) = 0
+input_failures (Err (Round index fault)) = 0
+input_failures (Err Output) = 0
+input_failures (Err NoMemory) = 0
 
 -- the same of writes and flushes
-abbrev pub writes_failed : {T : Type 0} → Result T ReplayFault → ℕ
-writes_failed (Ok value) = 0
-writes_failed (Err Input) = 0
-writes_failed (Err (Events fault)) = 0
-writes_failed (Err (Round index fault)) = 0
-writes_failed (Err Output) = 1
-writes_failed (Err NoMemory) = 0
+abbrev pub output_failures : {T : Type 0} → Result T ReplayFault → ℕ
+output_failures (Ok value) = 0
+output_failures (Err Input) = 0
+output_failures (Err (Events fault)) = 0
+output_failures (Err (Round index fault)) = 0
+output_failures (Err Output) = 1
+output_failures (Err NoMemory) = 0
 
 -- the writer took the whole output file of the input
 abbrev pub WritesAll : FileKind → Option (List ℕ) → Option (List ℕ) → List ℕ → Type 0

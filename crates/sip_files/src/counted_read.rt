@@ -3,7 +3,7 @@
 ghost use Rattle.std.specs.Prelude.{List, ℕ, Option, None};
 ghost use Rattle.std.specs.Io.{ReadsAtMost};
 ghost use Rattle.std.specs.Io.KnownBytes.{ReadConsumes};
-ghost use Rattle.sip_files.specs.Counted.{Counts, failed_reads};
+ghost use Rattle.sip_files.specs.Counted.{Counts, failures_of};
 
 use std::io::{self, Read};
 
@@ -27,7 +27,7 @@ pub trait CountedRead {
         ensures bound { ReadsAtMost result buf.new }
         ensures bytes { ReadConsumes (remaining self.old) (remaining self.new) result buf.new }
         ensures counted { Counts (reads self.old) (reads self.new) 1 }
-        ensures failed { Counts (failures self.old) (failures self.new) (failed_reads result) };
+        ensures failed { Counts (failures self.old) (failures self.new) (failures_of result) };
 }
 
 /// A reader of `std` tells neither how often it was read, nor how often that failed.

@@ -3,7 +3,7 @@
 ghost use Rattle.std.specs.Prelude.{Bool, IfSome, IsTrue, List, OnOk, ℕ, Option, None};
 ghost use Rattle.std.specs.Io.{WritesAtMost};
 ghost use Rattle.std.specs.Io.KnownBytes.{Keeps, WriteAppends};
-ghost use Rattle.sip_files.specs.Counted.{Counts, failed_flushes, failed_writes};
+ghost use Rattle.sip_files.specs.Counted.{Counts, failures_of, failures_of_write};
 
 use std::io::{self, Write};
 
@@ -26,7 +26,7 @@ pub trait CountedWrite {
     fn write_once(&mut self, bytes: &[u8]) -> io::Result<usize>
         ensures bound { WritesAtMost result bytes.now }
         ensures bytes { WriteAppends (contents self.old) (contents self.new) result bytes.now }
-        ensures failed { Counts (failures self.old) (failures self.new) (failed_writes result) };
+        ensures failed { Counts (failures self.old) (failures self.new) (failures_of_write result) };
 
     /// One flush, as `Write::flush` does it.
     ///
@@ -35,7 +35,7 @@ pub trait CountedWrite {
     /// What the writer has against it.
     fn flush_once(&mut self) -> io::Result<()>
         ensures bytes { Keeps (contents self.old) (contents self.new) }
-        ensures failed { Counts (failures self.old) (failures self.new) (failed_flushes result) }
+        ensures failed { Counts (failures self.old) (failures self.new) (failures_of result) }
         ensures flushed { OnOk result (IfSome (flushed self.new) (λ all. IsTrue all)) };
 }
 

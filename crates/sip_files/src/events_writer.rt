@@ -56,6 +56,15 @@ pub fn write_file_round(alloc: Global, kind: FileKind, round: &Round) -> Result<
     Ok(file)
 }
 
+/// The line of an event file that one event has, with its end.
+pub fn write_event(alloc: Global, event: &Event) -> Result<Vec<u8>, AllocError>
+    ensures { IfOk result (λ text. text.items ≡ written.ended_text (line.Event event.now)) }
+{
+    let mut text = Vec::new(alloc);
+    push_event(&mut text, event)?;
+    Ok(text)
+}
+
 #[tactic(auto, unfolding(crate::specs::Written::head_in))]
 fn head_in(alloc: Global, version: Version, config: &Config) -> Result<Vec<u8>, AllocError>
     ensures { IfOk result (λ text. text.items ≡ written.head_in version config.now) }

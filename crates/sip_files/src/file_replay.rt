@@ -6,7 +6,7 @@ ghost use Rattle.std.specs.Io.KnownBytes.{Appends};
 ghost use Rattle.sip_files.specs.Counted.{Counts, CountsAtMost};
 ghost use Rattle.sip_files.specs.EventFile.{IsFile};
 ghost use Rattle.sip_files.specs.Outputs.{told};
-ghost use Rattle.sip_files.specs.Replay.{Replays, TellsReplay, WritesAll, WritesFront, reads_failed, writes_failed};
+ghost use Rattle.sip_files.specs.Replay.{Replays, TellsReplay, WritesAll, WritesFront, input_failures, output_failures};
 ghost use Rattle.sip_files.specs.declared.events_fault.EventsFault.{EventsFault};
 ghost use Rattle.sip_files.specs.declared.events_fault.EventsFault.TheVariants as events_fault;
 ghost use Rattle.sip_files.specs.declared.file_replay.ReplayFault.TheVariants as replay_fault;
@@ -102,9 +102,9 @@ pub fn replay<T: Threads + Sync, R: CountedRead, W: CountedWrite, C: Cut + Drop,
         → (fault : EventsFault) → result ≡ Err (replay_fault.Events fault)
         → fault ≡ events_fault.NoMemory) }
     ensures reads { CountsAtMost (R.reads reader.old) (R.reads reader.new) (2 ^ 26 + 2) }
-    ensures input { Counts (R.failures reader.old) (R.failures reader.new) (reads_failed result) }
+    ensures input { Counts (R.failures reader.old) (R.failures reader.new) (input_failures result) }
     ensures output { Counts (W.failures writer.old) (W.failures writer.new)
-        (writes_failed result) }
+        (output_failures result) }
     ensures flushed { OnOk result (IfSome (W.flushed writer.new) (λ all. IsTrue all)) }
 {
     let text = read_all(alloc, reader)?;
@@ -125,7 +125,7 @@ pub fn read_all<R: CountedRead>(alloc: Global, reader: &mut R) -> Result<Vec<u8>
         (λ fault. IfSome (R.remaining reader.old) (TellsReplay kind fault)) }
     ensures unwritten { IfErr result (λ fault. fault ≢ replay_fault.Output) }
     ensures reads { CountsAtMost (R.reads reader.old) (R.reads reader.new) (2 ^ 26 + 2) }
-    ensures input { Counts (R.failures reader.old) (R.failures reader.new) (reads_failed result) }
+    ensures input { Counts (R.failures reader.old) (R.failures reader.new) (input_failures result) }
 {
     let mut text = Vec::new(alloc);
     let mut chunk = [0u8; CHUNK];
@@ -209,7 +209,7 @@ pub fn write_whole<W: CountedWrite>(writer: &mut W, bytes: &[u8]) -> Result<(), 
         × Appends (W.contents writer.old) (W.contents writer.new) front) }
     ensures fault { OnErr result (result ≡ Err replay_fault.Output) }
     ensures output { Counts (W.failures writer.old) (W.failures writer.new)
-        (writes_failed result) }
+        (output_failures result) }
     ensures flushed { OnOk result (IfSome (W.flushed writer.new) (λ all. IsTrue all)) }
 {
     let mut left = bytes;

@@ -1,6 +1,7 @@
 mod Arrows
 mod Distinct
 pub mod Drawn
+pub mod Fields
 mod Legend
 pub mod Places
 mod Printable

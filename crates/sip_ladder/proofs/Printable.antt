@@ -17,12 +17,12 @@ use Rattle.sip_ladder.specs.Label.{again_text, details, first_line, is_printable
 abbrev pub AreShown : List ℕ → Type 0
 AreShown text = list_all is_printable text ≡ true
 
-both : (one other : List ℕ) → AreShown one → AreShown other → AreShown (one ++ other)
+pub both : (one other : List ℕ) → AreShown one → AreShown other → AreShown (one ++ other)
 both one other p q =
     list_all-append is_printable one other
     ∙ and_from (list_all is_printable one) (list_all is_printable other) p q
 
-either : (test : Bool) (one other : List ℕ) → AreShown one → AreShown other
+pub either : (test : Bool) (one other : List ℕ) → AreShown one → AreShown other
     → AreShown (cond test one other)
 either true one other p q = p
 either false one other p q = q
@@ -122,12 +122,3 @@ unread_is bytes is_again =
     both (codes "?" ++ again ++ codes " ") front
     (both (codes "?" ++ again) (codes " ") (both (codes "?") again refl (again_is is_again)) refl)
     (shown_is (take 40 (first_line bytes)))
-
--- ---- a text that grows
-
-pub pushed_is : (old new more : List ℕ) → AreShown old → new ≡ old ++ more → AreShown more
-    → AreShown new
-pushed_is old new more p pushed q = ap (list_all is_printable) pushed ∙ both old more p q
-
-pub kept_is : (old new : List ℕ) → AreShown old → new ≡ old → AreShown new
-kept_is old new p same = ap (list_all is_printable) same ∙ p

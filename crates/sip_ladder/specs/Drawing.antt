@@ -37,3 +37,8 @@ pub record DrawsFile (kind : FileKind) (input text : List ℕ) : Type 0 where
 -- the writer took a whole ladder of the input
 abbrev pub DrawsAll : FileKind → Option (List ℕ) → Option (List ℕ) → List ℕ → Type 0
 DrawsAll kind old new input = (text : List ℕ) × DrawsFile kind input text × Appends old new text
+
+-- the writer took the front of a ladder of the input
+abbrev pub DrawsFront : FileKind → Option (List ℕ) → Option (List ℕ) → List ℕ → Type 0
+DrawsFront kind old new input =
+    (front rest : List ℕ) × DrawsFile kind input (front ++ rest) × Appends old new front

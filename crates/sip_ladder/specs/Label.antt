@@ -1,5 +1,5 @@
 -- What a ladder tells beside an arrow, and of an event or an output that has none.
-use Rattle.std.specs.Prelude.{ℕ, ◌-◌, ◌==◌, ◌&&◌, Bool, List, [], ◌++◌, length, take, drop, map, Option, Some, None, Result, Ok, Err, codes, decimal, nat_le, if◌then◌else◌}
+use Rattle.std.specs.Prelude.{ℕ, ◌-◌, ◌==◌, ◌&&◌, Bool, List, [], ◌∷◌, ◌++◌, length, take, drop, map, Option, Some, None, Result, Ok, Err, codes, decimal, nat_le, if◌then◌else◌}
 use Rattle.std.specs.Option.{option_map_or}
 use Rattle.std.specs.Str.{bytes_eq}
 use Rattle.sip_text.specs.Cut.{cut_at}
@@ -39,6 +39,18 @@ named name text = codes " " ++ name ++ word text
 abbrev pub number_named : List ℕ → Option ℕ → List ℕ
 number_named name None = []
 number_named name (Some number) = named name (decimal number)
+
+-- ---- lines of a file
+
+-- a word of each field, after this much of the first one: fields end at spaces
+abbrev pub fields_from : List ℕ → List ℕ → List ℕ
+fields_from field [] = word field
+fields_from field (byte ∷ bytes) =
+    if byte == 32 then word field ++ codes " " ++ fields_from [] bytes
+    else fields_from (field ++ byte ∷ []) bytes
+
+abbrev pub fields_label : List ℕ → List ℕ
+fields_label line = fields_from [] line
 
 -- ---- datagrams
 

@@ -1,10 +1,10 @@
 //! An event file or a session file in, its ladder out.
 
-ghost use Rattle.std.specs.Prelude.{◌≡◌, ◌≢◌, IfErr, IfOk, IfSome, IsTrue, OnOk};
+ghost use Rattle.std.specs.Prelude.{◌≡◌, ◌≢◌, Err, IfErr, IfOk, IfSome, IsTrue, OnOk};
 ghost use Rattle.sip_files.specs.Counted.{Counts};
-ghost use Rattle.sip_files.specs.Replay.{TellsReplay, reads_failed, writes_failed};
+ghost use Rattle.sip_files.specs.Replay.{TellsReplay, input_failures, output_failures};
 ghost use Rattle.sip_files.specs.declared.file_replay.ReplayFault.TheVariants as replay_fault;
-ghost use Rattle.sip_ladder.specs.Drawing.{DrawsAll, DrawsFile};
+ghost use Rattle.sip_ladder.specs.Drawing.{DrawsAll, DrawsFile, DrawsFront};
 
 use crate::picture::draw;
 use sip_files::{
@@ -21,7 +21,8 @@ use std::thread::Threads;
 ///
 /// # Errors
 ///
-/// Those of a replay. With every fault but `Output` nothing was written.
+/// Those of a replay. With every fault but `Output` nothing was written; with `Output` the front of
+/// the ladder may have been.
 pub fn ladder<T: Threads + Sync, R: CountedRead, W: CountedWrite, G: Gate>(
     rt: &T,
     alloc: Global,
@@ -36,9 +37,12 @@ pub fn ladder<T: Threads + Sync, R: CountedRead, W: CountedWrite, G: Gate>(
         (λ fault. IfSome (R.remaining reader.old) (TellsReplay kind fault)) }
     ensures unwritten { IfErr result
         (λ fault. fault ≢ replay_fault.Output → writer.new ≡ writer.old) }
-    ensures input { Counts (R.failures reader.old) (R.failures reader.new) (reads_failed result) }
+    ensures front { result ≡ Err replay_fault.Output
+        → IfSome (R.remaining reader.old)
+        (DrawsFront kind (W.contents writer.old) (W.contents writer.new)) }
+    ensures input { Counts (R.failures reader.old) (R.failures reader.new) (input_failures result) }
     ensures output { Counts (W.failures writer.old) (W.failures writer.new)
-        (writes_failed result) }
+        (output_failures result) }
     ensures flushed { OnOk result (IfSome (W.flushed writer.new) (λ all. IsTrue all)) }
 {
     let text = read_all(alloc, reader)?;

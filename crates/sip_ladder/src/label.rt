@@ -36,14 +36,16 @@ pub(crate) fn of_datagram(alloc: Global, bytes: &[u8], is_again: bool) -> Result
 /// The fields of a line, of which the long ones are cut.
 pub(crate) fn of_fields(alloc: Global, line: &[u8]) -> Result<Text, AllocError>
     ensures printable { IfOk result (λ label. IsTrue (list_all spec.is_printable label)) }
+    ensures label { IfOk result (λ label. label ≡ spec.fields_label line.now) }
 {
     let mut label = Vec::new(alloc);
-    for field in line.split(|byte| *byte == b' ') {
-        if !label.is_empty() {
-            label.push(b' ')?;
-        }
+    let mut rest = line;
+    while let Some((field, after)) = cut(b' ', rest) {
         push_word(&mut label, field)?;
+        label.push(b' ')?;
+        rest = after;
     }
+    push_word(&mut label, rest)?;
     Ok(Text::from_vec(label))
 }
 

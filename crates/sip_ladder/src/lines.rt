@@ -1,15 +1,14 @@
 //! The lines of a ladder, from the rounds and what they gave.
 
-ghost use Rattle.std.specs.Prelude.{◌≡◌, ◌++◌, IfOk, OnOk, map};
+ghost use Rattle.std.specs.Prelude.{◌≡◌, ◌++◌, codes, IfOk, OnOk, List, ℕ, map};
 ghost use Rattle.sip_ladder.specs.Shapes as spec;
-ghost use Rattle.sip_ladder.specs.declared.line.Way.TheVariants.{Own};
+ghost use Rattle.sip_ladder.specs.Shapes.{Comes, IsGiven, Shows};
 
-use crate::before::Before;
+use crate::before::{Before, name_of};
 use crate::label::{of_datagram, of_fields};
 use crate::line::{Line, Way};
-use sip_files::{write_output, write_round};
+use sip_files::{write_event, write_output};
 use sip_round::{Event, Output, Round};
-use sip_text::{Text, cut};
 use std::alloc::{AllocError, Global};
 
 /// A line for each event and each output of the rounds.
@@ -43,68 +42,49 @@ fn add_round(
     round: &Round,
     outputs: &[Output],
 ) -> Result<(), AllocError>
-    ensures { OnOk result (map spec.shape lines.new.items ≡ map spec.shape lines.old.items
-        ++ spec.round_shapes round.now outputs.now) }
+    ensures { OnOk result (Shows (spec.round_happenings round.now outputs.now) lines.old.items
+        lines.new.items before.old.names.keys before.new.names.keys) }
 {
-    let text = write_round(alloc, round)?;
     let moment = round.moment;
-    add_events(
-        alloc,
-        lines,
-        before,
-        moment,
-        round.events.as_slice(),
-        after_line(&text),
-    )?;
+    add_events(alloc, lines, before, moment, round.events.as_slice())?;
     add_outputs(alloc, lines, before, moment, outputs)
 }
 
-// The lines of events; those of an event file that spell them stand in `texts`.
 fn add_events(
     alloc: Global,
     lines: &mut Vec<Line>,
     before: &mut Before,
     moment: u64,
     events: &[Event],
-    texts: &[u8],
 ) -> Result<(), AllocError>
-    ensures { OnOk result (map spec.shape lines.new.items ≡ map spec.shape lines.old.items
-        ++ map (λ event. (moment, spec.event_way event)) events.now) }
+    ensures { OnOk result (Shows (map (Comes moment) events.now) lines.old.items lines.new.items
+        before.old.names.keys before.new.names.keys) }
 {
-    let mut texts = texts;
     for event in events {
-        let line = event_line(alloc, before, moment, event, texts)?;
+        let line = event_line(alloc, before, moment, event)?;
         lines.push(line)?;
-        texts = after_line(texts);
     }
     Ok(())
 }
 
-// What follows the first line.
-fn after_line(text: &[u8]) -> &[u8] {
-    match cut(b'\n', text) {
-        Some((_, after)) => after,
-        None => b"".as_slice(),
-    }
-}
-
-// The line of an event; its own in an event file stands at the front of these.
+#[tactic(auto, unfolding(sip_files::specs::Written::ended_text))]
 fn event_line(
     alloc: Global,
     before: &mut Before,
     moment: u64,
     event: &Event,
-    texts: &[u8],
 ) -> Result<Line, AllocError>
-    ensures { IfOk result (λ line. spec.shape line ≡ (moment, spec.event_way event.now)) }
+    ensures shape { IfOk result (λ line. spec.shape line
+        ≡ spec.event_shape before.old.names.keys moment event.now) }
+    ensures names { OnOk result (before.new.names.keys
+        ≡ spec.event_names before.old.names.keys event.now) }
 {
     match event {
         Event::Datagram { from, bytes } => {
             arrow(alloc, before, moment, Way::In(*from), bytes.as_slice())
         }
         Event::Failed(_) | Event::Command(_) => {
-            let text = cut(b'\n', texts).map_or(texts, |(line, _)| line);
-            own_line(alloc, moment, text)
+            own_line(alloc, moment, &write_event(alloc, event)?)
         }
     }
 }
@@ -116,8 +96,8 @@ fn add_outputs(
     moment: u64,
     outputs: &[Output],
 ) -> Result<(), AllocError>
-    ensures { OnOk result (map spec.shape lines.new.items ≡ map spec.shape lines.old.items
-        ++ map (λ output. (moment, spec.output_way output)) outputs.now) }
+    ensures { OnOk result (Shows (map (IsGiven moment) outputs.now) lines.old.items
+        lines.new.items before.old.names.keys before.new.names.keys) }
 {
     for output in outputs {
         let line = output_line(alloc, before, moment, output)?;
@@ -126,25 +106,24 @@ fn add_outputs(
     Ok(())
 }
 
+#[tactic(auto, unfolding(sip_files::specs::Outputs::output_line))]
 fn output_line(
     alloc: Global,
     before: &mut Before,
     moment: u64,
     output: &Output,
 ) -> Result<Line, AllocError>
-    ensures { IfOk result (λ line. spec.shape line ≡ (moment, spec.output_way output.now)) }
+    ensures shape { IfOk result (λ line. spec.shape line
+        ≡ spec.output_shape before.old.names.keys moment output.now) }
+    ensures names { OnOk result (before.new.names.keys
+        ≡ spec.output_names before.old.names.keys output.now) }
 {
     match output {
         Output::Send { to, bytes, .. } => {
             arrow(alloc, before, moment, Way::Out(*to), bytes.as_slice())
         }
         Output::Dropped { .. } | Output::Notice(_) => {
-            let text = write_output(alloc, output)?;
-            own_line(
-                alloc,
-                moment,
-                text.strip_suffix(b"\n".as_slice()).unwrap_or(&text),
-            )
+            own_line(alloc, moment, &write_output(alloc, output)?)
         }
     }
 }
@@ -157,18 +136,32 @@ fn arrow(
     way: Way,
     bytes: &[u8],
 ) -> Result<Line, AllocError>
-    ensures { IfOk result (λ line. spec.shape line ≡ (moment, way)) }
+    ensures shape { IfOk result (λ line. spec.shape line
+        ≡ spec.arrow_shape before.old.names.keys moment way bytes.now) }
+    ensures names { OnOk result (before.new.names.keys
+        ≡ spec.with_name (spec.datagram_name way bytes.now) before.old.names.keys) }
 {
-    let is_again = before.add(way, bytes)?;
+    let is_again = before.add(name_of(alloc, way, bytes)?)?;
     let label = of_datagram(alloc, bytes, is_again)?;
     Ok(Line { moment, way, label })
 }
 
-// A line without an arrow, of a text that has fields.
-fn own_line(alloc: Global, moment: u64, text: &[u8]) -> Result<Line, AllocError>
-    ensures { IfOk result (λ line. spec.shape line ≡ (moment, Own)) }
+// A line without an arrow, of a line of a file with its end.
+fn own_line(alloc: Global, moment: u64, line: &[u8]) -> Result<Line, AllocError>
+    ensures { (text : List ℕ) → line.now ≡ text ++ codes "\n"
+        → IfOk result (λ line. spec.shape line ≡ spec.own_shape moment text) }
 {
     let way = Way::Own;
-    let label: Text = of_fields(alloc, text)?;
+    let label = of_fields(alloc, without_end(line))?;
     Ok(Line { moment, way, label })
+}
+
+// A line without its end.
+fn without_end(line: &[u8]) -> &[u8]
+    ensures { (text : List ℕ) → line.now ≡ text ++ codes "\n" → result.now ≡ text }
+{
+    match line.split_last() {
+        Some((_, text)) => text,
+        None => line,
+    }
 }

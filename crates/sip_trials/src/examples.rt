@@ -6,6 +6,7 @@
 mod calls;
 mod dialogs;
 mod files;
+mod heads;
 mod lines;
 mod messages;
 mod pieces;
@@ -32,7 +33,7 @@ use std::thread::Threads;
 use worked::{CONFIG, LOCAL, SEED};
 
 /// The names of the examples, in the order of their numbers.
-const NAMES: [&str; 45] = [
+const NAMES: [&str; 49] = [
     "unfold",
     "lines",
     "split_values",
@@ -78,6 +79,10 @@ const NAMES: [&str; 45] = [
     "Desk",
     "Message::with_content",
     "Agent::run_round_with_places",
+    "start_line",
+    "header_values",
+    "header_lines",
+    "Host",
 ];
 
 // The example of this number.
@@ -130,6 +135,10 @@ fn example<T: Threads + Sync>(threads: &T, alloc: Global, number: usize) -> Resu
         44 => {
             rounds::outputs_have_the_places_of_their_events(threads, alloc, &mut agent(alloc)?)
         }
+        45 => heads::a_start_line(alloc),
+        46 => heads::the_values_of_a_header(alloc),
+        47 => heads::header_lines_in_order(alloc),
+        48 => heads::a_host_reads_a_datagram(alloc),
         _ => Err(Stop::Words),
     }
 }

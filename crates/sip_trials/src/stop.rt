@@ -3,6 +3,7 @@
 use sip_desk::Unfinished;
 use sip_dialog::DialogFault;
 use sip_files::{EventsFault, ReplayFault};
+use sip_host::HostFault;
 use sip_message::ReadFault;
 use sip_round::RoundFault;
 use sip_text::TextFault;
@@ -130,6 +131,19 @@ impl From<AllocError> for Stop {
 impl<T: Drop> From<AllocFailed<T>> for Stop {
     fn from(_error: AllocFailed<T>) -> Stop {
         Stop::NoMemory
+    }
+}
+
+impl From<HostFault> for Stop {
+    fn from(fault: HostFault) -> Stop {
+        match fault {
+            HostFault::NoMemory => Stop::NoMemory,
+            HostFault::Round(fault) => Stop::from(fault),
+            HostFault::BadLine
+            | HostFault::TooManyEvents
+            | HostFault::NoSend
+            | HostFault::OutputsLeft => Stop::Different,
+        }
     }
 }
 

@@ -1,6 +1,9 @@
 //! The turns of a user agent: a round each.
 
+ghost use Rattle.std.specs.Prelude.{◌≡◌, ◌++◌, List, OnOk, map};
 ghost use Rattle.sip_desk.specs.Lines.{KeepsLines};
+ghost use Rattle.sip_round.specs.declared.round.Event.{Event as AnEvent};
+ghost use Rattle.sip_udp.specs.Sending.{SendsAll};
 
 use crate::bell::Bell;
 use crate::counts::Counts;
@@ -181,8 +184,7 @@ impl<U: User, F: Write + Drop> Turns<U, F> {
         errors: &mut E,
     ) -> Result<(), UaFault> {
         let (round, outputs) = self.run_round(rt, errors)?;
-        let mut failed = send_all(self.alloc, outlet, &outputs)?;
-        self.waiting.append(&mut failed)?;
+        self.send(outlet, &outputs)?;
         self.tell_user(&outputs)?;
         let telling = Telling {
             kind: self.record.kind,
@@ -190,6 +192,22 @@ impl<U: User, F: Write + Drop> Turns<U, F> {
         };
         let events = round.events.as_slice();
         write_notices(self.alloc, notices, telling, events, &outputs)
+    }
+
+    // Sends the outputs; what failed waits for the next round.
+    fn send<O: Outlet>(
+        &mut self,
+        outlet: &mut O,
+        outputs: &[PlacedOutput],
+    ) -> Result<(), AllocError>
+        ensures { OnOk result ((failed : List AnEvent)
+            × SendsAll (O.asked outlet.old) (O.asked outlet.new)
+            (map (λ placed. placed.output) outputs.now) failed
+            × (self.new.waiting.items ≡ self.old.waiting.items ++ failed)) }
+    {
+        let mut failed = send_all(self.alloc, outlet, outputs)?;
+        self.waiting.append(&mut failed)?;
+        Ok(())
     }
 
     // Sleeps, or waits at the bell for the first event, no longer than nothing is due.

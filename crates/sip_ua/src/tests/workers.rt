@@ -12,13 +12,29 @@ use std::thread;
 // How often a job looks before it gives up waiting for the others.
 const MOST_TURNS: u32 = 10_000_000;
 
-// Says how many pieces have begun.
-#[derive(Drop)]
-struct Count(AtomicU64);
+// How often a job that counts the others lets them go on.
+const FEW_TURNS: u32 = 1_000;
 
-impl Gate for Count {
-    fn begin(&self, _shard: usize) {
-        self.0.fetch_add(1, Ordering::SeqCst);
+// Adds up the bits of the shards whose pieces have begun.
+#[derive(Drop)]
+struct Begun(AtomicU64);
+
+impl Begun {
+    fn none() -> Begun {
+        Begun(AtomicU64::new(0))
+    }
+
+    // Whether each of so many shards has begun once, from 0 on.
+    fn is_all(&self, count: u32) -> bool {
+        let bits = u64::MAX.checked_shr(64u32.saturating_sub(count)).unwrap_or(0);
+        self.0.load(Ordering::SeqCst) == bits
+    }
+}
+
+impl Gate for Begun {
+    fn begin(&self, shard: usize) {
+        let bit = u32::try_from(shard).ok().and_then(|shard| 1u64.checked_shl(shard));
+        self.0.fetch_add(bit.unwrap_or(0), Ordering::SeqCst);
     }
 }
 
@@ -43,6 +59,27 @@ impl<'a> Job for Waits<'a> {
             thread::yield_now();
         }
         false
+    }
+}
+
+// Says how many jobs run as it runs, itself among them.
+#[derive(Drop)]
+struct Counts<'a> {
+    running: &'a AtomicU64,
+}
+
+impl<'a> Job for Counts<'a> {
+    type Done = u64;
+
+    ghost gives = { λ _ _. Unit {0} };
+
+    fn run(self) -> u64 {
+        let others = self.running.fetch_add(1, Ordering::SeqCst);
+        for _ in 0..FEW_TURNS {
+            thread::yield_now();
+        }
+        self.running.fetch_sub(1, Ordering::SeqCst);
+        others.saturating_add(1)
     }
 }
 
@@ -106,13 +143,29 @@ fn all_met(dones: &[(usize, bool)]) -> bool {
 #[test]
 fn as_many_pieces_run_as_there_are_workers(rt: HostRuntime) -> Result<(), Fail> {
     for workers in 1..3 {
-        let gate = Count(AtomicU64::new(0));
+        let gate = Begun::none();
         let running = AtomicU64::new(0);
         let pieces = waiting(rt.alloc(), &running, 2, 0, true)?;
         let dones = run_pieces(&rt, rt.alloc(), pieces, workers, &gate)?;
         assert!(rt; dones.len() == 2);
         assert!(rt; all_met(&dones) == (workers == 2));
-        assert!(rt; gate.0.load(Ordering::SeqCst) == 2);
+        assert!(rt; gate.is_all(2));
+    }
+    Ok(())
+}
+
+#[test]
+fn no_more_pieces_run_than_there_are_workers(rt: HostRuntime) -> Result<(), Fail> {
+    for workers in 1..5 {
+        let running = AtomicU64::new(0);
+        let mut pieces = Vec::new(rt.alloc());
+        for shard in 0..16 {
+            let job = Counts { running: &running };
+            pieces.push(Piece { shard, job })?;
+        }
+        let dones = run_pieces(&rt, rt.alloc(), pieces, workers, &Begun::none())?;
+        assert!(rt; dones.len() == 16);
+        assert!(rt; dones.iter().all(|done| done.1 <= workers as u64));
     }
     Ok(())
 }
@@ -120,13 +173,13 @@ fn as_many_pieces_run_as_there_are_workers(rt: HostRuntime) -> Result<(), Fail> 
 #[test]
 fn a_piece_that_waits_holds_up_no_other(rt: HostRuntime) -> Result<(), Fail> {
     for waiter in 0..4 {
-        let gate = Count(AtomicU64::new(0));
+        let gate = Begun::none();
         let running = AtomicU64::new(0);
         let pieces = waiting(rt.alloc(), &running, 4, waiter, false)?;
         let dones = run_pieces(&rt, rt.alloc(), pieces, 2, &gate)?;
         assert!(rt; dones.len() == 4);
         assert!(rt; all_met(&dones), "where {waiter} waits");
-        assert!(rt; gate.0.load(Ordering::SeqCst) == 4);
+        assert!(rt; gate.is_all(4));
     }
     Ok(())
 }
@@ -149,10 +202,10 @@ fn gathers_the_same_each_time(rt: HostRuntime) -> Result<(), Fail> {
     dones_in_order::<Square>();
     for (count, workers, times) in [(64, 8, 200), (3, 64, 1), (0, 64, 1)] {
         for _ in 0..times {
-            let gate = Count(AtomicU64::new(0));
+            let gate = Begun::none();
             let dones = run_pieces(&rt, rt.alloc(), squares(rt.alloc(), count)?, workers, &gate)?;
             assert!(rt; are_squares(&gather(rt.alloc(), dones)?, count));
-            assert!(rt; gate.0.load(Ordering::SeqCst) == u64::from(count));
+            assert!(rt; gate.is_all(count));
         }
     }
     Ok(())

@@ -1,8 +1,8 @@
-use Rattle.std.proofs.Common.{◌≡◌, ◌++◌, map, take}
-use Rattle.sip_ladder.specs.Shapes.{event_way, shape}
+use Rattle.std.proofs.Common.{map, take}
+use Rattle.sip_ladder.specs.Shapes.{Comes, Shows}
 use Rattle.sip_ladder.proofs.lines.add_events.Given as goal
 
 abbrev pub invariant-loop-event : goal.invariant-loop-event
 invariant-loop-event l =
-    map shape l.lines.items ≡ map shape l.fn.lines.items
-    ++ map (λ event. (l.moment, event_way event)) (take l.event-index l.events)
+    Shows (map (Comes l.moment) (take l.event-index l.events)) l.fn.lines.items l.lines.items
+    l.fn.before.names.keys l.before.names.keys

@@ -1,8 +1,8 @@
-use Rattle.std.proofs.Common.{◌≡◌, ◌++◌, map, take}
-use Rattle.sip_ladder.specs.Shapes.{output_way, shape}
+use Rattle.std.proofs.Common.{map, take}
+use Rattle.sip_ladder.specs.Shapes.{IsGiven, Shows}
 use Rattle.sip_ladder.proofs.lines.add_outputs.Given as goal
 
 abbrev pub invariant-loop-output : goal.invariant-loop-output
 invariant-loop-output l =
-    map shape l.lines.items ≡ map shape l.fn.lines.items
-    ++ map (λ output. (l.moment, output_way output)) (take l.output-index l.outputs)
+    Shows (map (IsGiven l.moment) (take l.output-index l.outputs)) l.fn.lines.items l.lines.items
+    l.fn.before.names.keys l.before.names.keys
