@@ -36,10 +36,23 @@ int main() {
     expect_status(SIP_UA_NOT_HELD, "moved from", [&] { first.run(0); });
     auto told = agent.run(0);
     expect(told.size() == 1 && !told[0].to, "a request is told");
-    agent.event_line("respond c1 0.1 200 plain - OK");
+    expect(told[0].place == 1, "by its place");
+    const auto start = agent.start_line(1);
+    expect(start && start->method == "OPTIONS" && start->uri == "sip:a@192.0.2.1", "its start line");
+    expect(!agent.start_line(2), "no datagram");
+    expect(agent.header_values(1, "f") == std::vector<std::string>{"<sip:b@192.0.2.9>;tag=f1"},
+           "the values of a header");
+    const auto came = agent.datagram_at(1);
+    expect(came && came->bytes == options && came->from.port == 5060, "the datagram");
+    expect(!agent.last_id().is_given, "no event was given");
+    agent.event_lines(" Allow: INVITE, ACK, BYE\nrespond c1 0.1 200 plain - OK");
+    const sip_ua_id id = agent.last_id();
+    expect(id.is_given && id.round == 1 && id.place == 1, "the id of a command");
     auto sent = agent.run(5);
     expect(sent.size() == 1 && sent[0].to && sent[0].text.rfind("SIP/2.0 200 OK\r\n", 0) == 0,
            "the answer is sent");
+    expect(sent[0].text.find("\r\nAllow: INVITE, ACK, BYE\r\n") != std::string::npos,
+           "with its header");
     expect(agent.next_due().has_value(), "the end of the transaction is due");
     expect_status(SIP_UA_BACKWARDS, "a moment that goes back", [&] { agent.run(4); });
     expect_status(SIP_UA_TOO_LARGE, "a moment above 2^62", [&] { agent.run(UINT64_MAX); });

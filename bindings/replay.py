@@ -1,5 +1,5 @@
-"""Replays event files through sip_ua.py: `replay.py LIBRARY EVENTS OUTPUTS ..` compares what it
-writes of each with its output file, and says how many are the same."""
+"""Replays event files and session files through sip_ua.py: `replay.py LIBRARY EVENTS OUTPUTS ..`
+compares what it writes of each with its output file, and says how many are the same."""
 
 import sys
 
@@ -25,6 +25,7 @@ def written(output) -> bytes:
 def replay(library: str, events: bytes) -> bytes:
     lines = events.split(b"\n")[:-1]
     head, agent, moment, made = {}, None, None, [b"sip-outputs 1\n"]
+    headers = b""
 
     def run():
         made.append(b"round %d\n" % moment)
@@ -42,6 +43,11 @@ def replay(library: str, events: bytes) -> bytes:
             moment = int(fields)
         elif agent is None:
             head[word] = fields
+        elif line.startswith(b" "):
+            headers += line + b"\n"
+        elif headers:
+            agent.event_lines(headers + line)
+            headers = b""
         else:
             agent.event_line(line)
     if agent is not None:
@@ -75,6 +81,30 @@ def faults(library: str) -> list:
     return told
 
 
+def reads(library: str) -> bool:
+    """A command with a header, and what a datagram says that is dropped."""
+    with Agent(library, ("192.0.2.1", 5060), bytes(32)) as agent:
+        asked = agent.command(
+            b"plain c1 192.0.2.9:5060 MESSAGE sip:b@192.0.2.9 sip:a@192.0.2.1 sip:b@192.0.2.9 hi",
+            [(b"Content-Type", b"text/plain")],
+        )
+        sent = agent.run(0)[0]
+        data = b"INFO sip:a@b SIP/2.0\r\nf: <sip:c@d>\r\nSubject: one\r\n two\r\n\r\n"
+        agent.datagram(("192.0.2.9", 5060), data)
+        dropped = agent.run(1)[0]
+        return (
+            asked == (0, 1)
+            and b"\r\nContent-Type: text/plain\r\n" in sent.text
+            and dropped.place == 1
+            and agent.datagram_at(1) == (("192.0.2.9", 5060), data)
+            and agent.start_line(1) == (b"INFO", b"sip:a@b", None, None)
+            and agent.header_values(1, b"from") == [b"<sip:c@d>"]
+            and agent.header_values(1, b"SUBJECT") == [b"one two"]
+            and agent.header_values(2, b"From") == []
+            and agent.start_line(0) is None
+        )
+
+
 def main() -> int:
     library, files = sys.argv[1], sys.argv[2:]
     same = 0
@@ -88,7 +118,9 @@ def main() -> int:
     print(f"  {same} of {total} replays are the same")
     right = faults(library) == [7, 8, 3, 5, 0, 1, 1, 12]
     print("  misuse: " + ("told" if right else f"not told: {faults(library)}"))
-    return 0 if same == total and right else 1
+    read = reads(library)
+    print("  headers out and in: " + ("right" if read else "wrong"))
+    return 0 if same == total and right and read else 1
 
 
 if __name__ == "__main__":

@@ -26,11 +26,28 @@ struct Error : std::runtime_error {
 using Address = sip_ua_address;
 using Configuration = sip_ua_configuration;
 
-/// An output of a round: a datagram with the address that it goes to, or a line without one.
+/// An output of a round: a datagram with the address that it goes to, or a line without one. `place`
+/// is that of the event that it comes of, from 1, or 0 where it comes with time.
 struct Output {
     std::size_t index;
     std::optional<Address> to;
     std::string text;
+    std::uint32_t place;
+};
+
+/// A datagram that came in.
+struct Datagram {
+    Address from;
+    std::string bytes;
+};
+
+/// A start line: of a request its method and Request-URI, of a response (without a method) its
+/// status and reason.
+struct StartLine {
+    std::string method;
+    std::string uri;
+    std::uint32_t status;
+    std::string reason;
 };
 
 class Agent {
@@ -69,6 +86,19 @@ public:
         check(sip_ua_event_line(&agent, line.empty() ? "" : line.data(), line.size()));
     }
 
+    /// The lines of an event as a session file has them, without the end of the last: a command with
+    /// its header lines before it.
+    void event_lines(std::string_view lines) {
+        check(sip_ua_event_lines(&agent, lines.empty() ? "" : lines.data(), lines.size()));
+    }
+
+    /// The id of the event that was given last, if the next round has one.
+    sip_ua_id last_id() {
+        sip_ua_id id;
+        check(sip_ua_last_id(&agent, &id));
+        return id;
+    }
+
     /// The send of this index of the last round could not be sent.
     void failed(std::size_t output) { check(sip_ua_failed(&agent, output)); }
 
@@ -88,12 +118,65 @@ public:
         return due.is_due ? std::optional(due.moment) : std::nullopt;
     }
 
+    /// The datagram that came in at a place of the last round.
+    std::optional<Datagram> datagram_at(std::uint32_t place) {
+        sip_ua_came came;
+        const std::string bytes = text_of(came, [&](std::uint8_t *room, std::size_t size) {
+            return sip_ua_datagram_at(&agent, place, &came, room, size);
+        });
+        if (!came.is_there)
+            return std::nullopt;
+        return Datagram{came.from, bytes};
+    }
+
+    /// Its start line, if it has one.
+    std::optional<StartLine> start_line(std::uint32_t place) {
+        sip_ua_start start;
+        check(sip_ua_start_line(&agent, place, &start, buffer.data(), buffer.size()));
+        if (start.method_len + start.len > buffer.size()) {
+            buffer.resize(start.method_len + start.len);
+            check(sip_ua_start_line(&agent, place, &start, buffer.data(), buffer.size()));
+        }
+        const std::string text(reinterpret_cast<const char *>(buffer.data()),
+                               start.method_len + start.len);
+        if (start.kind == SIP_UA_REQUEST)
+            return StartLine{text.substr(0, start.method_len), text.substr(start.method_len), 0, {}};
+        if (start.kind == SIP_UA_RESPONSE)
+            return StartLine{{}, {}, start.status, text};
+        return std::nullopt;
+    }
+
+    /// The values of a header of it, by its long or its compact name in any case.
+    std::vector<std::string> header_values(std::uint32_t place, std::string_view name) {
+        std::vector<std::string> values;
+        for (;;) {
+            sip_ua_text told;
+            std::string value = text_of(told, [&](std::uint8_t *room, std::size_t size) {
+                return sip_ua_header_value(&agent, place, name.empty() ? "" : name.data(),
+                                           name.size(), values.size(), &told, room, size);
+            });
+            if (!told.is_there)
+                return values;
+            values.push_back(std::move(value));
+        }
+    }
+
 private:
     static constexpr sip_ua none = SIP_UA_NONE;
 
     static void check(std::uint32_t status) {
         if (status != SIP_UA_OK)
             throw Error(status);
+    }
+
+    // The text that a call tells of, for which the buffer grows.
+    template <class Told, class Call> std::string text_of(const Told &told, Call call) {
+        check(call(buffer.data(), buffer.size()));
+        if (told.len > buffer.size()) {
+            buffer.resize(told.len);
+            check(call(buffer.data(), buffer.size()));
+        }
+        return std::string(reinterpret_cast<const char *>(buffer.data()), told.len);
     }
 
     std::optional<Output> next_output() {
@@ -109,7 +192,7 @@ private:
         if (output.kind == SIP_UA_SEND)
             to = output.to;
         const char *text = reinterpret_cast<const char *>(buffer.data());
-        return Output{output.index, to, std::string(text, output.len)};
+        return Output{output.index, to, std::string(text, output.len), output.place};
     }
 
     sip_ua agent = SIP_UA_NONE;

@@ -15,7 +15,7 @@ An agent is used by one thread at a time. Moments are in ms and never go back.
 
 import ctypes
 import ipaddress
-from typing import List, NamedTuple, Optional, Tuple
+from typing import List, NamedTuple, Optional, Sequence, Tuple
 
 NOT_HELD = 1
 HELD = 2
@@ -31,6 +31,8 @@ BROKEN = 11
 BAD_CONFIGURATION = 12
 
 _SEND = 1
+_REQUEST = 1
+_RESPONSE = 2
 
 
 class Error(Exception):
@@ -42,11 +44,24 @@ class Error(Exception):
 
 
 class Output(NamedTuple):
-    """An output of a round: a datagram with the address that it goes to, or a line without one."""
+    """An output of a round: a datagram with the address that it goes to, or a line without one.
+
+    `place` is that of the event that it comes of, from 1, or 0 where it comes with time.
+    """
 
     index: int
     to: Optional[Tuple[str, int]]
     text: bytes
+    place: int
+
+
+class StartLine(NamedTuple):
+    """A start line: of a request its method and Request-URI, of a response its status and reason."""
+
+    method: Optional[bytes]
+    uri: Optional[bytes]
+    status: Optional[int]
+    reason: Optional[bytes]
 
 
 class _Agent(ctypes.Structure):
@@ -64,6 +79,7 @@ class _Configuration(ctypes.Structure):
 class _Output(ctypes.Structure):
     _fields_ = [
         ("kind", ctypes.c_uint32),
+        ("place", ctypes.c_uint32),
         ("to", _Address),
         ("index", ctypes.c_size_t),
         ("len", ctypes.c_size_t),
@@ -74,16 +90,47 @@ class _Due(ctypes.Structure):
     _fields_ = [("is_due", ctypes.c_bool), ("moment", ctypes.c_uint64)]
 
 
+class _Id(ctypes.Structure):
+    _fields_ = [
+        ("is_given", ctypes.c_bool),
+        ("place", ctypes.c_uint32),
+        ("round", ctypes.c_uint64),
+    ]
+
+
+class _Came(ctypes.Structure):
+    _fields_ = [("is_there", ctypes.c_bool), ("source", _Address), ("len", ctypes.c_size_t)]
+
+
+class _Text(ctypes.Structure):
+    _fields_ = [("is_there", ctypes.c_bool), ("len", ctypes.c_size_t)]
+
+
+class _Start(ctypes.Structure):
+    _fields_ = [
+        ("kind", ctypes.c_uint32),
+        ("status", ctypes.c_uint32),
+        ("method_len", ctypes.c_size_t),
+        ("len", ctypes.c_size_t),
+    ]
+
+
 _bytes = ctypes.c_char_p
 _size = ctypes.c_size_t
+_place = ctypes.c_uint32
 _FUNCTIONS = {
     "new": (ctypes.POINTER(_Configuration), _size),
     "datagram": (ctypes.POINTER(_Address), _bytes, _size),
     "event_line": (_bytes, _size),
+    "event_lines": (_bytes, _size),
     "failed": (_size,),
     "run": (ctypes.c_uint64,),
     "next_output": (ctypes.POINTER(_Output), ctypes.c_void_p, _size),
     "next_due": (ctypes.POINTER(_Due),),
+    "last_id": (ctypes.POINTER(_Id),),
+    "datagram_at": (_place, ctypes.POINTER(_Came), ctypes.c_void_p, _size),
+    "start_line": (_place, ctypes.POINTER(_Start), ctypes.c_void_p, _size),
+    "header_value": (_place, _bytes, _size, _size, ctypes.POINTER(_Text), ctypes.c_void_p, _size),
     "free": (),
 }
 
@@ -102,6 +149,11 @@ def _address(address: Tuple[str, int]) -> _Address:
     if not 0 <= port <= 65535:
         raise ValueError("port")
     return _Address((ctypes.c_uint8 * 4)(*ipaddress.IPv4Address(ip).packed), port)
+
+
+def _escaped(value: bytes) -> bytes:
+    """A value as the last field of a line spells it."""
+    return value.replace(b"\\", b"\\\\").replace(b"\r", b"\\r").replace(b"\n", b"\\n")
 
 
 def _number(number: int, bits: int) -> int:
@@ -142,6 +194,19 @@ class Agent:
         """A line of an event file without its end, as a command of the user."""
         self._call("event_line", bytes(line), len(line))
 
+    def event_lines(self, lines: bytes) -> None:
+        """The lines of an event as a session file has them, the last one without its end."""
+        self._call("event_lines", bytes(lines), len(lines))
+
+    def command(self, line: bytes, headers: Sequence[Tuple[bytes, bytes]] = ()) -> Tuple[int, int]:
+        """A command of the user with headers of its own, each a name and a value; the id, round and
+        place, by which lines tell of it."""
+        given = b"".join(b" %s: %s\n" % (name, _escaped(value)) for name, value in headers)
+        self.event_lines(given + line)
+        told = _Id()
+        self._call("last_id", ctypes.byref(told))
+        return told.round, told.place
+
     def failed(self, output: int) -> None:
         """The send of this index of the last round could not be sent."""
         self._call("failed", _number(output, 64))
@@ -168,7 +233,46 @@ class Agent:
         to = None
         if told.kind == _SEND:
             to = (str(ipaddress.IPv4Address(bytes(told.to.ip))), told.to.port)
-        return Output(told.index, to, ctypes.string_at(self._buffer, told.len))
+        return Output(told.index, to, ctypes.string_at(self._buffer, told.len), told.place)
+
+    def _text(self, name: str, told, *words) -> bytes:
+        """What is told is filled in, and its text given, for which the buffer grows."""
+        self._call(name, *words, ctypes.byref(told), self._buffer, len(self._buffer))
+        length = told.len + getattr(told, "method_len", 0)
+        if length > len(self._buffer):
+            self._buffer = ctypes.create_string_buffer(length)
+            self._call(name, *words, ctypes.byref(told), self._buffer, length)
+        return ctypes.string_at(self._buffer, length)
+
+    def datagram_at(self, place: int) -> Optional[Tuple[Tuple[str, int], bytes]]:
+        """The source and the bytes of the datagram that came in at a place of the last round."""
+        told = _Came()
+        data = self._text("datagram_at", told, _number(place, 32))
+        if not told.is_there:
+            return None
+        return (str(ipaddress.IPv4Address(bytes(told.source.ip))), told.source.port), data
+
+    def start_line(self, place: int) -> Optional[StartLine]:
+        """Its start line, if it has one."""
+        told = _Start()
+        text = self._text("start_line", told, _number(place, 32))
+        if told.kind == _REQUEST:
+            return StartLine(text[: told.method_len], text[told.method_len :], None, None)
+        if told.kind == _RESPONSE:
+            return StartLine(None, None, told.status, text)
+        return None
+
+    def header_values(self, place: int, name: bytes) -> List[bytes]:
+        """The values of a header of it, by its long or its compact name in any case."""
+        values = []
+        while True:
+            told = _Text()
+            value = self._text(
+                "header_value", told, _number(place, 32), bytes(name), len(name), len(values)
+            )
+            if not told.is_there:
+                return values
+            values.append(value)
 
     def next_due(self) -> Optional[int]:
         """The first moment at which something is due."""

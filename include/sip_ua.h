@@ -8,7 +8,7 @@
  *     sip_ua_new(&agent, &configuration, 1);
  *     for (;;) {
  *         .. wait for a datagram, a command of the user, or the moment of sip_ua_next_due
- *         sip_ua_datagram(..), sip_ua_event_line(..), sip_ua_failed(..)
+ *         sip_ua_datagram(..), sip_ua_event_line(..), sip_ua_event_lines(..), sip_ua_failed(..)
  *         sip_ua_run(&agent, moment);
  *         while (sip_ua_next_output(&agent, &output, buffer, room) == SIP_UA_OK
  *                && output.kind != SIP_UA_NOTHING)
@@ -52,9 +52,9 @@ extern "C" {
 
 /* The version: what a program that uses an earlier one of the same major number can go on with. */
 #define SIP_UA_VERSION_MAJOR 0
-#define SIP_UA_VERSION_MINOR 1
+#define SIP_UA_VERSION_MINOR 2
 #define SIP_UA_VERSION_PATCH 0
-#define SIP_UA_VERSION "0.1.0"
+#define SIP_UA_VERSION "0.2.0"
 
 /* An agent, or none. Its fields are not for the program. */
 typedef struct sip_ua {
@@ -79,10 +79,12 @@ typedef struct sip_ua_configuration {
     uint64_t first;
 } sip_ua_configuration;
 
-/* An output. `index` counts the outputs of a round from 0; `to` counts for a send alone; `len` is
- * the length of its text in bytes. */
+/* An output. `place` is that of the event that it comes of, from 1 in the order in which the events
+ * were given, or 0 where it comes with time; `index` counts the outputs of a round from 0; `to`
+ * counts for a send alone; `len` is the length of its text in bytes. */
 typedef struct sip_ua_output {
     uint32_t kind;
+    uint32_t place;
     sip_ua_address to;
     size_t index;
     size_t len;
@@ -98,6 +100,41 @@ typedef struct sip_ua_due {
     bool is_due;
     uint64_t moment;
 } sip_ua_due;
+
+/* The id of an event: in lines it stands as `round.place`. */
+typedef struct sip_ua_id {
+    bool is_given;
+    uint32_t place;
+    uint64_t round;
+} sip_ua_id;
+
+/* A datagram that came in, if one did. */
+typedef struct sip_ua_came {
+    bool is_there;
+    sip_ua_address from;
+    size_t len;
+} sip_ua_came;
+
+/* A text, if there is one. */
+typedef struct sip_ua_text {
+    bool is_there;
+    size_t len;
+} sip_ua_text;
+
+/* A start line. `status` counts for a response, `method_len` for a request; `len` is the length of
+ * the Request-URI or of the reason. */
+typedef struct sip_ua_start {
+    uint32_t kind;
+    uint32_t status;
+    size_t method_len;
+    size_t len;
+} sip_ua_start;
+
+enum {
+    SIP_UA_NO_START = 0, /* no datagram came in there, or its first line is no start line */
+    SIP_UA_REQUEST = 1,  /* the text is the method and, right behind it, the Request-URI */
+    SIP_UA_RESPONSE = 2  /* the text is the reason */
+};
 
 /* What calls answer. After all but SIP_UA_OK and SIP_UA_BROKEN the agent is as it was before. */
 enum {
@@ -167,10 +204,19 @@ uint32_t sip_ua_raw_new(sip_ua *agent, const sip_ua_configuration *configuration
 uint32_t sip_ua_raw_datagram(sip_ua *agent, const sip_ua_address *from, const uint8_t *bytes,
                              size_t len);
 uint32_t sip_ua_raw_event_line(sip_ua *agent, const uint8_t *line, size_t len);
+uint32_t sip_ua_raw_event_lines(sip_ua *agent, const uint8_t *lines, size_t len);
 uint32_t sip_ua_raw_failed(sip_ua *agent, size_t output);
 uint32_t sip_ua_raw_run(sip_ua *agent, uint64_t moment);
 uint32_t sip_ua_raw_next_output(sip_ua *agent, sip_ua_output *output, uint8_t *buffer, size_t room);
 uint32_t sip_ua_raw_next_due(sip_ua *agent, sip_ua_due *due);
+uint32_t sip_ua_raw_last_id(sip_ua *agent, sip_ua_id *id);
+uint32_t sip_ua_raw_datagram_at(sip_ua *agent, uint32_t place, sip_ua_came *came, uint8_t *buffer,
+                                size_t room);
+uint32_t sip_ua_raw_start_line(sip_ua *agent, uint32_t place, sip_ua_start *start, uint8_t *buffer,
+                               size_t room);
+uint32_t sip_ua_raw_header_value(sip_ua *agent, uint32_t place, const uint8_t *name,
+                                 size_t name_len, size_t number, sip_ua_text *text,
+                                 uint8_t *buffer, size_t room);
 uint32_t sip_ua_raw_free(sip_ua *agent);
 
 /* Begins an agent, in a `sip_ua` that holds none. One shard serves; more of them, up to 256, change
@@ -200,6 +246,16 @@ static inline uint32_t sip_ua_event_line(sip_ua *agent, const char *line, size_t
     if (agent == NULL || line == NULL)
         return SIP_UA_NULL;
     return sip_ua_raw_event_line(agent, (const uint8_t *)line, len);
+}
+
+/* The lines of an event as a session file has them, the last one without its line feed: before the
+ * line of a command may stand its header lines, each of which begins with a space, as
+ * " Contact: <sip:a@192.0.2.1>\n" (docs/FORMATS.md). An event of the next round. The same answers. */
+static inline uint32_t sip_ua_event_lines(sip_ua *agent, const char *lines, size_t len)
+{
+    if (agent == NULL || lines == NULL)
+        return SIP_UA_NULL;
+    return sip_ua_raw_event_lines(agent, (const uint8_t *)lines, len);
 }
 
 /* The send of this index among the outputs of the last round could not be sent (the socket refused
@@ -241,6 +297,49 @@ static inline uint32_t sip_ua_next_due(sip_ua *agent, sip_ua_due *due)
     if (agent == NULL || due == NULL)
         return SIP_UA_NULL;
     return sip_ua_raw_next_due(agent, due);
+}
+
+/* The id of the event that was given last, if the next round has one: what a command sends goes by
+ * it in the lines that tell of it. */
+static inline uint32_t sip_ua_last_id(sip_ua *agent, sip_ua_id *id)
+{
+    if (agent == NULL || id == NULL)
+        return SIP_UA_NULL;
+    return sip_ua_raw_last_id(agent, id);
+}
+
+/* The datagram that came in at a place of the last round, if one did: what an output of that place
+ * tells of. Where its `len` is at most `room`, its bytes were written to the buffer. It is kept until
+ * the next round is run. So are the following two; they read a datagram also where it was dropped. */
+static inline uint32_t sip_ua_datagram_at(sip_ua *agent, uint32_t place, sip_ua_came *came,
+                                          uint8_t *buffer, size_t room)
+{
+    if (agent == NULL || came == NULL || buffer == NULL)
+        return SIP_UA_NULL;
+    return sip_ua_raw_datagram_at(agent, place, came, buffer, room);
+}
+
+/* Its start line. Where `method_len` and `len` together are at most `room`, the text was written to
+ * the buffer. SIP_UA_NO_MEMORY. */
+static inline uint32_t sip_ua_start_line(sip_ua *agent, uint32_t place, sip_ua_start *start,
+                                         uint8_t *buffer, size_t room)
+{
+    if (agent == NULL || start == NULL || buffer == NULL)
+        return SIP_UA_NULL;
+    return sip_ua_raw_start_line(agent, place, start, buffer, room);
+}
+
+/* The value of a header, of which there may be several: `number` counts its header lines from 0. The
+ * name may be the long or the compact one, in any case. The value has no folds, and no blanks at its
+ * ends. Where its `len` is at most `room`, it was written to the buffer. SIP_UA_NO_MEMORY. */
+static inline uint32_t sip_ua_header_value(sip_ua *agent, uint32_t place, const char *name,
+                                           size_t name_len, size_t number, sip_ua_text *text,
+                                           uint8_t *buffer, size_t room)
+{
+    if (agent == NULL || name == NULL || text == NULL || buffer == NULL)
+        return SIP_UA_NULL;
+    return sip_ua_raw_header_value(agent, place, (const uint8_t *)name, name_len, number, text,
+                                   buffer, room);
 }
 
 /* Ends the agent, whose `sip_ua` holds none then. SIP_UA_NOT_HELD where it holds none. */

@@ -1,20 +1,30 @@
 -- What calls through a handle do.
 use Rattle.std.specs.Prelude.{◌≡◌, ◌⊎◌, ◌^◌, ℕ, Bool, ◌&&◌, false, true, List, Option, None, Some, IsSomeAnd, length, nat_le, replicate}
 use Rattle.std.specs.List.{slice_get}
+use Rattle.std.specs.Option.{option_map}
 use Rattle.sip_message.specs.declared.addr.Addr.{Addr}
+use Rattle.sip_message.specs.declared.id.Id.{Id}
+use Rattle.sip_reader.specs.declared.first_line.FirstLine.{FirstLine}
 use Rattle.sip_round.specs.NextDue.{IsDueAfter, IsQuietAfter}
+use Rattle.sip_round.specs.Places.{event_at}
 use Rattle.sip_round.specs.declared.config.Config.{Config}
 use Rattle.sip_round.specs.declared.output.PlacedOutput.{PlacedOutput}
 use Rattle.sip_round.specs.declared.round.Round.{Round}
 use Rattle.sip_timers.specs.Queue.{is_due}
-use Rattle.sip_host.specs.Handing.{head_of, put_in, text_of}
-use Rattle.sip_host.specs.Hosting.{Answer, Begins, after_taking}
+use Rattle.sip_host.specs.Handing.{datagram_in, head_of, put_if, put_in, start_of, start_text, text_of}
+use Rattle.sip_host.specs.Hosting.{Answer, Begins, BeginsAt, HasValuesAt, after_taking}
 use Rattle.sip_host.specs.declared.host.Host.{Host}
 use Rattle.sip_host.specs.declared.next_output.NextOutput.{NextOutput}
+use Rattle.sip_host.specs.declared.start_length.StartLength.{StartLength}
+use Rattle.sip_host.specs.declared.start_length.StartLength.TheVariants as start
 use Rattle.sip_c.specs.Status.{number_of_answer}
 use Rattle.sip_c.specs.declared.values.Address.{Address}
 use Rattle.sip_c.specs.declared.values.Configuration.{Configuration}
+use Rattle.sip_c.specs.declared.values.Datagram.{Datagram}
 use Rattle.sip_c.specs.declared.values.Due.{Due}
+use Rattle.sip_c.specs.declared.values.EventId.{EventId}
+use Rattle.sip_c.specs.declared.values.StartLine.{StartLine}
+use Rattle.sip_c.specs.declared.values.TextLength.{TextLength}
 use Rattle.sip_c.specs.declared.values.Told.{Told}
 
 -- ---- values of C
@@ -40,14 +50,43 @@ kind_of (Some to) = 1
 
 -- what C is told of the next output, with zeros where there is none
 abbrev pub told_of : Option NextOutput → Told
-told_of None = record { kind = 0; to = address_of None; index = 0; len = 0 }
-told_of (Some next) =
-    record { kind = kind_of next.to; to = address_of next.to; index = next.index; len = next.len }
+told_of None = record { kind = 0; place = 0; to = address_of None; index = 0; len = 0 }
+told_of (Some next) = record {
+  kind = kind_of next.to;
+  place = next.place;
+  to = address_of next.to;
+  index = next.index;
+  len = next.len;
+}
 
 -- a moment, with zeros where there is none
 abbrev pub due_of : Option ℕ → Due
 due_of None = record { is_due = false; moment = 0 }
 due_of (Some moment) = record { is_due = true; moment = moment }
+
+-- the id of an event, with zeros where there is none
+abbrev pub id_of : Option Id → EventId
+id_of None = record { is_given = false; place = 0; round = 0 }
+id_of (Some id) = record { is_given = true; place = id.place; round = id.round }
+
+-- the source and the length of a datagram, with zeros where there is none
+abbrev pub datagram_of : Option (Addr × ℕ) → Datagram
+datagram_of None = record { is_there = false; from = address_of None; len = 0 }
+datagram_of (Some came) =
+    record { is_there = true; from = address_of (Some came.0); len = came.1 }
+
+-- the length of a text, and 0 where there is none
+abbrev pub length_of : Option ℕ → TextLength
+length_of None = record { is_there = false; len = 0 }
+length_of (Some length) = record { is_there = true; len = length }
+
+-- a request line is of kind 1, a status line of kind 2, with zeros where there is none
+abbrev pub start_line_of : Option StartLength → StartLine
+start_line_of None = record { kind = 0; status = 0; method_len = 0; len = 0 }
+start_line_of (Some (start.Request method uri)) =
+    record { kind = 1; status = 0; method_len = method; len = uri }
+start_line_of (Some (start.Response status reason)) =
+    record { kind = 2; status = status; method_len = 0; len = reason }
 
 -- ---- calls
 
@@ -89,3 +128,35 @@ GivesNext (Some old) new number told before after = IsSomeAnd new (λ host.
 pub record IsNextDue (config : Config) (rounds : List Round) (due : Option ℕ) : Type 0 where
   pub before : (moment : ℕ) → is_due moment due ≡ false → IsQuietAfter config rounds moment
   pub at : (moment : ℕ) → due ≡ Some moment → IsDueAfter config rounds moment
+
+-- ---- what a datagram says
+
+-- without an agent nothing is told of a datagram
+abbrev pub TellsNothing : {T : Type 0} → ℕ → T → T → List ℕ → List ℕ → Type 0
+TellsNothing number told nothing before after =
+    (number ≡ 1) × (told ≡ nothing) × (after ≡ before)
+
+-- for want of memory nothing is told either
+abbrev pub TellsOrNot : {T : Type 0} → ℕ → T → T → List ℕ → List ℕ → Type 0 → Type 0
+TellsOrNot number told nothing before after Tells =
+    ((number ≡ 0) × Tells) ⊎ ((number ≡ 10) × (told ≡ nothing) × (after ≡ before))
+
+-- the datagram of a place
+abbrev pub TellsDatagram : ℕ → Datagram → List ℕ → List ℕ → Host → Type 0
+TellsDatagram place told before after host =
+    let came = datagram_in (event_at host.last_events place) in
+    (told ≡ datagram_of (option_map (λ c. (c.0, length c.1)) came))
+    × (after ≡ put_if (option_map (λ c. c.1) came) before)
+
+-- its start line
+abbrev pub TellsStart : ℕ → StartLine → List ℕ → List ℕ → Host → Type 0
+TellsStart place told before after host = (says : Option (FirstLine (List ℕ)))
+    × BeginsAt host place says × (told ≡ start_line_of (option_map start_of says))
+    × (after ≡ put_if (option_map start_text says) before)
+
+-- the value of this number of a header
+abbrev pub TellsValue : ℕ → List ℕ → ℕ → TextLength → List ℕ → List ℕ → Host → Type 0
+TellsValue place name number told before after host = (values : List (List ℕ))
+    × HasValuesAt host place name values
+    × (told ≡ length_of (option_map length (slice_get values number)))
+    × (after ≡ put_if (slice_get values number) before)

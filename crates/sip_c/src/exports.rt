@@ -2,7 +2,7 @@
 
 ghost use Rattle.std.specs.Prelude.{◌≡◌, ℕ, IfSome, IsSome, List, None, Option, is_some, if◌then◌else◌};
 ghost use Rattle.sip_round.specs.Answers.{StandsFor};
-ghost use Rattle.sip_host.specs.Hosting.{RunsRound, TakesDatagram, TakesFailure, TakesLine, shard_of};
+ghost use Rattle.sip_host.specs.Hosting.{RunsRound, TakesDatagram, TakesFailure, TakesLine, TakesLines, shard_of};
 ghost use Rattle.sip_round.specs.declared.config.Config.{Config};
 ghost use Rattle.sip_round.specs.declared.round.Round.{Round};
 ghost use Rattle.sip_c.specs.Called.{Calls, GivesNext, IsNextDue, Makes, addr_of, can_begin, config_of, due_of};
@@ -84,6 +84,19 @@ pub extern "C" fn sip_ua_raw_event_line(alloc: Global, handle: &mut Handle, line
         return NOT_HELD;
     };
     let answer = host.event_line(line);
+    handle.put(host);
+    number_of_answer(answer)
+}
+
+/// The lines of an event as a session file has them, the last one without its end.
+#[unsafe(no_mangle)]
+pub extern "C" fn sip_ua_raw_event_lines(alloc: Global, handle: &mut Handle, lines: &[u8]) -> u32
+    ensures { Calls handle.old.owned.host handle.new.owned.host result (TakesLines lines.now) }
+{
+    let Some(mut host) = handle.take(alloc) else {
+        return NOT_HELD;
+    };
+    let answer = host.event_lines(lines);
     handle.put(host);
     number_of_answer(answer)
 }

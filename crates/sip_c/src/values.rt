@@ -3,8 +3,8 @@
 ghost use Rattle.std.specs.Prelude.{◌≡◌};
 ghost use Rattle.sip_c.specs.Called as spec;
 
-use sip_host::NextOutput;
-use sip_message::Addr;
+use sip_host::{NextOutput, StartLength};
+use sip_message::{Addr, Id};
 use sip_round::Config;
 
 /// An IPv4 address and a port.
@@ -45,12 +45,13 @@ impl Configuration {
     }
 }
 
-/// An output: its kind, its index among those of the last round, where it goes if it is a send, and
-/// the length of its text in bytes.
+/// An output: its kind, the place of the event that it comes of, where it goes if it is a send, its
+/// index among those of the last round, and the length of its text in bytes.
 #[repr(C)]
 #[derive(Clone, Copy)]
 pub struct Told {
     pub kind: u32,
+    pub place: u32,
     pub to: Address,
     pub index: usize,
     pub len: usize,
@@ -88,12 +89,19 @@ pub(crate) fn told_of(next: Option<NextOutput>) -> Told
     match next {
         None => Told {
             kind: 0,
+            place: 0,
             to: address_of(None),
             index: 0,
             len: 0,
         },
-        Some(NextOutput { index, to, len, .. }) => Told {
+        Some(NextOutput {
+            index,
+            place,
+            to,
+            len,
+        }) => Told {
             kind: if to.is_some() { 1 } else { 2 },
+            place,
             to: address_of(to),
             index,
             len,
@@ -113,6 +121,121 @@ pub(crate) fn due_of(moment: Option<u64>) -> Due
         Some(moment) => Due {
             is_due: true,
             moment,
+        },
+    }
+}
+
+/// The id of an event, if there is one.
+#[repr(C)]
+#[derive(Clone, Copy)]
+pub struct EventId {
+    pub is_given: bool,
+    pub place: u32,
+    pub round: u64,
+}
+
+/// The id, or that there is none.
+pub(crate) fn id_of(id: Option<Id>) -> EventId
+    ensures { result ≡ spec.id_of id }
+{
+    match id {
+        None => EventId {
+            is_given: false,
+            place: 0,
+            round: 0,
+        },
+        Some(Id { round, place }) => EventId {
+            is_given: true,
+            place,
+            round,
+        },
+    }
+}
+
+/// A datagram that came in, if one did: its source, and its length in bytes.
+#[repr(C)]
+#[derive(Clone, Copy)]
+pub struct Datagram {
+    pub is_there: bool,
+    pub from: Address,
+    pub len: usize,
+}
+
+/// The datagram, or that there is none.
+pub(crate) fn datagram_of(came: Option<(Addr, usize)>) -> Datagram
+    ensures { result ≡ spec.datagram_of came }
+{
+    match came {
+        None => Datagram {
+            is_there: false,
+            from: address_of(None),
+            len: 0,
+        },
+        Some((from, len)) => Datagram {
+            is_there: true,
+            from: address_of(Some(from)),
+            len,
+        },
+    }
+}
+
+/// A text, if there is one: its length in bytes.
+#[repr(C)]
+#[derive(Clone, Copy)]
+pub struct TextLength {
+    pub is_there: bool,
+    pub len: usize,
+}
+
+/// The length of a text, or that there is none.
+pub(crate) fn length_of(length: Option<usize>) -> TextLength
+    ensures { result ≡ spec.length_of length }
+{
+    match length {
+        None => TextLength {
+            is_there: false,
+            len: 0,
+        },
+        Some(len) => TextLength {
+            is_there: true,
+            len,
+        },
+    }
+}
+
+/// A start line, if there is one: its kind, the status of a response, the length of the method of a
+/// request, and that of its Request-URI or of a response's reason, in bytes.
+#[repr(C)]
+#[derive(Clone, Copy)]
+pub struct StartLine {
+    pub kind: u32,
+    pub status: u32,
+    pub method_len: usize,
+    pub len: usize,
+}
+
+/// The start line, or that there is none.
+pub(crate) fn start_line_of(start: Option<StartLength>) -> StartLine
+    ensures { result ≡ spec.start_line_of start }
+{
+    match start {
+        None => StartLine {
+            kind: 0,
+            status: 0,
+            method_len: 0,
+            len: 0,
+        },
+        Some(StartLength::Request { method, uri }) => StartLine {
+            kind: 1,
+            status: 0,
+            method_len: method,
+            len: uri,
+        },
+        Some(StartLength::Response { status, reason }) => StartLine {
+            kind: 2,
+            status: u32::from(status.code()),
+            method_len: 0,
+            len: reason,
         },
     }
 }

@@ -8,6 +8,7 @@ pub mod Reading
 pub mod Replay
 pub mod ReadLine
 pub mod EventFile
+pub mod EventLines
 pub mod Counted
 pub mod Drafting
 pub mod Lines

@@ -2,13 +2,17 @@
 use Rattle.std.specs.Prelude.{ℕ, List, [], ◌∷◌, ◌++◌, Option, None, Some, length, drop, nat_lt, if◌then◌else◌}
 use Rattle.sip_message.specs.declared.addr.Addr.{Addr}
 use Rattle.sip_message.specs.declared.key.Key.{Key}
+use Rattle.sip_reader.specs.declared.first_line.FirstLine.{FirstLine}
+use Rattle.sip_reader.specs.declared.first_line.FirstLine.TheVariants as first
 use Rattle.sip_round.specs.declared.output.Output.{Output}
 use Rattle.sip_round.specs.declared.output.PlacedOutput.{PlacedOutput}
 use Rattle.sip_round.specs.declared.output.Output.TheVariants.{Send, Dropped, Notice}
 use Rattle.sip_round.specs.declared.round.Event.{Event}
-use Rattle.sip_round.specs.declared.round.Event.TheVariants.{Failed}
+use Rattle.sip_round.specs.declared.round.Event.TheVariants.{Command, Datagram, Failed}
 use Rattle.sip_files.specs.Outputs.{output_line}
 use Rattle.sip_host.specs.declared.next_output.NextOutput.{NextOutput}
+use Rattle.sip_host.specs.declared.start_length.StartLength.{StartLength}
+use Rattle.sip_host.specs.declared.start_length.StartLength.TheVariants as start
 
 -- the datagram of a send, or the line of another output
 abbrev pub text_of : Output → List ℕ
@@ -35,6 +39,28 @@ head_of index placed = record {
 abbrev pub put_in : List ℕ → List ℕ → List ℕ
 put_in text buffer = if nat_lt (length buffer) (length text) then buffer
     else text ++ drop (length text) buffer
+
+-- the same of a text, if there is one
+abbrev pub put_if : Option (List ℕ) → List ℕ → List ℕ
+put_if None buffer = buffer
+put_if (Some text) buffer = put_in text buffer
+
+-- the source and the bytes of a datagram, if the event is that one came in
+abbrev pub datagram_in : Option Event → Option (Addr × List ℕ)
+datagram_in None = None
+datagram_in (Some (Datagram from bytes)) = Some (from, bytes)
+datagram_in (Some (Failed key)) = None
+datagram_in (Some (Command command)) = None
+
+-- the text of a start line: a request's method and URI one behind the other, a response's reason
+abbrev pub start_text : FirstLine (List ℕ) → List ℕ
+start_text (first.Request method uri) = method ++ uri
+start_text (first.Response status reason) = reason
+
+-- what is said of it beside its text
+abbrev pub start_of : FirstLine (List ℕ) → StartLength
+start_of (first.Request method uri) = start.Request (length method) (length uri)
+start_of (first.Response status reason) = start.Response status (length reason)
 
 -- the key of a send, if the output is one, which it may lack
 abbrev pub sent_key : Option Output → Option (Option Key)

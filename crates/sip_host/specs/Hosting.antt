@@ -2,13 +2,17 @@
 use Rattle.std.specs.Prelude.{◌≡◌, ◌⊎◌, ◌<◌, ◌≤◌, ℕ, ◌+◌, ◌==◌, false, true, IfSome, IsSomeAnd, List, [], ◌∷◌, ◌++◌, OnErr, OnOk, Option, None, Some, Result, Err, length, map, nat_lt, if◌then◌else◌}
 use Rattle.std.specs.List.{slice_get}
 use Rattle.std.specs.Option.{option_map}
+use Rattle.sip_files.specs.EventLines.{SpellsLines}
 use Rattle.sip_files.specs.Written.{SpellsEventLine}
 use Rattle.sip_message.specs.Cut.{spread_shard}
 use Rattle.sip_message.specs.declared.addr.Addr.{Addr}
 use Rattle.sip_message.specs.declared.cut.Spread.{Spread}
 use Rattle.sip_message.specs.declared.id.Id.{Id}
 use Rattle.sip_round.specs.AgentState.{refusal_of, shard_count}
+use Rattle.sip_reader.specs.Head.{BeginsWith, HasValues}
+use Rattle.sip_reader.specs.declared.first_line.FirstLine.{FirstLine}
 use Rattle.sip_round.specs.Answers.{StandsFor, answers, placed_answers}
+use Rattle.sip_round.specs.Places.{datagram_at}
 use Rattle.sip_round.specs.declared.config.Config.{Config}
 use Rattle.sip_round.specs.declared.output.Output.{Output}
 use Rattle.sip_round.specs.declared.round.Event.{Event}
@@ -45,11 +49,6 @@ with_events host more = record host { events = host.events ++ more }
 abbrev pub after_taking : Host → Output → ℕ → Host
 after_taking host output room = if nat_lt room (length (text_of output)) then host
     else record host { taken = host.taken + 1 }
-
--- an event that the line says is added to those of the next round
-abbrev pub SaysEvent : List ℕ → Host → Host → Type 0
-SaysEvent line old new =
-    (event : Event) × SpellsEventLine line event × (new ≡ with_events old (event ∷ []))
 
 -- the output of this index is a send, and the agent is told that it failed
 abbrev pub Reports : ℕ → Host → Host → Type 0
@@ -98,14 +97,22 @@ pub record TakesDatagram (from : Addr) (bytes : List ℕ) (old new : Host) (answ
   pub full : 65536 ≤ length old.events → answer ≡ Err host_fault.TooManyEvents
   pub fault : length old.events < 65536 → OnErr answer (answer ≡ Err host_fault.NoMemory)
 
--- so is what a line says; a line that says no event is bad
-pub record TakesLine (line : List ℕ) (old new : Host) (answer : Answer) : Type 0 where
-  pub added : OnOk answer (SaysEvent line old new)
+-- so is an event that is said as text; a text that says none is bad
+pub record TakesSaid (Says : Event → Type 0) (old new : Host) (answer : Answer) : Type 0 where
+  pub added : OnOk answer ((event : Event) × Says event × (new ≡ with_events old (event ∷ [])))
   pub same : OnErr answer (new ≡ old)
   pub full : 65536 ≤ length old.events → answer ≡ Err host_fault.TooManyEvents
   pub fault : length old.events < 65536
       → OnErr answer ((answer ≡ Err host_fault.BadLine) ⊎ (answer ≡ Err host_fault.NoMemory))
-  pub bad : answer ≡ Err host_fault.BadLine → (event : Event) → ¬ SpellsEventLine line event
+  pub bad : answer ≡ Err host_fault.BadLine → (event : Event) → ¬ (Says event)
+
+-- by a line of an event file
+abbrev pub TakesLine : List ℕ → Host → Host → Answer → Type 0
+TakesLine line old new answer = TakesSaid (SpellsEventLine line) old new answer
+
+-- by lines of a session file
+abbrev pub TakesLines : List ℕ → Host → Host → Answer → Type 0
+TakesLines lines old new answer = TakesSaid (SpellsLines lines) old new answer
 
 -- so is the failure of the send of this index, where a transaction stands behind the send
 pub record TakesFailure (output : ℕ) (old new : Host) (answer : Answer) : Type 0 where
@@ -133,3 +140,16 @@ pub record RunsRound (moment : ℕ) (old new : Host) (answer : Answer) : Type 0 
       → new ≡ old)
   pub broken : answer ≡ Err (host_fault.Round (round_fault.NoMemory true)) → new.agent.shards ≡ None
   pub answers : OnOk answer (IsAnswered moment old new)
+
+-- ---- what the datagram of a place says
+
+-- what its start line says; none where none came in there
+pub record BeginsAt (host : Host) (place : ℕ) (says : Option (FirstLine (List ℕ))) : Type 0 where
+  pub says : IfSome (datagram_at host.last_events place) (BeginsWith says)
+  pub none : datagram_at host.last_events place ≡ None → says ≡ None
+
+-- the values of a header
+pub record HasValuesAt (host : Host) (place : ℕ) (name : List ℕ) (values : List (List ℕ)) :
+    Type 0 where
+  pub values : IfSome (datagram_at host.last_events place) (HasValues name values)
+  pub none : datagram_at host.last_events place ≡ None → values ≡ []

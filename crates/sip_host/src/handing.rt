@@ -7,8 +7,10 @@ ghost use Rattle.sip_host.specs.declared.host_fault.HostFault.TheVariants as fau
 
 use crate::host_fault::HostFault;
 use crate::next_output::NextOutput;
+use crate::start_length::StartLength;
 use sip_files::write_output;
-use sip_message::Addr;
+use sip_message::{Addr, Token};
+use sip_reader::FirstLine;
 use sip_round::{Event, Output, PlacedOutput};
 use std::alloc::{AllocError, Global};
 
@@ -80,8 +82,8 @@ pub(crate) fn failure_of(output: &Output) -> Result<Option<Event>, HostFault>
     }
 }
 
-// The text at the head of the buffer, where there is room.
-fn put(text: &[u8], buffer: &mut [u8])
+/// The text at the head of the buffer, where there is room.
+pub(crate) fn put(text: &[u8], buffer: &mut [u8])
     ensures { buffer.new ≡ handing.put_in text.now buffer.old }
 {
     if buffer.len() < text.len() {
@@ -89,4 +91,36 @@ fn put(text: &[u8], buffer: &mut [u8])
     }
     let (front, _) = buffer.split_at_mut(text.len());
     front.copy_from_slice(text);
+}
+
+/// The texts of a start line at the head of the buffer, where there is room for all, and how long
+/// each is.
+pub(crate) fn put_start(
+    alloc: Global,
+    first: &FirstLine<Token>,
+    buffer: &mut [u8],
+) -> Result<StartLength, AllocError>
+    ensures lengths { IfOk result (λ start. start ≡ handing.start_of first.now) }
+    ensures put { OnOk result (buffer.new ≡ handing.put_in (handing.start_text first.now)
+        buffer.old) }
+    ensures same { OnErr result (buffer.new ≡ buffer.old) }
+{
+    match first {
+        FirstLine::Request { method, uri } => {
+            let mut text = Vec::from_slice(alloc, method.as_slice())?;
+            text.extend_from_slice(uri.as_slice())?;
+            put(&text, buffer);
+            Ok(StartLength::Request {
+                method: method.as_slice().len(),
+                uri: uri.as_slice().len(),
+            })
+        }
+        FirstLine::Response { status, reason } => {
+            put(reason.as_slice(), buffer);
+            Ok(StartLength::Response {
+                status: *status,
+                reason: reason.as_slice().len(),
+            })
+        }
+    }
 }

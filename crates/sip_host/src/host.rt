@@ -1,23 +1,25 @@
 //! A host's agent: events in, rounds, outputs out.
 
-ghost use Rattle.std.specs.Prelude.{◌≡◌, ◌⊎◌, ◌<◌, ◌≤◌, ◌+◌, ◌++◌, ◌∷◌, [], ℕ, List, IfOk, IfSome, Err, None, Ok, OnErr, OnOk, Some, length, false, nat_lt, if◌then◌else◌};
+ghost use Rattle.std.specs.Prelude.{◌≡◌, ◌⊎◌, Option, ◌<◌, ◌≤◌, ◌+◌, ◌++◌, ◌∷◌, [], ℕ, List, IfOk, IfSome, Err, None, Ok, OnErr, OnOk, Some, length, false, nat_lt, if◌then◌else◌};
 ghost use Rattle.std.specs.List.{slice_get};
-ghost use Rattle.std.specs.Option.{option_copied};
+ghost use Rattle.std.specs.Option.{option_copied, option_map};
 ghost use Rattle.sip_timers.specs.Queue.{is_due};
 ghost use Rattle.sip_round.specs.Answers.{StandsFor};
 ghost use Rattle.sip_round.specs.NextDue.{IsDueAfter, IsQuietAfter};
 ghost use Rattle.sip_round.specs.Places.{datagram_at, event_at};
 ghost use Rattle.sip_round.specs.declared.config.Config.{Config as AConfig};
 ghost use Rattle.sip_round.specs.declared.round.Round.{Round as ARound};
-ghost use Rattle.sip_reader.specs.Head.{BeginsWith, HasHeaderLines, HasValues};
-ghost use Rattle.sip_host.specs.Handing.{head_of, put_in, text_of};
-ghost use Rattle.sip_host.specs.Hosting.{Begins, RunsRound, TakesDatagram, TakesFailure, TakesLine, after_taking, last_id_of, output_at, shard_of, with_events};
+ghost use Rattle.sip_reader.specs.Head.{HasHeaderLines};
+ghost use Rattle.sip_reader.specs.declared.first_line.FirstLine.{FirstLine as AFirstLine};
+ghost use Rattle.sip_host.specs.Handing.{datagram_in, head_of, put_if, put_in, start_of, start_text, text_of};
+ghost use Rattle.sip_host.specs.Hosting.{Begins, BeginsAt, HasValuesAt, RunsRound, TakesDatagram, TakesFailure, TakesLine, TakesLines, after_taking, last_id_of, output_at, shard_of, with_events};
 ghost use Rattle.sip_host.specs.declared.host_fault.HostFault.TheVariants as fault;
 
-use crate::handing::{failure_of, put_output};
+use crate::handing::{failure_of, put, put_output, put_start};
 use crate::host_fault::HostFault;
 use crate::next_output::NextOutput;
-use sip_files::read_event_line;
+use crate::start_length::StartLength;
+use sip_files::{read_event_line, read_event_lines};
 use sip_message::{Addr, Id, Spread, Token};
 use sip_reader::{FirstLine, HeaderLine, header_lines, header_values, start_line};
 use sip_round::{
@@ -85,6 +87,23 @@ impl Host {
     {
         self.has_room()?;
         let Some(event) = read_event_line(self.alloc, line)? else {
+            return Err(HostFault::BadLine);
+        };
+        self.events.push(event)?;
+        Ok(())
+    }
+
+    /// The lines of an event as they stand in a session file, the last one without its end: those of
+    /// a command may be headed by its header lines. An event of the next round.
+    ///
+    /// # Errors
+    ///
+    /// Those of [`Host::event_line`].
+    pub fn event_lines(&mut self, lines: &[u8]) -> Result<(), HostFault>
+        ensures { TakesLines lines.now self.old self.new result }
+    {
+        self.has_room()?;
+        let Some(event) = read_event_lines(self.alloc, lines)? else {
             return Err(HostFault::BadLine);
         };
         self.events.push(event)?;
@@ -183,10 +202,7 @@ impl Host {
     ///
     /// Memory was refused.
     pub fn start_line(&self, place: u32) -> Result<Option<FirstLine<Token>>, AllocError>
-        ensures says { IfOk result (λ says. IfSome (datagram_at self.now.last_events place)
-            (BeginsWith says)) }
-        ensures none { IfOk result (λ says. datagram_at self.now.last_events place ≡ None
-            → says ≡ None) }
+        ensures { IfOk result (BeginsAt self.now place) }
     {
         match datagram_at(self.last_events.as_slice(), place) {
             Some(bytes) => start_line(self.alloc, bytes.as_slice()),
@@ -202,10 +218,7 @@ impl Host {
     ///
     /// Memory was refused.
     pub fn header_values(&self, place: u32, name: &[u8]) -> Result<Series<Text>, AllocError>
-        ensures values { IfOk result (λ values. IfSome (datagram_at self.now.last_events place)
-            (HasValues name.now values)) }
-        ensures none { IfOk result (λ values. datagram_at self.now.last_events place ≡ None
-            → values ≡ []) }
+        ensures { IfOk result (HasValuesAt self.now place name.now) }
     {
         match datagram_at(self.last_events.as_slice(), place) {
             Some(bytes) => header_values(self.alloc, bytes.as_slice(), name),
@@ -230,6 +243,72 @@ impl Host {
             Some(bytes) => header_lines(self.alloc, bytes.as_slice()),
             None => Ok(Series::new(self.alloc)),
         }
+    }
+
+    /// The source and the length of the datagram that came in at this place of the last round, if
+    /// one did. Its bytes go to the head of the buffer, where there is room. Takes no memory.
+    pub fn datagram_at(&self, place: u32, buffer: &mut [u8]) -> Option<(Addr, usize)>
+        ensures told { result ≡ option_map (λ came. (came.0, length came.1))
+            (datagram_in (event_at self.now.last_events place)) }
+        ensures put { buffer.new ≡ put_if (option_map (λ came. came.1)
+            (datagram_in (event_at self.now.last_events place))) buffer.old }
+    {
+        match self.event(place) {
+            Some(Event::Datagram { from, bytes }) => {
+                put(bytes.as_slice(), buffer);
+                Some((*from, bytes.len()))
+            }
+            Some(Event::Failed(_)) | Some(Event::Command(_)) | None => None,
+        }
+    }
+
+    /// What [`Host::start_line`] gives, as lengths. The texts go to the head of the buffer, the
+    /// method of a request before its Request-URI, where there is room for all.
+    ///
+    /// # Errors
+    ///
+    /// Memory was refused, and nothing has been written then.
+    pub fn start_text(
+        &self,
+        place: u32,
+        buffer: &mut [u8],
+    ) -> Result<Option<StartLength>, AllocError>
+        ensures told { IfOk result (λ told. (says : Option (AFirstLine (List ℕ)))
+            × BeginsAt self.now place says × (told ≡ option_map start_of says)
+            × (buffer.new ≡ put_if (option_map start_text says) buffer.old)) }
+        ensures same { OnErr result (buffer.new ≡ buffer.old) }
+    {
+        let Some(first) = self.start_line(place)? else {
+            return Ok(None);
+        };
+        Ok(Some(put_start(self.alloc, &first, buffer)?))
+    }
+
+    /// The length of the value of this number, from 0, among those that [`Host::header_values`]
+    /// gives, if there is one. Its text goes to the head of the buffer, where there is room.
+    ///
+    /// # Errors
+    ///
+    /// Memory was refused, and nothing has been written then.
+    pub fn header_value(
+        &self,
+        place: u32,
+        name: &[u8],
+        number: usize,
+        buffer: &mut [u8],
+    ) -> Result<Option<usize>, AllocError>
+        ensures told { IfOk result (λ told. (values : List (List ℕ))
+            × HasValuesAt self.now place name.now values
+            × (told ≡ option_map length (slice_get values number))
+            × (buffer.new ≡ put_if (slice_get values number) buffer.old)) }
+        ensures same { OnErr result (buffer.new ≡ buffer.old) }
+    {
+        let values = self.header_values(place, name)?;
+        let Some(value) = values.as_slice().get(number) else {
+            return Ok(None);
+        };
+        put(value.as_slice(), buffer);
+        Ok(Some(value.len()))
     }
 
     /// The id of the event that was given last, if the next round has one: a command's request goes

@@ -6,7 +6,9 @@ mod handing;
 mod host;
 mod host_fault;
 mod next_output;
+mod start_length;
 
 pub use host::Host;
 pub use host_fault::HostFault;
 pub use next_output::NextOutput;
+pub use start_length::StartLength;

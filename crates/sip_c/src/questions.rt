@@ -1,0 +1,116 @@
+//! The functions by which C asks for the id of an event, and for what a datagram says.
+
+ghost use Rattle.std.specs.Prelude.{◌≡◌, ◌≤◌, IfSome, None, length};
+ghost use Rattle.sip_host.specs.Hosting.{last_id_of};
+ghost use Rattle.sip_c.specs.Called.{TellsDatagram, TellsNothing, TellsOrNot, TellsStart, TellsValue, datagram_of, id_of, length_of, start_line_of};
+
+use crate::handle::Handle;
+use crate::status::{NO_MEMORY, NOT_HELD, OK};
+use crate::values::{self, Datagram, EventId, StartLine, TextLength};
+use std::alloc::Global;
+
+/// The id of the event that was given last, if the next round has one.
+#[unsafe(no_mangle)]
+pub extern "C" fn sip_ua_raw_last_id(alloc: Global, handle: &mut Handle, id: &mut EventId) -> u32
+    ensures same { handle.new.owned.host ≡ handle.old.owned.host }
+    ensures none { handle.old.owned.host ≡ None → (result ≡ 1) × (id.new ≡ id_of None) }
+    ensures told { IfSome handle.old.owned.host (λ host. (result ≡ 0)
+        × (length host.events ≤ 65536 → id.new ≡ id_of (last_id_of host))) }
+{
+    let Some(host) = handle.take(alloc) else {
+        *id = values::id_of(None);
+        return NOT_HELD;
+    };
+    *id = values::id_of(host.last_id());
+    handle.put(host);
+    OK
+}
+
+/// The datagram that came in at a place of the last round, if one did.
+#[unsafe(no_mangle)]
+pub extern "C" fn sip_ua_raw_datagram_at(
+    alloc: Global,
+    handle: &mut Handle,
+    place: u32,
+    told: &mut Datagram,
+    buffer: &mut [u8],
+) -> u32
+    ensures same { handle.new.owned.host ≡ handle.old.owned.host }
+    ensures none { handle.old.owned.host ≡ None
+        → TellsNothing result told.new (datagram_of None) buffer.old buffer.new }
+    ensures told { IfSome handle.old.owned.host (λ host. (result ≡ 0)
+        × TellsDatagram place told.new buffer.old buffer.new host) }
+{
+    let Some(host) = handle.take(alloc) else {
+        *told = values::datagram_of(None);
+        return NOT_HELD;
+    };
+    *told = values::datagram_of(host.datagram_at(place, buffer));
+    handle.put(host);
+    OK
+}
+
+/// What the start line of the datagram says that came in at a place of the last round.
+#[unsafe(no_mangle)]
+pub extern "C" fn sip_ua_raw_start_line(
+    alloc: Global,
+    handle: &mut Handle,
+    place: u32,
+    told: &mut StartLine,
+    buffer: &mut [u8],
+) -> u32
+    ensures same { handle.new.owned.host ≡ handle.old.owned.host }
+    ensures none { handle.old.owned.host ≡ None
+        → TellsNothing result told.new (start_line_of None) buffer.old buffer.new }
+    ensures told { IfSome handle.old.owned.host (λ host.
+        TellsOrNot result told.new (start_line_of None) buffer.old buffer.new
+        (TellsStart place told.new buffer.old buffer.new host)) }
+{
+    *told = values::start_line_of(None);
+    let Some(host) = handle.take(alloc) else {
+        return NOT_HELD;
+    };
+    let answer = host.start_text(place, buffer);
+    handle.put(host);
+    match answer {
+        Ok(start) => {
+            *told = values::start_line_of(start);
+            OK
+        }
+        Err(_) => NO_MEMORY,
+    }
+}
+
+/// The value of this number, from 0, of a header of the datagram that came in at a place of the last
+/// round.
+#[unsafe(no_mangle)]
+pub extern "C" fn sip_ua_raw_header_value(
+    alloc: Global,
+    handle: &mut Handle,
+    place: u32,
+    name: &[u8],
+    number: usize,
+    told: &mut TextLength,
+    buffer: &mut [u8],
+) -> u32
+    ensures same { handle.new.owned.host ≡ handle.old.owned.host }
+    ensures none { handle.old.owned.host ≡ None
+        → TellsNothing result told.new (length_of None) buffer.old buffer.new }
+    ensures told { IfSome handle.old.owned.host (λ host.
+        TellsOrNot result told.new (length_of None) buffer.old buffer.new
+        (TellsValue place name.now number told.new buffer.old buffer.new host)) }
+{
+    *told = values::length_of(None);
+    let Some(host) = handle.take(alloc) else {
+        return NOT_HELD;
+    };
+    let answer = host.header_value(place, name, number, buffer);
+    handle.put(host);
+    match answer {
+        Ok(value) => {
+            *told = values::length_of(value);
+            OK
+        }
+        Err(_) => NO_MEMORY,
+    }
+}

@@ -1,0 +1,52 @@
+//! The lines of one event, as they stand in a session file.
+
+ghost use Rattle.std.specs.Prelude.{◌≡◌, [], ◌∷◌, IfNone, IfOk, IfSome};
+ghost use Rattle.sip_files.specs.EventLines.{SpellsLines, round_of};
+ghost use Rattle.sip_round.specs.declared.round.Event as event;
+
+use crate::events_fault::EventsFault;
+use crate::events_file::read_file;
+use crate::version::FileKind;
+use sip_round::{Event, Round};
+use sip_text::Series;
+use std::alloc::{AllocError, Global};
+
+/// What may stand before the lines of an event in a session file.
+const BEFORE: &[u8] = b"sip-session 1\nlocal 127.0.0.1:5060\nround 0\n";
+
+/// The event that these lines say, where they are those of one event in a session file: its line,
+/// and before that of a command its header lines. The last line stands without its end.
+///
+/// # Errors
+///
+/// Want of memory.
+pub fn read_event_lines(alloc: Global, lines: &[u8]) -> Result<Option<Event>, AllocError>
+    ensures some { IfOk result (λ found. IfSome found (SpellsLines lines.now)) }
+    ensures none { IfOk result (λ found. IfNone found
+        ((given : event.Event) → ¬ SpellsLines lines.now given)) }
+{
+    let mut text = Vec::from_slice(alloc, BEFORE)?;
+    text.extend_from_slice(lines)?;
+    text.push(b'\n')?;
+    match read_file(alloc, FileKind::Session, &text) {
+        Ok((_, rounds)) => Ok(only_event(rounds)),
+        Err(EventsFault::NoMemory) => Err(AllocError),
+        Err(_) => Ok(None),
+    }
+}
+
+// The event of the rounds, where it is the only one.
+fn only_event(rounds: Series<Round>) -> Option<Event>
+    ensures some { IfSome result (λ event. rounds ≡ round_of event ∷ []) }
+    ensures none { IfNone result ((given : event.Event) → ¬ (rounds ≡ round_of given ∷ [])) }
+{
+    let mut rounds = rounds.into_vec();
+    let Round { moment, events } = rounds.pop()?;
+    let mut events = events.into_vec();
+    let event = events.pop()?;
+    if moment == 0 && rounds.is_empty() && events.is_empty() {
+        Some(event)
+    } else {
+        None
+    }
+}
