@@ -26,3 +26,4 @@ pub mod WrittenLaws
 pub mod SessionLaws
 pub mod WrittenHeaders
 pub mod WrittenSessions
+mod OneEvent

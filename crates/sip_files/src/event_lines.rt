@@ -1,7 +1,9 @@
 //! The lines of one event, as they stand in a session file.
 
-ghost use Rattle.std.specs.Prelude.{◌≡◌, [], ◌∷◌, IfNone, IfOk, IfSome};
+ghost use Rattle.std.specs.Prelude.{◌≡◌, ◌≢◌, [], ◌∷◌, IfNone, IfOk, IfSome, None};
+ghost use Rattle.sip_files.specs.EventLines as spec;
 ghost use Rattle.sip_files.specs.EventLines.{SpellsLines, round_of};
+ghost use Rattle.sip_files.specs.declared.events_fault.EventsFault.TheVariants as events_fault;
 ghost use Rattle.sip_round.specs.declared.round.Event as event;
 
 use crate::events_fault::EventsFault;
@@ -25,13 +27,31 @@ pub fn read_event_lines(alloc: Global, lines: &[u8]) -> Result<Option<Event>, Al
     ensures none { IfOk result (λ found. IfNone found
         ((given : event.Event) → ¬ SpellsLines lines.now given)) }
 {
+    let text = session_with(alloc, lines)?;
+    match read_file(alloc, FileKind::Session, &text) {
+        Ok((_, rounds)) => Ok(only_event(rounds)),
+        Err(fault) => unread(fault),
+    }
+}
+
+// A session with one round, which has these lines.
+#[tactic(auto, unfolding(crate::specs::EventLines::session_with))]
+fn session_with(alloc: Global, lines: &[u8]) -> Result<Vec<u8>, AllocError>
+    ensures { IfOk result (λ text. text.items ≡ spec.session_with lines.now) }
+{
     let mut text = Vec::from_slice(alloc, BEFORE)?;
     text.extend_from_slice(lines)?;
     text.push(b'\n')?;
-    match read_file(alloc, FileKind::Session, &text) {
-        Ok((_, rounds)) => Ok(only_event(rounds)),
-        Err(EventsFault::NoMemory) => Err(AllocError),
-        Err(_) => Ok(None),
+    Ok(text)
+}
+
+// What comes of a fault: no event, but for want of memory.
+fn unread(fault: EventsFault) -> Result<Option<Event>, AllocError>
+    ensures { IfOk result (λ found. (found ≡ None) × (fault ≢ events_fault.NoMemory)) }
+{
+    match fault {
+        EventsFault::NoMemory => Err(AllocError),
+        EventsFault::TooLong | EventsFault::BadVersion | EventsFault::BadLine(_) => Ok(None),
     }
 }
 
