@@ -25,7 +25,6 @@ use Rattle.sip_round.specs.declared.round.Round.{Round}
 use Rattle.sip_files.specs.declared.version.Version.{Version}
 use Rattle.sip_files.specs.declared.version.Version.TheVariants.{One, Two, SessionOne}
 use Rattle.sip_files.specs.declared.version.FileKind.{FileKind}
-use Rattle.sip_files.specs.declared.version.FileKind.TheVariants as file_kind
 use Rattle.sip_files.specs.declared.event_line.EventLine.{EventLine}
 use Rattle.sip_files.specs.declared.event_line.EventLine.TheVariants as line
 use Rattle.sip_files.specs.declared.draft.Stage.{Stage}

@@ -1,5 +1,5 @@
 -- The lines of one event, by the session that is read of them.
-use Rattle.std.proofs.Common.{◌≡◌, ◌≢◌, ℕ, ◌≤◌, ◌^◌, List, [], ◌∷◌, length, ap, sym, subst, ◌∙◌}
+use Rattle.std.proofs.Common.{◌≡◌, ◌≢◌, ℕ, ◌≤◌, ◌^◌, List, [], ◌∷◌, length, sym, subst}
 use Rattle.std.specs.Prelude.{Option, None, Some, IfNone, IfOk, IfSome, Result, Ok, Err}
 use Rattle.sip_files.specs.EventFile.{SpellsSession}
 use Rattle.sip_files.specs.EventLines.{SpellsLines, round_of, session_with}
