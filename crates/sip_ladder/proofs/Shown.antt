@@ -1,12 +1,13 @@
 -- Lines that show one happening after another.
 use Rattle.std.proofs.Common.{◌≡◌, ℕ, ◌+◌, ◌<◌, List, [], ◌∷◌, ◌++◌, length, map, get_or, take, fold, ap, refl, subst, sym, ◌∙◌, append_assoc, append-nil}
+use Rattle.std.specs.Prelude.{OnOk, Result, Ok, Err}
 use Rattle.std.proofs.lemmas.List.{map-append, map_more}
 use Rattle.sip_round.specs.declared.round.Round.{Round}
 use Rattle.sip_round.specs.declared.output.Output.{Output}
 use Rattle.sip_ladder.specs.declared.line.Line.{Line}
-use Rattle.sip_ladder.specs.Shapes.{Happening, Shape, Shows, happenings, names_of, round_happenings, shape, shape_of, shapes_after}
+use Rattle.sip_ladder.specs.Shapes.{Happening, Shows, happenings, names_of, round_happenings, shape, shape_of, shapes_after}
 
-Names : Type 0
+abbrev pub Names : Type 0
 Names = List (List ℕ)
 
 -- ---- one list of happenings after another
@@ -26,20 +27,23 @@ names_append names (x ∷ xs) ys = names_append (names_of names x) xs ys
 pub both : (xs ys : List Happening) (old mid new : List Line) (names middle after : Names)
     → Shows xs old mid names middle → Shows ys mid new middle after
     → Shows (xs ++ ys) old new names after
-both xs ys old mid new names middle after first second =
-    (second.0 ∙ ap (λ l. l ++ shapes_after middle ys) first.0
-    ∙ append_assoc (map shape old) (shapes_after names xs) (shapes_after middle ys)
-    ∙ ap (λ n. map shape old ++ shapes_after names xs ++ shapes_after n ys) first.1
-    ∙ ap (λ l. map shape old ++ l) (sym (shapes_append names xs ys)),
-    second.1 ∙ ap (λ n. fold names_of n ys) first.1 ∙ sym (names_append names xs ys))
+both xs ys old mid new names middle after first second = (
+  second.0 ∙ ap (λ l. l ++ shapes_after middle ys) first.0
+      ∙ append_assoc (map shape old) (shapes_after names xs) (shapes_after middle ys)
+      ∙ ap (λ n. map shape old ++ (shapes_after names xs ++ shapes_after n ys)) first.1
+      ∙ ap (λ l. map shape old ++ l) (sym (shapes_append names xs ys)),
+  second.1 ∙ ap (λ n. fold names_of n ys) first.1 ∙ sym (names_append names xs ys),
+)
 
 -- one line more
 pub one_line : (x : Happening) (old new : List Line) (line : Line) (names after : Names)
     → new ≡ old ++ line ∷ [] → shape line ≡ shape_of names x → after ≡ names_of names x
     → Shows (x ∷ []) old new names after
-one_line x old new line names after pushed shows taken =
-    (ap (map shape) pushed ∙ map-append shape old (line ∷ [])
-    ∙ ap (λ s. map shape old ++ s ∷ []) shows, taken)
+one_line x old new line names after pushed shows taken = (
+  ap (map shape) pushed ∙ map-append shape old (line ∷ [])
+      ∙ ap (λ s. map shape old ++ s ∷ []) shows,
+  taken,
+)
 
 -- none yet
 pub none : (old : List Line) (names : Names) → Shows [] old old names names
@@ -96,3 +100,11 @@ no_answers all rounds_left left round after lines names so_far first none =
     sym (so_far ∙ ap (λ rs. map shape lines ++ shapes_after names (happenings rs left)) first
     ∙ ap (λ os. map shape lines ++ shapes_after names (happenings (round ∷ after) os)) none
     ∙ append-nil (map shape lines))
+
+pub both_ok : {E : Type 0} (xs ys : List Happening) (old mid new : List Line)
+    (names middle after : Names) (result : Result (Unit {0}) E)
+    → Shows xs old mid names middle → OnOk result (Shows ys mid new middle after)
+    → OnOk result (Shows (xs ++ ys) old new names after)
+both_ok xs ys old mid new names middle after (Ok done) first second =
+    both xs ys old mid new names middle after first second
+both_ok xs ys old mid new names middle after (Err error) first second = tt

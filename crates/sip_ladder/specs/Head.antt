@@ -1,5 +1,5 @@
 -- The head of a ladder: whose each column is, and a row with the names of the columns.
-use Rattle.std.specs.Prelude.{ℕ, ◌+◌, ◌-◌, ◌==◌, List, [], ◌++◌, length, codes, decimal, nat_lt, if◌then◌else◌}
+use Rattle.std.specs.Prelude.{ℕ, ◌-◌, ◌==◌, List, [], ◌++◌, length, codes, decimal, nat_lt, if◌then◌else◌}
 use Rattle.std.specs.List.{enumerate_from, flat_map, range_with_len, repeat}
 use Rattle.sip_message.specs.Addr.{addr_text}
 use Rattle.sip_message.specs.declared.addr.Addr.{Addr}

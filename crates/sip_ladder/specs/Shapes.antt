@@ -39,11 +39,15 @@ happenings (round ∷ rounds) (outputs ∷ answers) =
 
 -- ---- which datagrams are repeats
 
--- what a datagram is known by: the way it goes, its peer, and its bytes
-unfoldable pub datagram_name : Way → List ℕ → List ℕ
-datagram_name (In peer) bytes = codes "from " ++ addr_text peer ++ codes " " ++ bytes
-datagram_name (Out peer) bytes = codes "to " ++ addr_text peer ++ codes " " ++ bytes
-datagram_name Own bytes = bytes
+-- the way that a datagram goes, and its peer
+abbrev pub way_name : Way → List ℕ
+way_name (In peer) = codes "from " ++ addr_text peer ++ codes " "
+way_name (Out peer) = codes "to " ++ addr_text peer ++ codes " "
+way_name Own = []
+
+-- what a datagram is known by: its way, its peer and its bytes
+abbrev pub datagram_name : Way → List ℕ → List ℕ
+datagram_name way bytes = way_name way ++ bytes
 
 -- a datagram of this name came or went before
 abbrev pub is_among : List (List ℕ) → List ℕ → Bool

@@ -1,9 +1,11 @@
 //! Which datagrams have come or were sent before.
 
-ghost use Rattle.std.specs.Prelude.{◌≡◌, ◌++◌, [], IfOk, OnOk};
+ghost use Rattle.std.specs.Prelude.{◌≡◌, ◌++◌, [], codes, IfOk, OnOk};
+ghost use Rattle.sip_message.specs.Addr.{addr_text};
 ghost use Rattle.sip_ladder.specs.Shapes as spec;
 
 use crate::line::Way;
+use sip_message::Addr;
 use sip_text::Text;
 use std::alloc::{AllocError, Global};
 use std::collections::BTreeSet;
@@ -44,12 +46,29 @@ impl Before {
 pub(crate) fn name_of(alloc: Global, way: Way, bytes: &[u8]) -> Result<Text, AllocError>
     ensures { IfOk result (λ name. name ≡ spec.datagram_name way bytes.now) }
 {
-    let way = match way {
-        Way::In(peer) => format!(in alloc; "from {peer} ")?,
-        Way::Out(peer) => format!(in alloc; "to {peer} ")?,
-        Way::Own => String::new(alloc),
-    };
-    let mut name = way.into_bytes();
+    let mut name = Vec::new(alloc);
+    push_way(alloc, &mut name, way)?;
     name.extend_from_slice(bytes)?;
     Ok(Text::from_vec(name))
+}
+
+fn push_way(alloc: Global, name: &mut Vec<u8>, way: Way) -> Result<(), AllocError>
+    ensures { OnOk result (name.new.items ≡ name.old.items ++ spec.way_name way) }
+{
+    match way {
+        Way::In(peer) => push_peer(alloc, name, b"from ", peer),
+        Way::Out(peer) => push_peer(alloc, name, b"to ", peer),
+        Way::Own => Ok(()),
+    }
+}
+
+fn push_peer(alloc: Global, name: &mut Vec<u8>, way: &[u8], peer: Addr) -> Result<(), AllocError>
+    ensures { OnOk result (name.new.items
+        ≡ name.old.items ++ way.now ++ addr_text peer ++ codes " ") }
+{
+    let address = format!(in alloc; "{peer}")?;
+    name.extend_from_slice(way)?;
+    name.extend_from_slice(address.as_bytes())?;
+    name.push(b' ')?;
+    Ok(())
 }

@@ -1,4 +1,4 @@
-use Rattle.std.proofs.Common.{◌≡◌, ap, inl, inr, length, arith}
+use Rattle.std.proofs.Common.{◌≡◌, ap, inl, inr, arith}
 use Rattle.sip_ladder.specs.Row.{place_of}
 use Rattle.sip_ladder.proofs.Distinct.{kept_as_is, kept_more}
 use Rattle.sip_ladder.proofs.columns.add_peer.Goals as goal

@@ -1,4 +1,4 @@
-use Rattle.std.proofs.Common.{◌≡◌, ◌++◌, length, take}
+use Rattle.std.proofs.Common.{◌≡◌, ◌++◌, take}
 use Rattle.sip_ladder.specs.Head.{peer_lines}
 use Rattle.sip_ladder.proofs.head.push_peers.Given as goal
 
