@@ -145,11 +145,11 @@ pub record RunsRound (moment : ℕ) (old new : Host) (answer : Answer) : Type 0 
 
 -- what its start line says; none where none came in there
 pub record BeginsAt (host : Host) (place : ℕ) (says : Option (FirstLine (List ℕ))) : Type 0 where
-  pub says : IfSome (datagram_at host.last_events place) (BeginsWith says)
+  pub of_datagram : IfSome (datagram_at host.last_events place) (BeginsWith says)
   pub none : datagram_at host.last_events place ≡ None → says ≡ None
 
 -- the values of a header
 pub record HasValuesAt (host : Host) (place : ℕ) (name : List ℕ) (values : List (List ℕ)) :
     Type 0 where
-  pub values : IfSome (datagram_at host.last_events place) (HasValues name values)
+  pub of_datagram : IfSome (datagram_at host.last_events place) (HasValues name values)
   pub none : datagram_at host.last_events place ≡ None → values ≡ []
