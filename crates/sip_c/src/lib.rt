@@ -16,6 +16,4 @@ pub use handle::Handle;
 pub use questions::{
     sip_ua_raw_datagram_at, sip_ua_raw_header_value, sip_ua_raw_last_id, sip_ua_raw_start_line,
 };
-pub use values::{
-    Address, Configuration, Datagram, Due, EventId, StartLine, TextLength, Told,
-};
+pub use values::{Address, Configuration, Datagram, Due, EventId, StartLine, TextLength, Told};

@@ -94,12 +94,14 @@ pub(crate) fn told_of(next: Option<NextOutput>) -> Told
             index: 0,
             len: 0,
         },
-        Some(NextOutput {
-            index,
-            place,
-            to,
-            len,
-        }) => Told {
+        Some(
+            NextOutput {
+                index,
+                place,
+                to,
+                len,
+            },
+        ) => Told {
             kind: if to.is_some() { 1 } else { 2 },
             place,
             to: address_of(to),
@@ -233,7 +235,7 @@ pub(crate) fn start_line_of(start: Option<StartLength>) -> StartLine
         },
         Some(StartLength::Response { status, reason }) => StartLine {
             kind: 2,
-            status: u32::from(status.code()),
+            status: u32::from(status),
             method_len: 0,
             len: reason,
         },

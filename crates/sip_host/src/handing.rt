@@ -118,7 +118,7 @@ pub(crate) fn put_start(
         FirstLine::Response { status, reason } => {
             put(reason.as_slice(), buffer);
             Ok(StartLength::Response {
-                status: *status,
+                status: status.code(),
                 reason: reason.as_slice().len(),
             })
         }
