@@ -32,3 +32,8 @@ pub mod Served
 pub mod RefusedAlone
 pub mod Tally
 pub mod ClientOuts
+pub mod StoryMaps
+pub mod ClientRecords
+pub mod StoryBegins
+pub mod ReplyStories
+pub mod CommandStories

@@ -1,6 +1,9 @@
 pub mod Answers
 pub mod Cancel
 pub mod Client
+pub mod ClientLife
+pub mod ClientStory
+pub mod ClientTelling
 pub mod Clients
 pub mod Commands
 pub mod Debts

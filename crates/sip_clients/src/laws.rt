@@ -18,7 +18,9 @@ ghost use Rattle.sip_clients.specs.declared.client.Client.{Client};
 ghost use Rattle.sip_clients.specs.declared.event.Event.{Event};
 ghost use Rattle.sip_clients.specs.Cancel.{cancel_by_user, cancel_client};
 ghost use Rattle.sip_clients.specs.Client.{Side, nothing_done};
+ghost use Rattle.sip_clients.specs.ClientTelling.{HoldsStories, ack_told, cancel_told, in_dialog_told, invite_told, lost_told, plain_told, response_told, ticked_told};
 ghost use Rattle.sip_clients.specs.Clients.{ack_by_user, invite_taken, request_lost, plain_taken, prack_by_user, request_by_user, response_taken};
+ghost use Rattle.sip_clients.specs.Commands.{name_in};
 ghost use Rattle.sip_clients.specs.Event.{branch_of};
 ghost use Rattle.sip_clients.specs.Name.{NamesDiffer};
 ghost use Rattle.sip_clients.specs.Outside.{invite_of, plain_of};
@@ -75,4 +77,35 @@ pub fn each_notice_is_of_its_call()
         → KeepsTo command.call_id (cancel_by_user event command) }
     ensures tick { (call_id : List ℕ) (now : ℕ) → KeepsTo call_id
         (λ side. clients_ticked side now) }
+{}
+
+/// Where each held client request is what its story says, so it is after a response, the loss of a
+/// request, a command of the user or a tick: what they add to the stories is told by what comes, and
+/// by what goes out (RFC 3261, sections 9.1, 13.2.2.4 and 17.1.1; RFC 3262, section 4).
+pub fn each_client_request_is_told()
+    ensures response { (event : Event) (id : Id) (call_id : List ℕ) (response : Message)
+        → HoldsStories (response_taken event id call_id response)
+        (λ side outs stories. response_told event id response side outs stories) }
+    ensures lost { (id : Id) (timed_out : Bool) → HoldsStories (request_lost id timed_out)
+        (λ side outs stories. lost_told id stories) }
+    ensures invite { (event : Event) (invite : Invite)
+        → HoldsStories (on_side (invite_taken event invite))
+        (λ side outs stories. invite_told outs stories) }
+    ensures plain { (event : Event) (plain : Plain)
+        → HoldsStories (on_side (plain_taken event plain))
+        (λ side outs stories. plain_told outs stories) }
+    ensures request { (event : Event) (command : DialogRequest)
+        → HoldsStories (request_by_user event command) (λ side outs stories.
+        in_dialog_told event (name_in command.local_tag command.remote_tag) side outs stories) }
+    ensures ack { (event : Event) (command : DialogBody)
+        → HoldsStories (ack_by_user event command)
+        (λ side outs stories. ack_told command side outs stories) }
+    ensures prack { (event : Event) (command : DialogBody)
+        → HoldsStories (prack_by_user event command) (λ side outs stories.
+        in_dialog_told event (name_in command.local_tag command.remote_tag) side outs stories) }
+    ensures cancel { (event : Event) (command : Cancel)
+        → HoldsStories (cancel_by_user event command)
+        (λ side outs stories. cancel_told event command outs stories) }
+    ensures tick { (now : ℕ) → HoldsStories (λ side. clients_ticked side now)
+        (λ side outs stories. ticked_told now stories) }
 {}
