@@ -221,9 +221,12 @@ module _ (event : Event) (id : Id) (call_id : List ℕ) (response : Message) (st
       done_by : HeldDialog × Service → Replied
       done_by owed =
           let told = told_of_ack answer owed.1 in
-          after_dialog name side.dialogs
-          (held_after_success answer told.1 (after_response true client), Some owed.0, told.0,
-              Stays)
+          after_dialog name side.dialogs (
+            held_after_success answer told.1 (after_response true client),
+            Some owed.0,
+            told.0,
+            Stays,
+          )
 
       by_service : (owed : HeldDialog × Service) → SuccessTold false (taken_with None (done_by owed))
       by_service (held, service.Sent sending) =

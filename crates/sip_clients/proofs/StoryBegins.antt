@@ -134,8 +134,8 @@ start_silent id client = refl
 
 -- what is sent by an event is for this
 pub record IsSentFor (event : Event) (sent_for : Message → RequestKind) (client : Client) : Type 0
-    where
-  pub fresh : client ≡ client_for event.id (sent_for client.request) client.request client.to
+  where
+    pub fresh : client ≡ client_for event.id (sent_for client.request) client.request client.to
 
 abbrev pub ChangesFor : Event → (Message → RequestKind) → ClientChange → Type 0
 ChangesFor event sent_for Stays = Unit {0}

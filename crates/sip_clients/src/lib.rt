@@ -25,6 +25,7 @@ pub use client::{Cancelling, Client, RequestKind};
 pub use clients::Clients;
 pub use event::Event;
 pub use laws::{
-    each_client_request_is_told, each_notice_is_of_its_call, each_request_has_its_branch, names_differ, quiet_until_due,
+    each_client_request_is_told, each_notice_is_of_its_call, each_request_has_its_branch,
+    names_differ, quiet_until_due,
 };
 pub use name::made_name;
