@@ -1,18 +1,26 @@
 -- The stories of the client requests that a call holds, over all its inputs: as each was sent, and
 -- what happened to it since (RFC 3261, sections 9.1, 13.2.2.4 and 17.1.1; RFC 3262, section 4).
-use Rattle.std.specs.Prelude.{◌≡◌, ℕ, List, [], ◌∷◌, Option, None, Some}
+use Rattle.std.specs.Prelude.{◌≡◌, ℕ, List, [], ◌∷◌, ◌++◌, Option, None, Some}
+use Rattle.std.specs.List.{AllByRecursion}
 use Rattle.sip_model.specs.Machine.{Timed}
+use Rattle.sip_message.specs.declared.id.Id.{Id}
 use Rattle.sip_transactions.specs.declared.output.Kind.{Kind}
 use Rattle.sip_transactions.specs.declared.output.Kind.TheVariants as kind
 use Rattle.sip_transactions.specs.declared.output.Up.{Up as AnUp}
 use Rattle.sip_common.specs.declared.command.UserCommand.{UserCommand}
 use Rattle.sip_common.specs.declared.command.UserCommand.TheVariants.{Invite, Plain, Request, Respond, Ack, Prack, Cancel}
+use Rattle.sip_common.specs.declared.held_dialog.DialogName.{DialogName}
 use Rattle.sip_common.specs.declared.item.CallOut.{CallOut}
 use Rattle.sip_common.specs.declared.item.Item.{Item}
 use Rattle.sip_common.specs.declared.item.Item.TheVariants.{Up, User}
+use Rattle.sip_clients.specs.Answers.{ack_of}
 use Rattle.sip_clients.specs.Client.{Side}
+use Rattle.sip_clients.specs.ClientLife.{ClientHappening, Outgoing, SendsAckAgain, SendsCancel}
+use Rattle.sip_clients.specs.ClientRules.{IsCancelOf}
+use Rattle.sip_clients.specs.ClientStory.{ClientStory, answers_of}
 use Rattle.sip_clients.specs.ClientTelling.{ClientStories, AreTold, ack_told, cancel_told, in_dialog_told, invite_told, lost_told, plain_told, response_told, ticked_told}
 use Rattle.sip_clients.specs.Commands.{name_in}
+use Rattle.sip_clients.specs.declared.answers.SentAck.{SentAck}
 use Rattle.sip_clients.specs.declared.event.Event.{Event}
 use Rattle.sip_calls.specs.declared.call.Call.{Call}
 use Rattle.sip_calls.specs.declared.calls.Calls.{Calls}
@@ -83,3 +91,21 @@ client_stories calls inputs = told_from calls None [] inputs
 abbrev pub HoldsClientStories : Type 0
 HoldsClientStories = (calls : Calls) (inputs : List (Timed CallItem))
     → AreTold (side_held (call_from calls None inputs)).clients (client_stories calls inputs)
+
+-- Each CANCEL of an INVITE goes out once, after a provisional response and before any 2xx, under the
+-- id of the command that asked for it first, with the branch of the INVITE and to where that went.
+abbrev pub CancelsOnce : Type 0
+CancelsOnce = (calls : Calls) (inputs : List (Timed CallItem))
+    → AllByRecursion (λ (entry : Id × ClientStory).
+    (before later : List ClientHappening) (cancel : Outgoing)
+    → entry.1.life ≡ before ++ SendsCancel cancel ∷ later
+    → IsCancelOf entry.1 before cancel) (client_stories calls inputs)
+
+-- an ACK that answers a 2xx that comes again is the one that went out for it: the same bytes, to the
+-- same address
+abbrev pub RepeatsItsAck : Type 0
+RepeatsItsAck = (calls : Calls) (inputs : List (Timed CallItem))
+    → AllByRecursion (λ (entry : Id × ClientStory).
+    (before later : List ClientHappening) (name : DialogName) (ack : SentAck)
+    → entry.1.life ≡ before ++ SendsAckAgain name ack ∷ later
+    → ack_of name (answers_of before) ≡ Some ack) (client_stories calls inputs)

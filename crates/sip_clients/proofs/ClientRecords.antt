@@ -17,8 +17,8 @@ use Rattle.sip_clients.specs.declared.client.RequestKind.{RequestKind}
 use Rattle.sip_clients.specs.declared.client.RequestKind.TheVariants.{First, Again, Inside, Plain}
 use Rattle.sip_clients.specs.Answers.{AnswerList}
 use Rattle.sip_clients.specs.Cancel.{cancelling_after}
-use Rattle.sip_clients.specs.ClientLife.{ClientHappening, AsksCancel, GetsProvisional, GetsSuccess, RepeatsSuccess, SendsAck, SendsAckAgain, SendsCancel, TakesReliable}
-use Rattle.sip_clients.specs.ClientStory.{ClientStory, answered, answers_of, asked_first, cancelling_of, client_told, first_success, is_cancel_sent, is_provisional, is_success, last_rseq, lives_on, rseq_taken}
+use Rattle.sip_clients.specs.ClientLife.{ClientHappening, AsksCancel, GetsProvisional, GetsSuccess, GetsSuccessAgain, SendsAck, SendsAckAgain, SendsCancel, TakesReliable}
+use Rattle.sip_clients.specs.ClientStory.{ClientStory, with_answer, answers_of, asked_first, cancelling_of, client_told, first_success, is_cancel_sent, is_provisional_response, is_success_response, last_rseq, lives_on, rseq_taken}
 
 -- ---- the record after one thing
 
@@ -30,7 +30,7 @@ asked_again id Sent = Sent
 
 abbrev pub cancelling_by : Cancelling → ClientHappening → Cancelling
 cancelling_by cancel (GetsSuccess name moment) = cancelling_after true cancel
-cancelling_by cancel (RepeatsSuccess name) = cancelling_after true cancel
+cancelling_by cancel (GetsSuccessAgain name) = cancelling_after true cancel
 cancelling_by cancel (AsksCancel id) = asked_again id cancel
 cancelling_by cancel (SendsCancel sent) = Sent
 cancelling_by cancel _ = cancel
@@ -50,10 +50,10 @@ removal_by removal _ = removal
 
 abbrev pub client_happened : Client → ClientHappening → Client
 client_happened client h = record client {
-  provisional = client.provisional || is_provisional h;
+  provisional = client.provisional || is_provisional_response h;
   cancel = cancelling_by client.cancel h;
   heard = heard_by client.kind client.heard h;
-  answers = answered client.answers h;
+  answers = with_answer client.answers h;
   removal = removal_by client.removal h;
 }
 
@@ -63,7 +63,7 @@ pub or_false : (b : Bool) → (b || false) ≡ b
 or_false true = refl
 or_false false = refl
 
-any_more : (test : ClientHappening → Bool) (life : List ClientHappening) (h : ClientHappening)
+pub any_more : (test : ClientHappening → Bool) (life : List ClientHappening) (h : ClientHappening)
     → list_any test (life ++ h ∷ []) ≡ (list_any test life || test h)
 any_more test life h =
     list_any-append test life (h ∷ []) ∙ ap (λ b. list_any test life || b) (or_false (test h))
@@ -132,9 +132,9 @@ removal_more (_ ∷ life) h = removal_more life h
 -- ---- its CANCEL
 
 -- the first that asked, where one asks or a 2xx comes now
-abbrev asked_by : Option Id → ClientHappening → Option Id
+abbrev pub asked_by : Option Id → ClientHappening → Option Id
 asked_by first (GetsSuccess name moment) = None
-asked_by first (RepeatsSuccess name) = None
+asked_by first (GetsSuccessAgain name) = None
 asked_by first (AsksCancel id) = Some (unwrap_or first id)
 asked_by first _ = first
 
@@ -144,19 +144,19 @@ asked_now _ = refl
 
 asked_before : (id : Id) (later more : Option Id) (b : Bool) (h : ClientHappening)
     → more ≡ asked_by later h
-    → cond (b || is_success h) more (Some id) ≡ asked_by (cond b later (Some id)) h
+    → cond (b || is_success_response h) more (Some id) ≡ asked_by (cond b later (Some id)) h
 asked_before id later more true h same = same
 asked_before id later more false (GetsSuccess name moment) same = same
-asked_before id later more false (RepeatsSuccess name) same = same
+asked_before id later more false (GetsSuccessAgain name) same = same
 asked_before id later more false _ same = refl
 
-asked_more : (life : List ClientHappening) (h : ClientHappening)
+pub asked_more : (life : List ClientHappening) (h : ClientHappening)
     → asked_first (life ++ h ∷ []) ≡ asked_by (asked_first life) h
 asked_more [] h = asked_now h
 asked_more (AsksCancel id ∷ life) h =
-    ap (λ b. cond b (asked_first (life ++ h ∷ [])) (Some id)) (any_more is_success life h)
+    ap (λ b. cond b (asked_first (life ++ h ∷ [])) (Some id)) (any_more is_success_response life h)
     ∙ asked_before id (asked_first life) (asked_first (life ++ h ∷ []))
-    (list_any is_success life) h (asked_more life h)
+    (list_any is_success_response life) h (asked_more life h)
 asked_more (_ ∷ life) h = asked_more life h
 
 abbrev cancelling_in : Bool → Option Id → Cancelling
@@ -187,10 +187,10 @@ happens story h = λ i. record {
   kind = story.kind;
   request = story.request;
   to = story.to;
-  provisional = any_more is_provisional story.life h i;
+  provisional = any_more is_provisional_response story.life h i;
   cancel = cancelling_more story.life h i;
   heard = heard_more story.kind story.life h i;
-  answers = fold_push answered [] story.life h i;
+  answers = fold_push with_answer [] story.life h i;
   removal = removal_more story.life h i;
 }
 

@@ -6,6 +6,7 @@ use Rattle.std.specs.List.{list_any}
 use Rattle.std.specs.Map.{lookup, remove_entry, set_value}
 use Rattle.std.specs.Option.{option_map, option_map_or}
 use Rattle.std.proofs.lemmas.List.Elements.{filter-append}
+use Rattle.std.proofs.lemmas.Map.Made.{lookup-map_values}
 use Rattle.std.proofs.lemmas.Map.Steps.{set_value_same}
 use Rattle.sip_dialog.specs.declared.fault.DialogFault.{DialogFault}
 use Rattle.sip_dialog.specs.Fault.{ack_fault, request_fault}
@@ -30,6 +31,7 @@ use Rattle.sip_common.specs.Ids.{is_id}
 use Rattle.sip_common.specs.Notices.{refused}
 use Rattle.sip_common.specs.Refusal.{first_refusal}
 use Rattle.sip_common.specs.Requests.{is_cancel}
+use Rattle.sip_common.proofs.Each.{each_but_one, each_left}
 use Rattle.sip_clients.specs.declared.answers.SentAck.{SentAck}
 use Rattle.sip_clients.specs.declared.cancel.CancelCase.{CancelCase}
 use Rattle.sip_clients.specs.declared.cancel.CancelCase.TheVariants as ask
@@ -46,7 +48,8 @@ use Rattle.sip_clients.specs.declared.service.Service.TheVariants as service
 use Rattle.sip_clients.specs.Cancel.{asked, asking_case, cancel_by_user, cancel_case, cancel_client, cancelled_as, cancelled_of}
 use Rattle.sip_clients.specs.Client.{Clients, Side, ClientTaken, client_at, client_changed, client_for}
 use Rattle.sip_clients.specs.ClientLife.{ClientHappening, Outgoing, AsksCancel, SendsAck, SendsCancel, acks_out, cancels_out, requests_out}
-use Rattle.sip_clients.specs.ClientStory.{ClientStory, client_told}
+use Rattle.sip_clients.specs.ClientRules.{AllLive, EachFits, HoldsRules}
+use Rattle.sip_clients.specs.ClientStory.{ClientStory, client_told, is_provisional_response}
 use Rattle.sip_clients.specs.ClientTelling.{ClientStories, AreTold, HoldsStories, ack_told, begin_story, begin_stories, cancel_told, for_dialog, happens_to, in_dialog_told, invite_owed, invite_told, lost_told, plain_told, ticked_told}
 use Rattle.sip_clients.specs.Clients.{ack_by_user, ack_kept, ack_paid, acked_with, invite_taken, lost_of, paid_or_refused, plain_taken, prack_by_user, prack_paid, request_by_user, request_lost, request_settled, settled, started}
 use Rattle.sip_clients.specs.Commands.{bye_ended, debt_for, is_bad_outside, name_in, request_in_held, request_refusals, requested_at, sent_unless}
@@ -59,8 +62,9 @@ use Rattle.sip_clients.specs.RefusedCommands.{is_refusal}
 use Rattle.sip_clients.specs.Reply.{is_inviting}
 use Rattle.sip_clients.specs.Service.{Outcome, discharged, sending_in, service_by}
 use Rattle.sip_clients.specs.Tick.{clients_ticked, is_over}
-use Rattle.sip_clients.proofs.ClientRecords.{asked_again, client_happened, or_false}
+use Rattle.sip_clients.proofs.ClientRecords.{any_more, asked_again, client_happened, or_false}
 use Rattle.sip_clients.proofs.StoryBegins.{ChangesFor, IsSentFor, begin_on, beside, beside_on, beside_sent, both_sent, changed_on, freed_cancel, freed_out, none_sent, over_on, put_on, quiet_then, settled_on, some_same}
+use Rattle.sip_clients.proofs.StoryFits.{LivesSo, acks_fit, asks_fit, asks_ready, begin_fit, cancel_fits, happens_fit}
 use Rattle.sip_clients.proofs.StoryMaps.{filter_read}
 use Rattle.sip_clients.proofs.WithoutStarts.{AreQuiet, ack_said_quiet, bye_quiet, request_said_quiet}
 
@@ -387,3 +391,157 @@ pub cancel_holds : (event : Event) (command : Cancel)
     → HoldsStories (cancel_by_user event command)
     (λ side outs stories. cancel_told event command outs stories)
 cancel_holds event command side stories told = cancel_holds_so event command side stories told
+
+-- ---- what happens goes with what happened before
+
+begun_rules : (step : Side → ClientTaken) (sent_for : Side → Message → RequestKind)
+    → HoldsRules step (λ side outs stories. begin_stories (sent_for side) outs stories)
+begun_rules step sent_for side stories told all =
+    begin_fit (sent_for side) (requests_out (step side).1) stories all
+
+pub lost_rules : (id : Id) (timed_out : Bool)
+    → HoldsRules (request_lost id timed_out) (λ side outs stories. lost_told id stories)
+lost_rules id timed_out side stories told all = each_but_one LivesSo (is_id id) stories all
+
+pub tick_rules : (now : ℕ)
+    → HoldsRules (λ side. clients_ticked side now) (λ side outs stories. ticked_told now stories)
+tick_rules now side stories told all =
+    each_left LivesSo (λ entry. not (is_over now (client_told entry.1))) stories all
+
+pub invite_rules : (event : Event) (invite : Invite)
+    → HoldsRules (on_side (invite_taken event invite)) (λ side outs stories. invite_told outs stories)
+invite_rules event invite =
+    begun_rules (on_side (invite_taken event invite)) (λ side request. First)
+
+pub plain_rules : (event : Event) (plain : PlainCommand)
+    → HoldsRules (on_side (plain_taken event plain)) (λ side outs stories. plain_told outs stories)
+plain_rules event plain = begun_rules (on_side (plain_taken event plain)) (λ side request. Plain)
+
+pub request_rules : (event : Event) (command : DialogRequest)
+    → HoldsRules (request_by_user event command) (λ side outs stories.
+    in_dialog_told event (name_in command.local_tag command.remote_tag) side outs stories)
+request_rules event command =
+    begun_rules (request_by_user event command)
+    (λ side. for_dialog event (name_in command.local_tag command.remote_tag) side.dialogs)
+
+pub prack_rules : (event : Event) (command : DialogBody)
+    → HoldsRules (prack_by_user event command) (λ side outs stories.
+    in_dialog_told event (name_in command.local_tag command.remote_tag) side outs stories)
+prack_rules event command =
+    begun_rules (prack_by_user event command)
+    (λ side. for_dialog event (name_in command.local_tag command.remote_tag) side.dialogs)
+
+pub ack_rules : (event : Event) (command : DialogBody)
+    → HoldsRules (ack_by_user event command)
+    (λ side outs stories. ack_told command side outs stories)
+ack_rules event command side stories told all =
+    by_invite (invite_owed (debt_for kind.Ack name side.dialogs))
+  where
+    name : DialogName
+    name = name_in command.local_tag command.remote_tag
+
+    acks : List SentAck
+    acks = acks_out (ack_by_user event command side).1
+
+    by_invite : (o : Option Id) → AllLive (option_map_or
+        (λ invite. happens_to invite (map (SendsAck name) acks) stories) o stories)
+    by_invite None = all
+    by_invite (Some invite) =
+        happens_fit invite (map (SendsAck name) acks) stories all
+        (λ story is lived. acks_fit story story.life name acks)
+
+module _ (event : Event) (command : Cancel) (side : Side) (stories : ClientStories)
+    (told : AreTold side.clients stories) (all : AllLive stories) where
+  abbrev CancelLives : Clients × List CallOut → Type 0
+  CancelLives taken = AllLive (cancel_told event command taken.1 stories)
+
+  module _ (invite : Client) (at : client_at command.id side.clients ≡ Some invite) where
+    abbrev AskedLives : CancelCase → Type 0
+    AskedLives case = CancelLives (cancelled_as case event command invite side.clients)
+
+    is_told : (story : ClientStory) → lookup (is_id command.id) stories ≡ Some story
+        → client_told story ≡ invite
+    is_told story is =
+        some_same (client_told story) invite (sym (ap (option_map client_told) is)
+        ∙ sym (lookup-map_values client_told (is_id command.id) stories)
+        ∙ sym (ap (lookup (is_id command.id)) told) ∙ at)
+
+    module _ (inviting : is_inviting invite.kind ≡ true)
+        (none : is_some invite.removal ≡ false) where
+      asks_alone : AllLive (happens_to command.id (AsksCancel event.id ∷ []) stories)
+      asks_alone =
+          happens_fit command.id (AsksCancel event.id ∷ []) stories all
+          (λ story is lived. (asks_fit story invite (is_told story is) inviting none, tt))
+
+      starts_fit : (story : ClientStory) → client_told story ≡ invite
+          → invite.provisional ≡ true → invite.cancel ≡ cancel.NotAsked
+          → EachFits story story.life
+          (AsksCancel event.id ∷ map SendsCancel (freed_out invite (Some event.id)))
+      starts_fit story is came state =
+          let asks = asks_fit story invite is inviting none in (
+            asks,
+            (
+              cancel_fits story (story.life ++ AsksCancel event.id ∷ []) event.id invite
+                  (sym (ap (λ (client : Client). client.request) is))
+                  (sym (ap (λ (client : Client). client.to) is))
+                  (any_more is_provisional_response story.life (AsksCancel event.id)
+                  ∙ ap (λ b. b || false) (ap (λ (client : Client). client.provisional) is ∙ came))
+                  (asks_ready story event.id asks
+                  (ap (λ (client : Client). client.cancel) is ∙ state)),
+              tt,
+            ),
+          )
+
+      starts_lives : invite.provisional ≡ true → invite.cancel ≡ cancel.NotAsked
+          → AskedLives ask.Starts
+      starts_lives came state =
+          let changed = client_changed command.id (asked cancel.Sent) side.clients in
+          let outs = (beside invite (Some event.id) (changed, [])).1 in
+          let sent : requests_out outs ≡ freed_out invite (Some event.id) =
+          beside_sent invite (Some event.id) (changed, []) in
+          let cancels : cancels_out outs ≡ freed_out invite (Some event.id) =
+          ap (filter (λ sent. is_cancel sent.request)) sent
+          ∙ freed_cancel invite (Some event.id) in
+          let more : List Outgoing → List ClientHappening =
+          λ cancels. AsksCancel event.id ∷ map SendsCancel cancels in
+          subst AllLive
+          (λ i. if sym (start_unrefused event.id invite) i then stories
+          else begin_stories (λ request. Plain) outs
+          (happens_to command.id (more (sym cancels i)) stories))
+          (begin_fit (λ request. Plain) (requests_out outs)
+          (happens_to command.id (more (freed_out invite (Some event.id))) stories)
+          (happens_fit command.id (more (freed_out invite (Some event.id))) stories all
+          (λ story is lived. starts_fit story (is_told story is) came state)))
+
+      lives_by_state : (provisional : Bool) (state : Cancelling)
+          → invite.provisional ≡ provisional → invite.cancel ≡ state
+          → AskedLives (asking_case provisional state)
+      lives_by_state true cancel.NotAsked came is = starts_lives came is
+      lives_by_state false cancel.NotAsked came is = asks_alone
+      lives_by_state provisional (cancel.Waits id) came is = asks_alone
+      lives_by_state provisional cancel.Sent came is = asks_alone
+
+    lives_by_removal : is_inviting invite.kind ≡ true → (final : Bool)
+        → is_some invite.removal ≡ final → AskedLives (if final then ask.Refused AlreadyFinal
+        else asking_case invite.provisional invite.cancel)
+    lives_by_removal inviting true is = all
+    lives_by_removal inviting false is =
+        lives_by_state inviting is invite.provisional invite.cancel refl refl
+
+    lives_by_kind : (inviting : Bool) → is_inviting invite.kind ≡ inviting
+        → AskedLives (if not inviting then ask.Refused NoSuchRequest
+        else (if is_some invite.removal then ask.Refused AlreadyFinal
+        else asking_case invite.provisional invite.cancel))
+    lives_by_kind true is = lives_by_removal is (is_some invite.removal) refl
+    lives_by_kind false is = all
+
+  lives_by_found : (o : Option Client) → client_at command.id side.clients ≡ o
+      → CancelLives (cancelled_of o event command side.clients)
+  lives_by_found None at = all
+  lives_by_found (Some invite) at = lives_by_kind invite at (is_inviting invite.kind) refl
+
+pub cancel_rules : (event : Event) (command : Cancel)
+    → HoldsRules (cancel_by_user event command)
+    (λ side outs stories. cancel_told event command outs stories)
+cancel_rules event command side stories told all =
+    lives_by_found event command side stories told all (client_at command.id side.clients) refl

@@ -35,5 +35,7 @@ pub mod ClientOuts
 pub mod StoryMaps
 pub mod ClientRecords
 pub mod StoryBegins
+pub mod StoryFits
 pub mod ReplyStories
+pub mod OtherSends
 pub mod CommandStories

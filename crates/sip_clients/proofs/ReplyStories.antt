@@ -2,12 +2,13 @@
 use Rattle.std.proofs.Common.{◌≡◌, ℕ, ◌+◌, Bool, true, false, not, cond, ◌&&◌, ◌||◌, List, [], ◌∷◌, ◌++◌, map, refl, sym, ap, subst, ◌∙◌, append-nil}
 use Rattle.std.specs.Prelude.{Option, None, Some, codes, filter, fold, if◌then◌else◌}
 use Rattle.std.specs.List.{list_any}
-use Rattle.std.specs.Map.{remove_entry, set_value}
+use Rattle.std.specs.Map.{lookup, remove_entry, set_value}
 use Rattle.std.specs.Option.{option_map, option_map_or}
 use Rattle.std.proofs.lemmas.Bool.{false≢true}
 use Rattle.std.proofs.lemmas.List.Elements.{filter-append}
 use Rattle.std.proofs.lemmas.List.Folds.{list_any-append}
-use Rattle.std.proofs.lemmas.List.Sums.{fold-append}
+use Rattle.std.proofs.lemmas.List.Sums.{fold_push}
+use Rattle.std.proofs.lemmas.Map.Made.{lookup-map_values}
 use Rattle.indexmap.specs.IndexMap.{insert_entry}
 use Rattle.sip_dialog.specs.declared.fault.DialogFault.{DialogFault}
 use Rattle.sip_dialog.specs.Fault.{request_fault}
@@ -26,6 +27,7 @@ use Rattle.sip_common.specs.declared.item.CallOut.{CallOut}
 use Rattle.sip_common.specs.Dialogs.{dialog_at}
 use Rattle.sip_common.specs.Ids.{is_id}
 use Rattle.sip_common.specs.Requests.{is_cancel, is_final}
+use Rattle.sip_common.proofs.Each.{each_but_one}
 use Rattle.sip_common.proofs.Heard.{name_laws, none_either}
 use Rattle.sip_clients.specs.declared.answers.SentAck.{SentAck}
 use Rattle.sip_clients.specs.declared.client.Cancelling.{Cancelling}
@@ -41,23 +43,25 @@ use Rattle.sip_clients.specs.declared.reply.ReplyCase.{ReplyCase}
 use Rattle.sip_clients.specs.declared.reply.ReplyCase.TheVariants as reply
 use Rattle.sip_clients.specs.declared.service.Service.{Service}
 use Rattle.sip_clients.specs.declared.service.Service.TheVariants as service
-use Rattle.sip_clients.specs.Answers.{has_answer}
+use Rattle.sip_clients.specs.Answers.{ack_of, has_answer}
 use Rattle.sip_clients.specs.Cancel.{after_response, cancel_client, cancelling_after, freed_by}
 use Rattle.sip_clients.specs.Client.{Clients, Side, ClientTaken, client_at, client_for}
-use Rattle.sip_clients.specs.ClientLife.{ClientHappening, Outgoing, GetsProvisional, GetsSuccess, RepeatsSuccess, SendsAck, SendsAckAgain, SendsCancel, TakesReliable, acks_out, cancels_out, requests_out}
-use Rattle.sip_clients.specs.ClientStory.{client_told}
+use Rattle.sip_clients.specs.ClientLife.{ClientHappening, Outgoing, GetsProvisional, GetsSuccess, GetsSuccessAgain, SendsAck, SendsAckAgain, SendsCancel, TakesReliable, acks_out, cancels_out, requests_out}
+use Rattle.sip_clients.specs.ClientRules.{AllLive, EachFits, HoldsRules}
+use Rattle.sip_clients.specs.ClientStory.{ClientStory, with_answer, client_told, is_provisional_response}
 use Rattle.sip_clients.specs.ClientTelling.{ClientStories, AreTold, HoldsStories, begin_story, begin_stories, for_dialog, for_dialog_or_cancel, happens_to, reliable_taken, reply_told, response_happens, response_told, success_happens}
 use Rattle.sip_clients.specs.Clients.{found_taken, reply_name, reply_of, reply_settled, response_taken, settled, side_after, status_of}
 use Rattle.sip_clients.specs.Debts.{owed}
 use Rattle.sip_clients.specs.Dialogs.{accepted, dialog_for_provisional}
 use Rattle.sip_clients.specs.Event.{branch_of}
-use Rattle.sip_clients.specs.Outputs.{kind_in, request_said, sent_ack}
+use Rattle.sip_clients.specs.Outputs.{direct, kind_in, request_said, sent_ack}
 use Rattle.sip_clients.specs.Provisionals.{is_response, provisional_number}
 use Rattle.sip_clients.specs.Replied.{Replied, ack_owed, after_dialog, by_reply_case, heard_again, heard_first, held_after_success, offer_to, prack_owed, replied_in, reply_taken, request_over, told_of_ack, told_of_prack}
 use Rattle.sip_clients.specs.Reply.{heard_of, is_dialog_response, is_last, is_there, offer_case, reliable_case, reply_case, rseq_of, success_case}
 use Rattle.sip_clients.specs.Service.{discharged, sending_in, service_by}
-use Rattle.sip_clients.proofs.ClientRecords.{client_happened, heard_taken, or_false}
-use Rattle.sip_clients.proofs.StoryBegins.{ChangesFor, HasNoCancel, IsSentFor, beside, beside_on, beside_sent, beside_silent, both_sent, freed_cancel, freed_out, over_on, put_on, quiet_then, settled_no_cancel, settled_on, settled_silent, then_begin}
+use Rattle.sip_clients.proofs.ClientRecords.{any_more, client_happened, heard_taken, or_false}
+use Rattle.sip_clients.proofs.StoryBegins.{ChangesFor, HasNoCancel, IsSentFor, beside, beside_on, beside_sent, beside_silent, both_sent, freed_cancel, freed_out, over_on, put_on, quiet_then, settled_no_cancel, settled_on, settled_silent, some_same, then_begin}
+use Rattle.sip_clients.proofs.StoryFits.{IsReady, LivesSo, acks_fit, begin_fit, freed_fits, happens_fit, ready_then, waits_ready}
 use Rattle.sip_clients.proofs.StoryMaps.{insert_twice, remove_set}
 use Rattle.sip_clients.proofs.WithoutStarts.{AreQuiet, case_quiet}
 
@@ -99,7 +103,7 @@ IsPrack born (service.Sent sending) =
 IsPrack born service.Waits = Unit {0}
 IsPrack born (service.Refused refusal) = Unit {0}
 
-sent_method : (event : Event) (method : List ℕ) (rack : Option RAck) (content : Content)
+pub sent_method : (event : Event) (method : List ℕ) (rack : Option RAck) (content : Content)
     (held : HeldDialog) → is_cancel (sending_in event method rack content held).message
     ≡ is_cancel (bare_request_in held.dialog method (held.dialog.local_cseq + 1)
     (branch_of event) event.local)
@@ -265,6 +269,24 @@ module _ (event : Event) (id : Id) (call_id : List ℕ) (response : Message) (st
   ProvisionalTold takes taken = AreTold (taken.0).clients (begin_stories sent_for taken.1
       (happens_to id (provisional_more takes (cancels_out taken.1)) stories))
 
+  provisional_sent : (done : Replied) → AreQuiet done.2
+      → requests_out (taken_with freed done).1
+      ≡ requests_out (settled event id done.3 (set_value (is_id id) side.clients done.0)).1
+      ++ freed_out client freed
+  provisional_sent done quiet =
+      let after = settled event id done.3 (set_value (is_id id) side.clients done.0) in
+      beside_sent client freed (after.0, done.2 ++ after.1)
+      ∙ ap (λ sent. sent ++ freed_out client freed) (quiet_then done.2 after.1 quiet)
+
+  provisional_cancels : (done : Replied) → AreQuiet done.2 → HasNoCancel done.3
+      → cancels_out (taken_with freed done).1 ≡ freed_out client freed
+  provisional_cancels done quiet none =
+      let put = set_value (is_id id) side.clients done.0 in
+      ap (filter (λ sent. is_cancel sent.request)) (provisional_sent done quiet)
+      ∙ filter-append (λ (sent : Outgoing). is_cancel sent.request)
+      (requests_out (settled event id done.3 put).1) (freed_out client freed)
+      ∙ (λ i. settled_no_cancel event id done.3 put none i ++ freed_cancel client freed i)
+
   provisional_on : (done : Replied) (takes : List ClientHappening) → AreQuiet done.2
       → ChangesFor event sent_for done.3 → HasNoCancel done.3
       → fold client_happened client (provisional_more takes (freed_out client freed)) ≡ done.0
@@ -272,15 +294,8 @@ module _ (event : Event) (id : Id) (call_id : List ℕ) (response : Message) (st
   provisional_on done takes quiet for none same =
       let put = set_value (is_id id) side.clients done.0 in
       let after = settled event id done.3 put in
-      let outs = (taken_with freed done).1 in
-      let sent : requests_out outs ≡ requests_out after.1 ++ freed_out client freed =
-      beside_sent client freed (after.0, done.2 ++ after.1)
-      ∙ ap (λ sent. sent ++ freed_out client freed) (quiet_then done.2 after.1 quiet) in
-      let cancels : cancels_out outs ≡ freed_out client freed =
-      ap (filter (λ sent. is_cancel sent.request)) sent
-      ∙ filter-append (λ (sent : Outgoing). is_cancel sent.request) (requests_out after.1)
-      (freed_out client freed)
-      ∙ (λ i. settled_no_cancel event id done.3 put none i ++ freed_cancel client freed i) in
+      let sent = provisional_sent done quiet in
+      let cancels = provisional_cancels done quiet none in
       let lived = happens_to id (provisional_more takes (freed_out client freed)) stories in
       let begun = begin_stories sent_for after.1 lived in
       beside_on sent_for client refl freed (after.0, done.2 ++ after.1) begun
@@ -505,6 +520,147 @@ module _ (event : Event) (id : Id) (call_id : List ℕ) (response : Message) (st
       (reply_told event id status client response side.dialogs taken.1 stories)
   reply_on = by_last (is_last client.kind status) refl
 
+  -- ---- what happens goes with what happened before
+
+  -- the record that the story tells is what is held
+  is_told : (story : ClientStory) → lookup (is_id id) stories ≡ Some story
+      → client_told story ≡ client
+  is_told story is =
+      some_same (client_told story) client (sym (ap (option_map client_told) is)
+      ∙ sym (lookup-map_values client_told (is_id id) stories) ∙ sym (ap (lookup (is_id id)) told)
+      ∙ at)
+
+  case_no_cancel : (case : ReplyCase) → HasNoCancel (case_done case).3
+  case_no_cancel reply.Repeated = tt
+  case_no_cancel reply.Accepted = tt
+  case_no_cancel reply.Late = tt
+  case_no_cancel (reply.Reliable rseq) =
+      let held = dialog_for_provisional (after_response false client) answer found in
+      let owed = prack_owed rseq (after_response false client) held answer in
+      prack_none held.born owed.1 (prack_is rseq (after_response false client) held answer)
+  case_no_cancel reply.Passed = tt
+  case_no_cancel reply.Early = tt
+  case_no_cancel reply.Told = tt
+
+  case_cancels : (case : ReplyCase) → cancels_out (case_taken case).1 ≡ freed_out client freed
+  case_cancels case =
+      provisional_cancels (case_done case)
+      (case_quiet case (after_response false client) found answer) (case_no_cancel case)
+
+  module _ (story : ClientStory) (is : client_told story ≡ client)
+      (lived : EachFits story [] story.life) where
+    abbrev after_provisional : List ClientHappening
+    after_provisional = story.life ++ GetsProvisional ∷ []
+
+    came_now : (life : List ClientHappening)
+        → list_any is_provisional_response (life ++ GetsProvisional ∷ []) ≡ true
+    came_now life =
+        any_more is_provisional_response life GetsProvisional ∙ or_true (list_any is_provisional_response life)
+      where
+        or_true : (b : Bool) → (b || true) ≡ true
+        or_true true = refl
+        or_true false = refl
+
+    ready_now : (waiting : Id) → client.cancel ≡ cancel.Waits waiting
+        → IsReady story after_provisional waiting
+    ready_now waiting waits =
+        ready_then story story.life waiting GetsProvisional refl refl refl
+        (waits_ready story waiting lived
+        (ap (λ (client : Client). client.cancel) is ∙ waits))
+
+    abbrev cancel_after : List ClientHappening → Type 0
+    cancel_after before = EachFits story before (map SendsCancel (freed_out client freed))
+
+    freed_after : (before : List ClientHappening) → list_any is_provisional_response before ≡ true
+        → ((waiting : Id) → client.cancel ≡ cancel.Waits waiting → IsReady story before waiting)
+        → cancel_after before
+    freed_after before came ready =
+        freed_fits story before client client.cancel
+        (sym (ap (λ (client : Client). client.request) is))
+        (sym (ap (λ (client : Client). client.to) is)) came ready
+
+    takes_fit : (b : Bool) (o : Option ℕ)
+        → EachFits story after_provisional
+        ((if b then option_map_or (λ rseq. TakesReliable rseq ∷ []) o [] else [])
+        ++ map SendsCancel (freed_out client freed))
+    takes_fit true (Some rseq) = (
+      tt,
+      freed_after (after_provisional ++ TakesReliable rseq ∷ [])
+          (any_more is_provisional_response after_provisional (TakesReliable rseq)
+          ∙ ap (λ b. b || false) (came_now story.life))
+          (λ waiting waits. ready_then story after_provisional waiting (TakesReliable rseq) refl
+          refl refl (ready_now waiting waits)),
+    )
+    takes_fit true None = freed_after after_provisional (came_now story.life) ready_now
+    takes_fit false o = freed_after after_provisional (came_now story.life) ready_now
+
+    again_fits : (o : Option SentAck) → ack_of name client.answers ≡ o
+        → EachFits story (story.life ++ GetsSuccessAgain name ∷ [])
+        (map (SendsAckAgain name) (acks_out (option_map_or (λ ack. direct ack ∷ []) o [] ++ [])))
+    again_fits None same = tt
+    again_fits (Some ack) same = (
+      ap (ack_of name) (fold_push with_answer [] story.life (GetsSuccessAgain name))
+          ∙ ap (λ (client : Client). ack_of name client.answers) is ∙ same,
+      tt,
+    )
+
+    success_fits : (again there : Bool) → EachFits story story.life
+        (success_happens again name event.moment (success_taken (if again then reply.Repeated
+        else (if there then reply.Accepted else reply.Late))).1)
+    success_fits true there = (tt, again_fits (ack_of name client.answers) refl)
+    success_fits false true =
+        (tt, acks_fit story _ name (acks_out (success_taken reply.Accepted).1))
+    success_fits false false =
+        (tt, acks_fit story _ name (acks_out (success_taken reply.Late).1))
+
+    provisional_fits : (case : ReplyCase) → EachFits story story.life
+        (provisional_more (reliable_taken status client response found (case_taken case).1)
+        (cancels_out (case_taken case).1))
+    provisional_fits case =
+        let outs = (case_taken case).1 in (
+          tt,
+          subst (λ cancels. EachFits story after_provisional
+              (reliable_taken status client response found outs ++ map SendsCancel cancels))
+              (sym (case_cancels case))
+              (takes_fit (is_there client.kind found && list_any is_response outs)
+              (provisional_number (Some status) response)),
+        )
+
+    abbrev FinalFits : Bool → ClientTaken → Type 0
+    FinalFits final taken = EachFits story story.life (if final
+        then success_happens (has_answer name client.answers) name event.moment taken.1
+        else provisional_more (reliable_taken status client response found taken.1)
+        (cancels_out taken.1))
+
+    final_fits : (final : Bool) → FinalFits final (final_taken final (freed_by final client.cancel))
+    final_fits true =
+        subst (λ freed. FinalFits true (final_taken true freed)) (sym (none_freed client.cancel))
+        (success_fits (has_answer name client.answers) (is_there client.kind found))
+    final_fits false = provisional_fits (final_case false)
+
+  abbrev LastLives : Bool → ClientTaken → Type 0
+  LastLives last taken = AllLive (if last then remove_entry (is_id id) stories
+      else begin_stories sent_for taken.1 (happens_to id
+      (response_happens event status client response name found taken.1) stories))
+
+  last_lives : AllLive stories → (last : Bool)
+      → LastLives last (taken_with (freed_by (is_final status) client.cancel)
+      (cond {A = Replied} last
+      (request_over (after_response (is_final status) client) side.dialogs answer)
+      (after_dialog name side.dialogs
+      (replied_in (after_response (is_final status) client) found answer))))
+  last_lives all true = each_but_one LivesSo (is_id id) stories all
+  last_lives all false =
+      let taken = final_taken (is_final status) (freed_by (is_final status) client.cancel) in
+      let more = response_happens event status client response name found taken.1 in
+      begin_fit sent_for (requests_out taken.1) (happens_to id more stories)
+      (happens_fit id more stories all
+      (λ story is lived. final_fits story (is_told story is) lived (is_final status)))
+
+  pub reply_lives : AllLive stories → AllLive (reply_told event id status client response
+      side.dialogs (reply_settled answer client side).1 stories)
+  reply_lives all = last_lives all (is_last client.kind status)
+
 found_on : (event : Event) (id : Id) (call_id : List ℕ) (response : Message) (side : Side)
     (stories : ClientStories) → AreTold side.clients stories → (status : Option ℕ)
     (o : Option Client) → client_at id side.clients ≡ o
@@ -523,4 +679,24 @@ pub response_holds : (event : Event) (id : Id) (call_id : List ℕ) (response : 
     (λ side outs stories. response_told event id response side outs stories)
 response_holds event id call_id response side stories told =
     found_on event id call_id response side stories told (status_of response.start)
+    (client_at id side.clients) refl
+
+found_lives : (event : Event) (id : Id) (call_id : List ℕ) (response : Message) (side : Side)
+    (stories : ClientStories) → AreTold side.clients stories → AllLive stories
+    → (status : Option ℕ) (o : Option Client) → client_at id side.clients ≡ o
+    → let taken = found_taken event id call_id response status o side in
+    AllLive (option_map_or (λ client. option_map_or
+    (λ status. reply_told event id status client response side.dialogs taken.1 stories) status
+    stories) o stories)
+found_lives event id call_id response side stories told all None None at = all
+found_lives event id call_id response side stories told all None (Some client) at = all
+found_lives event id call_id response side stories told all (Some status) None at = all
+found_lives event id call_id response side stories told all (Some status) (Some client) at =
+    reply_lives event id call_id response status client side stories told at all
+
+pub response_rules : (event : Event) (id : Id) (call_id : List ℕ) (response : Message)
+    → HoldsRules (response_taken event id call_id response)
+    (λ side outs stories. response_told event id response side outs stories)
+response_rules event id call_id response side stories told all =
+    found_lives event id call_id response side stories told all (status_of response.start)
     (client_at id side.clients) refl

@@ -60,7 +60,7 @@ pub data ClientHappening : Type 0 where
   -- the first 2xx of this dialog comes, at a moment in ms
   GetsSuccess : DialogName → ℕ → ClientHappening
   -- a 2xx of this dialog comes again
-  RepeatsSuccess : DialogName → ClientHappening
+  GetsSuccessAgain : DialogName → ClientHappening
   -- the ACK of the 2xx of this dialog goes out
   SendsAck : DialogName → SentAck → ClientHappening
   -- an ACK answers a 2xx of this dialog that came again

@@ -16,7 +16,7 @@ use Rattle.sip_clients.specs.declared.client.Client.{Client}
 use Rattle.sip_clients.specs.declared.client.RequestKind.{RequestKind}
 use Rattle.sip_clients.specs.declared.client.RequestKind.TheVariants.{First, Again, Inside, Plain}
 use Rattle.sip_clients.specs.Answers.{AnswerList}
-use Rattle.sip_clients.specs.ClientLife.{ClientHappening, AsksCancel, GetsProvisional, GetsSuccess, RepeatsSuccess, SendsAck, SendsAckAgain, SendsCancel, TakesReliable}
+use Rattle.sip_clients.specs.ClientLife.{ClientHappening, AsksCancel, GetsProvisional, GetsSuccess, GetsSuccessAgain, SendsAck, SendsAckAgain, SendsCancel, TakesReliable}
 
 -- the event that sent it, what it is for, the request and where it went, and what happened to it
 -- since
@@ -33,15 +33,15 @@ lives_on more story = record story { life = story.life ++ more }
 
 -- ---- its responses
 
-abbrev pub is_provisional : ClientHappening → Bool
-is_provisional GetsProvisional = true
-is_provisional _ = false
+abbrev pub is_provisional_response : ClientHappening → Bool
+is_provisional_response GetsProvisional = true
+is_provisional_response _ = false
 
 -- a 2xx; any other final response ends the request
-abbrev pub is_success : ClientHappening → Bool
-is_success (GetsSuccess name moment) = true
-is_success (RepeatsSuccess name) = true
-is_success _ = false
+abbrev pub is_success_response : ClientHappening → Bool
+is_success_response (GetsSuccess name moment) = true
+is_success_response (GetsSuccessAgain name) = true
+is_success_response _ = false
 
 -- the RSeq of a reliable provisional response that is taken
 abbrev pub rseq_taken : ClientHappening → Option ℕ
@@ -61,14 +61,14 @@ first_success (_ ∷ later) = first_success later
 
 -- by one thing after another: the dialogs of the 2xx responses, as they came first, each with the
 -- ACK that went out last for it
-abbrev pub answered : AnswerList → ClientHappening → AnswerList
-answered answers (GetsSuccess name moment) = insert_entry is_named answers name None
-answered answers (SendsAck name ack) = insert_entry is_named answers name (Some ack)
-answered answers _ = answers
+abbrev pub with_answer : AnswerList → ClientHappening → AnswerList
+with_answer answers (GetsSuccess name moment) = insert_entry is_named answers name None
+with_answer answers (SendsAck name ack) = insert_entry is_named answers name (Some ack)
+with_answer answers _ = answers
 
 -- all of them
 abbrev pub answers_of : List ClientHappening → AnswerList
-answers_of life = fold answered [] life
+answers_of life = fold with_answer [] life
 
 -- ---- its CANCEL
 
@@ -80,7 +80,7 @@ is_cancel_sent _ = false
 abbrev pub asked_first : List ClientHappening → Option Id
 asked_first [] = None
 asked_first (AsksCancel id ∷ later) =
-    if list_any is_success later then asked_first later else Some id
+    if list_any is_success_response later then asked_first later else Some id
 asked_first (_ ∷ later) = asked_first later
 
 -- it went out; or it was asked for and waits for a provisional response; or neither
@@ -97,7 +97,7 @@ client_told story = record {
   kind = story.kind;
   request = story.request;
   to = story.to;
-  provisional = list_any is_provisional story.life;
+  provisional = list_any is_provisional_response story.life;
   cancel = cancelling_of story.life;
   heard = last_rseq story.kind story.life;
   answers = answers_of story.life;

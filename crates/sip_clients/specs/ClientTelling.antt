@@ -25,7 +25,7 @@ use Rattle.sip_clients.specs.declared.debts.DebtKind.TheVariants as kind
 use Rattle.sip_clients.specs.declared.event.Event.{Event}
 use Rattle.sip_clients.specs.Answers.{has_answer}
 use Rattle.sip_clients.specs.Client.{Clients, Side, ClientTaken, client_at}
-use Rattle.sip_clients.specs.ClientLife.{ClientHappening, Outgoing, AsksCancel, GetsProvisional, GetsSuccess, RepeatsSuccess, SendsAck, SendsAckAgain, SendsCancel, TakesReliable, acks_out, cancels_out, requests_out}
+use Rattle.sip_clients.specs.ClientLife.{ClientHappening, Outgoing, AsksCancel, GetsProvisional, GetsSuccess, GetsSuccessAgain, SendsAck, SendsAckAgain, SendsCancel, TakesReliable, acks_out, cancels_out, requests_out}
 use Rattle.sip_clients.specs.ClientStory.{ClientStory, client_told, lives_on}
 use Rattle.sip_clients.specs.Clients.{reply_name, status_of}
 use Rattle.sip_clients.specs.Commands.{debt_for, name_in}
@@ -92,7 +92,7 @@ reliable_taken status client response found outs =
 -- a 2xx of a dialog, which comes first or again, and the ACKs that go out for it
 abbrev pub success_happens : Bool → DialogName → ℕ → List CallOut → List ClientHappening
 success_happens again name moment outs =
-    if again then RepeatsSuccess name ∷ map (SendsAckAgain name) (acks_out outs)
+    if again then GetsSuccessAgain name ∷ map (SendsAckAgain name) (acks_out outs)
     else GetsSuccess name moment ∷ map (SendsAck name) (acks_out outs)
 
 -- what a response of this status makes happen to its request, in the dialog of this name

@@ -4,6 +4,7 @@ pub mod Client
 pub mod ClientLife
 pub mod ClientStory
 pub mod ClientTelling
+pub mod ClientRules
 pub mod Clients
 pub mod Commands
 pub mod Debts

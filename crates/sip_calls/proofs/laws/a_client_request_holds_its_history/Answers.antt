@@ -1,5 +1,11 @@
-use Rattle.sip_calls.proofs.ClientHistories.{holds_client_stories}
+use Rattle.sip_calls.proofs.ClientHistories.{cancels_once, holds_client_stories, repeats_its_ack}
 use Rattle.sip_calls.proofs.laws.a_client_request_holds_its_history.Goals as goal
 
-pub returns : goal.returns
-returns c = holds_client_stories
+pub returns-clause-history : goal.returns-clause-history
+returns-clause-history c = holds_client_stories
+
+pub returns-clause-cancel : goal.returns-clause-cancel
+returns-clause-cancel c = cancels_once
+
+pub returns-clause-ack : goal.returns-clause-ack
+returns-clause-ack c = repeats_its_ack
