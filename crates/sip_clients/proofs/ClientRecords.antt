@@ -1,12 +1,11 @@
 -- What a held client request is after what happens to it is what its story says then.
-use Rattle.std.proofs.Common.{◌≡◌, ℕ, ◌+◌, ◌*◌, Bool, true, false, not, cond, ◌||◌, List, [], ◌∷◌, ◌++◌, map, refl, sym, ap, subst, ◌∙◌, append-nil, append_assoc}
+use Rattle.std.proofs.Common.{◌≡◌, ℕ, ◌+◌, ◌*◌, Bool, true, false, cond, ◌||◌, List, [], ◌∷◌, ◌++◌, refl, sym, ap, ◌∙◌, append-nil, append_assoc}
 use Rattle.std.specs.Prelude.{Option, None, Some, filter_map, fold, unwrap_or, if◌then◌else◌}
 use Rattle.std.specs.List.{last_or, list_any}
 use Rattle.std.specs.Option.{option_map, option_map_or}
 use Rattle.std.proofs.lemmas.List.Elements.{filter_map-append}
 use Rattle.std.proofs.lemmas.List.Folds.{list_any-append}
 use Rattle.std.proofs.lemmas.List.Sums.{fold_push}
-use Rattle.indexmap.specs.IndexMap.{insert_entry}
 use Rattle.sip_message.specs.declared.id.Id.{Id}
 use Rattle.sip_timers.specs.declared.estimate.TheConstants.{LIFETIME, T1}
 use Rattle.sip_common.specs.declared.held_dialog.DialogLife.{DialogLife}
@@ -15,10 +14,9 @@ use Rattle.sip_clients.specs.declared.client.Cancelling.TheVariants.{NotAsked, W
 use Rattle.sip_clients.specs.declared.client.Client.{Client}
 use Rattle.sip_clients.specs.declared.client.RequestKind.{RequestKind}
 use Rattle.sip_clients.specs.declared.client.RequestKind.TheVariants.{First, Again, Inside, Plain}
-use Rattle.sip_clients.specs.Answers.{AnswerList}
 use Rattle.sip_clients.specs.Cancel.{cancelling_after}
-use Rattle.sip_clients.specs.ClientLife.{ClientHappening, AsksCancel, GetsProvisional, GetsSuccess, GetsSuccessAgain, SendsAck, SendsAckAgain, SendsCancel, TakesReliable}
-use Rattle.sip_clients.specs.ClientStory.{ClientStory, with_answer, answers_of, asked_first, cancelling_of, client_told, first_success, is_cancel_sent, is_provisional_response, is_success_response, last_rseq, lives_on, rseq_taken}
+use Rattle.sip_clients.specs.ClientLife.{ClientHappening, AsksCancel, GetsSuccess, GetsSuccessAgain, SendsCancel, TakesReliable}
+use Rattle.sip_clients.specs.ClientStory.{ClientStory, with_answer, asked_first, cancelling_of, client_told, first_success, is_cancel_sent, is_provisional_response, is_success_response, last_rseq, lives_on, rseq_taken}
 
 -- ---- the record after one thing
 

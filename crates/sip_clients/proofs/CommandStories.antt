@@ -1,11 +1,10 @@
 -- The loss of a request, a command of the user and a tick add to the stories of the held client
 -- requests what they make of these.
-use Rattle.std.proofs.Common.{◌≡◌, ℕ, ◌+◌, Bool, true, false, not, cond, ◌&&◌, ◌||◌, List, [], ◌∷◌, ◌++◌, map, refl, sym, ap, subst, ◌∙◌, append-nil}
+use Rattle.std.proofs.Common.{◌≡◌, ℕ, Bool, true, false, not, cond, ◌||◌, List, [], ◌∷◌, ◌++◌, map, refl, sym, ap, subst, ◌∙◌, append-nil}
 use Rattle.std.specs.Prelude.{Option, None, Some, Result, Ok, Err, codes, filter, fold, is_some, if◌then◌else◌}
 use Rattle.std.specs.List.{list_any}
-use Rattle.std.specs.Map.{lookup, remove_entry, set_value}
+use Rattle.std.specs.Map.{lookup, set_value}
 use Rattle.std.specs.Option.{option_map, option_map_or}
-use Rattle.std.proofs.lemmas.List.Elements.{filter-append}
 use Rattle.std.proofs.lemmas.Map.Made.{lookup-map_values}
 use Rattle.std.proofs.lemmas.Map.Steps.{set_value_same}
 use Rattle.sip_dialog.specs.declared.fault.DialogFault.{DialogFault}
@@ -13,7 +12,6 @@ use Rattle.sip_dialog.specs.Fault.{ack_fault, request_fault}
 use Rattle.sip_message.specs.Content.{Content}
 use Rattle.sip_message.specs.declared.id.Id.{Id}
 use Rattle.sip_message.specs.declared.message.Message.{Message}
-use Rattle.sip_message.specs.declared.rack.RAck.{RAck}
 use Rattle.sip_common.specs.declared.command.Cancel.{Cancel}
 use Rattle.sip_common.specs.declared.command.DialogBody.{DialogBody}
 use Rattle.sip_common.specs.declared.command.DialogRequest.{DialogRequest}
@@ -45,13 +43,13 @@ use Rattle.sip_clients.specs.declared.event.Event.{Event}
 use Rattle.sip_clients.specs.declared.service.Sending.{Sending}
 use Rattle.sip_clients.specs.declared.service.Service.{Service}
 use Rattle.sip_clients.specs.declared.service.Service.TheVariants as service
-use Rattle.sip_clients.specs.Cancel.{asked, asking_case, cancel_by_user, cancel_case, cancel_client, cancelled_as, cancelled_of}
+use Rattle.sip_clients.specs.Cancel.{asked, asking_case, cancel_by_user, cancel_client, cancelled_as, cancelled_of}
 use Rattle.sip_clients.specs.Client.{Clients, Side, ClientTaken, client_at, client_changed, client_for}
 use Rattle.sip_clients.specs.ClientLife.{ClientHappening, Outgoing, AsksCancel, SendsAck, SendsCancel, acks_out, cancels_out, requests_out}
 use Rattle.sip_clients.specs.ClientRules.{AllLive, EachFits, HoldsRules}
 use Rattle.sip_clients.specs.ClientStory.{ClientStory, client_told, is_provisional_response}
 use Rattle.sip_clients.specs.ClientTelling.{ClientStories, AreTold, HoldsStories, ack_told, begin_story, begin_stories, cancel_told, for_dialog, happens_to, in_dialog_told, invite_owed, invite_told, lost_told, plain_told, ticked_told}
-use Rattle.sip_clients.specs.Clients.{ack_by_user, ack_kept, ack_paid, acked_with, invite_taken, lost_of, paid_or_refused, plain_taken, prack_by_user, prack_paid, request_by_user, request_lost, request_settled, settled, started}
+use Rattle.sip_clients.specs.Clients.{ack_by_user, ack_kept, ack_paid, acked_with, invite_taken, lost_of, paid_or_refused, plain_taken, prack_by_user, prack_paid, request_by_user, request_lost, settled, started}
 use Rattle.sip_clients.specs.Commands.{bye_ended, debt_for, is_bad_outside, name_in, request_in_held, request_refusals, requested_at, sent_unless}
 use Rattle.sip_clients.specs.Debts.{paid}
 use Rattle.sip_clients.specs.Dialogs.{paid_at, served_at}
@@ -63,10 +61,10 @@ use Rattle.sip_clients.specs.Reply.{is_inviting}
 use Rattle.sip_clients.specs.Service.{Outcome, discharged, sending_in, service_by}
 use Rattle.sip_clients.specs.Tick.{clients_ticked, is_over}
 use Rattle.sip_clients.proofs.ClientRecords.{any_more, asked_again, client_happened, or_false}
-use Rattle.sip_clients.proofs.StoryBegins.{ChangesFor, IsSentFor, begin_on, beside, beside_on, beside_sent, both_sent, changed_on, freed_cancel, freed_out, none_sent, over_on, put_on, quiet_then, settled_on, some_same}
+use Rattle.sip_clients.proofs.StoryBegins.{ChangesFor, beside, beside_on, beside_sent, both_sent, changed_on, freed_cancel, freed_out, none_sent, over_on, quiet_then, settled_on, some_same}
 use Rattle.sip_clients.proofs.StoryFits.{LivesSo, acks_fit, asks_fit, asks_ready, begin_fit, cancel_fits, happens_fit}
 use Rattle.sip_clients.proofs.StoryMaps.{filter_read}
-use Rattle.sip_clients.proofs.WithoutStarts.{AreQuiet, ack_said_quiet, bye_quiet, request_said_quiet}
+use Rattle.sip_clients.proofs.WithoutStarts.{AreQuiet, bye_quiet, request_said_quiet}
 
 abbrev lived : ClientStories → Clients
 lived stories = map (λ entry. (entry.0, client_told entry.1)) stories

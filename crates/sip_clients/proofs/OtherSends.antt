@@ -1,20 +1,19 @@
 -- No CANCEL goes out but by a provisional response or a command to cancel, and no ACK but by a final
 -- response or a command.
-use Rattle.std.proofs.Common.{◌≡◌, ℕ, ◌+◌, Bool, true, false, not, cond, ◌&&◌, ◌||◌, List, [], ◌∷◌, ◌++◌, map, refl, sym, ap, subst, ◌∙◌, append-nil}
-use Rattle.std.specs.Prelude.{Option, None, Some, Result, Ok, Err, codes, filter, filter_map, is_some, if◌then◌else◌}
+use Rattle.std.proofs.Common.{◌≡◌, ℕ, Bool, true, false, not, cond, ◌&&◌, ◌||◌, List, [], ◌∷◌, ◌++◌, map, refl, sym, ap, subst, ◌∙◌, append-nil}
+use Rattle.std.specs.Prelude.{Option, None, Some, Result, Ok, Err, codes, filter, if◌then◌else◌}
 use Rattle.std.specs.List.{AllByRecursion}
 use Rattle.std.specs.Map.{set_value, values_of}
 use Rattle.std.specs.Option.{option_map, option_map_or}
 use Rattle.std.specs.Str.{bytes_eq}
 use Rattle.std.proofs.lemmas.Bool.{false≢true, true≢false}
 use Rattle.std.proofs.lemmas.List.Elements.{filter_map-append}
-use Rattle.sip_model.proofs.Ordered.{by_bool}
+use Rattle.sip_dialog.specs.declared.dialog.Dialog.{Dialog}
 use Rattle.sip_dialog.specs.declared.fault.DialogFault.{DialogFault}
 use Rattle.sip_dialog.specs.Fault.{ack_fault, request_fault}
 use Rattle.sip_message.specs.Content.{Content, with_content_of}
 use Rattle.sip_message.specs.declared.id.Id.{Id}
 use Rattle.sip_message.specs.declared.message.Message.{Message}
-use Rattle.sip_message.specs.declared.rack.RAck.{RAck}
 use Rattle.sip_reliable.specs.declared.offer.Offer.{Offer}
 use Rattle.sip_reliable.specs.declared.offer.Offer.TheVariants.{Taken, Repeat, Gap}
 use Rattle.sip_reliable.specs.Inbound.{offered}
@@ -32,7 +31,7 @@ use Rattle.sip_common.specs.declared.held_dialog.HeldDialog.{HeldDialog}
 use Rattle.sip_common.specs.declared.item.CallOut.{CallOut}
 use Rattle.sip_common.specs.declared.item.CallOut.TheVariants as out
 use Rattle.sip_common.specs.declared.refusal.Refusal.{Refusal}
-use Rattle.sip_common.specs.declared.refusal.Refusal.TheVariants.{AlreadyFinal, BadMethod, NoSuchDialog, NoSuchRequest}
+use Rattle.sip_common.specs.declared.refusal.Refusal.TheVariants.{BadMethod, NoSuchDialog}
 use Rattle.sip_common.specs.Dialogs.{Dialogs, dialog_at, early_ended, ended_at, ended_notice, is_early_of, is_named, lives}
 use Rattle.sip_common.specs.Ids.{is_id}
 use Rattle.sip_common.specs.Notices.{refused}
@@ -58,7 +57,7 @@ use Rattle.sip_clients.specs.declared.service.Service.{Service}
 use Rattle.sip_clients.specs.declared.service.Service.TheVariants as service
 use Rattle.sip_clients.specs.Answers.{has_answer}
 use Rattle.sip_clients.specs.Cancel.{after_response, cancel_by_user, cancel_case, cancel_client, cancelled_as, cancelled_of, freed_by}
-use Rattle.sip_clients.specs.Client.{Clients, Side, ClientTaken, client_at, client_changed, client_for}
+use Rattle.sip_clients.specs.Client.{Clients, Side, ClientTaken, client_at, client_for}
 use Rattle.sip_clients.specs.ClientLife.{ack_in, acks_out, cancels_out, requests_out}
 use Rattle.sip_clients.specs.ClientRules.{SendsByStatus, SendsNoAck, SendsNoCancel}
 use Rattle.sip_clients.specs.Clients.{ack_by_user, found_taken, invite_taken, lost_of, paid_or_refused, plain_taken, prack_by_user, prack_paid, reply_name, reply_of, reply_settled, request_by_user, request_lost, response_taken, settled, side_after, started, status_of}
@@ -68,9 +67,9 @@ use Rattle.sip_clients.specs.Dialogs.{dialog_for_provisional, ended_with, own_en
 use Rattle.sip_clients.specs.OwnCall.{on_side}
 use Rattle.sip_clients.specs.Outputs.{request_said, start_command}
 use Rattle.sip_clients.specs.Outside.{bare_invite, bare_plain, bare_request, invite_of, plain_of, supporting, through}
-use Rattle.sip_clients.specs.Replied.{Replied, after_dialog, by_reply_case, ends_dialog, prack_owed, replied_in, request_over}
-use Rattle.sip_clients.specs.Reply.{heard_of, is_dialog_response, is_inviting, is_last, is_there, offer_case, reliable_case, reply_case, rseq_of, success_case}
-use Rattle.sip_clients.specs.Service.{Outcome, acked, discharged, sending_in, service_by}
+use Rattle.sip_clients.specs.Replied.{Replied, after_dialog, by_reply_case, ends_dialog, prack_owed, request_over}
+use Rattle.sip_clients.specs.Reply.{heard_of, is_dialog_response, is_inviting, is_last, is_there, offer_case, reliable_case, rseq_of, success_case}
+use Rattle.sip_clients.specs.Service.{Outcome, discharged, sending_in, service_by}
 use Rattle.sip_clients.specs.Tick.{clients_ticked, early_ends_told, is_over, over_notices}
 use Rattle.sip_clients.proofs.ReplyStories.{sent_method}
 use Rattle.sip_clients.proofs.StoryBegins.{HasNoCancel, beside, both_sent, none_sent, settled_no_cancel}
@@ -333,6 +332,14 @@ own_first : (own : Bool) (others : List (Bool × Refusal))
 own_first true others none = absurd cc
 own_first false others none = refl
 
+abbrev rest : List (Bool × Refusal) → List (Bool × Refusal)
+rest [] = []
+rest (first ∷ others) = others
+
+unrefused : (dialog : Dialog) (method : List ℕ)
+    → first_refusal (request_refusals dialog method) None ≡ None → is_own_kind method ≡ false
+unrefused dialog method none = own_first (is_own_kind method) (rest (request_refusals dialog method)) none
+
 none_in : (ack cancel prack : Bool) → ((ack || cancel) || prack) ≡ false → cancel ≡ false
 none_in true cancel prack none = absurd (true≢false none)
 none_in false true prack none = absurd (true≢false none)
@@ -349,7 +356,7 @@ request_none event method content held =
     by_refusal None is =
         sent_method event method None content held
         ∙ none_in (bytes_eq method (codes "ACK")) (bytes_eq method (codes "CANCEL"))
-        (bytes_eq method (codes "PRACK")) (own_first (is_own_kind method) _ is)
+        (bytes_eq method (codes "PRACK")) (unrefused held.dialog method is)
     by_refusal (Some refusal) is = tt
 
 module _ (event : Event) (command : DialogRequest) (side : Side) where

@@ -1,5 +1,5 @@
 -- A response adds to the stories of the held client requests what it makes of these.
-use Rattle.std.proofs.Common.{◌≡◌, ℕ, ◌+◌, Bool, true, false, not, cond, ◌&&◌, ◌||◌, List, [], ◌∷◌, ◌++◌, map, refl, sym, ap, subst, ◌∙◌, append-nil}
+use Rattle.std.proofs.Common.{◌≡◌, ℕ, ◌+◌, Bool, true, false, cond, ◌&&◌, ◌||◌, List, [], ◌∷◌, ◌++◌, map, refl, sym, ap, subst, ◌∙◌}
 use Rattle.std.specs.Prelude.{Option, None, Some, codes, filter, fold, if◌then◌else◌}
 use Rattle.std.specs.List.{list_any}
 use Rattle.std.specs.Map.{lookup, remove_entry, set_value}
@@ -9,7 +9,6 @@ use Rattle.std.proofs.lemmas.List.Elements.{filter-append}
 use Rattle.std.proofs.lemmas.List.Folds.{list_any-append}
 use Rattle.std.proofs.lemmas.List.Sums.{fold_push}
 use Rattle.std.proofs.lemmas.Map.Made.{lookup-map_values}
-use Rattle.indexmap.specs.IndexMap.{insert_entry}
 use Rattle.sip_dialog.specs.declared.fault.DialogFault.{DialogFault}
 use Rattle.sip_dialog.specs.Fault.{request_fault}
 use Rattle.sip_dialog.specs.Request.{bare_request_in}
@@ -36,8 +35,7 @@ use Rattle.sip_clients.specs.declared.client.Client.{Client}
 use Rattle.sip_clients.specs.declared.client.RequestKind.{RequestKind}
 use Rattle.sip_clients.specs.declared.client.RequestKind.TheVariants.{First, Again, Inside, Plain}
 use Rattle.sip_clients.specs.declared.event.Event.{Event}
-use Rattle.sip_clients.specs.declared.outputs.ClientChange.{ClientChange}
-use Rattle.sip_clients.specs.declared.outputs.ClientChange.TheVariants.{Stays, Over, Starts}
+use Rattle.sip_clients.specs.declared.outputs.ClientChange.TheVariants.{Stays}
 use Rattle.sip_clients.specs.declared.reply.Reply.{Reply as Answer}
 use Rattle.sip_clients.specs.declared.reply.ReplyCase.{ReplyCase}
 use Rattle.sip_clients.specs.declared.reply.ReplyCase.TheVariants as reply
@@ -45,7 +43,7 @@ use Rattle.sip_clients.specs.declared.service.Service.{Service}
 use Rattle.sip_clients.specs.declared.service.Service.TheVariants as service
 use Rattle.sip_clients.specs.Answers.{ack_of, has_answer}
 use Rattle.sip_clients.specs.Cancel.{after_response, cancel_client, cancelling_after, freed_by}
-use Rattle.sip_clients.specs.Client.{Clients, Side, ClientTaken, client_at, client_for}
+use Rattle.sip_clients.specs.Client.{Side, ClientTaken, client_at, client_for}
 use Rattle.sip_clients.specs.ClientLife.{ClientHappening, Outgoing, GetsProvisional, GetsSuccess, GetsSuccessAgain, SendsAck, SendsAckAgain, SendsCancel, TakesReliable, acks_out, cancels_out, requests_out}
 use Rattle.sip_clients.specs.ClientRules.{AllLive, EachFits, HoldsRules}
 use Rattle.sip_clients.specs.ClientStory.{ClientStory, with_answer, client_told, is_provisional_response}
@@ -56,11 +54,11 @@ use Rattle.sip_clients.specs.Dialogs.{accepted, dialog_for_provisional}
 use Rattle.sip_clients.specs.Event.{branch_of}
 use Rattle.sip_clients.specs.Outputs.{direct, kind_in, request_said, sent_ack}
 use Rattle.sip_clients.specs.Provisionals.{is_response, provisional_number}
-use Rattle.sip_clients.specs.Replied.{Replied, ack_owed, after_dialog, by_reply_case, heard_again, heard_first, held_after_success, offer_to, prack_owed, replied_in, reply_taken, request_over, told_of_ack, told_of_prack}
-use Rattle.sip_clients.specs.Reply.{heard_of, is_dialog_response, is_last, is_there, offer_case, reliable_case, reply_case, rseq_of, success_case}
+use Rattle.sip_clients.specs.Replied.{Replied, ack_owed, after_dialog, by_reply_case, heard_again, heard_first, held_after_success, offer_to, prack_owed, replied_in, request_over, told_of_ack}
+use Rattle.sip_clients.specs.Reply.{heard_of, is_dialog_response, is_last, is_there, offer_case, reliable_case, rseq_of, success_case}
 use Rattle.sip_clients.specs.Service.{discharged, sending_in, service_by}
 use Rattle.sip_clients.proofs.ClientRecords.{any_more, client_happened, heard_taken, or_false}
-use Rattle.sip_clients.proofs.StoryBegins.{ChangesFor, HasNoCancel, IsSentFor, beside, beside_on, beside_sent, beside_silent, both_sent, freed_cancel, freed_out, over_on, put_on, quiet_then, settled_no_cancel, settled_on, settled_silent, some_same, then_begin}
+use Rattle.sip_clients.proofs.StoryBegins.{ChangesFor, HasNoCancel, beside_on, beside_sent, beside_silent, freed_cancel, freed_out, over_on, put_on, quiet_then, settled_no_cancel, settled_on, settled_silent, some_same, then_begin}
 use Rattle.sip_clients.proofs.StoryFits.{IsReady, LivesSo, acks_fit, begin_fit, freed_fits, happens_fit, ready_then, waits_ready}
 use Rattle.sip_clients.proofs.StoryMaps.{insert_twice, remove_set}
 use Rattle.sip_clients.proofs.WithoutStarts.{AreQuiet, case_quiet}
@@ -604,14 +602,17 @@ module _ (event : Event) (id : Id) (call_id : List ℕ) (response : Message) (st
       tt,
     )
 
+    abbrev after_success : List ClientHappening
+    after_success = story.life ++ GetsSuccess name event.moment ∷ []
+
     success_fits : (again there : Bool) → EachFits story story.life
         (success_happens again name event.moment (success_taken (if again then reply.Repeated
         else (if there then reply.Accepted else reply.Late))).1)
     success_fits true there = (tt, again_fits (ack_of name client.answers) refl)
     success_fits false true =
-        (tt, acks_fit story _ name (acks_out (success_taken reply.Accepted).1))
+        (tt, acks_fit story after_success name (acks_out (success_taken reply.Accepted).1))
     success_fits false false =
-        (tt, acks_fit story _ name (acks_out (success_taken reply.Late).1))
+        (tt, acks_fit story after_success name (acks_out (success_taken reply.Late).1))
 
     provisional_fits : (case : ReplyCase) → EachFits story story.life
         (provisional_more (reliable_taken status client response found (case_taken case).1)

@@ -1,10 +1,10 @@
 -- What happens to a client request goes with what happened to it before.
 use Rattle.std.proofs.Common.{◌≡◌, ℕ, Bool, true, false, cond, ◌||◌, List, [], ◌∷◌, ◌++◌, map, refl, sym, ap, subst, ◌∙◌, append-nil, append_assoc}
-use Rattle.std.specs.Prelude.{Option, None, Some, IfSome, fold, is_some, take, unwrap_or, if◌then◌else◌}
+use Rattle.std.specs.Prelude.{Option, None, Some, IfSome, fold, is_some, take, if◌then◌else◌}
 use Rattle.std.specs.List.{list_any}
 use Rattle.std.specs.Map.{lookup, set_value}
 use Rattle.std.specs.Option.{option_map, option_map_or}
-use Rattle.std.proofs.lemmas.Bool.{false≢true, true≢false}
+use Rattle.std.proofs.lemmas.Bool.{true≢false}
 use Rattle.sip_model.proofs.Ordered.{by_bool}
 use Rattle.sip_message.specs.HopByHop.{cancel_of}
 use Rattle.sip_message.specs.TopVia.{top_via}
@@ -12,7 +12,6 @@ use Rattle.sip_message.specs.declared.id.Id.{Id}
 use Rattle.sip_message.specs.declared.message.Message.{Message}
 use Rattle.sip_message.specs.declared.via.Via.{Via}
 use Rattle.sip_common.specs.declared.held_dialog.DialogName.{DialogName}
-use Rattle.sip_common.specs.declared.item.CallOut.{CallOut}
 use Rattle.sip_common.specs.Ids.{is_id}
 use Rattle.sip_common.proofs.Each.{each_inserted, each_set, found_one}
 use Rattle.sip_clients.specs.declared.answers.SentAck.{SentAck}
@@ -21,12 +20,12 @@ use Rattle.sip_clients.specs.declared.client.Cancelling.TheVariants as cancel
 use Rattle.sip_clients.specs.declared.client.Client.{Client}
 use Rattle.sip_clients.specs.declared.client.RequestKind.{RequestKind}
 use Rattle.sip_clients.specs.Cancel.{cancel_client, freed_by}
-use Rattle.sip_clients.specs.ClientLife.{ClientHappening, Outgoing, AsksCancel, GetsProvisional, GetsSuccess, GetsSuccessAgain, SendsAck, SendsCancel, TakesReliable, requests_out}
+use Rattle.sip_clients.specs.ClientLife.{ClientHappening, Outgoing, AsksCancel, GetsSuccess, GetsSuccessAgain, SendsAck, SendsAckAgain, SendsCancel}
 use Rattle.sip_clients.specs.ClientRules.{AllLive, EachFits, Fits, IsAskedFor, IsCancelOf}
 use Rattle.sip_clients.specs.ClientStory.{ClientStory, asked_first, cancelling_of, client_told, first_success, is_cancel_sent, is_provisional_response, is_success_response, lives_on}
-use Rattle.sip_clients.specs.ClientTelling.{ClientStories, begin_story, begin_stories, happens_to}
+use Rattle.sip_clients.specs.ClientTelling.{ClientStories, begin_story, happens_to}
 use Rattle.sip_clients.specs.Reply.{is_inviting}
-use Rattle.sip_clients.proofs.ClientRecords.{any_more, asked_by, asked_more, or_false}
+use Rattle.sip_clients.proofs.ClientRecords.{any_more, asked_by, asked_more}
 use Rattle.sip_clients.proofs.StoryBegins.{freed_out, sent_as}
 
 -- ---- one thing after another
@@ -55,6 +54,32 @@ fits_at story before (g ∷ first) later h fits =
 
 -- ---- the stories
 
+-- what the request was sent as is what counts
+fits_kept : (story : ClientStory) (life before : List ClientHappening) (h : ClientHappening)
+    → Fits story before h → Fits (record story { life = life }) before h
+fits_kept story life before (AsksCancel id) fits =
+    record { inviting = fits.inviting; unanswered = fits.unanswered }
+fits_kept story life before (SendsCancel cancel) fits = record {
+  inviting = fits.inviting;
+  provisional = fits.provisional;
+  unanswered = fits.unanswered;
+  alone = fits.alone;
+  asked = fits.asked;
+  request = fits.request;
+  branch = fits.branch;
+  to = fits.to;
+}
+fits_kept story life before (SendsAckAgain name ack) fits = fits
+fits_kept story life before _ fits = tt
+
+each_kept : (story : ClientStory) (life before more : List ClientHappening)
+    → EachFits story before more → EachFits (record story { life = life }) before more
+each_kept story life before [] fits = tt
+each_kept story life before (h ∷ more) fits = (
+  fits_kept story life before h fits.0,
+  each_kept story life (before ++ h ∷ []) more fits.1,
+)
+
 abbrev pub LivesSo : ClientStory → Type 0
 LivesSo story = EachFits story [] story.life
 
@@ -73,7 +98,8 @@ happens_fit id more stories all fits = by_found (lookup (is_id id) stories) refl
         let lived : LivesSo story =
         subst (λ o. IfSome o LivesSo) is (found_one LivesSo (is_id id) stories all) in
         each_set LivesSo (is_id id) stories (lives_on more story)
-        (each_both story [] story.life more lived (fits story is lived)) all
+        (each_kept story (story.life ++ more) [] (story.life ++ more)
+        (each_both story [] story.life more lived (fits story is lived))) all
 
 pub begin_fit : (sent_for : Message → RequestKind) (sent : List Outgoing)
     (stories : ClientStories) → AllLive stories

@@ -1,6 +1,6 @@
 -- What happens to a client request that is held (RFC 3261, sections 9.1, 13.2.2.4 and 17.1.1; RFC
 -- 3262, section 4), read off the responses to it, the user's commands and what goes out.
-use Rattle.std.specs.Prelude.{ℕ, Bool, List, filter, filter_map, Option, None, Some}
+use Rattle.std.specs.Prelude.{ℕ, List, filter, filter_map, Option, None, Some}
 use Rattle.sip_message.specs.declared.addr.Addr.{Addr}
 use Rattle.sip_message.specs.declared.id.Id.{Id}
 use Rattle.sip_message.specs.declared.message.Message.{Message}

@@ -14,9 +14,9 @@ use Rattle.sip_clients.specs.declared.client.Cancelling.{Cancelling}
 use Rattle.sip_clients.specs.declared.client.Cancelling.TheVariants.{NotAsked, Waits, Sent}
 use Rattle.sip_clients.specs.declared.client.Client.{Client}
 use Rattle.sip_clients.specs.declared.client.RequestKind.{RequestKind}
-use Rattle.sip_clients.specs.declared.client.RequestKind.TheVariants.{First, Again, Inside, Plain}
+use Rattle.sip_clients.specs.declared.client.RequestKind.TheVariants.{First}
 use Rattle.sip_clients.specs.Answers.{AnswerList}
-use Rattle.sip_clients.specs.ClientLife.{ClientHappening, AsksCancel, GetsProvisional, GetsSuccess, GetsSuccessAgain, SendsAck, SendsAckAgain, SendsCancel, TakesReliable}
+use Rattle.sip_clients.specs.ClientLife.{ClientHappening, AsksCancel, GetsProvisional, GetsSuccess, GetsSuccessAgain, SendsAck, SendsCancel, TakesReliable}
 
 -- the event that sent it, what it is for, the request and where it went, and what happened to it
 -- since
