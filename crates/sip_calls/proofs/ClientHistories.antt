@@ -19,7 +19,7 @@ use Rattle.sip_clients.specs.Answers.{ack_of}
 use Rattle.sip_clients.specs.Cancel.{cancel_by_user}
 use Rattle.sip_clients.specs.Client.{Clients, Side, ClientTaken}
 use Rattle.sip_clients.specs.ClientLife.{ClientHappening, Outgoing, SendsAckAgain, SendsCancel}
-use Rattle.sip_clients.specs.ClientRules.{AllLive, EachFits, Fits, HoldsRules, IsCancelOf}
+use Rattle.sip_clients.specs.ClientRules.{AllLive, AllWait, EachFits, Fits, HoldsRules, IsCancelOf, KeepsWaiting}
 use Rattle.sip_clients.specs.ClientStory.{ClientStory, answers_of}
 use Rattle.sip_clients.specs.ClientTelling.{ClientStories, AreTold, HoldsStories, ack_told, cancel_told, in_dialog_told, invite_told, lost_told, plain_told, response_told, ticked_told}
 use Rattle.sip_clients.specs.Clients.{ack_by_user, invite_taken, plain_taken, prack_by_user, request_by_user, request_lost, response_taken}
@@ -29,10 +29,11 @@ use Rattle.sip_clients.specs.Tick.{clients_ticked}
 use Rattle.sip_clients.proofs.CommandStories.{ack_holds, ack_rules, cancel_holds, cancel_rules, invite_holds, invite_rules, lost_holds, lost_rules, plain_holds, plain_rules, prack_holds, prack_rules, request_holds, request_rules, tick_holds, tick_rules}
 use Rattle.sip_clients.proofs.ReplyStories.{response_holds, response_rules}
 use Rattle.sip_clients.proofs.StoryFits.{fits_at}
+use Rattle.sip_clients.proofs.Waiting.{ack_waits, cancel_waits, invite_waits, lost_waits, plain_waits, prack_waits, request_waits, response_waits, tick_waits}
 use Rattle.sip_calls.specs.declared.call.Call.{Call}
 use Rattle.sip_calls.specs.declared.calls.Calls.{Calls}
 use Rattle.sip_calls.specs.Call.{CallItem, call_step, command_taken, event_of, first_command_taken, kept, new_call, up_taken}
-use Rattle.sip_calls.specs.ClientHistories.{CancelsOnce, HoldsClientStories, RepeatsItsAck, client_stories, told_by_command, told_by_input, told_by_kind, told_from, told_next}
+use Rattle.sip_calls.specs.ClientHistories.{CancelsOnce, HoldsClientStories, RepeatsItsAck, WaitsAsAsked, client_stories, told_by_command, told_by_input, told_by_kind, told_from, told_next}
 use Rattle.sip_calls.specs.Histories.{call_from}
 use Rattle.sip_calls.specs.Provisionals.{side_held}
 use Rattle.sip_calls.specs.Sides.{CallTaken, by_server, side_of, ticked}
@@ -44,6 +45,7 @@ use Rattle.sip_calls.proofs.KeptSides.{kept_side}
 record AreSo (clients : Clients) (stories : ClientStories) : Type 0 where
   pub told : AreTold clients stories
   pub lived : AllLive stories
+  pub waits : AllWait clients
 
 abbrev GoesOn : (Side → ClientTaken) → (Side → List CallOut → ClientStories → ClientStories)
     → Type 0
@@ -52,10 +54,11 @@ GoesOn step telling = (side : Side) (stories : ClientStories) → AreSo side.cli
 
 goes_on : (step : Side → ClientTaken)
     (telling : Side → List CallOut → ClientStories → ClientStories) → HoldsStories step telling
-    → HoldsRules step telling → GoesOn step telling
-goes_on step telling holds keeps side stories so = record {
+    → HoldsRules step telling → KeepsWaiting step → GoesOn step telling
+goes_on step telling holds keeps waits side stories so = record {
   told = holds side stories so.told;
   lived = keeps side stories so.told so.lived;
+  waits = waits side so.waits;
 }
 
 up_so : (call : Call) (event : Event) (up : AnUp) (k : Kind) (stories : ClientStories)
@@ -68,13 +71,13 @@ up_so call event up (kind.Response response) stories so =
     goes_on (response_taken event up.id up.call_id response)
     (λ side outs stories. response_told event up.id response side outs stories)
     (response_holds event up.id up.call_id response)
-    (response_rules event up.id up.call_id response) (side_of call) stories so
+    (response_rules event up.id up.call_id response) (response_waits event up.id up.call_id response) (side_of call) stories so
 up_so call event up kind.Timeout stories so =
     goes_on (request_lost up.id true) (λ side outs stories. lost_told up.id stories)
-    (lost_holds up.id true) (lost_rules up.id true) (side_of call) stories so
+    (lost_holds up.id true) (lost_rules up.id true) (lost_waits up.id true) (side_of call) stories so
 up_so call event up kind.Failed stories so =
     goes_on (request_lost up.id false) (λ side outs stories. lost_told up.id stories)
-    (lost_holds up.id false) (lost_rules up.id false) (side_of call) stories so
+    (lost_holds up.id false) (lost_rules up.id false) (lost_waits up.id false) (side_of call) stories so
 
 command_so : (call : Call) (event : Event) (command : UserCommand) (stories : ClientStories)
     → AreSo call.clients stories
@@ -85,19 +88,19 @@ command_so call event (PlainCommand plain) stories so = so
 command_so call event (Request request) stories so =
     goes_on (request_by_user event request) (λ side outs stories.
     in_dialog_told event (name_in request.local_tag request.remote_tag) side outs stories)
-    (request_holds event request) (request_rules event request) (side_of call) stories so
+    (request_holds event request) (request_rules event request) (request_waits event request) (side_of call) stories so
 command_so call event (Respond respond) stories so = so
 command_so call event (Ack ack) stories so =
     goes_on (ack_by_user event ack) (λ side outs stories. ack_told ack side outs stories)
-    (ack_holds event ack) (ack_rules event ack) (side_of call) stories so
+    (ack_holds event ack) (ack_rules event ack) (ack_waits event ack) (side_of call) stories so
 command_so call event (Prack prack) stories so =
     goes_on (prack_by_user event prack) (λ side outs stories.
     in_dialog_told event (name_in prack.local_tag prack.remote_tag) side outs stories)
-    (prack_holds event prack) (prack_rules event prack) (side_of call) stories so
+    (prack_holds event prack) (prack_rules event prack) (prack_waits event prack) (side_of call) stories so
 command_so call event (Cancel cancel) stories so =
     goes_on (cancel_by_user event cancel)
     (λ side outs stories. cancel_told event cancel outs stories)
-    (cancel_holds event cancel) (cancel_rules event cancel) (side_of call) stories so
+    (cancel_holds event cancel) (cancel_rules event cancel) (cancel_waits event cancel) (side_of call) stories so
 
 -- where nothing is held
 first_so : (calls : Calls) (event : Event) (command : UserCommand) (stories : ClientStories)
@@ -107,11 +110,11 @@ first_so : (calls : Calls) (event : Event) (command : UserCommand) (stories : Cl
     AreSo (taken.0).clients (told_by_command (side_of call) event command taken.1 stories)
 first_so calls event (Invite invite) stories so =
     goes_on (on_side (invite_taken event invite)) (λ side outs stories. invite_told outs stories)
-    (invite_holds event invite) (invite_rules event invite) (side_of (new_call calls.local)) stories
+    (invite_holds event invite) (invite_rules event invite) (invite_waits event invite) (side_of (new_call calls.local)) stories
     so
 first_so calls event (PlainCommand plain) stories so =
     goes_on (on_side (plain_taken event plain)) (λ side outs stories. plain_told outs stories)
-    (plain_holds event plain) (plain_rules event plain) (side_of (new_call calls.local)) stories so
+    (plain_holds event plain) (plain_rules event plain) (plain_waits event plain) (side_of (new_call calls.local)) stories so
 first_so calls event (Request request) stories so = so
 first_so calls event (Respond respond) stories so = so
 first_so calls event (Ack ack) stories so = so
@@ -127,7 +130,7 @@ tick_so : (now : ℕ)
     → GoesOn (λ side. clients_ticked side now) (λ side outs stories. ticked_told now stories)
 tick_so now =
     goes_on (λ side. clients_ticked side now) (λ side outs stories. ticked_told now stories)
-    (tick_holds now) (tick_rules now)
+    (tick_holds now) (tick_rules now) (tick_waits now)
 
 input_so : (calls : Calls) (state : Option Call) (input : Option CallItem) (now : ℕ)
     (stories : ClientStories) → AreSo (side_held state).clients stories
@@ -176,7 +179,7 @@ from calls (input ∷ inputs) state stories so =
 
 after_all : (calls : Calls) (inputs : List (Timed CallItem))
     → AreSo (side_held (call_from calls None inputs)).clients (client_stories calls inputs)
-after_all calls inputs = from calls inputs None [] record { told = refl; lived = tt }
+after_all calls inputs = from calls inputs None [] record { told = refl; lived = tt; waits = tt }
 
 pub holds_client_stories : HoldsClientStories
 holds_client_stories calls inputs = (after_all calls inputs).told
@@ -209,3 +212,6 @@ repeats_its_ack calls inputs =
     (λ story fits before later name ack is.
     split_fits story before later (SendsAckAgain name ack) fits is)
     (client_stories calls inputs) (after_all calls inputs).lived
+
+pub waits_as_asked : WaitsAsAsked
+waits_as_asked calls inputs = (after_all calls inputs).waits

@@ -16,7 +16,7 @@ use Rattle.sip_common.specs.declared.item.Item.TheVariants.{Up, User}
 use Rattle.sip_clients.specs.Answers.{ack_of}
 use Rattle.sip_clients.specs.Client.{Side}
 use Rattle.sip_clients.specs.ClientLife.{ClientHappening, Outgoing, SendsAckAgain, SendsCancel}
-use Rattle.sip_clients.specs.ClientRules.{IsCancelOf}
+use Rattle.sip_clients.specs.ClientRules.{AllWait, IsCancelOf}
 use Rattle.sip_clients.specs.ClientStory.{ClientStory, answers_of}
 use Rattle.sip_clients.specs.ClientTelling.{ClientStories, AreTold, ack_told, cancel_told, in_dialog_told, invite_told, lost_told, plain_told, response_told, ticked_told}
 use Rattle.sip_clients.specs.Commands.{name_in}
@@ -109,3 +109,8 @@ RepeatsItsAck = (calls : Calls) (inputs : List (Timed CallItem))
     (before later : List ClientHappening) (name : DialogName) (ack : SentAck)
     → entry.1.life ≡ before ++ SendsAckAgain name ack ∷ later
     → ack_of name (answers_of before) ≡ Some ack) (client_stories calls inputs)
+
+-- a CANCEL that was asked for waits only while no provisional response came
+abbrev pub WaitsAsAsked : Type 0
+WaitsAsAsked = (calls : Calls) (inputs : List (Timed CallItem))
+    → AllWait (side_held (call_from calls None inputs)).clients

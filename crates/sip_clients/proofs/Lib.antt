@@ -38,4 +38,5 @@ pub mod StoryBegins
 pub mod StoryFits
 pub mod ReplyStories
 pub mod OtherSends
+pub mod Waiting
 pub mod CommandStories

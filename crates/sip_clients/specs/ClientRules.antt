@@ -8,8 +8,10 @@ use Rattle.sip_message.specs.declared.id.Id.{Id}
 use Rattle.sip_message.specs.declared.message.Message.{Message}
 use Rattle.sip_common.specs.declared.item.CallOut.{CallOut}
 use Rattle.sip_common.specs.Requests.{is_final}
+use Rattle.sip_clients.specs.declared.client.Cancelling.TheVariants.{Waits}
+use Rattle.sip_clients.specs.declared.client.Client.{Client}
 use Rattle.sip_clients.specs.Answers.{ack_of}
-use Rattle.sip_clients.specs.Client.{Side, ClientTaken}
+use Rattle.sip_clients.specs.Client.{Clients, Side, ClientTaken}
 use Rattle.sip_clients.specs.ClientLife.{ClientHappening, Outgoing, AsksCancel, SendsAckAgain, SendsCancel, acks_out, cancels_out}
 use Rattle.sip_clients.specs.ClientStory.{ClientStory, answers_of, asked_first, first_success, is_cancel_sent, is_provisional_response}
 use Rattle.sip_clients.specs.ClientTelling.{ClientStories, AreTold}
@@ -59,6 +61,22 @@ abbrev pub HoldsRules : (Side → ClientTaken)
     → (Side → List CallOut → ClientStories → ClientStories) → Type 0
 HoldsRules step telling = (side : Side) (stories : ClientStories) → AreTold side.clients stories
     → AllLive stories → AllLive (telling side (step side).1 stories)
+
+-- ---- what waits
+
+-- a CANCEL that was asked for waits only while no provisional response came
+abbrev pub WaitsForProvisional : Client → Type 0
+WaitsForProvisional client =
+    (id : Id) → client.cancel ≡ Waits id → client.provisional ≡ false
+
+-- of each request
+abbrev pub AllWait : Clients → Type 0
+AllWait clients =
+    AllByRecursion (λ (entry : Id × Client). WaitsForProvisional entry.1) clients
+
+-- where that is so of what is held, it is so after the step
+abbrev pub KeepsWaiting : (Side → ClientTaken) → Type 0
+KeepsWaiting step = (side : Side) → AllWait side.clients → AllWait ((step side).0).clients
 
 -- ---- what else goes out
 

@@ -18,7 +18,7 @@ ghost use Rattle.sip_clients.specs.declared.client.Client.{Client};
 ghost use Rattle.sip_clients.specs.declared.event.Event.{Event};
 ghost use Rattle.sip_clients.specs.Cancel.{cancel_by_user, cancel_client};
 ghost use Rattle.sip_clients.specs.Client.{Side, nothing_done};
-ghost use Rattle.sip_clients.specs.ClientRules.{HoldsRules, SendsByStatus, SendsNoAck, SendsNoCancel};
+ghost use Rattle.sip_clients.specs.ClientRules.{HoldsRules, KeepsWaiting, SendsByStatus, SendsNoAck, SendsNoCancel};
 ghost use Rattle.sip_clients.specs.ClientTelling.{HoldsStories, ack_told, cancel_told, in_dialog_told, invite_told, lost_told, plain_told, response_told, ticked_told};
 ghost use Rattle.sip_clients.specs.Clients.{ack_by_user, invite_taken, request_lost, plain_taken, prack_by_user, request_by_user, response_taken};
 ghost use Rattle.sip_clients.specs.Commands.{name_in};
@@ -169,4 +169,27 @@ pub fn no_other_step_sends_a_cancel_or_an_ack()
         → SendsNoAck (cancel_by_user event command) }
     ensures tick { (now : ℕ) → SendsNoCancel (λ side. clients_ticked side now)
         × SendsNoAck (λ side. clients_ticked side now) }
+{}
+
+/// A CANCEL that was asked for waits only while no provisional response came: where that is so of
+/// each held client request, it is so after each step (RFC 3261, section 9.1).
+pub fn a_cancel_waits_for_a_provisional()
+    ensures response { (event : Event) (id : Id) (call_id : List ℕ) (response : Message)
+        → KeepsWaiting (response_taken event id call_id response) }
+    ensures lost { (id : Id) (timed_out : Bool)
+        → KeepsWaiting (request_lost id timed_out) }
+    ensures invite { (event : Event) (invite : Invite)
+        → KeepsWaiting (on_side (invite_taken event invite)) }
+    ensures plain { (event : Event) (plain : Plain)
+        → KeepsWaiting (on_side (plain_taken event plain)) }
+    ensures request { (event : Event) (command : DialogRequest)
+        → KeepsWaiting (request_by_user event command) }
+    ensures ack { (event : Event) (command : DialogBody)
+        → KeepsWaiting (ack_by_user event command) }
+    ensures prack { (event : Event) (command : DialogBody)
+        → KeepsWaiting (prack_by_user event command) }
+    ensures cancel { (event : Event) (command : Cancel)
+        → KeepsWaiting (cancel_by_user event command) }
+    ensures tick { (now : ℕ)
+        → KeepsWaiting (λ side. clients_ticked side now) }
 {}
