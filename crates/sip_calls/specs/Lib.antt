@@ -1,6 +1,7 @@
 pub mod Awaiting
 pub mod Call
 pub mod CallShard
+pub mod ClientHistories
 pub mod HeldById
 pub mod HeldRequests
 pub mod Histories

@@ -1,6 +1,7 @@
 //! Laws of calls.
 
 ghost use Rattle.sip_calls.specs.Awaiting.{AwaitsAsTold};
+ghost use Rattle.sip_calls.specs.ClientHistories.{CancelsOnce, HoldsClientStories, RepeatsItsAck, WaitsAsAsked};
 ghost use Rattle.sip_calls.specs.HeldById.{HeldById};
 ghost use Rattle.sip_calls.specs.Histories.{CountsItsRequests, HasItsName, HasTheGreatestNumber, HasTheLatestRoute, HasTheNextNumber, HoldsItsHistory, NumbersItsRequests};
 ghost use Rattle.sip_calls.specs.OwnCall.{EachNoticeIsOwn};
@@ -100,4 +101,18 @@ pub fn a_response_awaits_its_prack_as_told()
     ensures kept { KeptAsTold }
     ensures awaited { AwaitedAsTold }
     ensures repeated { RepeatedAsTold }
+{}
+
+/// Whatever comes to a call: each client request that is held is what its story says, which begins
+/// as it was sent. Since then responses to it came, its ACKs went out, or the user asked to cancel
+/// it. An INVITE is removed 64*T1 after its first 2xx. Its CANCEL goes out once, after a provisional
+/// response and before any 2xx, under the id of the command that asked for it, and with its branch;
+/// it waits only while no provisional response came (RFC 3261, section 9.1). An ACK that answers a
+/// 2xx that comes again has the bytes of the one that went out for it, and goes to the same address
+/// (section 13.2.2.4).
+pub fn a_client_request_holds_its_history()
+    ensures history { HoldsClientStories }
+    ensures cancel { CancelsOnce }
+    ensures waits { WaitsAsAsked }
+    ensures ack { RepeatsItsAck }
 {}

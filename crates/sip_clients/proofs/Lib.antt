@@ -32,3 +32,11 @@ pub mod Served
 pub mod RefusedAlone
 pub mod Tally
 pub mod ClientOuts
+pub mod StoryMaps
+pub mod ClientRecords
+pub mod StoryBegins
+pub mod StoryFits
+pub mod ReplyStories
+pub mod OtherSends
+pub mod Waiting
+pub mod CommandStories

@@ -1,6 +1,10 @@
 pub mod Answers
 pub mod Cancel
 pub mod Client
+pub mod ClientLife
+pub mod ClientStory
+pub mod ClientTelling
+pub mod ClientRules
 pub mod Clients
 pub mod Commands
 pub mod Debts

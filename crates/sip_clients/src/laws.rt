@@ -18,7 +18,10 @@ ghost use Rattle.sip_clients.specs.declared.client.Client.{Client};
 ghost use Rattle.sip_clients.specs.declared.event.Event.{Event};
 ghost use Rattle.sip_clients.specs.Cancel.{cancel_by_user, cancel_client};
 ghost use Rattle.sip_clients.specs.Client.{Side, nothing_done};
+ghost use Rattle.sip_clients.specs.ClientRules.{HoldsRules, KeepsWaiting, SendsByStatus, SendsNoAck, SendsNoCancel};
+ghost use Rattle.sip_clients.specs.ClientTelling.{HoldsStories, ack_told, cancel_told, in_dialog_told, invite_told, lost_told, plain_told, response_told, ticked_told};
 ghost use Rattle.sip_clients.specs.Clients.{ack_by_user, invite_taken, request_lost, plain_taken, prack_by_user, request_by_user, response_taken};
+ghost use Rattle.sip_clients.specs.Commands.{name_in};
 ghost use Rattle.sip_clients.specs.Event.{branch_of};
 ghost use Rattle.sip_clients.specs.Name.{NamesDiffer};
 ghost use Rattle.sip_clients.specs.Outside.{invite_of, plain_of};
@@ -75,4 +78,118 @@ pub fn each_notice_is_of_its_call()
         → KeepsTo command.call_id (cancel_by_user event command) }
     ensures tick { (call_id : List ℕ) (now : ℕ) → KeepsTo call_id
         (λ side. clients_ticked side now) }
+{}
+
+/// Where each held client request is what its story says, so it is after a response, the loss of a
+/// request, a command of the user or a tick: what they add to the stories is told by what comes, and
+/// by what goes out (RFC 3261, sections 9.1, 13.2.2.4 and 17.1.1; RFC 3262, section 4).
+pub fn each_client_request_is_told()
+    ensures response { (event : Event) (id : Id) (call_id : List ℕ) (response : Message)
+        → HoldsStories (response_taken event id call_id response)
+        (λ side outs stories. response_told event id response side outs stories) }
+    ensures lost { (id : Id) (timed_out : Bool) → HoldsStories (request_lost id timed_out)
+        (λ side outs stories. lost_told id stories) }
+    ensures invite { (event : Event) (invite : Invite)
+        → HoldsStories (on_side (invite_taken event invite))
+        (λ side outs stories. invite_told outs stories) }
+    ensures plain { (event : Event) (plain : Plain)
+        → HoldsStories (on_side (plain_taken event plain))
+        (λ side outs stories. plain_told outs stories) }
+    ensures request { (event : Event) (command : DialogRequest)
+        → HoldsStories (request_by_user event command) (λ side outs stories.
+        in_dialog_told event (name_in command.local_tag command.remote_tag) side outs stories) }
+    ensures ack { (event : Event) (command : DialogBody)
+        → HoldsStories (ack_by_user event command)
+        (λ side outs stories. ack_told command side outs stories) }
+    ensures prack { (event : Event) (command : DialogBody)
+        → HoldsStories (prack_by_user event command) (λ side outs stories.
+        in_dialog_told event (name_in command.local_tag command.remote_tag) side outs stories) }
+    ensures cancel { (event : Event) (command : Cancel)
+        → HoldsStories (cancel_by_user event command)
+        (λ side outs stories. cancel_told event command outs stories) }
+    ensures tick { (now : ℕ) → HoldsStories (λ side. clients_ticked side now)
+        (λ side outs stories. ticked_told now stories) }
+{}
+
+/// In the story of each held client request what happens goes with what happened before, and so it
+/// does after each step. A CANCEL goes out once, after a provisional response and before any 2xx,
+/// under the id of the command that asked for it first, with the branch of its INVITE and to where
+/// that was sent (RFC 3261, section 9.1). An ACK that answers a 2xx that comes again has the same
+/// bytes, and goes to the same address, as the one that went out for it (section 13.2.2.4).
+pub fn each_client_request_keeps_the_rules()
+    ensures response { (event : Event) (id : Id) (call_id : List ℕ) (response : Message)
+        → HoldsRules (response_taken event id call_id response)
+        (λ side outs stories. response_told event id response side outs stories) }
+    ensures lost { (id : Id) (timed_out : Bool) → HoldsRules (request_lost id timed_out)
+        (λ side outs stories. lost_told id stories) }
+    ensures invite { (event : Event) (invite : Invite)
+        → HoldsRules (on_side (invite_taken event invite))
+        (λ side outs stories. invite_told outs stories) }
+    ensures plain { (event : Event) (plain : Plain)
+        → HoldsRules (on_side (plain_taken event plain))
+        (λ side outs stories. plain_told outs stories) }
+    ensures request { (event : Event) (command : DialogRequest)
+        → HoldsRules (request_by_user event command) (λ side outs stories.
+        in_dialog_told event (name_in command.local_tag command.remote_tag) side outs stories) }
+    ensures ack { (event : Event) (command : DialogBody)
+        → HoldsRules (ack_by_user event command)
+        (λ side outs stories. ack_told command side outs stories) }
+    ensures prack { (event : Event) (command : DialogBody)
+        → HoldsRules (prack_by_user event command) (λ side outs stories.
+        in_dialog_told event (name_in command.local_tag command.remote_tag) side outs stories) }
+    ensures cancel { (event : Event) (command : Cancel)
+        → HoldsRules (cancel_by_user event command)
+        (λ side outs stories. cancel_told event command outs stories) }
+    ensures tick { (now : ℕ) → HoldsRules (λ side. clients_ticked side now)
+        (λ side outs stories. ticked_told now stories) }
+{}
+
+/// No CANCEL goes out but by a provisional response or a command Cancel, and no ACK of a 2xx but by
+/// a final response or a command Ack.
+pub fn no_other_step_sends_a_cancel_or_an_ack()
+    ensures response { (event : Event) (id : Id) (call_id : List ℕ) (response : Message)
+        → SendsByStatus response (response_taken event id call_id response) }
+    ensures lost { (id : Id) (timed_out : Bool) → SendsNoCancel (request_lost id timed_out)
+        × SendsNoAck (request_lost id timed_out) }
+    ensures invite { (event : Event) (invite : Invite)
+        → SendsNoCancel (on_side (invite_taken event invite))
+        × SendsNoAck (on_side (invite_taken event invite)) }
+    ensures plain { (event : Event) (plain : Plain)
+        → SendsNoCancel (on_side (plain_taken event plain))
+        × SendsNoAck (on_side (plain_taken event plain)) }
+    ensures request { (event : Event) (command : DialogRequest)
+        → SendsNoCancel (request_by_user event command)
+        × SendsNoAck (request_by_user event command) }
+    ensures ack { (event : Event) (command : DialogBody)
+        → SendsNoCancel (ack_by_user event command) }
+    ensures prack { (event : Event) (command : DialogBody)
+        → SendsNoCancel (prack_by_user event command)
+        × SendsNoAck (prack_by_user event command) }
+    ensures cancel { (event : Event) (command : Cancel)
+        → SendsNoAck (cancel_by_user event command) }
+    ensures tick { (now : ℕ) → SendsNoCancel (λ side. clients_ticked side now)
+        × SendsNoAck (λ side. clients_ticked side now) }
+{}
+
+/// A CANCEL that was asked for waits only while no provisional response came: where that is so of
+/// each held client request, it is so after each step (RFC 3261, section 9.1).
+pub fn a_cancel_waits_for_a_provisional()
+    ensures response { (event : Event) (id : Id) (call_id : List ℕ) (response : Message)
+        → KeepsWaiting (response_taken event id call_id response) }
+    ensures lost { (id : Id) (timed_out : Bool)
+        → KeepsWaiting (request_lost id timed_out) }
+    ensures invite { (event : Event) (invite : Invite)
+        → KeepsWaiting (on_side (invite_taken event invite)) }
+    ensures plain { (event : Event) (plain : Plain)
+        → KeepsWaiting (on_side (plain_taken event plain)) }
+    ensures request { (event : Event) (command : DialogRequest)
+        → KeepsWaiting (request_by_user event command) }
+    ensures ack { (event : Event) (command : DialogBody)
+        → KeepsWaiting (ack_by_user event command) }
+    ensures prack { (event : Event) (command : DialogBody)
+        → KeepsWaiting (prack_by_user event command) }
+    ensures cancel { (event : Event) (command : Cancel)
+        → KeepsWaiting (cancel_by_user event command) }
+    ensures tick { (now : ℕ)
+        → KeepsWaiting (λ side. clients_ticked side now) }
 {}

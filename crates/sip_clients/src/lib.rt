@@ -25,6 +25,8 @@ pub use client::{Cancelling, Client, RequestKind};
 pub use clients::Clients;
 pub use event::Event;
 pub use laws::{
-    each_notice_is_of_its_call, each_request_has_its_branch, names_differ, quiet_until_due,
+    a_cancel_waits_for_a_provisional, each_client_request_is_told,
+    each_client_request_keeps_the_rules, each_notice_is_of_its_call, each_request_has_its_branch,
+    names_differ, no_other_step_sends_a_cancel_or_an_ack, quiet_until_due,
 };
 pub use name::made_name;

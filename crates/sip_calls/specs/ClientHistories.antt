@@ -1,0 +1,116 @@
+-- The stories of the client requests that a call holds, over all its inputs: as each was sent, and
+-- what happened to it since (RFC 3261, sections 9.1, 13.2.2.4 and 17.1.1; RFC 3262, section 4).
+use Rattle.std.specs.Prelude.{◌≡◌, ℕ, List, [], ◌∷◌, ◌++◌, Option, None, Some}
+use Rattle.std.specs.List.{AllByRecursion}
+use Rattle.sip_model.specs.Machine.{Timed}
+use Rattle.sip_message.specs.declared.id.Id.{Id}
+use Rattle.sip_transactions.specs.declared.output.Kind.{Kind}
+use Rattle.sip_transactions.specs.declared.output.Kind.TheVariants as kind
+use Rattle.sip_transactions.specs.declared.output.Up.{Up as AnUp}
+use Rattle.sip_common.specs.declared.command.UserCommand.{UserCommand}
+use Rattle.sip_common.specs.declared.command.UserCommand.TheVariants.{Invite, Plain, Request, Respond, Ack, Prack, Cancel}
+use Rattle.sip_common.specs.declared.held_dialog.DialogName.{DialogName}
+use Rattle.sip_common.specs.declared.item.CallOut.{CallOut}
+use Rattle.sip_common.specs.declared.item.Item.{Item}
+use Rattle.sip_common.specs.declared.item.Item.TheVariants.{Up, User}
+use Rattle.sip_clients.specs.Answers.{ack_of}
+use Rattle.sip_clients.specs.Client.{Side}
+use Rattle.sip_clients.specs.ClientLife.{ClientHappening, Outgoing, SendsAckAgain, SendsCancel}
+use Rattle.sip_clients.specs.ClientRules.{AllWait, IsCancelOf}
+use Rattle.sip_clients.specs.ClientStory.{ClientStory, answers_of}
+use Rattle.sip_clients.specs.ClientTelling.{ClientStories, AreTold, ack_told, cancel_told, in_dialog_told, invite_told, lost_told, plain_told, response_told, ticked_told}
+use Rattle.sip_clients.specs.Commands.{name_in}
+use Rattle.sip_clients.specs.declared.answers.SentAck.{SentAck}
+use Rattle.sip_clients.specs.declared.event.Event.{Event}
+use Rattle.sip_calls.specs.declared.call.Call.{Call}
+use Rattle.sip_calls.specs.declared.calls.Calls.{Calls}
+use Rattle.sip_calls.specs.Call.{CallItem, call_step, event_of}
+use Rattle.sip_calls.specs.Histories.{call_from}
+use Rattle.sip_calls.specs.Provisionals.{side_held}
+
+-- ---- one input
+
+-- what comes up from a transaction adds to the stories, by what is given
+abbrev pub told_by_kind : Side → Event → AnUp → Kind → List CallOut → ClientStories
+    → ClientStories
+told_by_kind side event up (kind.Response response) outs stories =
+    response_told event up.id response side outs stories
+told_by_kind side event up kind.Timeout outs stories = lost_told up.id stories
+told_by_kind side event up kind.Failed outs stories = lost_told up.id stories
+told_by_kind side event up _ outs stories = stories
+
+-- so does a command of the user
+abbrev pub told_by_command : Side → Event → UserCommand → List CallOut → ClientStories
+    → ClientStories
+told_by_command side event (Invite invite) outs stories = invite_told outs stories
+told_by_command side event (Plain plain) outs stories = plain_told outs stories
+told_by_command side event (Request request) outs stories =
+    in_dialog_told event (name_in request.local_tag request.remote_tag) side outs stories
+told_by_command side event (Respond respond) outs stories = stories
+told_by_command side event (Ack ack) outs stories = ack_told ack side outs stories
+told_by_command side event (Prack prack) outs stories =
+    in_dialog_told event (name_in prack.local_tag prack.remote_tag) side outs stories
+told_by_command side event (Cancel cancel) outs stories = cancel_told event cancel outs stories
+
+-- an item
+abbrev pub told_by_item : Side → Event → Item → List CallOut → ClientStories → ClientStories
+told_by_item side event (Up up) outs stories = told_by_kind side event up up.kind outs stories
+told_by_item side event (User command) outs stories =
+    told_by_command side event command outs stories
+
+-- an item, or that time goes on
+abbrev pub told_by_input : Calls → Side → Option CallItem → ℕ → List CallOut → ClientStories
+    → ClientStories
+told_by_input calls side None now outs stories = ticked_told now stories
+told_by_input calls side (Some (id, item)) now outs stories =
+    told_by_item side (event_of calls id now) item outs stories
+
+-- ---- a list of inputs
+
+-- the stories after the next, from what was held and its stories
+abbrev pub told_next : Calls → Option Call → ClientStories → Timed CallItem → ClientStories
+told_next calls call stories timed =
+    told_by_input calls (side_held call) timed.input timed.moment
+    (call_step calls call timed.input timed.moment).1 stories
+
+-- after all of them
+abbrev pub told_from : Calls → Option Call → ClientStories → List (Timed CallItem)
+    → ClientStories
+told_from calls call stories [] = stories
+told_from calls call stories (input ∷ inputs) =
+    told_from calls (call_step calls call input.input input.moment).0
+    (told_next calls call stories input) inputs
+
+-- over all inputs of a call, of which nothing was held before
+abbrev pub client_stories : Calls → List (Timed CallItem) → ClientStories
+client_stories calls inputs = told_from calls None [] inputs
+
+-- ---- the laws
+
+-- Whatever comes to a call: each client request that is held is what its story says.
+abbrev pub HoldsClientStories : Type 0
+HoldsClientStories = (calls : Calls) (inputs : List (Timed CallItem))
+    → AreTold (side_held (call_from calls None inputs)).clients (client_stories calls inputs)
+
+-- Each CANCEL of an INVITE goes out once, after a provisional response and before any 2xx, under the
+-- id of the command that asked for it first, with the branch of the INVITE and to where that went.
+abbrev pub CancelsOnce : Type 0
+CancelsOnce = (calls : Calls) (inputs : List (Timed CallItem))
+    → AllByRecursion (λ (entry : Id × ClientStory).
+    (before later : List ClientHappening) (cancel : Outgoing)
+    → entry.1.life ≡ before ++ SendsCancel cancel ∷ later
+    → IsCancelOf entry.1 before cancel) (client_stories calls inputs)
+
+-- an ACK that answers a 2xx that comes again is the one that went out for it: the same bytes, to the
+-- same address
+abbrev pub RepeatsItsAck : Type 0
+RepeatsItsAck = (calls : Calls) (inputs : List (Timed CallItem))
+    → AllByRecursion (λ (entry : Id × ClientStory).
+    (before later : List ClientHappening) (name : DialogName) (ack : SentAck)
+    → entry.1.life ≡ before ++ SendsAckAgain name ack ∷ later
+    → ack_of name (answers_of before) ≡ Some ack) (client_stories calls inputs)
+
+-- a CANCEL that was asked for waits only while no provisional response came
+abbrev pub WaitsAsAsked : Type 0
+WaitsAsAsked = (calls : Calls) (inputs : List (Timed CallItem))
+    → AllWait (side_held (call_from calls None inputs)).clients

@@ -1,0 +1,71 @@
+-- What happens to a client request that is held (RFC 3261, sections 9.1, 13.2.2.4 and 17.1.1; RFC
+-- 3262, section 4), read off the responses to it, the user's commands and what goes out.
+use Rattle.std.specs.Prelude.{ℕ, List, filter, filter_map, Option, None, Some}
+use Rattle.sip_message.specs.declared.addr.Addr.{Addr}
+use Rattle.sip_message.specs.declared.id.Id.{Id}
+use Rattle.sip_message.specs.declared.message.Message.{Message}
+use Rattle.sip_transactions.specs.declared.input.Command.{Command as Order}
+use Rattle.sip_transactions.specs.declared.input.Command.TheVariants as order
+use Rattle.sip_common.specs.declared.held_dialog.DialogName.{DialogName}
+use Rattle.sip_common.specs.declared.item.CallOut.{CallOut}
+use Rattle.sip_common.specs.declared.item.CallOut.TheVariants as out
+use Rattle.sip_common.specs.Requests.{is_cancel}
+use Rattle.sip_clients.specs.declared.answers.SentAck.{SentAck}
+
+-- ---- what goes out
+
+-- a request through a transaction of its own: under which id, the request, and to where
+pub record Outgoing : Type 0 where
+  pub id : Id
+  pub request : Message
+  pub to : Addr
+
+-- by what is asked of a transaction
+abbrev pub request_of_order : Id → Order → Option Outgoing
+request_of_order id (order.Start key call_id request to) =
+    Some record { id = id; request = request; to = to }
+request_of_order id (order.Answer key response) = None
+
+-- by an output
+abbrev pub request_in : CallOut → Option Outgoing
+request_in (out.Notice notice) = None
+request_in (out.Command id order) = request_of_order id order
+request_in (out.Direct to bytes) = None
+
+-- all of them, in their order
+abbrev pub requests_out : List CallOut → List Outgoing
+requests_out outs = filter_map request_in outs
+
+-- those that are CANCELs
+abbrev pub cancels_out : List CallOut → List Outgoing
+cancels_out outs = filter (λ sent. is_cancel sent.request) (requests_out outs)
+
+-- an ACK alone goes out without a transaction (RFC 3261, section 13.2.2.4)
+abbrev pub ack_in : CallOut → Option SentAck
+ack_in (out.Notice notice) = None
+ack_in (out.Command id order) = None
+ack_in (out.Direct to bytes) = Some record { to = to; bytes = bytes }
+
+-- the ACKs
+abbrev pub acks_out : List CallOut → List SentAck
+acks_out outs = filter_map ack_in outs
+
+-- ---- what happens
+
+pub data ClientHappening : Type 0 where
+  -- a provisional response to it comes
+  GetsProvisional : ClientHappening
+  -- the user is told of a reliable one, with this RSeq, of its dialog
+  TakesReliable : ℕ → ClientHappening
+  -- the first 2xx of this dialog comes, at a moment in ms
+  GetsSuccess : DialogName → ℕ → ClientHappening
+  -- a 2xx of this dialog comes again
+  GetsSuccessAgain : DialogName → ClientHappening
+  -- the ACK of the 2xx of this dialog goes out
+  SendsAck : DialogName → SentAck → ClientHappening
+  -- an ACK answers a 2xx of this dialog that came again
+  SendsAckAgain : DialogName → SentAck → ClientHappening
+  -- the user asks to cancel it, by the event of this id
+  AsksCancel : Id → ClientHappening
+  -- a CANCEL of it goes out
+  SendsCancel : Outgoing → ClientHappening
