@@ -2,6 +2,7 @@ pub mod Awaiting
 pub mod Call
 pub mod CallShard
 pub mod HeldById
+pub mod HeldDialogs
 pub mod HeldRequests
 pub mod Histories
 pub mod Idle
