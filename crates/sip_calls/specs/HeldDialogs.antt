@@ -37,7 +37,7 @@ use Rattle.sip_calls.specs.declared.call.Call.{Call}
 use Rattle.sip_calls.specs.declared.calls.Calls.{Calls}
 use Rattle.sip_calls.specs.Call.{CallItem, call_step}
 use Rattle.sip_calls.specs.Histories.{call_from}
-use Rattle.sip_calls.specs.Provisionals.{EventsDiffer, side_held}
+use Rattle.sip_calls.specs.Provisionals.{side_held}
 
 -- ---- what opens a dialog at the client side
 
@@ -199,8 +199,7 @@ module _ (calls : Calls) (name : DialogName) where
 -- Whatever comes to a call: a dialog of a name is held where an input opened it, and none ended it
 -- since.
 abbrev pub HeldUntilItEnds : Type 0
-HeldUntilItEnds = (calls : Calls) (inputs : List (Timed CallItem)) → EventsDiffer inputs
-    → (name : DialogName)
+HeldUntilItEnds = (calls : Calls) (inputs : List (Timed CallItem)) (name : DialogName)
     → is_some (dialog_at name (side_held (call_from calls None inputs)).dialogs)
     ≡ held_from calls name None false inputs
 
@@ -208,6 +207,6 @@ HeldUntilItEnds = (calls : Calls) (inputs : List (Timed CallItem)) → EventsDif
 -- once, and by no other.
 abbrev pub EachEndIsToldOnce : Type 0
 EachEndIsToldOnce = (calls : Calls) (inputs : List (Timed CallItem)) (input : Timed CallItem)
-    → EventsDiffer inputs → (name : DialogName) → let call = call_from calls None inputs in
+    (name : DialogName) → let call = call_from calls None inputs in
     let outs = (call_step calls call input.input input.moment).1 in
     ends_told name outs ≡ cond (ends call input outs name) 1 0

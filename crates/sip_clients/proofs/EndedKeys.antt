@@ -72,9 +72,11 @@ keyed_set id before after (entry ∷ clients) is same keyed =
         → AreKeyed (cond b ((entry.0, after) ∷ clients)
         (entry ∷ set_value (is_id id) clients after))
     by_key true found later =
-        let it : entry.1 ≡ before = cc in
-        (ap (λ id. is_id entry.0 id) same
-        ∙ ap (λ (client : Client). is_id entry.0 client.id) (sym it) ∙ keyed.0, keyed.1)
+        let it : entry.1 ≡ before = cc in (
+          ap (λ id. is_id entry.0 id) same
+              ∙ ap (λ (client : Client). is_id entry.0 client.id) (sym it) ∙ keyed.0,
+          keyed.1,
+        )
     by_key false found later = (keyed.0, later found)
 
 pub sound_changed : (id : Id) (change : Client → Client)
@@ -177,8 +179,10 @@ abbrev Own : Client → Answer → Client × ClientChange → Type 0
 Own client answer done = (done.0.id ≡ client.id) × StartsOwn answer.event done.1
 
 case_own : (case : ReplyCase) (client : Client) (found : Option HeldDialog) (answer : Answer)
-    → Own client answer ((by_reply_case case client found answer).0,
-    (by_reply_case case client found answer).3)
+    → Own client answer (
+      (by_reply_case case client found answer).0,
+      (by_reply_case case client found answer).3,
+    )
 case_own reply.Repeated client found answer = (refl, tt)
 case_own reply.Accepted client found answer = (refl, tt)
 case_own reply.Late client found answer = (refl, tt)
@@ -192,8 +196,10 @@ case_own reply.Early client found answer = (refl, tt)
 case_own reply.Told client found answer = (refl, tt)
 
 reply_own : (client : Client) (dialogs : Dialogs) (answer : Answer)
-    → Own client answer ((reply_taken client dialogs answer).0,
-    (reply_taken client dialogs answer).3)
+    → Own client answer (
+      (reply_taken client dialogs answer).0,
+      (reply_taken client dialogs answer).3,
+    )
 reply_own client dialogs answer = by_last (is_last client.kind answer.status)
   where
     by_last : (b : Bool) → let done = cond {A = Replied} b (request_over client dialogs answer)
