@@ -1,5 +1,5 @@
 -- Each item of the server side: which dialogs it opens and ends, and that each end is told once.
-use Rattle.std.proofs.Common.{◌≡◌, ℕ, Bool, true, false, not, ◌&&◌, ◌||◌, ◌==◌, cond, List, [], ◌∷◌, ◌++◌, length, map, refl, sym, ap, subst, ◌∙◌, arith}
+use Rattle.std.proofs.Common.{◌≡◌, ℕ, Bool, true, false, not, ◌&&◌, ◌||◌, ◌==◌, cond, List, [], ◌∷◌, length, map, refl, sym, ap, subst, ◌∙◌, arith}
 use Rattle.std.specs.Prelude.{Option, None, Some, codes, find, flat_map, is_none, is_some, nat_le, nat_lt, if◌then◌else◌}
 use Rattle.std.specs.Cmp.{first_so, second_so}
 use Rattle.std.specs.List.{list_any}
@@ -11,7 +11,6 @@ use Rattle.indexmap.specs.IndexMap.{insert_entry}
 use Rattle.sip_model.proofs.Ordered.{by_bool}
 use Rattle.sip_message.specs.declared.addr.Addr.{Addr}
 use Rattle.sip_message.specs.declared.id.Id.{Id}
-use Rattle.sip_message.specs.declared.key.Key.{Key}
 use Rattle.sip_message.specs.declared.message.Message.{Message}
 use Rattle.sip_message.specs.Party.{tag_of}
 use Rattle.sip_reliable.specs.declared.tick.Tick.{Tick}
@@ -37,8 +36,8 @@ use Rattle.sip_common.specs.declared.refusal.Refusal.{Refusal}
 use Rattle.sip_common.specs.Dialogs.{Dialogs, confirmed, dialog_at, dialog_changed, early_ended, ended_at, is_early_of, is_named, takes, visited, visits}
 use Rattle.sip_common.specs.Requests.{dialog_name, is_bye, is_cancel, is_inside, is_invite, is_prack, is_provisional, is_success, is_unknown_option, name_of_tags}
 use Rattle.sip_served.specs.Acknowledgment.{ack_noted, ack_taken, acknowledged_invite}
-use Rattle.sip_served.specs.Arrival.{arrival_of, by_case, bye_taken, case_inside, case_of, case_outside, is_merged, named_invite, noted, prack_case, request_held, request_taken}
-use Rattle.sip_served.specs.Cancel.{by_cancelled, cancel_taken, cancelled_request, invite_terminated, is_unanswered_invite, request_terminated, termination_told}
+use Rattle.sip_served.specs.Arrival.{arrival_of, by_case, bye_taken, case_inside, case_of, case_outside, is_merged, noted, prack_case, request_held, request_taken}
+use Rattle.sip_served.specs.Cancel.{by_cancelled, cancel_taken, cancelled_request, is_unanswered_invite, request_terminated, termination_told}
 use Rattle.sip_common.specs.Sent.{response_in}
 use Rattle.sip_served.specs.Endings.{ended_by_answer, ended_by_bye, ended_by_cancel, ended_by_request, opened_by_answer}
 use Rattle.sip_served.specs.Provisionals.{of_numbers}
@@ -48,7 +47,7 @@ use Rattle.sip_served.specs.Step.{arrival_taken, kind_taken}
 use Rattle.sip_served.specs.Tick.{provisionals_ticked, provisionals_told, request_ticked, success_answer, success_at_tick, success_ticked, success_told, tick_taken}
 use Rattle.sip_common.proofs.Entries as entries
 use Rattle.sip_common.proofs.Heard.{AreApart, name_laws}
-use Rattle.sip_served.proofs.EndedDialogs.{AreNamed, Goes, Which, changed_held, changed_named, ended_none, goes_as, goes_before, goes_changed, goes_early, goes_kept, goes_named_then, goes_removed, goes_same, left_of, lived_name, names_ended, no_name, none_ends, none_told, once, silent_both}
+use Rattle.sip_served.proofs.EndedDialogs.{AreNamed, Goes, Which, changed_held, changed_named, ended_none, goes_as, goes_before, goes_changed, goes_early, goes_kept, goes_named_then, goes_removed, goes_same, left_of, lived_name, names_ended, no_name, none_ends, silent_both}
 
 -- nothing is opened
 abbrev pub Closes : Which → State → ServedTaken → Type 0
