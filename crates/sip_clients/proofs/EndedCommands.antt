@@ -1,14 +1,10 @@
 -- Commands of the user: a BYE that goes out ends its dialog, and nothing else ends one; its end is
 -- told once.
-use Rattle.std.proofs.Common.{◌≡◌, ℕ, Bool, true, false, not, ◌&&◌, ◌||◌, cond, List, [], ◌∷◌, ◌++◌, refl, sym, ap, subst, ◌∙◌}
+use Rattle.std.proofs.Common.{◌≡◌, Bool, true, false, ◌&&◌, ◌||◌, cond, List, [], ◌++◌, refl, sym, ap, subst, ◌∙◌}
 use Rattle.std.specs.Prelude.{Option, None, Some, codes, is_some}
 use Rattle.std.specs.List.{list_any}
-use Rattle.std.specs.Option.{option_map, option_map_or}
 use Rattle.std.specs.Str.{bytes_eq}
 use Rattle.sip_message.specs.declared.cseq.CSeq.{CSeq}
-use Rattle.sip_message.specs.declared.id.Id.{Id}
-use Rattle.sip_dialog.specs.declared.dialog.Dialog.{Dialog}
-use Rattle.sip_dialog.specs.Life.{Requests}
 use Rattle.sip_common.specs.declared.command.Cancel.{Cancel}
 use Rattle.sip_common.specs.declared.command.DialogBody.{DialogBody}
 use Rattle.sip_common.specs.declared.command.DialogRequest.{DialogRequest}
@@ -20,7 +16,7 @@ use Rattle.sip_common.specs.declared.held_dialog.HeldDialog.{HeldDialog}
 use Rattle.sip_common.specs.declared.item.CallOut.{CallOut}
 use Rattle.sip_common.specs.declared.refusal.Refusal.{Refusal}
 use Rattle.sip_common.specs.declared.refusal.Refusal.TheVariants.{BadMethod, NoSuchDialog}
-use Rattle.sip_common.specs.Dialogs.{Dialogs, dialog_at, dialog_changed, ended_at, is_named, lived}
+use Rattle.sip_common.specs.Dialogs.{Dialogs, dialog_at, ended_at, is_named}
 use Rattle.sip_common.specs.Notices.{refused}
 use Rattle.sip_common.specs.Refusal.{first_refusal}
 use Rattle.sip_common.specs.Sent.{cseqs_in, name_of_dialog}
@@ -33,12 +29,11 @@ use Rattle.sip_clients.specs.declared.client.Client.{Client}
 use Rattle.sip_clients.specs.declared.client.RequestKind.TheVariants.{Plain}
 use Rattle.sip_clients.specs.declared.debts.DebtKind.TheVariants as kind
 use Rattle.sip_clients.specs.declared.event.Event.{Event}
-use Rattle.sip_clients.specs.declared.service.Sending.{Sending}
 use Rattle.sip_clients.specs.declared.service.Service.{Service}
 use Rattle.sip_clients.specs.declared.service.Service.TheVariants.{Sent, Waits, Refused}
 use Rattle.sip_clients.specs.Cancel.{asked, cancel_by_user, cancel_case, cancelled_as, cancelled_of}
 use Rattle.sip_clients.specs.Client.{Clients, ClientTaken, Side, client_at, client_changed, client_for}
-use Rattle.sip_clients.specs.Clients.{ack_by_user, ack_paid, invite_taken, paid_or_refused, plain_taken, prack_by_user, prack_paid, request_by_user, settled, started}
+use Rattle.sip_clients.specs.Clients.{ack_by_user, ack_paid, invite_taken, plain_taken, prack_by_user, prack_paid, request_by_user, settled, started}
 use Rattle.sip_clients.specs.Commands.{bye_ended, debt_for, is_bad_outside, name_in, request_in_held, request_refusals, requested_at, sent_unless}
 use Rattle.sip_clients.specs.Debts.{paid}
 use Rattle.sip_clients.specs.Dialogs.{paid_at, served_at}
@@ -46,9 +41,9 @@ use Rattle.sip_clients.specs.Outputs.{request_said, start_command}
 use Rattle.sip_clients.specs.Outside.{plain_of}
 use Rattle.sip_clients.specs.Service.{Outcome, sending_in}
 use Rattle.sip_clients.proofs.DialogSends.{between_silent}
-use Rattle.sip_clients.proofs.EndedDialogs.{AreNamed, Goes, Which, changed_held, changed_named, goes_as, goes_before, goes_beside, goes_kept, goes_named_then, goes_removed, goes_same, names_ended, no_name, none_ends, silent_both}
+use Rattle.sip_clients.proofs.EndedDialogs.{AreNamed, Goes, Which, changed_held, changed_named, goes_as, goes_before, goes_kept, goes_named_then, goes_removed, goes_same, names_ended, no_name, none_ends, silent_both}
 use Rattle.sip_clients.proofs.EndedReplies.{ack_silent, beside_goes, request_silent, settled_silent}
-use Rattle.sip_clients.proofs.SentIn.{next_cseq, request_cseqs, request_sent_in, said_sent, served_sent, unless_refused}
+use Rattle.sip_clients.proofs.SentIn.{request_cseqs, request_sent_in, said_sent, served_sent, unless_refused}
 use Rattle.sip_clients.proofs.Served.{paid_either, served_dialogs, served_in}
 use Rattle.sip_clients.proofs.WithoutStarts.{bye_quiet, none_started, request_said_quiet}
 

@@ -1,8 +1,7 @@
 -- Each client request is held under its own id, and their ids differ, after whatever comes.
 use Rattle.std.proofs.Common.{◌≡◌, ℕ, Bool, true, false, not, cond, List, [], ◌∷◌, refl, sym, ap, ◌∙◌}
-use Rattle.std.specs.Prelude.{Option, None, Some, filter}
-use Rattle.std.specs.List.{AllByRecursion}
-use Rattle.std.specs.Map.{lookup, remove_entry, set_value}
+use Rattle.std.specs.Prelude.{Option, None, Some}
+use Rattle.std.specs.Map.{remove_entry, set_value}
 use Rattle.std.specs.Option.{option_map, option_map_or}
 use Rattle.indexmap.specs.IndexMap.{insert_entry}
 use Rattle.sip_message.specs.declared.id.Id.{Id}
@@ -46,7 +45,7 @@ use Rattle.sip_clients.specs.Client.{Clients, Side, client_at, client_changed, c
 use Rattle.sip_clients.specs.Clients.{ack_by_user, ack_kept, ack_paid, acked_with, found_taken, invite_taken, lost_of, plain_taken, prack_by_user, prack_paid, reply_name, reply_of, reply_settled, request_by_user, response_taken, settled, started, status_of}
 use Rattle.sip_clients.specs.Commands.{ack_asked, debt_for, is_bad_outside, name_in, requested_at}
 use Rattle.sip_clients.specs.Dialogs.{dialog_for_provisional, paid_at}
-use Rattle.sip_clients.specs.Outputs.{request_said, start_command}
+use Rattle.sip_clients.specs.Outputs.{request_said}
 use Rattle.sip_clients.specs.Outside.{invite_of, plain_of}
 use Rattle.sip_clients.specs.Replied.{Replied, after_dialog, by_reply_case, heard_again, prack_owed, reply_taken, request_over}
 use Rattle.sip_clients.specs.Reply.{is_last, reply_case}

@@ -1,14 +1,12 @@
 -- What ends with a client request, and what a response opens and ends: each end is told once.
 use Rattle.std.proofs.Common.{◌≡◌, ℕ, Bool, true, false, not, ◌&&◌, ◌||◌, ◌==◌, cond, List, [], ◌∷◌, ◌++◌, refl, sym, ap, subst, ◌∙◌}
-use Rattle.std.specs.Prelude.{Option, None, Some, filter, is_some, if◌then◌else◌}
+use Rattle.std.specs.Prelude.{Option, None, Some, is_some, if◌then◌else◌}
 use Rattle.std.specs.Cmp.{first_so}
 use Rattle.std.specs.Map.{set_value}
-use Rattle.std.specs.Option.{option_and_then, option_map, option_map_or}
+use Rattle.std.specs.Option.{option_map, option_map_or}
 use Rattle.indexmap.specs.IndexMap.{insert_entry}
-use Rattle.sip_model.proofs.Ordered.{by_bool}
 use Rattle.sip_message.specs.declared.id.Id.{Id}
 use Rattle.sip_message.specs.declared.message.Message.{Message}
-use Rattle.sip_common.specs.declared.debt.Debt.TheVariants.{Ack, Prack}
 use Rattle.sip_common.specs.declared.held_dialog.DialogLife.{DialogLife}
 use Rattle.sip_common.specs.declared.held_dialog.DialogName.{DialogName}
 use Rattle.sip_common.specs.declared.held_dialog.HeldDialog.{HeldDialog}
@@ -36,9 +34,9 @@ use Rattle.sip_clients.specs.Client.{Clients, ClientTaken, Side, client_at}
 use Rattle.sip_clients.specs.Clients.{found_taken, lost_of, reply_name, reply_of, reply_settled, response_taken, settled, status_of}
 use Rattle.sip_clients.specs.Dialogs.{accepted, dialog_for_provisional, ended_with, own_ended}
 use Rattle.sip_clients.specs.Outputs.{ack_said, direct, request_said, start_command}
-use Rattle.sip_clients.specs.Replied.{Replied, ack_again, ack_owed, after_dialog, by_reply_case, dialogs_with, ends_dialog, notice, prack_owed, reply_taken, request_over}
+use Rattle.sip_clients.specs.Replied.{Replied, ack_owed, after_dialog, by_reply_case, dialogs_with, ends_dialog, notice, prack_owed, reply_taken, request_over}
 use Rattle.sip_clients.specs.Reply.{heard_of, is_dialog_response, is_inviting, is_last, is_there, reliable_case, reply_case, rseq_of}
-use Rattle.sip_clients.proofs.EndedDialogs.{AreNamed, Goes, Which, early_told, ended_none, ends_told, none_told, filtered_named, goes_as, goes_before, goes_beside, goes_filtered_then, goes_kept, goes_removed, goes_same, left_of, names_ended, no_name, none_ends, silent_both}
+use Rattle.sip_clients.proofs.EndedDialogs.{AreNamed, Goes, Which, early_told, ended_none, ends_told, none_told, filtered_named, goes_as, goes_before, goes_beside, goes_filtered_then, goes_removed, goes_same, left_of, names_ended, no_name, none_ends}
 
 -- ---- what ends with a client request
 

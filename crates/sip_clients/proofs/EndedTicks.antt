@@ -1,8 +1,8 @@
 -- A tick: the dialogs that are early still end with their INVITEs, and each end is told once, since
 -- each INVITE has an id of its own.
-use Rattle.std.proofs.Common.{◌≡◌, ℕ, ◌+◌, Bool, true, false, not, ◌&&◌, ◌||◌, cond, List, [], ◌∷◌, ◌++◌, refl, sym, ap, subst, ◌∙◌, arith}
-use Rattle.std.specs.Prelude.{Option, None, Some, filter}
-use Rattle.std.specs.List.{AllByRecursion, flat_map, list_any}
+use Rattle.std.proofs.Common.{◌≡◌, ℕ, ◌+◌, Bool, true, false, ◌&&◌, ◌||◌, cond, List, [], ◌∷◌, refl, sym, ◌∙◌, arith}
+use Rattle.std.specs.Prelude.{Option, None, Some}
+use Rattle.std.specs.List.{AllByRecursion, list_any}
 use Rattle.std.specs.Map.{keys_of, values_of}
 use Rattle.std.proofs.lemmas.Map.Keys.{IsDistinct-head, IsDistinct-tail}
 use Rattle.sip_message.specs.declared.id.Id.{Id}
@@ -12,11 +12,10 @@ use Rattle.sip_common.specs.declared.held_dialog.HeldDialog.{HeldDialog}
 use Rattle.sip_common.specs.declared.item.CallOut.{CallOut}
 use Rattle.sip_common.specs.Dialogs.{Dialogs, dialog_at, early_ended, is_early_of}
 use Rattle.sip_common.specs.Ids.{is_id}
-use Rattle.sip_common.proofs.Entries as entries
 use Rattle.sip_common.proofs.Heard.{AreApart as DialogsApart, id_laws}
 use Rattle.sip_clients.specs.declared.client.Client.{Client}
 use Rattle.sip_clients.specs.Client.{Clients, Side}
-use Rattle.sip_clients.specs.Tick.{clients_ticked, dialogs_left, early_ends_told, ends_early_at, is_over, over_notices}
+use Rattle.sip_clients.specs.Tick.{dialogs_left, early_ends_told, ends_early_at, is_over, over_notices}
 use Rattle.sip_clients.proofs.AgainInvite.{AreApart}
 use Rattle.sip_clients.proofs.EndedDialogs.{AreNamed, Goes, early_told, ended_of, ends_told, goes_filtered, no_name, once, told_both}
 
