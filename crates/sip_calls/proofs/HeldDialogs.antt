@@ -1,5 +1,5 @@
 -- Each input of a call: which dialogs it opens and ends, and that each end is told once.
-use Rattle.std.proofs.Common.{◌≡◌, inl, inr, ◌⊎◌, ℕ, Bool, true, false, not, ◌&&◌, ◌||◌, List, [], ◌∷◌, ◌++◌, refl, sym, ap, subst, ◌∙◌}
+use Rattle.std.proofs.Common.{◌≡◌, inl, inr, ◌⊎◌, ℕ, ◌+◌, ◌≤◌, Bool, true, false, not, ◌&&◌, ◌||◌, List, [], ◌∷◌, ◌++◌, refl, sym, ap, subst, ◌∙◌, arith}
 use Rattle.std.specs.Prelude.{Option, None, Some, cond, is_some}
 use Rattle.std.specs.Option.{option_map_or}
 use Rattle.sip_model.specs.Machine.{Timed}
@@ -26,6 +26,7 @@ use Rattle.sip_common.proofs.Entries.{none_apart}
 use Rattle.sip_common.proofs.Heard.{AreApart, Begins, Goes as Went, Life, Moves, OpensBy, Stays}
 use Rattle.sip_served.specs.Endings.{ended_by_answer, ended_by_request, opened_by_answer}
 use Rattle.sip_served.specs.Tick.{tick_taken}
+use Rattle.sip_served.proofs.EndedDialogs.{Goes as GoesAtServer}
 use Rattle.sip_served.proofs.Endings.{ack_goes as server_ack, request_goes as server_request, respond_goes, tick_silent}
 use Rattle.sip_clients.specs.Client.{Clients, Side, client_at}
 use Rattle.sip_clients.specs.Clients.{request_lost}
@@ -39,7 +40,7 @@ use Rattle.sip_clients.proofs.EndedTicks.{tick_goes}
 use Rattle.sip_calls.specs.declared.call.Call.{Call}
 use Rattle.sip_calls.specs.declared.calls.Calls.{Calls}
 use Rattle.sip_calls.specs.Call.{CallItem, call_step, command_taken, event_of, first_command_taken, kept, lost_taken, made_tag, new_call, up_taken}
-use Rattle.sip_calls.specs.HeldDialogs.{EachEndIsToldOnce, HeldUntilItEnds, ended_by, ended_by_command, ended_by_kind, ended_by_loss, ends, held_from, held_next, opened_by_command, opened_by_kind, opens}
+use Rattle.sip_calls.specs.HeldDialogs.{EachEndHasItsOpening, EachEndIsToldOnce, HeldUntilItEnds, ended_by, ended_by_command, ended_by_kind, ended_by_loss, ends, ends_told, held_from, held_next, held_now, opened_from, told_from, opened_by_command, opened_by_kind, opens}
 use Rattle.sip_calls.specs.Histories.{call_from, happens_in, opening_in}
 use Rattle.sip_calls.specs.Provisionals.{event_in, side_held}
 use Rattle.sip_calls.specs.Sides.{CallTaken, side_of, ticked}
@@ -50,6 +51,12 @@ abbrev Step : (DialogName → Bool) → Which → Call → CallTaken → Type 0
 Step opening ending call taken =
     Goes opening ending (dialogs_of call) (dialogs_of taken.0) taken.1
 
+-- both sides say it alike
+of_server : (opening : DialogName → Bool) (ending : Which) (before after : Dialogs)
+    (outs : List CallOut) → GoesAtServer opening ending before after outs
+    → Goes opening ending before after outs
+of_server opening ending before after outs goes = record { held = goes.held; told = goes.told }
+
 -- ---- what comes up
 
 up_step : (call : Call) (calls : Calls) (id : Id) (now : ℕ) (up : AnUp) (k : Kind)
@@ -57,9 +64,15 @@ up_step : (call : Call) (calls : Calls) (id : Id) (now : ℕ) (up : AnUp) (k : K
     → Step (opened_by_kind call up.id k) (ended_by_kind call up.id up.key k) call
     (up_taken call (event_of calls id now) up k)
 up_step call calls id now up (kind.Request request reply_to) apart named =
-    server_request call.served (made_tag (event_of calls id now)) up request reply_to now apart named
+    let taken = up_taken call (event_of calls id now) up (kind.Request request reply_to) in
+    of_server no_name (ended_by_request call.served up.key request) (dialogs_of call)
+    (dialogs_of taken.0) taken.1
+    (server_request call.served (made_tag (event_of calls id now)) up request reply_to now apart
+    named)
 up_step call calls id now up (kind.Ack ack) apart named =
-    server_ack call.served up.call_id ack
+    let taken = up_taken call (event_of calls id now) up (kind.Ack ack) in
+    of_server no_name none_ends (dialogs_of call) (dialogs_of taken.0) taken.1
+    (server_ack call.served up.call_id ack)
 up_step call calls id now up (kind.Response response) apart named =
     response_goes (event_of calls id now) up.id up.call_id response (side_of call) apart named
 up_step call calls id now up kind.Timeout apart named =
@@ -97,7 +110,10 @@ command_step call calls id now (PlainCommand plain) apart named =
 command_step call calls id now (Request request) apart named =
     request_goes (event_of calls id now) (side_of call) apart named request
 command_step call calls id now (Respond respond) apart named =
-    respond_goes id call.served respond now apart named
+    let taken = command_taken call (event_of calls id now) (Respond respond) in
+    of_server (opened_by_answer call.served respond taken.1)
+    (λ name held. ended_by_answer call.served respond taken.1 held) (dialogs_of call)
+    (dialogs_of taken.0) taken.1 (respond_goes id call.served respond now apart named)
 command_step call calls id now (Ack ack) apart named =
     ack_goes (event_of calls id now) ack (side_of call)
 command_step call calls id now (Prack prack) apart named =
@@ -335,3 +351,55 @@ each_end_is_told_once calls inputs input name =
     let state = call_from calls None inputs in
     (input_goes calls state input.input input.moment
     (orderly_from calls inputs None none_orderly)).told name
+
+-- ---- no end without its opening
+
+step_bound : (opening : Bool) (end : HeldDialog → Bool) (o : Option HeldDialog)
+    → once (ended_of end o) + once (opening || left_of end o) ≤ once (is_some o) + once opening
+step_bound true end None = omega arith
+step_bound false end None = omega arith
+step_bound true end (Some held) =
+    elim (end held) as (λ b. once b + 1 ≤ 1 + 1) [
+      | true ↦ omega arith
+      | false ↦ omega arith
+    ]
+step_bound false end (Some held) =
+    elim (end held) as (λ b. once b + once (not b) ≤ 1 + 0) [
+      | true ↦ omega arith
+      | false ↦ omega arith
+    ]
+
+add_bound : (now told held opened later_told last before later_opened : ℕ)
+    → now + held ≤ before + opened → later_told + last ≤ held + later_opened
+    → told ≡ now → (told + later_told) + last ≤ before + (opened + later_opened)
+add_bound now told held opened later_told last before later_opened step later same = omega arith
+
+ends_bound : (calls : Calls) (name : DialogName) (inputs : List (Timed CallItem))
+    (state : Option Call) → Orderly state
+    → told_from calls name state inputs + held_now name (call_from calls state inputs)
+    ≤ held_now name state + opened_from calls name state inputs
+ends_bound calls name [] state orderly = nothing (held_now name state)
+  where
+    nothing : (n : ℕ) → 0 + n ≤ n + 0
+    nothing n = omega arith
+ends_bound calls name (input ∷ inputs) state orderly =
+    let done = call_step calls state input.input input.moment in
+    let goes = input_goes calls state input.input input.moment orderly in
+    let found = dialog_at name (side_held state).dialogs in
+    let end = ended_by state input.input input.moment done.1 name in
+    let opening = opens state input.input done.1 name in
+    let held : once (opening || left_of end found) ≡ held_now name done.0 =
+    ap once (sym (goes.held name)) in
+    add_bound (once (ended_of end found)) (ends_told name done.1) (held_now name done.0)
+    (once opening) (told_from calls name done.0 inputs)
+    (held_now name (call_from calls done.0 inputs)) (held_now name state)
+    (opened_from calls name done.0 inputs)
+    (subst (λ n. once (ended_of end found) + n ≤ held_now name state + once opening) held
+    (step_bound opening end found))
+    (ends_bound calls name inputs done.0 (next_orderly calls input state orderly))
+    (goes.told name)
+
+pub each_end_has_its_opening : EachEndHasItsOpening
+each_end_has_its_opening calls earlier inputs name =
+    ends_bound calls name inputs (call_from calls None earlier)
+    (orderly_from calls earlier None none_orderly)

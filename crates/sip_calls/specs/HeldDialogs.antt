@@ -1,6 +1,6 @@
 -- Which dialogs are held over all inputs of a call: each from the input that opens it to the one
 -- that ends it, whose end the user is told of once (RFC 3261, sections 12.1, 12.3 and 15.1).
-use Rattle.std.specs.Prelude.{◌≡◌, ℕ, Bool, true, false, not, ◌&&◌, ◌||◌, ◌==◌, List, [], ◌∷◌, Option, None, Some, codes, cond, count_by, filter_map, is_some}
+use Rattle.std.specs.Prelude.{◌≡◌, ℕ, ◌+◌, ◌≤◌, Bool, true, false, not, ◌&&◌, ◌||◌, ◌==◌, List, [], ◌∷◌, Option, None, Some, codes, cond, count_by, filter_map, is_some}
 use Rattle.std.specs.List.{list_any}
 use Rattle.std.specs.Option.{option_map_or}
 use Rattle.std.specs.Str.{bytes_eq}
@@ -194,6 +194,24 @@ module _ (calls : Calls) (name : DialogName) where
       held_from (call_step calls call input.input input.moment).0 (held_next call held input)
       inputs
 
+  -- how many of them open it
+  abbrev pub opened_from : Option Call → List (Timed CallItem) → ℕ
+  opened_from call [] = 0
+  opened_from call (input ∷ inputs) =
+      let done = call_step calls call input.input input.moment in
+      cond (opens call input.input done.1 name) 1 0 + opened_from done.0 inputs
+
+  -- how often its end is told by them
+  abbrev pub told_from : Option Call → List (Timed CallItem) → ℕ
+  told_from call [] = 0
+  told_from call (input ∷ inputs) =
+      let done = call_step calls call input.input input.moment in
+      ends_told name done.1 + told_from done.0 inputs
+
+-- the dialog of a name is held, as a number
+abbrev pub held_now : DialogName → Option Call → ℕ
+held_now name call = cond (is_some (dialog_at name (side_held call).dialogs)) 1 0
+
 -- ---- the laws
 
 -- Whatever comes to a call: a dialog of a name is held where an input opened it, and none ended it
@@ -210,3 +228,11 @@ EachEndIsToldOnce = (calls : Calls) (inputs : List (Timed CallItem)) (input : Ti
     (name : DialogName) → let call = call_from calls None inputs in
     let outs = (call_step calls call input.input input.moment).1 in
     ends_told name outs ≡ cond (ends call input outs name) 1 0
+
+-- Whatever came to a call before: of inputs that come then, no more tell of an end than opened the
+-- dialog, or found it held. So between two such ends one opened it.
+abbrev pub EachEndHasItsOpening : Type 0
+EachEndHasItsOpening = (calls : Calls) (earlier inputs : List (Timed CallItem)) (name : DialogName)
+    → let call = call_from calls None earlier in
+    told_from calls name call inputs + held_now name (call_from calls call inputs)
+    ≤ held_now name call + opened_from calls name call inputs

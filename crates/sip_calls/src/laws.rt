@@ -2,7 +2,7 @@
 
 ghost use Rattle.sip_calls.specs.Awaiting.{AwaitsAsTold};
 ghost use Rattle.sip_calls.specs.HeldById.{HeldById};
-ghost use Rattle.sip_calls.specs.HeldDialogs.{EachEndIsToldOnce, HeldUntilItEnds};
+ghost use Rattle.sip_calls.specs.HeldDialogs.{EachEndHasItsOpening, EachEndIsToldOnce, HeldUntilItEnds};
 ghost use Rattle.sip_calls.specs.Histories.{CountsItsRequests, HasItsName, HasTheGreatestNumber, HasTheLatestRoute, HasTheNextNumber, HoldsItsHistory, NumbersItsRequests};
 ghost use Rattle.sip_calls.specs.OwnCall.{EachNoticeIsOwn};
 ghost use Rattle.sip_calls.specs.Owing.{OwesAsTold};
@@ -104,12 +104,12 @@ pub fn a_response_awaits_its_prack_as_told()
 {}
 
 /// Whatever comes to a call: a dialog of a name is held where an input opened it, and none ended it
-/// since. Opened it is by the first response of 101 to 299 that goes out to an INVITE outside of
-/// dialogs, and by such a response that comes to the agent's own, with a To tag where it is none of
-/// 200 to 299 (RFC 3261, section 12.1). It ends by a BYE that goes out, or comes up and is accepted
-/// (section 15.1); by a 481 or 408 to a request in it, or where that timed out (section 12.2.1.2);
-/// and while it is early by a final response of 300 to 699 to its INVITE, a CANCEL of that, and the
-/// end of the time in which its 2xx may come (sections 9.2, 12.3 and 13.2.2.4).
+/// since. It opens by the first response of 101 to 299 that goes out to an INVITE outside of
+/// dialogs; at the caller by a response of 101 to 199 with a To tag, and by the first 2xx with its
+/// tags, to such an INVITE (RFC 3261, section 12.1). It ends by a BYE that goes out, or comes up and
+/// is accepted (section 15.1); by a 481 or 408 to a request in it, or where that timed out (section
+/// 12.2.1.2). While it is early it ends by a final response of 300 to 699 to its INVITE, a CANCEL or
+/// the loss of that, and 64*T1 after the first 2xx to it (sections 9.2, 12.3 and 13.2.2.4).
 pub fn a_dialog_is_held_until_it_ends()
     ensures { HeldUntilItEnds }
 {}
@@ -117,5 +117,6 @@ pub fn a_dialog_is_held_until_it_ends()
 /// Whatever came to a call before: the user is told of the end of a dialog by the input that ends
 /// it, once, and by no other. So between two such notices of a name an input opened a dialog of it.
 pub fn each_end_is_told_once()
-    ensures { EachEndIsToldOnce }
+    ensures once { EachEndIsToldOnce }
+    ensures opening { EachEndHasItsOpening }
 {}
