@@ -1,7 +1,6 @@
 -- Each input of a call: which dialogs it opens and ends, and that each end is told once.
-use Rattle.std.proofs.Common.{◌≡◌, inl, inr, ◌⊎◌, ℕ, ◌+◌, ◌≤◌, Bool, true, false, not, ◌&&◌, ◌||◌, List, [], ◌∷◌, ◌++◌, refl, sym, ap, subst, ◌∙◌, arith}
-use Rattle.std.specs.Prelude.{Option, None, Some, cond, is_some}
-use Rattle.std.specs.Option.{option_map_or}
+use Rattle.std.proofs.Common.{◌≡◌, inl, inr, ℕ, ◌+◌, ◌≤◌, Bool, true, false, not, ◌&&◌, ◌||◌, List, [], ◌∷◌, refl, sym, ap, subst, ◌∙◌, arith}
+use Rattle.std.specs.Prelude.{Option, None, Some, is_some}
 use Rattle.sip_model.specs.Machine.{Timed}
 use Rattle.sip_message.specs.declared.id.Id.{Id}
 use Rattle.sip_dialog.specs.Life.{Happening}
@@ -15,20 +14,18 @@ use Rattle.sip_common.specs.declared.held_dialog.DialogName.{DialogName}
 use Rattle.sip_common.specs.declared.held_dialog.HeldDialog.{HeldDialog}
 use Rattle.sip_common.specs.declared.item.CallOut.{CallOut}
 use Rattle.sip_common.specs.declared.item.CallOut.TheVariants.{Notice as Tells}
-use Rattle.sip_common.specs.declared.item.Item.{Item}
 use Rattle.sip_common.specs.declared.item.Item.TheVariants.{Up, User}
-use Rattle.sip_common.specs.declared.notice.Notice.{Notice}
 use Rattle.sip_common.specs.declared.notice.Notice.TheVariants as notice
 use Rattle.sip_common.specs.Dialogs.{Dialogs, dialog_at, is_named}
 use Rattle.sip_common.specs.Ids.{is_id}
 use Rattle.sip_common.specs.Sent.{name_of_dialog, sent_in}
 use Rattle.sip_common.proofs.Entries.{none_apart}
-use Rattle.sip_common.proofs.Heard.{AreApart, Begins, Goes as Went, Life, Moves, OpensBy, Stays}
+use Rattle.sip_common.proofs.Heard.{AreApart, Goes as Went, Life, OpensBy}
 use Rattle.sip_served.specs.Endings.{ended_by_answer, ended_by_request, opened_by_answer}
 use Rattle.sip_served.specs.Tick.{tick_taken}
 use Rattle.sip_served.proofs.EndedDialogs.{Goes as GoesAtServer}
 use Rattle.sip_served.proofs.Endings.{ack_goes as server_ack, request_goes as server_request, respond_goes, tick_silent}
-use Rattle.sip_clients.specs.Client.{Clients, Side, client_at}
+use Rattle.sip_clients.specs.Client.{Side, client_at}
 use Rattle.sip_clients.specs.Clients.{request_lost}
 use Rattle.sip_clients.specs.Tick.{clients_ticked, ends_early_at}
 use Rattle.sip_clients.proofs.DialogSends.{AreNamed}
@@ -39,7 +36,7 @@ use Rattle.sip_clients.proofs.EndedReplies.{lost_goes, response_goes}
 use Rattle.sip_clients.proofs.EndedTicks.{tick_goes}
 use Rattle.sip_calls.specs.declared.call.Call.{Call}
 use Rattle.sip_calls.specs.declared.calls.Calls.{Calls}
-use Rattle.sip_calls.specs.Call.{CallItem, call_step, command_taken, event_of, first_command_taken, kept, lost_taken, made_tag, new_call, up_taken}
+use Rattle.sip_calls.specs.Call.{CallItem, call_step, command_taken, event_of, first_command_taken, kept, made_tag, new_call, up_taken}
 use Rattle.sip_calls.specs.HeldDialogs.{EachEndHasItsOpening, EachEndIsToldOnce, HeldUntilItEnds, ended_by, ended_by_command, ended_by_kind, ended_by_loss, ends, ends_told, held_from, held_next, held_now, opened_from, told_from, opened_by_command, opened_by_kind, opens}
 use Rattle.sip_calls.specs.Histories.{call_from, happens_in, opening_in}
 use Rattle.sip_calls.specs.Provisionals.{event_in, side_held}
