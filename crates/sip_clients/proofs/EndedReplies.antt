@@ -51,51 +51,42 @@ abbrev pub ends_with : Client → Bool → Which
 ends_with client gone name held =
     is_early_of client.id held || (gone && was_sent_in client.kind name held)
 
-life_ends : (life : DialogLife) (dialogs : Dialogs) → AreApart dialogs → AreNamed dialogs
-    → (b : Bool) → lives dialogs life ≡ b
-    → Goes no_name (λ name held. is_named life.name name && is_id held.born life.born) dialogs
-    (cond {A = Dialogs × List CallOut} b (ended_at life.name dialogs) (dialogs, [])).0
-    (cond {A = Dialogs × List CallOut} b (ended_at life.name dialogs) (dialogs, [])).1
-life_ends life dialogs apart named b is = by_life b is
-  where
-    born_as : (name : DialogName) (held : HeldDialog) → dialog_at name dialogs ≡ Some held
-        → is_named life.name name ≡ true → lives dialogs life ≡ is_id held.born life.born
-    born_as name held at same =
-        ap (λ o. option_map_or (λ (held : HeldDialog). is_id held.born life.born) o false)
-        (sym (entries.same_key name_laws life.name name dialogs same) ∙ at)
+module _ (life : DialogLife) (dialogs : Dialogs) (apart : AreApart dialogs)
+    (named : AreNamed dialogs) where
+  abbrev is_it : Which
+  is_it name held = is_named life.name name && is_id held.born life.born
 
-    by_name : (name : DialogName) (held : HeldDialog) → dialog_at name dialogs ≡ Some held
-        → (lives_so : Bool) → lives dialogs life ≡ lives_so → (b : Bool)
-        → is_named life.name name ≡ b → (b && lives_so) ≡ (b && is_id held.born life.born)
-    by_name name held at lives_so is true same = sym is ∙ born_as name held at same
-    by_name name held at lives_so is false other = refl
+  -- what is held under its name is that dialog where that lives
+  lives_as : (name : DialogName) (held : HeldDialog) → dialog_at name dialogs ≡ Some held
+      → (lives_so : Bool) → lives dialogs life ≡ lives_so → (b : Bool)
+      → is_named life.name name ≡ b → (b && lives_so) ≡ (b && is_id held.born life.born)
+  lives_as name held at lives_so is true same =
+      sym is ∙ ap (λ o. option_map_or (λ (held : HeldDialog). is_id held.born life.born) o false)
+      (sym (entries.same_key name_laws life.name name dialogs same) ∙ at)
+  lives_as name held at lives_so is false other = refl
 
-    by_life : (b : Bool) → lives dialogs life ≡ b
-        → Goes no_name (λ name held. is_named life.name name && is_id held.born life.born) dialogs
-        (cond {A = Dialogs × List CallOut} b (ended_at life.name dialogs) (dialogs, [])).0
-        (cond {A = Dialogs × List CallOut} b (ended_at life.name dialogs) (dialogs, [])).1
-    by_life true is =
-        goes_as no_name no_name (λ name held. is_named life.name name)
-        (λ name held. is_named life.name name && is_id held.born life.born) dialogs
-        (ended_at life.name dialogs).0 (ended_at life.name dialogs).1 (λ name. refl)
-        (λ name held at. and_true (is_named life.name name)
-        ∙ by_name name held at true is (is_named life.name name) refl)
-        (goes_removed life.name dialogs apart named)
-      where
-        and_true : (b : Bool) → b ≡ (b && true)
-        and_true true = refl
-        and_true false = refl
-    by_life false is =
-        goes_as no_name no_name none_ends
-        (λ name held. is_named life.name name && is_id held.born life.born) dialogs dialogs []
-        (λ name. refl)
-        (λ name held at. and_false (is_named life.name name)
-        ∙ by_name name held at false is (is_named life.name name) refl)
-        (goes_same dialogs [] refl)
-      where
-        and_false : (b : Bool) → false ≡ (b && false)
-        and_false true = refl
-        and_false false = refl
+  and_true : (b : Bool) → b ≡ (b && true)
+  and_true true = refl
+  and_true false = refl
+
+  and_false : (b : Bool) → false ≡ (b && false)
+  and_false true = refl
+  and_false false = refl
+
+  life_goes : (b : Bool) → lives dialogs life ≡ b
+      → let done = cond {A = Dialogs × List CallOut} b (ended_at life.name dialogs) (dialogs, []) in
+      Goes no_name is_it dialogs done.0 done.1
+  life_goes true is =
+      goes_as no_name no_name (λ name held. is_named life.name name) is_it dialogs
+      (ended_at life.name dialogs).0 (ended_at life.name dialogs).1 (λ name. refl)
+      (λ name held at. and_true (is_named life.name name)
+      ∙ lives_as name held at true is (is_named life.name name) refl)
+      (goes_removed life.name dialogs apart named)
+  life_goes false is =
+      goes_as no_name no_name none_ends is_it dialogs dialogs [] (λ name. refl)
+      (λ name held at. and_false (is_named life.name name)
+      ∙ lives_as name held at false is (is_named life.name name) refl)
+      (goes_same dialogs [] refl)
 
 own_goes : (kind : RequestKind) (gone : Bool) (dialogs : Dialogs) → AreApart dialogs
     → AreNamed dialogs
@@ -104,10 +95,10 @@ own_goes : (kind : RequestKind) (gone : Bool) (dialogs : Dialogs) → AreApart d
 own_goes First true dialogs apart named = goes_same dialogs [] refl
 own_goes First false dialogs apart named = goes_same dialogs [] refl
 own_goes (Again life) true dialogs apart named =
-    life_ends life dialogs apart named (lives dialogs life) refl
+    life_goes life dialogs apart named (lives dialogs life) refl
 own_goes (Again life) false dialogs apart named = goes_same dialogs [] refl
 own_goes (Inside life) true dialogs apart named =
-    life_ends life dialogs apart named (lives dialogs life) refl
+    life_goes life dialogs apart named (lives dialogs life) refl
 own_goes (Inside life) false dialogs apart named = goes_same dialogs [] refl
 own_goes Plain true dialogs apart named = goes_same dialogs [] refl
 own_goes Plain false dialogs apart named = goes_same dialogs [] refl
@@ -256,8 +247,8 @@ module _ (event : Event) (id : Id) (call_id : List ℕ) (response : Message) (st
     own = reply_name asker.kind asker response
 
     -- the request when the response has come
-    abbrev client : Client
-    client = after_response (is_final status) asker
+    abbrev noted : Client
+    noted = after_response (is_final status) asker
 
     abbrev answer : Answer
     answer = reply_of event id call_id own status response
@@ -274,14 +265,14 @@ module _ (event : Event) (id : Id) (call_id : List ℕ) (response : Message) (st
     ended_by_reply name held =
         is_last asker.kind status && ends_with asker (ends_dialog status) name held
 
-    case_silent : (case : ReplyCase) → names_ended (by_reply_case case client found answer).2 ≡ []
-    case_silent reply.Repeated = again_silent (ack_of own client.answers)
+    case_silent : (case : ReplyCase) → names_ended (by_reply_case case noted found answer).2 ≡ []
+    case_silent reply.Repeated = again_silent (ack_of own noted.answers)
     case_silent reply.Accepted =
-        ack_silent event call_id (ack_owed client (accepted client answer found) answer).1
+        ack_silent event call_id (ack_owed noted (accepted noted answer found) answer).1
     case_silent reply.Late = refl
     case_silent (reply.Reliable number) =
         request_silent event call_id own
-        (prack_owed number client (dialog_for_provisional client answer found) answer).1
+        (prack_owed number noted (dialog_for_provisional noted answer found) answer).1
     case_silent reply.Passed = refl
     case_silent reply.Early = refl
     case_silent reply.Told = refl
@@ -300,16 +291,16 @@ module _ (event : Event) (id : Id) (call_id : List ℕ) (response : Message) (st
 
     case_held : (case : ReplyCase) (name : DialogName)
         → is_some (dialog_at name
-        (dialogs_with own (by_reply_case case client found answer).1 dialogs))
+        (dialogs_with own (by_reply_case case noted found answer).1 dialogs))
         ≡ ((puts case && is_named own name) || is_some (dialog_at name dialogs))
     case_held reply.Repeated name = refl
     case_held reply.Accepted name =
-        put_so (ack_owed client (accepted client answer found) answer).0 name
+        put_so (ack_owed noted (accepted noted answer found) answer).0 name
     case_held reply.Late name = refl
     case_held (reply.Reliable number) name =
-        put_so (prack_owed number client (dialog_for_provisional client answer found) answer).0 name
+        put_so (prack_owed number noted (dialog_for_provisional noted answer found) answer).0 name
     case_held reply.Passed name = refl
-    case_held reply.Early name = put_so (dialog_for_provisional client answer found) name
+    case_held reply.Early name = put_so (dialog_for_provisional noted answer found) name
     case_held reply.Told name = refl
 
     abbrev opens_if : Bool → Bool
@@ -318,8 +309,8 @@ module _ (event : Event) (id : Id) (call_id : List ℕ) (response : Message) (st
         || (not (is_final status) && (not (status == 100) && is_inside response)))
 
     -- it puts a dialog that is there, or opens one
-    opens_so : is_last client.kind status ≡ false → (name : DialogName)
-        → ((puts (reply_case client found answer) && is_named own name)
+    opens_so : is_last noted.kind status ≡ false → (name : DialogName)
+        → ((puts (reply_case noted found answer) && is_named own name)
         || is_some (dialog_at name dialogs))
         ≡ (opened_by_reply name || is_some (dialog_at name dialogs))
     opens_so last name = by_name (is_named own name) refl
@@ -338,44 +329,44 @@ module _ (event : Event) (id : Id) (call_id : List ℕ) (response : Message) (st
         with_true false false may e = e
 
         by_found : (o : Option HeldDialog) → found ≡ o
-            → ((puts (reply_case client o answer) && true) || is_some o)
+            → ((puts (reply_case noted o answer) && true) || is_some o)
             ≡ (opens_if true || is_some o)
         by_found None is =
-            ap (λ b. b || false) (with_true (puts (reply_case client None answer))
+            ap (λ b. b || false) (with_true (puts (reply_case noted None answer))
             (opens_dialogs asker.kind) _
-            (by_kind client.kind client (is_final status) (is_success status)
-            (has_answer own client.answers) (is_dialog_response answer) (rseq_of response)
+            (by_kind noted.kind noted (is_final status) (is_success status)
+            (has_answer own noted.answers) (is_dialog_response answer) (rseq_of response)
             (success_final status)
-            (not_last (is_final status) (is_success status) (is_inviting client.kind) last)))
+            (not_last (is_final status) (is_success status) (is_inviting noted.kind) last)))
         by_found (Some held) is =
-            or_true (puts (reply_case client (Some held) answer) && true)
+            or_true (puts (reply_case noted (Some held) answer) && true)
             ∙ sym (or_true (opens_if true))
 
         by_name : (b : Bool) → is_named own name ≡ b
-            → ((puts (reply_case client found answer) && b) || is_some (dialog_at name dialogs))
+            → ((puts (reply_case noted found answer) && b) || is_some (dialog_at name dialogs))
             ≡ (opens_if b || is_some (dialog_at name dialogs))
         by_name false other =
             ap (λ b. b || is_some (dialog_at name dialogs))
-            (no_name_opens (opens_dialogs asker.kind) _ (puts (reply_case client found answer)))
+            (no_name_opens (opens_dialogs asker.kind) _ (puts (reply_case noted found answer)))
         by_name true same =
             let there : found ≡ dialog_at name dialogs =
             sym (entries.same_key name_laws own name dialogs same) in
-            subst (λ o. ((puts (reply_case client found answer) && true) || is_some o)
+            subst (λ o. ((puts (reply_case noted found answer) && true) || is_some o)
             ≡ (opens_if true || is_some o)) there (by_found found refl)
 
-    by_last : (last : Bool) → is_last client.kind status ≡ last
-        → let done = cond {A = Replied} last (request_over client dialogs answer)
-        (after_dialog own dialogs (by_reply_case (reply_case client found answer) client found
+    by_last : (last : Bool) → is_last noted.kind status ≡ last
+        → let done = cond {A = Replied} last (request_over noted dialogs answer)
+        (after_dialog own dialogs (by_reply_case (reply_case noted found answer) noted found
         answer)) in
         Goes opened_by_reply (λ name held. last && ends_with asker (ends_dialog status) name held)
         dialogs done.1 done.2
     by_last true is =
-        let ended = ended_with client (ends_dialog status) dialogs in
+        let ended = ended_with noted (ends_dialog status) dialogs in
         goes_as no_name opened_by_reply (ends_with asker (ends_dialog status))
         (ends_with asker (ends_dialog status)) dialogs ended.0 (notice answer ++ ended.1)
         (λ name. sym (none_opens name)) (λ name held at. refl)
         (goes_before no_name (ends_with asker (ends_dialog status)) dialogs ended.0 (notice answer)
-        ended.1 refl (ended_goes client (ends_dialog status) dialogs apart named))
+        ended.1 refl (ended_goes noted (ends_dialog status) dialogs apart named))
       where
         between : (first named may : Bool) → (first && may) ≡ false
             → (first && named && may) ≡ false
@@ -389,7 +380,7 @@ module _ (event : Event) (id : Id) (call_id : List ℕ) (response : Message) (st
             (last_opens asker.kind (is_final status) (is_success status)
             (not (has_answer own asker.answers)) _ is)
     by_last false is = record {
-      held = λ name. case_held (reply_case client found answer) name ∙ opens_so is name
+      held = λ name. case_held (reply_case noted found answer) name ∙ opens_so is name
           ∙ ap (λ b. opened_by_reply name || b) (held_left (dialog_at name dialogs));
       told = λ name. none_told_in name ∙ ended_none (dialog_at name dialogs);
     }
@@ -399,16 +390,16 @@ module _ (event : Event) (id : Id) (call_id : List ℕ) (response : Message) (st
         held_left (Some held) = refl
 
         none_told_in : (name : DialogName)
-            → ends_told name (by_reply_case (reply_case client found answer) client found answer).2
+            → ends_told name (by_reply_case (reply_case noted found answer) noted found answer).2
             ≡ 0
         none_told_in name =
             none_told name
-            (by_reply_case (reply_case client found answer) client found answer).2
-            (case_silent (reply_case client found answer))
+            (by_reply_case (reply_case noted found answer) noted found answer).2
+            (case_silent (reply_case noted found answer))
 
     pub replied_goes : Goes opened_by_reply ended_by_reply dialogs
-        (reply_taken client dialogs answer).1 (reply_taken client dialogs answer).2
-    replied_goes = by_last (is_last client.kind status) refl
+        (reply_taken noted dialogs answer).1 (reply_taken noted dialogs answer).2
+    replied_goes = by_last (is_last noted.kind status) refl
 
 -- ---- all of a response
 

@@ -60,10 +60,10 @@ module _ (now : ℕ) (dialogs : Dialogs) (apart : DialogsApart dialogs) (named :
       by_early true false e others = absurd cc
       by_early false made e others = refl
 
-  key_apart : (entry : Id × Client) (id : Id) → is_id entry.0 entry.1.id ≡ true
+  key_apart : (entry : Id × Client) → is_id entry.0 entry.1.id ≡ true
       → (other : Id × Client) → is_id other.0 other.1.id ≡ true → is_id entry.0 other.0 ≡ false
       → is_id entry.1.id other.1.id ≡ false
-  key_apart entry id own other its distinct =
+  key_apart entry own other its distinct =
       sym (id_laws.congr entry.0 entry.1.id other.1.id own)
       ∙ id_laws.symm entry.0 other.1.id
       ∙ sym (id_laws.congr other.0 other.1.id entry.0 its)
@@ -77,7 +77,7 @@ module _ (now : ℕ) (dialogs : Dialogs) (apart : DialogsApart dialogs) (named :
   none_of_rest entry [] held own early others keyed = refl
   none_of_rest entry (next ∷ clients) held own early others keyed =
       let other = not_of_other entry.1.id next.1.id held early
-      (key_apart entry entry.0 own next keyed.0 others.0) in
+      (key_apart entry own next keyed.0 others.0) in
       let rest = none_of_rest entry clients held own early others.1 keyed.1 in
       (λ i. (is_over now next.1 && other i) || rest i) ∙ neither (is_over now next.1)
     where
