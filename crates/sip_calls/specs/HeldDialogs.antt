@@ -41,7 +41,7 @@ use Rattle.sip_calls.specs.Provisionals.{side_held}
 
 -- ---- what opens a dialog at the client side
 
--- the first INVITE opens dialogs
+-- an INVITE outside of dialogs may open some
 abbrev pub opens_dialogs : RequestKind → Bool
 opens_dialogs First = true
 opens_dialogs (Again life) = false
@@ -53,8 +53,8 @@ abbrev pub is_early_response : ℕ → Message → Bool
 is_early_response status response =
     not (is_final status) && (not (status == 100) && is_inside response)
 
--- so does such a response to it, and the first 2xx with its tags (RFC 3261, sections 12.1.2 and
--- 13.2.2.4)
+-- the dialog of its tags opens by each such response to that INVITE, and by the first 2xx (RFC 3261,
+-- sections 12.1.2 and 13.2.2.4)
 abbrev pub opened_by_reply : ℕ → Client → Message → DialogName → Bool
 opened_by_reply status client response name =
     let own = reply_name client.kind client response in
@@ -77,14 +77,14 @@ was_sent_in (Again life) name held = is_named life.name name && is_id held.born 
 was_sent_in (Inside life) name held = is_named life.name name && is_id held.born life.born
 was_sent_in Plain name held = false
 
--- with a request that fails end the early dialogs that it made and, where the peer has the dialog no
--- longer, the one that it was sent in (RFC 3261, sections 12.2.1.2 and 12.3)
+-- With a request that is over end the early dialogs that it made and, where the peer has the dialog
+-- no longer, the one that it was sent in (RFC 3261, sections 12.2.1.2 and 12.3).
 abbrev pub ends_with : Client → Bool → DialogName → HeldDialog → Bool
 ends_with client gone name held =
     is_early_of client.id held || (gone && was_sent_in client.kind name held)
 
--- so it is after a final response, other than the 2xx to an INVITE; by a 481 or 408 the dialog is
--- gone
+-- so it is after its final response, other than the 2xx to an INVITE; a 481 or 408 says that the
+-- peer has the dialog no longer
 abbrev pub ended_by_reply : ℕ → Client → DialogName → HeldDialog → Bool
 ended_by_reply status client name held =
     is_last client.kind status && ends_with client (ends_dialog status) name held
@@ -96,8 +96,7 @@ ended_by_response id response clients name held =
     (λ status. ended_by_reply status client name held) (status_of response.start) false)
     (client_at id clients) false
 
--- and after the request of this id is lost; where it timed out, as after a 408 (RFC 3261, section
--- 8.1.3.1)
+-- and where the request of this id is lost; a timeout is as a 408 (RFC 3261, section 8.1.3.1)
 abbrev pub ended_by_loss : Id → Bool → Clients → DialogName → HeldDialog → Bool
 ended_by_loss id timed_out clients name held =
     option_map_or (λ client. ends_with client timed_out name held) (client_at id clients) false
@@ -129,8 +128,8 @@ abbrev pub opens : Option Call → Option CallItem → List CallOut → DialogNa
 opens (Some call) (Some (id, item)) outs name = opened_by_item call item outs name
 opens _ _ outs name = false
 
--- what comes up ends the dialog that is held under the name: a BYE or a CANCEL, a response, or that
--- a transaction is lost
+-- what comes up ends the dialog that is held so under the name: a BYE or a CANCEL, a response, or
+-- that a transaction is lost
 abbrev pub ended_by_kind : Call → Id → Key → Kind → DialogName → HeldDialog → Bool
 ended_by_kind call id key (kind.Request request reply_to) name held =
     ended_by_request call.served key request name held
