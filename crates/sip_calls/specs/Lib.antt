@@ -3,6 +3,7 @@ pub mod Call
 pub mod CallShard
 pub mod ClientHistories
 pub mod HeldById
+pub mod HeldDialogs
 pub mod HeldRequests
 pub mod Histories
 pub mod Idle

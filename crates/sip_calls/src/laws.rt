@@ -3,6 +3,7 @@
 ghost use Rattle.sip_calls.specs.Awaiting.{AwaitsAsTold};
 ghost use Rattle.sip_calls.specs.ClientHistories.{CancelsOnce, HoldsClientStories, RepeatsItsAck, WaitsAsAsked};
 ghost use Rattle.sip_calls.specs.HeldById.{HeldById};
+ghost use Rattle.sip_calls.specs.HeldDialogs.{EachEndHasItsOpening, EachEndIsToldOnce, HeldUntilItEnds};
 ghost use Rattle.sip_calls.specs.Histories.{CountsItsRequests, HasItsName, HasTheGreatestNumber, HasTheLatestRoute, HasTheNextNumber, HoldsItsHistory, NumbersItsRequests};
 ghost use Rattle.sip_calls.specs.OwnCall.{EachNoticeIsOwn};
 ghost use Rattle.sip_calls.specs.Owing.{OwesAsTold};
@@ -115,4 +116,22 @@ pub fn a_client_request_holds_its_history()
     ensures cancel { CancelsOnce }
     ensures waits { WaitsAsAsked }
     ensures ack { RepeatsItsAck }
+{}
+
+/// Whatever comes to a call: a dialog of a name is held where an input opened it, and none ended it
+/// since. It opens by the first response of 101 to 299 that goes out to an INVITE outside of
+/// dialogs; at the caller by a response of 101 to 199 with a To tag, and by the first 2xx with its
+/// tags, to such an INVITE (RFC 3261, section 12.1). It ends by a BYE that goes out, or comes up and
+/// is accepted (section 15.1); by a 481 or 408 to a request in it, or where that timed out (section
+/// 12.2.1.2). While it is early it ends by a final response of 300 to 699 to its INVITE, a CANCEL or
+/// the loss of that, and 64*T1 after the first 2xx to it (sections 9.2, 12.3 and 13.2.2.4).
+pub fn a_dialog_is_held_until_it_ends()
+    ensures { HeldUntilItEnds }
+{}
+
+/// Whatever came to a call before: the user is told of the end of a dialog by the input that ends
+/// it, once, and by no other. So between two such notices of a name an input opened a dialog of it.
+pub fn each_end_is_told_once()
+    ensures once { EachEndIsToldOnce }
+    ensures opening { EachEndHasItsOpening }
 {}

@@ -31,6 +31,11 @@ pub mod SentIn
 pub mod Served
 pub mod RefusedAlone
 pub mod Tally
+pub mod EndedDialogs
+pub mod EndedReplies
+pub mod EndedCommands
+pub mod EndedTicks
+pub mod EndedKeys
 pub mod ClientOuts
 pub mod StoryMaps
 pub mod ClientRecords

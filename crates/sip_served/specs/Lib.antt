@@ -10,6 +10,7 @@ pub mod Respond
 pub mod Run
 pub mod Served
 pub mod ForUser
+pub mod Endings
 pub mod Happenings
 pub mod State
 pub mod Step

@@ -1,0 +1,5 @@
+use Rattle.sip_calls.proofs.HeldDialogs.{held_until_it_ends}
+use Rattle.sip_calls.proofs.laws.a_dialog_is_held_until_it_ends.Goals as goal
+
+pub returns : goal.returns
+returns c = held_until_it_ends
