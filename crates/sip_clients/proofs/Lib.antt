@@ -31,3 +31,4 @@ pub mod SentIn
 pub mod Served
 pub mod RefusedAlone
 pub mod Tally
+pub mod ClientOuts

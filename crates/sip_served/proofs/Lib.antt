@@ -26,3 +26,4 @@ pub mod Terminations
 pub mod TickFollows
 pub mod Ticks
 pub mod Unacknowledged
+pub mod ServedOuts

@@ -1,0 +1,321 @@
+-- What the client side of a call gives: notices of the ends of dialogs and of refused commands, ACKs,
+-- requests, and notices of responses that come up.
+use Rattle.std.proofs.Common.{◌≡◌, ℕ, Bool, true, false, cond, List, [], ◌∷◌, ◌++◌, map, refl}
+use Rattle.std.specs.Prelude.{Option, None, Some, codes, filter, if◌then◌else◌}
+use Rattle.std.specs.List.{AllByRecursion}
+use Rattle.std.specs.Map.{set_value, values_of}
+use Rattle.std.specs.Option.{option_map, option_map_or}
+use Rattle.std.specs.Str.{bytes_eq}
+use Rattle.sip_message.specs.declared.id.Id.{Id}
+use Rattle.sip_message.specs.declared.message.Message.{Message}
+use Rattle.sip_common.specs.declared.command.Cancel.{Cancel as CancelCommand}
+use Rattle.sip_common.specs.declared.command.DialogBody.{DialogBody}
+use Rattle.sip_common.specs.declared.command.DialogRequest.{DialogRequest}
+use Rattle.sip_common.specs.declared.command.Invite.{Invite as InviteCommand}
+use Rattle.sip_common.specs.declared.command.Plain.{Plain as PlainCommand}
+use Rattle.sip_common.specs.declared.debt.Debt.{Debt}
+use Rattle.sip_common.specs.declared.held_dialog.DialogName.{DialogName}
+use Rattle.sip_common.specs.declared.held_dialog.HeldDialog.{HeldDialog}
+use Rattle.sip_common.specs.declared.item.CallOut.{CallOut}
+use Rattle.sip_common.specs.declared.item.CallOut.TheVariants as out
+use Rattle.sip_common.specs.declared.notice.Notice.{Notice}
+use Rattle.sip_common.specs.declared.notice.Notice.TheVariants as notice
+use Rattle.sip_common.specs.declared.refusal.Refusal.{Refusal}
+use Rattle.sip_common.specs.declared.refusal.Refusal.TheVariants.{BadMethod, NoSuchRequest}
+use Rattle.sip_common.specs.Dialogs.{Dialogs, dialog_at, early_ended, ended_at, ended_notice, is_early_of, lives}
+use Rattle.sip_common.specs.Ids.{is_id}
+use Rattle.sip_common.specs.Notices.{refused}
+use Rattle.sip_common.specs.Requests.{is_final}
+use Rattle.sip_common.proofs.Each.{all_of_each, both}
+use Rattle.sip_clients.specs.declared.answers.SentAck.{SentAck}
+use Rattle.sip_clients.specs.declared.cancel.CancelCase.{CancelCase}
+use Rattle.sip_clients.specs.declared.cancel.CancelCase.TheVariants as ask
+use Rattle.sip_clients.specs.declared.client.Cancelling.TheVariants as cancel
+use Rattle.sip_clients.specs.declared.client.Client.{Client}
+use Rattle.sip_clients.specs.declared.client.RequestKind.{RequestKind}
+use Rattle.sip_clients.specs.declared.client.RequestKind.TheVariants as asks
+use Rattle.sip_clients.specs.declared.debts.DebtKind.TheVariants as debt
+use Rattle.sip_clients.specs.declared.event.Event.{Event}
+use Rattle.sip_clients.specs.declared.outputs.ClientChange.{ClientChange}
+use Rattle.sip_clients.specs.declared.outputs.ClientChange.TheVariants as change
+use Rattle.sip_clients.specs.declared.reply.Reply.{Reply as Answer}
+use Rattle.sip_clients.specs.declared.reply.ReplyCase.{ReplyCase}
+use Rattle.sip_clients.specs.declared.reply.ReplyCase.TheVariants as reply
+use Rattle.sip_clients.specs.declared.service.Service.{Service}
+use Rattle.sip_clients.specs.declared.service.Service.TheVariants.{Sent, Waits, Refused}
+use Rattle.sip_clients.specs.Answers.{ack_of}
+use Rattle.sip_clients.specs.Cancel.{after_response, asked, cancel_by_user, cancel_case, cancel_client, cancelled_as, cancelled_of, freed_by, sent_beside}
+use Rattle.sip_clients.specs.Client.{Clients, Side, client_at, client_changed, client_for}
+use Rattle.sip_clients.specs.Clients.{ack_by_user, ack_paid, found_taken, invite_taken, lost_of, plain_taken, prack_by_user, prack_paid, reply_name, reply_of, reply_settled, request_by_user, request_lost, response_taken, settled, started, status_of}
+use Rattle.sip_clients.specs.Commands.{bye_ended, debt_for, is_bad_outside, name_in, requested_at}
+use Rattle.sip_clients.specs.Dialogs.{accepted, dialog_for_provisional, ended_with, own_ended, paid_at}
+use Rattle.sip_clients.specs.Outputs.{ack_said, direct, request_said, response_notice, sent_ack, start_command}
+use Rattle.sip_clients.specs.Outside.{invite_of, plain_of}
+use Rattle.sip_clients.specs.Replied.{Replied, ack_owed, after_dialog, by_reply_case, ends_dialog, prack_owed, replied_in, reply_taken, request_over}
+use Rattle.sip_clients.specs.Reply.{is_last, reply_case}
+use Rattle.sip_clients.specs.Tick.{clients_ticked, early_ends_told, is_over}
+use Rattle.sip_clients.proofs.Served.{paid_either}
+
+module _ (P : CallOut → Type 0) where
+  -- what it gives of itself is all so
+  pub record Allows : Type 0 where
+    pub ended : (held : HeldDialog) → P (ended_notice held)
+    pub refusal : (call_id : List ℕ) (place : ℕ) (why : Refusal)
+        → P (out.Notice (notice.Refused call_id place why))
+    pub sent : (ack : SentAck) → P (direct ack)
+    pub started : (id : Id) (client : Client) → P (start_command id client)
+
+module _ (P : CallOut → Type 0) (allows : Allows P) where
+  abbrev All : List CallOut → Type 0
+  All outs = AllByRecursion P outs
+
+  -- ---- the ends of dialogs
+
+  pub ends : (dialogs : List HeldDialog) → All (map ended_notice dialogs)
+  ends [] = tt
+  ends (held ∷ dialogs) = (allows.ended held, ends dialogs)
+
+  pub early : (invite : Id) (dialogs : Dialogs) → All (early_ended invite dialogs).1
+  early invite dialogs = ends (filter (is_early_of invite) (values_of dialogs))
+
+  by_dialog : (o : Option HeldDialog) → All (option_map_or (λ held. ended_notice held ∷ []) o [])
+  by_dialog None = tt
+  by_dialog (Some held) = (allows.ended held, tt)
+
+  pub end_told : (name : DialogName) (dialogs : Dialogs) → All (ended_at name dialogs).1
+  end_told name dialogs = by_dialog (dialog_at name dialogs)
+
+  at_or : (b : Bool) (name : DialogName) (dialogs : Dialogs)
+      → All (cond {A = Dialogs × List CallOut} b (ended_at name dialogs) (dialogs, [])).1
+  at_or false name dialogs = tt
+  at_or true name dialogs = end_told name dialogs
+
+  -- ---- the client side
+
+  request_told : (event : Event) (call_id : List ℕ) (name : DialogName) (service : Service)
+      → All (request_said event call_id name service).0
+  request_told event call_id name (Sent sending) = tt
+  request_told event call_id name Waits = tt
+  request_told event call_id name (Refused refusal) =
+      (allows.refusal call_id event.id.place refusal, tt)
+
+  ack_told : (event : Event) (call_id : List ℕ) (service : Service)
+      → All (ack_said event call_id service).0
+  ack_told event call_id (Sent sending) = (allows.sent (sent_ack sending), tt)
+  ack_told event call_id Waits = tt
+  ack_told event call_id (Refused refusal) =
+      (allows.refusal call_id event.id.place refusal, tt)
+
+  bye_told : (name : DialogName) (method : List ℕ) (service : Service) (dialogs : Dialogs)
+      → All (bye_ended name method service dialogs).1
+  bye_told name method (Sent sending) dialogs =
+      at_or (bytes_eq method (codes "BYE")) name dialogs
+  bye_told name method Waits dialogs = tt
+  bye_told name method (Refused refusal) dialogs = tt
+
+  own_told : (k : RequestKind) (over : Bool) (dialogs : Dialogs)
+      → All (own_ended k over dialogs).1
+  own_told asks.First over dialogs = tt
+  own_told (asks.Again life) true dialogs = at_or (lives dialogs life) life.name dialogs
+  own_told (asks.Again life) false dialogs = tt
+  own_told (asks.Inside life) true dialogs = at_or (lives dialogs life) life.name dialogs
+  own_told (asks.Inside life) false dialogs = tt
+  own_told asks.Plain over dialogs = tt
+
+  ended_told : (client : Client) (over : Bool) (dialogs : Dialogs)
+      → All (ended_with client over dialogs).1
+  ended_told client over dialogs =
+      let first = early_ended client.id dialogs in
+      both P first.1 (own_ended client.kind over first.0).1 (early client.id dialogs)
+      (own_told client.kind over first.0)
+
+  again_told : (o : Option SentAck) → All (option_map_or (λ ack. direct ack ∷ []) o [])
+  again_told None = tt
+  again_told (Some ack) = (allows.sent ack, tt)
+
+  case_told : (case : ReplyCase) (client : Client) (found : Option HeldDialog) (answer : Answer)
+      → P (response_notice answer) → All (by_reply_case case client found answer).2
+  unfolding ack_owed prack_owed
+  case_told reply.Repeated client found answer tells = again_told (ack_of answer.name client.answers)
+  case_told reply.Accepted client found answer tells = (
+    tells,
+    ack_told answer.event answer.call_id
+        (ack_owed client (accepted client answer found) answer).1,
+  )
+  case_told reply.Late client found answer tells = (tells, tt)
+  case_told (reply.Reliable number) client found answer tells = (
+    tells,
+    request_told answer.event answer.call_id answer.name
+        (prack_owed number client (dialog_for_provisional client answer found) answer).1,
+  )
+  case_told reply.Passed client found answer tells = tt
+  case_told reply.Early client found answer tells = (tells, tt)
+  case_told reply.Told client found answer tells = (tells, tt)
+
+  last_told : (last : Bool) (client : Client) (dialogs : Dialogs) (answer : Answer)
+      → P (response_notice answer)
+      → All (cond {A = Replied} last (request_over client dialogs answer)
+      (after_dialog answer.name dialogs
+      (replied_in client (dialog_at answer.name dialogs) answer))).2
+  last_told true client dialogs answer tells =
+      (tells, ended_told client (ends_dialog answer.status) dialogs)
+  last_told false client dialogs answer tells =
+      let found = dialog_at answer.name dialogs in
+      case_told (reply_case client found answer) client found answer tells
+
+  start_told : (event : Event) (client : Client) (clients : Clients)
+      → All (started event client clients).1
+  start_told event client clients = (allows.started event.id client, tt)
+
+  settled_told : (event : Event) (id : Id) (c : ClientChange) (clients : Clients)
+      → All (settled event id c clients).1
+  settled_told event id change.Stays clients = tt
+  settled_told event id change.Over clients = tt
+  settled_told event id (change.Starts client) clients = start_told event client clients
+
+  beside_told : (freed : Option Id) (invite : Client) (done : Clients × List CallOut)
+      → All done.1
+      → All (sent_beside (option_map (λ id. cancel_client id invite) freed) done).1
+  beside_told None invite done told = told
+  beside_told (Some id) invite done told =
+      both P done.1 (start_command id (cancel_client id invite) ∷ []) told
+      (allows.started id (cancel_client id invite), tt)
+
+  replied_told : (answer : Answer) (client : Client) (side : Side) → P (response_notice answer)
+      → All (reply_settled answer client side).1
+  replied_told answer client side tells =
+      let final = is_final answer.status in
+      let after = after_response final client in
+      let done = reply_taken after side.dialogs answer in
+      let put = set_value (is_id answer.id) side.clients done.0 in
+      let rest = settled answer.event answer.id done.3 put in
+      beside_told (freed_by final client.cancel) client (rest.0, done.2 ++ rest.1)
+      (both P done.2 rest.1
+      (last_told (is_last after.kind answer.status) after side.dialogs answer tells)
+      (settled_told answer.event answer.id done.3 put))
+
+  -- a notice of the response is such a thing
+  abbrev pub ResponseAllowed : Message → Type 0
+  ResponseAllowed response = (event : Event) (id : Id) (call_id : List ℕ) (name : DialogName)
+      (status : ℕ) → status_of response.start ≡ Some status
+      → P (response_notice (reply_of event id call_id name status response))
+
+  found_told : (event : Event) (id : Id) (call_id : List ℕ) (response : Message)
+      (status : Option ℕ) (found : Option Client) (side : Side)
+      → status_of response.start ≡ status → ResponseAllowed response
+      → All (found_taken event id call_id response status found side).1
+  found_told event id call_id response None found side is tells = tt
+  found_told event id call_id response (Some status) None side is tells = tt
+  found_told event id call_id response (Some status) (Some client) side is tells =
+      replied_told (reply_of event id call_id (reply_name client.kind client response) status
+      response) client side
+      (tells event id call_id (reply_name client.kind client response) status is)
+
+  pub response_told : (event : Event) (id : Id) (call_id : List ℕ) (response : Message) (side : Side)
+      → ResponseAllowed response → All (response_taken event id call_id response side).1
+  response_told event id call_id response side tells =
+      found_told event id call_id response (status_of response.start) (client_at id side.clients)
+      side refl tells
+
+  lost_of_told : (id : Id) (timed_out : Bool) (o : Option Client) (side : Side)
+      → All (lost_of id timed_out o side).1
+  lost_of_told id timed_out None side = tt
+  lost_of_told id timed_out (Some client) side = ended_told client timed_out side.dialogs
+
+  pub lost_told : (id : Id) (timed_out : Bool) (side : Side)
+      → All (request_lost id timed_out side).1
+  lost_told id timed_out side = lost_of_told id timed_out (client_at id side.clients) side
+
+  over_told : (dialogs : Dialogs) (over : Bool) (client : Client)
+      → All (if over then (early_ended client.id dialogs).1 else [])
+  over_told dialogs true client = early client.id dialogs
+  over_told dialogs false client = tt
+
+  pub clients_tick : (side : Side) (now : ℕ) → All (clients_ticked side now).1
+  clients_tick side now =
+      all_of_each P (early_ends_told now side.dialogs)
+      (λ client. over_told side.dialogs (is_over now client) client) (values_of side.clients)
+
+  -- ---- commands of the user
+
+  pub invite_told : (event : Event) (invite : InviteCommand) (clients : Clients)
+      → All (invite_taken event invite clients).1
+  invite_told event invite clients =
+      start_told event (client_for event.id asks.First (invite_of event invite) invite.address)
+      clients
+
+  plain_by : (b : Bool) (event : Event) (plain : PlainCommand) (clients : Clients)
+      → All (cond {A = Clients × List CallOut} b
+      (clients, refused event.id plain.call_id BadMethod)
+      (started event (client_for event.id asks.Plain (plain_of event plain) plain.address)
+      clients)).1
+  plain_by true event plain clients =
+      (allows.refusal plain.call_id event.id.place BadMethod, tt)
+  plain_by false event plain clients =
+      start_told event (client_for event.id asks.Plain (plain_of event plain) plain.address)
+      clients
+
+  pub plain_told : (event : Event) (plain : PlainCommand) (clients : Clients)
+      → All (plain_taken event plain clients).1
+  plain_told event plain clients = plain_by (is_bad_outside plain.method) event plain clients
+
+  pub command_told : (event : Event) (command : DialogRequest) (side : Side)
+      → All (request_by_user event command side).1
+  command_told event command side =
+      let name = name_in command.local_tag command.remote_tag in
+      let done = requested_at name event command side.dialogs in
+      let said = request_said event command.call_id name done.1 in
+      let after = settled event event.id said.1 side.clients in
+      let bye = bye_ended name command.method done.1 done.0 in
+      both P (said.0 ++ after.1) bye.1
+      (both P said.0 after.1 (request_told event command.call_id name done.1)
+      (settled_told event event.id said.1 side.clients))
+      (bye_told name command.method done.1 done.0)
+
+  pub ack_command_told : (event : Event) (command : DialogBody) (side : Side)
+      → All (ack_by_user event command side).1
+  ack_command_told event command side =
+      let name = name_in command.local_tag command.remote_tag in
+      paid_either (λ taken. All taken.1) event command (ack_paid event command name) side
+      (debt_for debt.Ack name side.dialogs) (λ refusal. (allows.refusal command.call_id event.id.place refusal, tt))
+      (λ debt. ack_told event command.call_id
+      (paid_at name event debt command.content side.dialogs).1)
+
+  prack_paid_told : (event : Event) (command : DialogBody) (name : DialogName) (owed : Debt)
+      (side : Side) → All (prack_paid event command name owed side).1
+  prack_paid_told event command name owed side =
+      let paid = paid_at name event owed command.content side.dialogs in
+      let said = request_said event command.call_id name paid.1 in
+      both P said.0 (settled event event.id said.1 side.clients).1
+      (request_told event command.call_id name paid.1)
+      (settled_told event event.id said.1 side.clients)
+
+  pub prack_command_told : (event : Event) (command : DialogBody) (side : Side)
+      → All (prack_by_user event command side).1
+  prack_command_told event command side =
+      let name = name_in command.local_tag command.remote_tag in
+      paid_either (λ taken. All taken.1) event command (prack_paid event command name) side
+      (debt_for debt.Prack name side.dialogs) (λ refusal. (allows.refusal command.call_id event.id.place refusal, tt))
+      (λ owed. prack_paid_told event command name owed side)
+
+  cancel_by : (as_case : CancelCase) (event : Event) (command : CancelCommand) (invite : Client)
+      (clients : Clients) → All (cancelled_as as_case event command invite clients).1
+  cancel_by (ask.Refused refusal) event command invite clients =
+      (allows.refusal command.call_id event.id.place refusal, tt)
+  cancel_by ask.Repeated event command invite clients = tt
+  cancel_by ask.Waits event command invite clients = tt
+  cancel_by ask.Starts event command invite clients =
+      beside_told (Some event.id) invite
+      (client_changed command.id (asked cancel.Sent) clients, []) tt
+
+  cancel_found : (found : Option Client) (event : Event) (command : CancelCommand)
+      (clients : Clients) → All (cancelled_of found event command clients).1
+  cancel_found None event command clients =
+      (allows.refusal command.call_id event.id.place NoSuchRequest, tt)
+  cancel_found (Some invite) event command clients =
+      cancel_by (cancel_case invite) event command invite clients
+
+  pub cancel_told : (event : Event) (command : CancelCommand) (side : Side)
+      → All (cancel_by_user event command side).1
+  cancel_told event command side =
+      cancel_found (client_at command.id side.clients) event command side.clients
