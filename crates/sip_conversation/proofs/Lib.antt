@@ -1,9 +1,11 @@
 pub mod Among
 pub mod Bridge
+pub mod CallOuts
 pub mod Carrying
 pub mod Longer
 pub mod OneTransaction
 pub mod Provisionals
+pub mod RepliesSaid
 pub mod Rounds
 pub mod Rules
 pub mod Sends

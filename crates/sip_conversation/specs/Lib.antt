@@ -3,3 +3,4 @@ pub mod Conversation
 pub mod Datagrams
 pub mod Messages
 pub mod Provisionals
+pub mod Replies

@@ -6,7 +6,9 @@ ghost use Rattle.sip_conversation.specs.Conversation.{Carried, Turn, of_sides};
 ghost use Rattle.sip_conversation.specs.Datagrams.{DatagramsAreTextsSaid};
 ghost use Rattle.sip_conversation.specs.Messages.{CallsHearUnchanged, CallsKeepRules, MessagesComeUnchanged};
 ghost use Rattle.sip_conversation.specs.Provisionals.{ProvisionalsToldAsSaid};
+ghost use Rattle.sip_conversation.specs.Replies.{ResponsesToldWereSaid};
 
+use sip_calls::Calls;
 use sip_message::Addr;
 use sip_model::laws_of_phases;
 use sip_round::{Config, provisionals_in_each_life};
@@ -63,6 +65,25 @@ pub fn provisionals_told_were_said(one: Config, other: Config)
     laws_of_phases(&Transactions);
     provisionals_in_each_life(&one);
     provisionals_in_each_life(&other);
+}
+
+/// In a carried conversation, of each response that a user is told of the other side said one of
+/// that status, with those tags in From and To, and with that body. It takes that all that calls
+/// ask to send keeps the rules of messages.
+pub fn responses_told_were_said(one: Config, other: Config)
+    ensures { (turns : List Turn) → Carried (of_sides one other) turns
+        → CallsKeepRules (of_sides one other) turns
+        → ResponsesToldWereSaid (of_sides one other) turns }
+{
+    numbers_fit(one.local);
+    numbers_fit(other.local);
+    let (local, seed) = (one.local, one.seed);
+    let calls_of_one = Calls { local, seed };
+    let (local, seed) = (other.local, other.seed);
+    let calls_of_other = Calls { local, seed };
+    laws_of_phases(&Transactions);
+    laws_of_phases(&calls_of_one);
+    laws_of_phases(&calls_of_other);
 }
 
 fn numbers_fit(address: Addr)

@@ -1,0 +1,32 @@
+-- A response that a user is told of: one that the other side said.
+use Rattle.std.specs.Prelude.{◌≡◌, ℕ, List, Contains, Some}
+use Rattle.sip_message.specs.declared.id.Id.{Id}
+use Rattle.sip_message.specs.declared.message.Message.{Message}
+use Rattle.sip_message.specs.Party.{tag_of}
+use Rattle.sip_message.specs.Rules.{IsMessage}
+use Rattle.sip_common.specs.declared.notice.Notice.TheVariants.{Response}
+use Rattle.sip_clients.specs.Clients.{status_of}
+use Rattle.sip_round.specs.declared.config.Config.{Config}
+use Rattle.sip_round.specs.declared.output.Output.TheVariants.{Notice}
+use Rattle.sip_conversation.specs.Conversation.{Side, Turn, given_by, peer, rounds_of}
+use Rattle.sip_conversation.specs.Messages.{IsSaid}
+
+-- the other side said in these turns a response of this status, these tags in From and To, and this
+-- body
+pub record SaidResponse (configs : Side → Config) (turns : List Turn) (side : Side) (status : ℕ)
+    (local_tag remote_tag body : List ℕ) : Type 0 where
+  pub original : Message
+  pub said : IsSaid (configs (peer side)) (rounds_of (peer side) turns) original
+  pub rules : IsMessage original
+  pub status_is : status_of original.start ≡ Some status
+  pub from : tag_of original.from ≡ local_tag
+  pub to : tag_of original.to ≡ remote_tag
+  pub body_is : original.body ≡ body
+
+-- so is each response that a user is told of
+abbrev pub ResponsesToldWereSaid : (Side → Config) → List Turn → Type 0
+ResponsesToldWereSaid configs turns =
+    (side : Side) (call_id : List ℕ) (id : Id) (status : ℕ) (local_tag remote_tag body : List ℕ)
+    → Contains (given_by configs turns side)
+    (Notice (Response call_id id status local_tag remote_tag body))
+    → SaidResponse configs turns side status local_tag remote_tag body
