@@ -1,6 +1,6 @@
 -- What a call gives: it tells of a response only where one comes up, with its status, its tags and
 -- its body; and each answer to a request is one of the user's or one of its own, first or again.
-use Rattle.sip_calls.specs.Call.{CallItem, call_step, command_taken, event_of, first_command_taken, made_tag, new_call, up_taken, kept}
+use Rattle.sip_calls.specs.Call.{CallItem, call_machine, call_step, command_taken, event_of, first_command_taken, made_tag, new_call, up_taken, kept}
 use Rattle.sip_calls.specs.Sides.{by_server, side_of, ticked, holds_any}
 use Rattle.sip_calls.specs.declared.call.Call.{Call}
 use Rattle.sip_calls.specs.declared.calls.Calls.{Calls}
@@ -18,6 +18,8 @@ use Rattle.sip_clients.proofs.ClientOuts.{Allows, ack_command_told, cancel_told,
 use Rattle.sip_message.specs.Party.{tag_of}
 use Rattle.sip_message.specs.declared.id.Id.{Id}
 use Rattle.sip_message.specs.declared.message.Message.{Message}
+use Rattle.sip_model.specs.Machine.{Timed, outputs_from}
+use Rattle.sip_served.specs.State.{State}
 use Rattle.sip_served.specs.Tick.{tick_taken}
 use Rattle.sip_transactions.specs.declared.input.Command.{Command}
 use Rattle.sip_transactions.specs.declared.output.Kind.{Kind}
@@ -77,8 +79,12 @@ module _ (Tells : ℕ → List ℕ → List ℕ → List ℕ → Type 0) (Given 
   told_fits (notice.Ended call_id local_tag remote_tag) other = tt
   told_fits (notice.Refused call_id place why) other = tt
 
-  allows_served : AllowsServed OutFits Given
+  pub allows_served : AllowsServed OutFits Given
   allows_served = record { told = told_fits; answer = λ id key {message} here. here }
+
+  -- the answers that the server side of a call keeps are such
+  abbrev pub KeepsAnswers : State → Type 0
+  KeepsAnswers state = StateGiven OutFits Given allows_served state
 
   module _ (own : OwnAnswers Given) where
     -- ---- a call
@@ -100,7 +106,7 @@ module _ (Tells : ℕ → List ℕ → List ℕ → List ℕ → Type 0) (Given 
     UserGives (user.Invite invite) = Unit {0}
     UserGives (user.Plain plain) = Unit {0}
     UserGives (user.Request request) = Unit {0}
-    UserGives (user.Respond respond) = RespondGiven Given respond
+    UserGives (user.Respond respond) = RespondGiven OutFits Given allows_served own respond
     UserGives (user.Ack ack) = Unit {0}
     UserGives (user.Prack prack) = Unit {0}
     UserGives (user.Cancel cancel) = Unit {0}
@@ -111,10 +117,10 @@ module _ (Tells : ℕ → List ℕ → List ℕ → List ℕ → Type 0) (Given 
     InputFits (Some (event, User command)) = UserGives command
 
     abbrev CallFits : Call × List CallOut → Type 0
-    CallFits taken = StateGiven Given (taken.0).served × Fit taken.1
+    CallFits taken = KeepsAnswers (taken.0).served × Fit taken.1
 
     up_fits : (call : Call) (event : Event) (up : AnUp) (k : Kind) → KindTells k
-        → StateGiven Given call.served → CallFits (up_taken call event up k)
+        → KeepsAnswers call.served → CallFits (up_taken call event up k)
     up_fits call event up (kind.Request request reply_to) tells given =
         kind_fits OutFits Given allows_served own call.served (made_tag event) up (kind.Request request reply_to) event.moment
         given
@@ -130,7 +136,7 @@ module _ (Tells : ℕ → List ℕ → List ℕ → List ℕ → Type 0) (Given 
     up_fits call event up kind.Failed tells given =
         (given, (tt, lost_told OutFits allows up.id false (side_of call)))
 
-    first_fits : (call : Call) (event : Event) (command : UserCommand) → StateGiven Given call.served
+    first_fits : (call : Call) (event : Event) (command : UserCommand) → KeepsAnswers call.served
         → CallFits (first_command_taken call event command)
     first_fits call event (user.Invite invite) given =
         (given, invite_told OutFits allows event invite call.clients)
@@ -143,7 +149,7 @@ module _ (Tells : ℕ → List ℕ → List ℕ → List ℕ → Type 0) (Given 
     first_fits call event (user.Cancel cancel) given = (given, (tt, tt))
 
     user_fits : (call : Call) (event : Event) (command : UserCommand) → UserGives command
-        → StateGiven Given call.served → CallFits (command_taken call event command)
+        → KeepsAnswers call.served → CallFits (command_taken call event command)
     user_fits call event (user.Invite invite) gives given = (given, (tt, tt))
     user_fits call event (user.Plain plain) gives given = (given, (tt, tt))
     user_fits call event (user.Request request) gives given =
@@ -157,7 +163,7 @@ module _ (Tells : ℕ → List ℕ → List ℕ → List ℕ → Type 0) (Given 
     user_fits call event (user.Cancel cancel) gives given =
         (given, cancel_told OutFits allows event cancel (side_of call))
 
-    ticked_fits : (call : Call) (now : ℕ) → StateGiven Given call.served → CallFits (ticked call now)
+    ticked_fits : (call : Call) (now : ℕ) → KeepsAnswers call.served → CallFits (ticked call now)
     ticked_fits call now given =
         let first = by_server call (tick_taken call.served now) in
         let one = server_tick OutFits Given allows_served own call.served now given in (
@@ -167,12 +173,12 @@ module _ (Tells : ℕ → List ℕ → List ℕ → List ℕ → Type 0) (Given 
         )
 
     abbrev pub HeldGiven : Option Call → Type 0
-    HeldGiven held = IfSome held (λ call. StateGiven Given call.served)
+    HeldGiven held = IfSome held (λ call. KeepsAnswers call.served)
 
     abbrev After : Option Call × List CallOut → Type 0
     After taken = HeldGiven taken.0 × Fit taken.1
 
-    kept_by : (b : Bool) (call : Call) → StateGiven Given call.served
+    kept_by : (b : Bool) (call : Call) → KeepsAnswers call.served
         → HeldGiven (cond b (Some call) None)
     kept_by true call given = given
     kept_by false call given = tt
@@ -201,3 +207,16 @@ module _ (Tells : ℕ → List ℕ → List ℕ → List ℕ → Type 0) (Given 
     step_fits calls (Some call) (Some (event, User command)) now fits given =
         kept_fits (command_taken call (event_of calls event now) command)
         (user_fits call (event_of calls event now) command fits given)
+
+    -- ---- all inputs
+
+    pub all_fit : (calls : Calls) (call_id : List ℕ) (state : Option Call)
+        (inputs : List (Timed CallItem))
+        → AllByRecursion (λ timed. InputFits timed.input) inputs → HeldGiven state
+        → AllByRecursion OutFits (outputs_from (call_machine calls) call_id state inputs)
+    all_fit calls call_id state [] fit held = tt
+    all_fit calls call_id state (timed ∷ inputs) fit held =
+        let step = call_step calls state timed.input timed.moment in
+        let after = step_fits calls state timed.input timed.moment fit.0 held in
+        both OutFits step.1 (outputs_from (call_machine calls) call_id step.0 inputs)
+        after.1 (all_fit calls call_id step.0 inputs fit.1 after.0)

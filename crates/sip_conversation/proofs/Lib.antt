@@ -1,4 +1,6 @@
+pub mod Addresses
 pub mod Among
+pub mod Answered
 pub mod Bridge
 pub mod CallOuts
 pub mod Carrying
@@ -11,4 +13,5 @@ pub mod Rules
 pub mod Sends
 pub mod Sides
 pub mod Unchanged
+pub mod Unstamped
 pub mod Ups

@@ -37,23 +37,26 @@ use Rattle.sip_round.specs.Answers.{answers, calls_of, past_of}
 use Rattle.sip_round.specs.Given.{all_given, is_notice_of, notice_in}
 use Rattle.sip_round.specs.Laws.{call_inputs_of, said_of_call}
 use Rattle.sip_round.proofs.GivenNotices.{notices_given}
-use Rattle.sip_conversation.specs.Address.{IsAddress}
+use Rattle.sip_message.specs.Addr.{IsAddr}
 use Rattle.sip_conversation.specs.Conversation.{Carried, Side, Turn, peer, rounds_of}
 use Rattle.sip_conversation.specs.Messages.{CallsKeepRules, ComesUnchanged, come_from}
+use Rattle.sip_conversation.specs.Answers.{AnswersSo}
 use Rattle.sip_conversation.specs.Replies.{ResponsesToldWereSaid, SaidResponse}
 use Rattle.sip_conversation.proofs.Among.{all_go, among_kept, each_of}
+use Rattle.sip_conversation.proofs.Answered.{answered_so}
 use Rattle.sip_conversation.proofs.OneTransaction.{KindCame}
-use Rattle.sip_conversation.proofs.CallOuts.{HeldGiven, InputFits, KindTells, NoticeTells, OutFits, UserGives, step_fits}
+use Rattle.sip_conversation.proofs.CallOuts.{HeldGiven, InputFits, KindTells, NoticeTells, OutFits, UserGives, all_fit}
 use Rattle.sip_conversation.proofs.Unchanged.{inputs_unchanged}
+use Rattle.sip_conversation.proofs.Unstamped.{same_response}
 use Rattle.sip_conversation.proofs.Ups.{ItemCame, TimedCame}
 
 -- ---- one call
 
 -- of answers nothing is asked here
-abbrev Any : Message → Type 0
+abbrev pub Any : Message → Type 0
 Any message = Unit {0}
 
-any_own : OwnAnswers Any
+pub any_own : OwnAnswers Any
 any_own = record {
   merged = λ request tag. tt;
   extension = λ request tag header. tt;
@@ -63,19 +66,20 @@ any_own = record {
   terminated = λ request tag. tt;
 }
 
-module _ (Tells : ℕ → List ℕ → List ℕ → List ℕ → Type 0) (calls : Calls) (call_id : List ℕ) where
+-- of commands of the user nothing is asked
+pub gives : (Tells : ℕ → List ℕ → List ℕ → List ℕ → Type 0) (command : UserCommand)
+    → UserGives Tells Any any_own command
+gives Tells (user.Invite invite) = tt
+gives Tells (user.Plain plain) = tt
+gives Tells (user.Request request) = tt
+gives Tells (user.Respond respond) = λ local held. tt
+gives Tells (user.Ack ack) = tt
+gives Tells (user.Prack prack) = tt
+gives Tells (user.Cancel cancel) = tt
+
+module _ (Tells : ℕ → List ℕ → List ℕ → List ℕ → Type 0) where
   abbrev Fits : Timed CallItem → Type 0
   Fits timed = InputFits Tells Any any_own timed.input
-
-  all_told : (state : Option Call) (inputs : List (Timed CallItem))
-      → AllByRecursion Fits inputs → HeldGiven Tells Any any_own state
-      → AllByRecursion (OutFits Tells Any) (outputs_from (call_machine calls) call_id state inputs)
-  all_told state [] fit held = tt
-  all_told state (timed ∷ inputs) fit held =
-      let step = call_step calls state timed.input timed.moment in
-      let after = step_fits Tells Any any_own calls state timed.input timed.moment fit.0 held in
-      both (OutFits Tells Any) step.1 (outputs_from (call_machine calls) call_id step.0 inputs)
-      after.1 (all_told step.0 inputs fit.1 after.0)
 
   -- ---- what is given
 
@@ -94,84 +98,79 @@ module _ (Tells : ℕ → List ℕ → List ℕ → List ℕ → Type 0) (calls 
 module _ (Tells : ℕ → List ℕ → List ℕ → List ℕ → Type 0) (config : Config) (rounds : List Round)
     (alone : EachKeyAlone call_cmp (call_machine (calls_of config)) tick_at) where
   told_in_rounds : (call_id : List ℕ)
-      → AllByRecursion (Fits Tells (calls_of config) call_id)
-      (call_inputs_of config rounds call_id)
+      → AllByRecursion (Fits Tells) (call_inputs_of config rounds call_id)
       → (id : Id) (status : ℕ) (local_tag remote_tag body : List ℕ)
       → Contains (all_given (answers config rounds))
       (output.Notice (Response call_id id status local_tag remote_tag body))
       → Tells status local_tag remote_tag body
   told_in_rounds call_id fit id status local_tag remote_tag body among =
-      let calls = calls_of config in
       let told : Output = output.Notice (Response call_id id status local_tag remote_tag body) in
-      each_of (OutputTells Tells calls call_id)
+      each_of (OutputTells Tells)
       (flat_map notice_in (said_of_call config rounds call_id)) told
-      (notices_tell Tells calls call_id (said_of_call config rounds call_id)
+      (notices_tell Tells (said_of_call config rounds call_id)
       (subst (AllByRecursion (OutFits Tells Any))
       (sym (alone [] (past_of config rounds).calls call_id))
-      (all_told Tells calls call_id None (call_inputs_of config rounds call_id) fit tt)))
+      (all_fit Tells Any any_own (calls_of config) call_id None
+      (call_inputs_of config rounds call_id) fit tt)))
       (subst (λ outs. Contains outs told) (notices_given config rounds call_id)
       (among_kept (is_notice_of call_id) (all_given (answers config rounds)) told among
       (is_at_itself nat_list_cmp_total call_id)))
 
 -- ---- what comes from the other side
 
--- a stamp changes the top Via alone
-record SameButVias (one other : Message) : Type 0 where
-  start : one.start ≡ other.start
-  from : one.from ≡ other.from
-  to : one.to ≡ other.to
-  body : one.body ≡ other.body
+module _ (configs : Side → Config)
+    (alone : (s : Side) → EachKeyAlone call_cmp (call_machine (calls_of (configs s))) tick_at)
+    (turns : List Turn) (s : Side) where
+  -- what is said of a response that comes, the message itself
+  pub record IsSaidSo (response : Message) (status : ℕ) : Type 0 where
+    pub said : SaidResponse configs turns s status (tag_of response.from) (tag_of response.to)
+        response.body
+    pub whole : said.original ≡ response
 
-stamped_or_not : (request : Bool) (source : Addr) (m : Message)
-    → SameButVias (if request then stamped m source else m) m
-unfolding stamped
-stamped_or_not true source m = record { start = refl; from = refl; to = refl; body = refl }
-stamped_or_not false source m = record { start = refl; from = refl; to = refl; body = refl }
-
-module _ (configs : Side → Config) (turns : List Turn) (s : Side) where
-  response_said : (response : Message) → ComesUnchanged configs turns s response → (status : ℕ)
-      → status_of response.start ≡ Some status
-      → SaidResponse configs turns s status (tag_of response.from) (tag_of response.to)
-      response.body
+  pub response_said : (response : Message) → ComesUnchanged configs turns s response → (status : ℕ)
+      → status_of response.start ≡ Some status → IsSaidSo response status
   response_said response comes status is =
       let original = comes.original in
-      let source = (configs (peer s)).local in
-      let same = stamped_or_not (is_request_message original) source original in
+      let whole = sym (same_response (configs (peer s)).local response original status comes.same
+      is) in
+      let status_is : status_of original.start ≡ Some status =
+      ap (λ m. status_of m.start) whole ∙ is in
+      let Answers : List ℕ → Type 0 =
+      AnswersSo (configs (peer s)) (rounds_of (peer s) turns) original status in
       record {
-        original = original;
-        said = comes.said;
-        rules = comes.rules;
-        status_is = ap status_of (sym (ap (λ m. m.start) comes.same ∙ same.start)) ∙ is;
-        from = ap tag_of (sym (ap (λ m. m.from) comes.same ∙ same.from));
-        to = ap tag_of (sym (ap (λ m. m.to) comes.same ∙ same.to));
-        body_is = sym (ap (λ m. m.body) comes.same ∙ same.body);
+        said = record {
+          original = original;
+          said = comes.said;
+          rules = comes.rules;
+          status_is = status_is;
+          from = ap (λ m. tag_of m.from) whole;
+          to = ap (λ m. tag_of m.to) whole;
+          body_is = ap (λ m. m.body) whole;
+          answers = subst Answers (ap (λ m. m.body) whole)
+              (answered_so (configs (peer s)) (rounds_of (peer s) turns) (alone (peer s)) original
+              status status_is);
+        };
+        whole = whole;
       }
 
   kind_said : (k : Kind) → KindCame (ComesUnchanged configs turns s) k
       → KindTells (SaidResponse configs turns s) Any any_own k
   kind_said (kind.Request request reply_to) came = tt
   kind_said (kind.Ack ack) came = tt
-  kind_said (kind.Response response) came = response_said response came
+  kind_said (kind.Response response) came =
+      λ status is. (response_said response came status is).said
   kind_said kind.Timeout came = tt
   kind_said kind.Failed came = tt
-
-  gives : (command : UserCommand) → UserGives (SaidResponse configs turns s) Any any_own command
-  gives (user.Invite invite) = tt
-  gives (user.Plain plain) = tt
-  gives (user.Request request) = tt
-  gives (user.Respond respond) = λ local held. tt
-  gives (user.Ack ack) = tt
-  gives (user.Prack prack) = tt
-  gives (user.Cancel cancel) = tt
 
   input_said : (input : Option CallItem)
       → IfSome input (λ i. ItemCame (ComesUnchanged configs turns s) i.1)
       → InputFits (SaidResponse configs turns s) Any any_own input
   input_said None came = tt
   input_said (Some (event, Up up)) came = kind_said up.kind came
-  input_said (Some (event, User command)) came = gives command
+  input_said (Some (event, User command)) came =
+      gives (SaidResponse configs turns s) command
 
-pub responses_said : (configs : Side → Config) → ((s : Side) → IsAddress (configs s).local)
+pub responses_said : (configs : Side → Config) → ((s : Side) → IsAddr (configs s).local)
     → EachKeyAlone key_cmp transaction_machine tick_at
     → ((s : Side) → EachKeyAlone call_cmp (call_machine (calls_of (configs s))) tick_at)
     → (turns : List Turn) → Carried configs turns → CallsKeepRules configs turns
@@ -180,10 +179,11 @@ responses_said configs addresses alone calls_alone turns carried keep s call_id 
     remote_tag body among =
     let Came : Timed CallItem → Type 0 = TimedCame (ComesUnchanged configs turns s) in
     let Said : Timed CallItem → Type 0 =
-    Fits (SaidResponse configs turns s) (calls_of (configs s)) call_id in
+    Fits (SaidResponse configs turns s) in
     let rounds = rounds_of s turns in
     told_in_rounds (SaidResponse configs turns s) (configs s) rounds (calls_alone s) call_id
-    (all_go {P = Came} {Q = Said} (λ timed came. input_said configs turns s timed.input came)
+    (all_go {P = Came} {Q = Said}
+    (λ timed came. input_said configs calls_alone turns s timed.input came)
     (call_inputs_of (configs s) rounds call_id)
     (inputs_unchanged alone configs addresses turns carried keep s call_id))
     id status local_tag remote_tag body among

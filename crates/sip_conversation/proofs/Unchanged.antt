@@ -36,7 +36,7 @@ use Rattle.sip_round.specs.Answers.{answers, no_past, past_of}
 use Rattle.sip_round.specs.Given.{all_given}
 use Rattle.sip_round.specs.Arrivals.{arrival_of}
 use Rattle.sip_round.specs.Laws.{call_inputs_of, inputs_of, said_of}
-use Rattle.sip_conversation.specs.Address.{IsAddress}
+use Rattle.sip_message.specs.Addr.{IsAddr}
 use Rattle.sip_conversation.specs.Conversation.{Carried, CarriedAfter, IsCarried, Side, Turn, given_by, peer, rounds_of}
 use Rattle.sip_conversation.specs.Datagrams.{DatagramsAreTextsSaid, IsTextSaid}
 use Rattle.sip_conversation.specs.Messages.{CallSays, CallsHearUnchanged, CallsKeepRules, ComesUnchanged, IsSaid, KeepsRules, MessagesComeUnchanged, come_from, message_up}
@@ -52,7 +52,7 @@ use Rattle.sip_conversation.proofs.Sends.{SendFits, direct_sends_fit, own_sends_
 use Rattle.sip_conversation.proofs.Ups.{OutCame, TimedCame, inputs_came}
 use Rattle.sip_common.proofs.Each.{both}
 
-come_keeps : (source : Addr) → IsAddress source → (message : Message) → IsMessage message
+come_keeps : (source : Addr) → IsAddr source → (message : Message) → IsMessage message
     → IsMessage (come_from source message)
 come_keeps source address message rules = by (is_request_message message)
   where
@@ -165,7 +165,7 @@ module _ (alone : EachKeyAlone key_cmp transaction_machine tick_at) where
 
   -- ---- both sides
 
-  module _ (configs : Side → Config) (addresses : (s : Side) → IsAddress (configs s).local) where
+  module _ (configs : Side → Config) (addresses : (s : Side) → IsAddr (configs s).local) where
     -- a datagram from the other side is the text of a message that keeps the rules
     abbrev IsFine : Side → Event → Type 0
     IsFine s (event.Datagram from bytes) = (from ≡ (configs (peer s)).local)
@@ -186,7 +186,7 @@ module _ (alone : EachKeyAlone key_cmp transaction_machine tick_at) where
     fine_sound turns s (event.Datagram from bytes) fine id =
         text_fits (configs s) (IsSoundInput (configs s) (rounds_of s turns)) id from fine.1 bytes
         fine.2 fine.3
-        (λ reply_to. come_keeps from (subst IsAddress (sym fine.0) (addresses (peer s))) fine.1
+        (λ reply_to. come_keeps from (subst IsAddr (sym fine.0) (addresses (peer s))) fine.1
         fine.3)
     fine_sound turns s (event.Failed key) fine id = tt
     fine_sound turns s (event.Command c) fine id = tt

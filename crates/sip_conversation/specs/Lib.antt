@@ -1,4 +1,4 @@
-pub mod Address
+pub mod Answers
 pub mod Conversation
 pub mod Datagrams
 pub mod Messages

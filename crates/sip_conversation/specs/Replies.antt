@@ -8,11 +8,12 @@ use Rattle.sip_common.specs.declared.notice.Notice.TheVariants.{Response}
 use Rattle.sip_clients.specs.Clients.{status_of}
 use Rattle.sip_round.specs.declared.config.Config.{Config}
 use Rattle.sip_round.specs.declared.output.Output.TheVariants.{Notice}
+use Rattle.sip_conversation.specs.Answers.{AnswersSo}
 use Rattle.sip_conversation.specs.Conversation.{Side, Turn, given_by, peer, rounds_of}
 use Rattle.sip_conversation.specs.Messages.{IsSaid}
 
 -- the other side said in these turns a response of this status, these tags in From and To, and this
--- body
+-- body; where it answered a request with it, its user or the agent itself answered so
 pub record SaidResponse (configs : Side → Config) (turns : List Turn) (side : Side) (status : ℕ)
     (local_tag remote_tag body : List ℕ) : Type 0 where
   pub original : Message
@@ -22,6 +23,7 @@ pub record SaidResponse (configs : Side → Config) (turns : List Turn) (side : 
   pub from : tag_of original.from ≡ local_tag
   pub to : tag_of original.to ≡ remote_tag
   pub body_is : original.body ≡ body
+  pub answers : AnswersSo (configs (peer side)) (rounds_of (peer side) turns) original status body
 
 -- so is each response that a user is told of
 abbrev pub ResponsesToldWereSaid : (Side → Config) → List Turn → Type 0

@@ -1,4 +1,4 @@
-use Rattle.sip_conversation.specs.Address.{IsAddress}
+use Rattle.sip_message.specs.Addr.{IsAddr}
 use Rattle.sip_conversation.specs.Conversation.{of_sides}
 use Rattle.sip_conversation.proofs.Sides.{each_side}
 use Rattle.sip_conversation.proofs.Unchanged.{calls_hear}
@@ -8,5 +8,5 @@ pub returns : goal.returns
 returns c =
     calls_hear c.laws_of_phases.ensures.each_key_alone
     (of_sides c.args.one c.args.other)
-    (each_side (λ config. IsAddress config.local) c.args.one c.args.other
+    (each_side (λ config. IsAddr config.local) c.args.one c.args.other
     c.numbers_fit.ensures c.numbers_fit-2.ensures)
