@@ -4,7 +4,7 @@ use Rattle.sip_calls.specs.Call.{CallItem, call_machine, call_step, command_take
 use Rattle.sip_calls.specs.Sides.{by_server, side_of, ticked, holds_any}
 use Rattle.sip_calls.specs.declared.call.Call.{Call}
 use Rattle.sip_calls.specs.declared.calls.Calls.{Calls}
-use Rattle.sip_clients.specs.Clients.{started, status_of}
+use Rattle.sip_clients.specs.Clients.{status_of}
 use Rattle.sip_clients.specs.Outputs.{start_command}
 use Rattle.sip_clients.specs.Tick.{clients_ticked}
 use Rattle.sip_clients.specs.declared.client.Client.{Client}
@@ -24,7 +24,7 @@ use Rattle.sip_served.specs.Tick.{tick_taken}
 use Rattle.sip_transactions.specs.declared.input.Command.{Command}
 use Rattle.sip_transactions.specs.declared.output.Kind.{Kind}
 use Rattle.sip_transactions.specs.declared.output.Up.{Up as AnUp}
-use Rattle.std.proofs.Common.{◌≡◌, ℕ, Bool, true, false, cond, List}
+use Rattle.std.proofs.Common.{◌≡◌, ℕ, Bool, true, false, cond, List, [], ◌∷◌}
 use Rattle.std.specs.List.{AllByRecursion}
 use Rattle.std.specs.Prelude.{Option, None, Some, IfSome}
 use Rattle.sip_served.proofs.ServedOuts.{AllowsServed, IsOther, OwnAnswers, RespondGiven, StateGiven, kind_fits, respond_fits, server_tick}

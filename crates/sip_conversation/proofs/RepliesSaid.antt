@@ -1,17 +1,14 @@
 -- A response that a user is told of, the other side said.
-use Rattle.std.proofs.Common.{◌≡◌, ℕ, Bool, true, false, List, [], ◌∷◌, ◌++◌, refl, sym, ap, ◌∙◌, subst}
-use Rattle.std.specs.Prelude.{Contains, IfSome, Option, None, Some, if◌then◌else◌}
+use Rattle.std.proofs.Common.{◌≡◌, ℕ, List, [], ◌∷◌, sym, ap, ◌∙◌, subst}
+use Rattle.std.specs.Prelude.{Contains, IfSome, Option, None, Some}
 use Rattle.std.specs.List.{AllByRecursion, flat_map}
 use Rattle.std.proofs.lemmas.Cmp.{nat_list_cmp_total}
-use Rattle.sip_message.specs.declared.addr.Addr.{Addr}
 use Rattle.sip_message.specs.declared.id.Id.{Id}
 use Rattle.sip_message.specs.declared.message.Message.{Message}
 use Rattle.sip_message.specs.Key.{key_cmp}
-use Rattle.sip_message.specs.Message.{is_request_message}
 use Rattle.sip_message.specs.Party.{tag_of}
-use Rattle.sip_message.specs.Source.{stamped}
 use Rattle.sip_model.specs.Laws.{EachKeyAlone}
-use Rattle.sip_model.specs.Machine.{Timed, outputs_from, tick_at}
+use Rattle.sip_model.specs.Machine.{Timed, tick_at}
 use Rattle.sip_model.proofs.Ordered.{is_at_itself}
 use Rattle.sip_transactions.specs.declared.output.Kind.{Kind}
 use Rattle.sip_transactions.specs.declared.output.Kind.TheVariants as kind
@@ -22,12 +19,9 @@ use Rattle.sip_common.specs.declared.item.Item.TheVariants.{Up, User}
 use Rattle.sip_common.specs.declared.notice.Notice.TheVariants.{Response}
 use Rattle.sip_common.specs.declared.command.UserCommand.{UserCommand}
 use Rattle.sip_common.specs.declared.command.UserCommand.TheVariants as user
-use Rattle.sip_common.proofs.Each.{both}
 use Rattle.sip_served.proofs.ServedOuts.{OwnAnswers}
 use Rattle.sip_clients.specs.Clients.{status_of}
-use Rattle.sip_calls.specs.declared.call.Call.{Call}
-use Rattle.sip_calls.specs.declared.calls.Calls.{Calls}
-use Rattle.sip_calls.specs.Call.{CallItem, call_machine, call_step}
+use Rattle.sip_calls.specs.Call.{CallItem, call_machine}
 use Rattle.sip_calls.specs.CallShard.{call_cmp}
 use Rattle.sip_round.specs.declared.config.Config.{Config}
 use Rattle.sip_round.specs.declared.output.Output.{Output}
@@ -39,13 +33,13 @@ use Rattle.sip_round.specs.Laws.{call_inputs_of, said_of_call}
 use Rattle.sip_round.proofs.GivenNotices.{notices_given}
 use Rattle.sip_message.specs.Addr.{IsAddr}
 use Rattle.sip_conversation.specs.Conversation.{Carried, Side, Turn, peer, rounds_of}
-use Rattle.sip_conversation.specs.Messages.{CallsKeepRules, ComesUnchanged, come_from}
+use Rattle.sip_conversation.specs.Messages.{CallsKeepRules, ComesUnchanged}
 use Rattle.sip_conversation.specs.Answers.{AnswersSo}
 use Rattle.sip_conversation.specs.Replies.{ResponsesToldWereSaid, SaidResponse}
 use Rattle.sip_conversation.proofs.Among.{all_go, among_kept, each_of}
 use Rattle.sip_conversation.proofs.Answered.{answered_so}
 use Rattle.sip_conversation.proofs.OneTransaction.{KindCame}
-use Rattle.sip_conversation.proofs.CallOuts.{HeldGiven, InputFits, KindTells, NoticeTells, OutFits, UserGives, all_fit}
+use Rattle.sip_conversation.proofs.CallOuts.{InputFits, KindTells, NoticeTells, OutFits, UserGives, all_fit}
 use Rattle.sip_conversation.proofs.Unchanged.{inputs_unchanged}
 use Rattle.sip_conversation.proofs.Unstamped.{same_response}
 use Rattle.sip_conversation.proofs.Ups.{ItemCame, TimedCame}
