@@ -122,10 +122,11 @@ module _ (Tells : ℕ → List ℕ → List ℕ → List ℕ → Type 0) (Given 
     up_fits : (call : Call) (event : Event) (up : AnUp) (k : Kind) → KindTells k
         → KeepsAnswers call.served → CallFits (up_taken call event up k)
     up_fits call event up (kind.Request request reply_to) tells given =
-        kind_fits OutFits Given allows_served own call.served (made_tag event) up (kind.Request request reply_to) event.moment
-        given
+        kind_fits OutFits Given allows_served own call.served (made_tag event) up
+        (kind.Request request reply_to) event.moment given
     up_fits call event up (kind.Ack ack) tells given =
-        kind_fits OutFits Given allows_served own call.served (made_tag event) up (kind.Ack ack) event.moment given
+        kind_fits OutFits Given allows_served own call.served (made_tag event) up (kind.Ack ack)
+        event.moment given
     up_fits call event up (kind.Response response) tells given = (
       given,
       response_told OutFits allows event up.id up.call_id response (side_of call)
@@ -155,7 +156,8 @@ module _ (Tells : ℕ → List ℕ → List ℕ → List ℕ → Type 0) (Given 
     user_fits call event (user.Request request) gives given =
         (given, command_told OutFits allows event request (side_of call))
     user_fits call event (user.Respond respond) gives given =
-        respond_fits OutFits Given allows_served own call.served event.id respond event.moment gives given
+        respond_fits OutFits Given allows_served own call.served event.id respond event.moment gives
+        given
     user_fits call event (user.Ack ack) gives given =
         (given, ack_command_told OutFits allows event ack (side_of call))
     user_fits call event (user.Prack prack) gives given =

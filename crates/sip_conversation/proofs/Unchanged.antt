@@ -205,8 +205,8 @@ module _ (alone : EachKeyAlone key_cmp transaction_machine tick_at) where
     carried_fine : (turns : List Turn) → AreFine turns → CallsKeepRules configs turns
         → (s : Side) (e : Event) → IsCarried configs turns s e → IsFine s e
     carried_fine turns fine keep s (event.Datagram from bytes) carried =
-        let text = texts turns fine keep (peer s) (carried.1).0 (configs s).local bytes
-        (carried.1).1 in
+        let text = texts turns fine keep (peer s) (carried.1).0 (carried.1).1 bytes
+        (carried.1).2 in
         (carried.0, text.0, text.1, (text.2).0)
     carried_fine turns fine keep s (event.Failed key) carried = tt
     carried_fine turns fine keep s (event.Command c) carried = tt
@@ -249,8 +249,8 @@ module _ (alone : EachKeyAlone key_cmp transaction_machine tick_at) where
         → (s : Side) (e : Event) → IsCarried configs turns s e → ArrivesUnchanged turns s e
     unfolding arrival_of
     carried_unchanged turns fine keep s (event.Datagram from bytes) carried id =
-        let text = texts turns fine keep (peer s) (carried.1).0 (configs s).local bytes
-        (carried.1).1 in
+        let text = texts turns fine keep (peer s) (carried.1).0 (carried.1).1 bytes
+        (carried.1).2 in
         text_fits (configs s) (IsUnchanged turns s) id from text.0 bytes text.1 (text.2).0
         (λ reply_to. record {
           original = text.0;
@@ -299,8 +299,8 @@ module _ (alone : EachKeyAlone key_cmp transaction_machine tick_at) where
     carried_text : (turns : List Turn) → AreFine turns → CallsKeepRules configs turns → (s : Side)
         (e : Event) → IsCarried configs turns s e → IsSaidText turns s e
     carried_text turns fine keep s (event.Datagram from bytes) carried =
-        let text = texts turns fine keep (peer s) (carried.1).0 (configs s).local bytes
-        (carried.1).1 in
+        let text = texts turns fine keep (peer s) (carried.1).0 (carried.1).1 bytes
+        (carried.1).2 in
         record {
           original = text.0;
           said = (text.2).1;

@@ -15,8 +15,8 @@ use sip_round::{Config, provisionals_in_each_life};
 use sip_transactions::Transactions;
 
 /// In a carried conversation, each message that comes to a transaction of one side is one that the
-/// other side said: that a call of it asked to send, or that a transaction of it made of what it was
-/// given. It comes unchanged, but for the stamp of its source in a request (RFC 3261, section
+/// other side said: that a call of it asked to send, or that a transaction of it made of what it
+/// was given. It comes unchanged, but for the stamp of its source in a request (RFC 3261, section
 /// 18.2.1). It takes that all that calls of both sides ask to send keeps the rules of messages.
 pub fn messages_come_unchanged(one: Config, other: Config)
     ensures { (turns : List Turn) → Carried (of_sides one other) turns
@@ -40,8 +40,8 @@ pub fn datagrams_are_texts_said(one: Config, other: Config)
     laws_of_phases(&Transactions);
 }
 
-/// In such a conversation each message that comes up to a call is one that the other side said, too,
-/// but for the stamp.
+/// In such a conversation each message that comes up to a call is one that the other side said,
+/// too, but for the stamp.
 pub fn calls_hear_unchanged(one: Config, other: Config)
     ensures { (turns : List Turn) → Carried (of_sides one other) turns
         → CallsKeepRules (of_sides one other) turns
@@ -52,11 +52,12 @@ pub fn calls_hear_unchanged(one: Config, other: Config)
     laws_of_phases(&Transactions);
 }
 
-/// In such a conversation a user is told of reliable provisional responses to an INVITE, in one life
-/// of a dialog, with consecutive RSeqs, of each once (RFC 3262, section 4). The other side said a
-/// reliable provisional response of each of these RSeqs, with the status, the tags and the body that
-/// are told; where it answered a request with it, its user did so by a command. The law doesn't say
-/// that this request is the INVITE, nor that the first of these RSeqs is 1.
+/// In such a conversation a user is told of reliable provisional responses to an INVITE, in one
+/// life of a dialog, with consecutive RSeqs, of each once (RFC 3262, section 4). The other side
+/// said a reliable provisional response of each of these RSeqs, with the status, the tags and the
+/// body that are told; where it answered a request with it, its user gave the command to respond
+/// with that status and that body. The law doesn't say that this request is the INVITE, nor that
+/// the first of these RSeqs is 1.
 pub fn provisionals_told_were_said(one: Config, other: Config)
     ensures { (turns : List Turn) → Carried (of_sides one other) turns
         → CallsKeepRules (of_sides one other) turns
@@ -76,9 +77,9 @@ pub fn provisionals_told_were_said(one: Config, other: Config)
 }
 
 /// In such a conversation, of each response that a user is told of the other side said one of that
-/// status, with those tags in From and To, and with that body. Where it answered a request with it,
-/// its user gave the command to respond with that status and that body, or the agent itself answered
-/// with 200, 420, 481, 482, 487 or 500 and no body.
+/// status, with those tags in From and To, and with that body. Where it answered a request with
+/// it, its user gave the command to respond with that status and that body, or the agent itself
+/// answered with 200, 420, 481, 482, 487 or 500 and no body.
 pub fn responses_told_were_said(one: Config, other: Config)
     ensures { (turns : List Turn) → Carried (of_sides one other) turns
         → CallsKeepRules (of_sides one other) turns
