@@ -1,13 +1,12 @@
 -- A request of the peer that a call answers, its user or the agent itself answered so.
-use Rattle.std.proofs.Common.{◌≡◌, ℕ, Bool, true, false, List, [], refl, sym, ap, ◌∙◌, subst, arith}
+use Rattle.std.proofs.Common.{◌≡◌, ℕ, List, [], refl, sym, ap, ◌∙◌, subst, arith}
 use Rattle.std.specs.Prelude.{Contains, Option, None, Some, codes}
 use Rattle.std.specs.List.{AllByRecursion}
 use Rattle.std.proofs.lemmas.Option.{same_Some}
 use Rattle.sip_message.specs.declared.addr.Addr.{Addr}
 use Rattle.sip_message.specs.declared.id.Id.{Id}
 use Rattle.sip_message.specs.declared.message.Message.{Message}
-use Rattle.sip_message.specs.declared.start_line.StartLine.TheVariants as start
-use Rattle.sip_message.specs.Content.{Content, with_content_of}
+use Rattle.sip_message.specs.Content.{with_content_of}
 use Rattle.sip_message.specs.Response.{response_of}
 use Rattle.sip_model.specs.Laws.{EachKeyAlone}
 use Rattle.sip_model.specs.Machine.{given_at, tick_at}
@@ -20,10 +19,9 @@ use Rattle.sip_common.specs.declared.command.UserCommand.TheVariants as user
 use Rattle.sip_common.specs.declared.item.CallOut.{CallOut}
 use Rattle.sip_common.specs.declared.item.CallOut.TheVariants as call_out
 use Rattle.sip_common.specs.declared.item.Item.TheVariants.{Up, User}
-use Rattle.std.specs.Result.{result_ok}
-use Rattle.sip_reliable.specs.Ledger.{send_answer}
 use Rattle.sip_served.specs.declared.held_request.HeldRequest.{HeldRequest}
-use Rattle.sip_served.specs.Respond.{answer_to, if_so, is_of_dialog, is_sent_reliably, with_routes, with_rseq}
+use Rattle.sip_served.specs.Respond.{answer_to}
+use Rattle.sip_served.proofs.Rseqs.{answer_start}
 use Rattle.sip_served.proofs.ServedOuts.{OwnAnswers}
 use Rattle.sip_clients.specs.Clients.{status_of}
 use Rattle.sip_calls.specs.Call.{CallItem, call_machine}
@@ -38,42 +36,10 @@ use Rattle.sip_conversation.specs.Messages.{CallSays}
 use Rattle.sip_conversation.proofs.Among.{all_of, each_of}
 use Rattle.sip_conversation.proofs.CallOuts.{InputFits, KindTells, OutFits, UserGives, all_fit}
 
--- ---- how an answer of the user begins, and what it carries
-
-content_start : (message : Message) (content : Content)
-    → (with_content_of message content).start ≡ message.start
-unfolding with_content_of
-content_start message content = refl
-
-content_body : (message : Message) (content : Content)
-    → (with_content_of message content).body ≡ content.body
-unfolding with_content_of
-content_body message content = refl
-
-if_so_start : (so : Bool) (change : Message → Message) (message : Message)
-    → ((m : Message) → (change m).start ≡ m.start)
-    → (if_so so change message).start ≡ message.start
-if_so_start true change message same = same message
-if_so_start false change message same = refl
-
-answer_start : (local : Addr) (held : HeldRequest) (r : Respond)
-    → (answer_to local held r).start ≡ start.Response r.status r.reason
-answer_start local held r =
-    let bare = response_of held.request r.status r.reason held.tag in
-    let routed = if_so (is_of_dialog held r.status) (with_routes local held.request) bare in
-    let reliably = is_sent_reliably held r.status r.reliability in
-    let number = with_rseq (result_ok (send_answer held.ledger)) in
-    content_start (if_so reliably number routed) r.content
-    ∙ (if_so_start reliably number routed (λ m. refl)
-    ∙ if_so_start (is_of_dialog held r.status) (with_routes local held.request) bare (λ m. refl))
-
 answer_body : (local : Addr) (held : HeldRequest) (r : Respond)
     → (answer_to local held r).body ≡ r.content.body
-answer_body local held r =
-    let bare = response_of held.request r.status r.reason held.tag in
-    let routed = if_so (is_of_dialog held r.status) (with_routes local held.request) bare in
-    content_body (if_so (is_sent_reliably held r.status r.reliability)
-    (with_rseq (result_ok (send_answer held.ledger))) routed) r.content
+unfolding with_content_of
+answer_body local held r = refl
 
 -- of what is told nothing is asked here
 abbrev Any : ℕ → List ℕ → List ℕ → List ℕ → Type 0

@@ -4,6 +4,7 @@ pub mod Answered
 pub mod Bridge
 pub mod CallOuts
 pub mod Carrying
+pub mod Fronts
 pub mod Longer
 pub mod OneTransaction
 pub mod Provisionals

@@ -1,5 +1,5 @@
 -- A reliable provisional response that a user is told of, the other side said.
-use Rattle.std.proofs.Common.{◌≡◌, ◌≢◌, ℕ, Bool, true, false, cond, List, [], ◌∷◌, ◌++◌, map, refl, sym, ap, ◌∙◌, subst}
+use Rattle.std.proofs.Common.{◌≡◌, ◌≢◌, ℕ, Bool, true, false, cond, List, [], ◌∷◌, ◌++◌, map, refl, sym, ap, ◌∙◌, subst, append_assoc}
 use Rattle.std.specs.Prelude.{AllPairs, IfSome, Option, None, Some, filter}
 use Rattle.std.specs.List.{AllByRecursion}
 use Rattle.std.specs.Option.{option_and_then}
@@ -8,6 +8,7 @@ use Rattle.sip_message.specs.declared.id.Id.{Id}
 use Rattle.sip_message.specs.declared.message.Message.{Message}
 use Rattle.sip_message.specs.Addr.{IsAddr}
 use Rattle.sip_message.specs.Key.{key_cmp}
+use Rattle.sip_message.specs.Party.{tag_of}
 use Rattle.sip_model.specs.Laws.{EachKeyAlone}
 use Rattle.sip_model.specs.Machine.{Timed, tick_at}
 use Rattle.sip_transactions.specs.declared.output.Kind.{Kind}
@@ -42,8 +43,9 @@ use Rattle.sip_conversation.specs.Conversation.{Carried, Side, Turn, rounds_of}
 use Rattle.sip_conversation.specs.Messages.{CallsKeepRules, ComesUnchanged}
 use Rattle.sip_conversation.specs.Provisionals.{IsSaidReliably, ProvisionalsToldAsSaid, SaidReliably, rseqs_told, told_from, told_with}
 use Rattle.sip_conversation.proofs.CallOuts.{HeldGiven, InputFits, KindTells, NoticeTells, OutFits, ResponseTells, allows_served, step_fits}
+use Rattle.sip_conversation.proofs.Fronts.{front_carried, front_keeps}
 use Rattle.sip_conversation.proofs.OneTransaction.{KindCame}
-use Rattle.sip_conversation.proofs.RepliesSaid.{Any, any_own, gives, response_said}
+use Rattle.sip_conversation.proofs.RepliesSaid.{Any, any_own, gives, response_said, said_before}
 use Rattle.sip_conversation.proofs.Unchanged.{inputs_unchanged}
 use Rattle.sip_conversation.proofs.Ups.{ItemCame, TimedCame}
 
@@ -105,13 +107,13 @@ module _ (Tells : ℕ → List ℕ → List ℕ → List ℕ → Type 0) where
 
 module _ (configs : Side → Config)
     (alone : (s : Side) → EachKeyAlone call_cmp (call_machine (calls_of (configs s))) tick_at)
-    (turns : List Turn) (s : Side) where
+    (before : List Turn) (turn : Turn) where
   abbrev Said : ℕ → ℕ → List ℕ → List ℕ → List ℕ → Type 0
   Said rseq status local_tag remote_tag body =
-      SaidReliably configs turns s rseq status local_tag remote_tag body
+      SaidReliably configs before turn.side rseq status local_tag remote_tag body
 
   abbrev Came : Message → Type 0
-  Came message = ComesUnchanged configs turns s message
+  Came message = ComesUnchanged configs (before ++ turn ∷ []) turn.side message
 
   -- ---- a response that comes
 
@@ -119,9 +121,11 @@ module _ (configs : Side → Config)
       → provisional_number (status_of response.start) response ≡ Some rseq
       → ResponseTells (Said rseq) Any any_own response
   said_so response comes rseq number status is =
-      let so = response_said configs alone turns s response comes status is in
+      let so = response_said configs alone (before ++ turn ∷ []) turn.side response comes status is
+      in
       record {
-        response = so.said;
+        response = said_before configs before turn status (tag_of response.from)
+            (tag_of response.to) response.body so.said;
         number = ap (provisional_number (Some status)) so.whole
             ∙ (ap (λ o. provisional_number o response) (sym is) ∙ number);
       }
@@ -161,8 +165,8 @@ module _ (configs : Side → Config)
     -- ---- those that are told
 
     abbrev Tell : List (ℕ × CallOut) → Type 0
-    Tell told =
-        AllByRecursion (λ (one : ℕ × CallOut). IsSaidReliably configs turns s one.0 one.1) told
+    Tell told = AllByRecursion
+        (λ (one : ℕ × CallOut). IsSaidReliably configs before turn.side one.0 one.1) told
 
     abbrev Fit : ℕ → List CallOut → Type 0
     Fit rseq outs = AllByRecursion (OutFits (Said rseq) Any) outs
@@ -210,7 +214,7 @@ module _ (configs : Side → Config)
         let after = done calls invite life call timed in
         let number = number_in_life calls invite life call timed in
         let alive = lives (side_held after.0).dialogs life in
-        both (λ (one : ℕ × CallOut). IsSaidReliably configs turns s one.0 one.1)
+        both (λ (one : ℕ × CallOut). IsSaidReliably configs before turn.side one.0 one.1)
         (told_with number after.1) (told_from calls invite life after.0 inputs)
         (told_so number after.1
         (λ rseq is. (step_fits (Said rseq) Any any_own calls call timed.input timed.moment
@@ -225,17 +229,23 @@ pub provisionals_said : (configs : Side → Config) → ((s : Side) → IsAddr (
     → ((s : Side) (rounds : List Round) → ProvisionalsInLives (configs s) rounds)
     → (turns : List Turn) → Carried configs turns → CallsKeepRules configs turns
     → ProvisionalsToldAsSaid configs turns
-provisionals_said configs addresses alone calls_alone in_lives turns carried keep s call_id invite
-    life =
-    let rounds = rounds_of s turns in
-    let calls = calls_of (configs s) in
-    let inputs = call_inputs_of (configs s) rounds call_id in
-    let order = in_lives s rounds call_id invite life in
-    let same : shown calls invite life inputs ≡ rseqs_told configs turns s call_id invite life =
+provisionals_said configs addresses alone calls_alone in_lives turns carried keep before after turn
+    same call_id invite life =
+    let front = before ++ turn ∷ [] in
+    let whole : turns ≡ front ++ after = same ∙ sym (append_assoc before (turn ∷ []) after) in
+    let rounds = rounds_of turn.side front in
+    let calls = calls_of (configs turn.side) in
+    let inputs = call_inputs_of (configs turn.side) rounds call_id in
+    let order = in_lives turn.side rounds call_id invite life in
+    let rseqs : shown calls invite life inputs
+    ≡ rseqs_told configs before turn call_id invite life =
     sym (rseqs_shown calls invite life None inputs) in
     record {
-      consecutive = subst IsConsecutive same order.consecutive;
-      once = subst (AllPairs (λ x y. x ≢ y)) same order.once;
-      said = told_said configs calls_alone turns s calls invite life None inputs
-          (inputs_unchanged alone configs addresses turns carried keep s call_id);
+      consecutive = subst IsConsecutive rseqs order.consecutive;
+      once = subst (AllPairs (λ x y. x ≢ y)) rseqs order.once;
+      said = told_said configs calls_alone before turn calls invite life None inputs
+          (inputs_unchanged alone configs addresses front
+          (front_carried configs front after (subst (Carried configs) whole carried))
+          (front_keeps configs front after (subst (CallsKeepRules configs) whole keep)) turn.side
+          call_id);
     }

@@ -1,5 +1,5 @@
 -- A response that a user is told of, the other side said.
-use Rattle.std.proofs.Common.{◌≡◌, ℕ, List, [], ◌∷◌, sym, ap, ◌∙◌, subst}
+use Rattle.std.proofs.Common.{◌≡◌, ℕ, List, [], ◌∷◌, ◌++◌, sym, ap, ◌∙◌, subst, append_assoc}
 use Rattle.std.specs.Prelude.{Contains, IfSome, Option, None, Some}
 use Rattle.std.specs.List.{AllByRecursion, flat_map}
 use Rattle.std.proofs.lemmas.Cmp.{nat_list_cmp_total}
@@ -32,12 +32,13 @@ use Rattle.sip_round.specs.Given.{all_given, is_notice_of, notice_in}
 use Rattle.sip_round.specs.Laws.{call_inputs_of, said_of_call}
 use Rattle.sip_round.proofs.GivenNotices.{notices_given}
 use Rattle.sip_message.specs.Addr.{IsAddr}
-use Rattle.sip_conversation.specs.Conversation.{Carried, Side, Turn, peer, rounds_of}
-use Rattle.sip_conversation.specs.Messages.{CallsKeepRules, ComesUnchanged}
+use Rattle.sip_conversation.specs.Conversation.{Carried, Side, Turn, given_by, peer, rounds_of}
+use Rattle.sip_conversation.specs.Messages.{CallsKeepRules, ComesUnchanged, IsSaid}
 use Rattle.sip_conversation.specs.Answers.{AnswersSo}
 use Rattle.sip_conversation.specs.Replies.{ResponsesToldWereSaid, SaidResponse}
 use Rattle.sip_conversation.proofs.Among.{all_go, among_kept, each_of}
 use Rattle.sip_conversation.proofs.Answered.{answered_so}
+use Rattle.sip_conversation.proofs.Fronts.{front_carried, front_keeps, peer_rounds}
 use Rattle.sip_conversation.proofs.OneTransaction.{KindCame}
 use Rattle.sip_conversation.proofs.CallOuts.{InputFits, KindTells, NoticeTells, OutFits, UserGives, all_fit}
 use Rattle.sip_conversation.proofs.Unchanged.{inputs_unchanged}
@@ -164,12 +165,15 @@ module _ (configs : Side → Config)
   input_said (Some (event, User command)) came =
       gives (SaidResponse configs turns s) command
 
-pub responses_said : (configs : Side → Config) → ((s : Side) → IsAddr (configs s).local)
+responses_in : (configs : Side → Config) → ((s : Side) → IsAddr (configs s).local)
     → EachKeyAlone key_cmp transaction_machine tick_at
     → ((s : Side) → EachKeyAlone call_cmp (call_machine (calls_of (configs s))) tick_at)
     → (turns : List Turn) → Carried configs turns → CallsKeepRules configs turns
-    → ResponsesToldWereSaid configs turns
-responses_said configs addresses alone calls_alone turns carried keep s call_id id status local_tag
+    → (s : Side) (call_id : List ℕ) (id : Id) (status : ℕ) (local_tag remote_tag body : List ℕ)
+    → Contains (given_by configs turns s)
+    (output.Notice (Response call_id id status local_tag remote_tag body))
+    → SaidResponse configs turns s status local_tag remote_tag body
+responses_in configs addresses alone calls_alone turns carried keep s call_id id status local_tag
     remote_tag body among =
     let Came : Timed CallItem → Type 0 = TimedCame (ComesUnchanged configs turns s) in
     let Said : Timed CallItem → Type 0 =
@@ -181,3 +185,39 @@ responses_said configs addresses alone calls_alone turns carried keep s call_id 
     (call_inputs_of (configs s) rounds call_id)
     (inputs_unchanged alone configs addresses turns carried keep s call_id))
     id status local_tag remote_tag body among
+
+-- ---- in the turns before
+
+-- what the other side said by the end of a turn, it said before it
+abbrev pub said_before : (configs : Side → Config) (before : List Turn) (turn : Turn) (status : ℕ)
+    (local_tag remote_tag body : List ℕ)
+    → SaidResponse configs (before ++ turn ∷ []) turn.side status local_tag remote_tag body
+    → SaidResponse configs before turn.side status local_tag remote_tag body
+said_before configs before turn status local_tag remote_tag body so =
+    let other = configs (peer turn.side) in
+    record {
+      original = so.original;
+      said = subst (λ rounds. IsSaid other rounds so.original) (peer_rounds before turn) so.said;
+      rules = so.rules;
+      status_is = so.status_is;
+      from = so.from;
+      to = so.to;
+      body_is = so.body_is;
+      answers = subst (λ rounds. AnswersSo other rounds so.original status body)
+          (peer_rounds before turn) so.answers;
+    }
+
+pub responses_said : (configs : Side → Config) → ((s : Side) → IsAddr (configs s).local)
+    → EachKeyAlone key_cmp transaction_machine tick_at
+    → ((s : Side) → EachKeyAlone call_cmp (call_machine (calls_of (configs s))) tick_at)
+    → (turns : List Turn) → Carried configs turns → CallsKeepRules configs turns
+    → ResponsesToldWereSaid configs turns
+responses_said configs addresses alone calls_alone turns carried keep before after turn same call_id
+    id status local_tag remote_tag body among =
+    let front = before ++ turn ∷ [] in
+    let whole : turns ≡ front ++ after = same ∙ sym (append_assoc before (turn ∷ []) after) in
+    said_before configs before turn status local_tag remote_tag body
+    (responses_in configs addresses alone calls_alone front
+    (front_carried configs front after (subst (Carried configs) whole carried))
+    (front_keeps configs front after (subst (CallsKeepRules configs) whole keep)) turn.side call_id
+    id status local_tag remote_tag body among)

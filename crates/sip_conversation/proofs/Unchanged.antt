@@ -44,7 +44,7 @@ use Rattle.sip_conversation.specs.Messages.IsSaid.{Acknowledges, Asked, Direct, 
 use Rattle.sip_conversation.proofs.Among.{all_go, all_of, each_of}
 use Rattle.sip_conversation.proofs.Bridge.{read_or_long, text_fits}
 use Rattle.sip_conversation.proofs.Carrying.{TurnHolds, all_carried, each_turn, in_rounds}
-use Rattle.sip_conversation.proofs.Longer.{rounds_of-append, says_longer}
+use Rattle.sip_conversation.proofs.Fronts.{front_keeps}
 use Rattle.sip_conversation.proofs.OneTransaction.{AreSaid, IsFaithful, IsTextOf, KindCame, faithful}
 use Rattle.sip_conversation.proofs.Rounds.{ArrivalFits, OutFits, RoundFits, TimedFits, call_says, calls_give, inputs_fit}
 use Rattle.sip_conversation.proofs.Rules.{ack_keeps, stamped_keeps, trying_keeps}
@@ -211,21 +211,13 @@ module _ (alone : EachKeyAlone key_cmp transaction_machine tick_at) where
     carried_fine turns fine keep s (event.Failed key) carried = tt
     carried_fine turns fine keep s (event.Command c) carried = tt
 
-    -- in a front of the turns calls keep the rules too
-    front_keeps : (before turns : List Turn) → CallsKeepRules configs (before ++ turns)
-        → CallsKeepRules configs before
-    front_keeps before turns keep s out says =
-        keep s out (subst (λ rounds. CallSays (configs s) rounds out)
-        (sym (rounds_of-append s before turns))
-        (says_longer (configs s) (rounds_of s before) (rounds_of s turns) out says))
-
     fine_after : (before turns : List Turn) → AreFine before → CarriedAfter configs before turns
         → CallsKeepRules configs (before ++ turns) → AreFine (before ++ turns)
     fine_after before [] fine carried keep = subst AreFine (sym (append-nil before)) fine
     fine_after before (turn ∷ turns) fine carried keep =
         let same = append_assoc before (turn ∷ []) turns in
         let here = all_go {P = IsCarried configs before turn.side} {Q = IsFine turn.side}
-        (carried_fine before fine (front_keeps before (turn ∷ turns) keep) turn.side)
+        (carried_fine before fine (front_keeps configs before (turn ∷ turns) keep) turn.side)
         (turn.round).events carried.0 in
         subst AreFine same
         (fine_after (before ++ turn ∷ []) turns

@@ -1,5 +1,5 @@
 -- The reliable provisional responses that a user is told of: their RSeqs are consecutive, each is
--- told once, and each is one that the other side said (RFC 3262, section 4).
+-- told once, and each is one that the other side said before (RFC 3262, section 4).
 use Rattle.std.specs.Prelude.{◌≡◌, ◌≢◌, ℕ, List, [], ◌∷◌, ◌++◌, AllPairs, Option, None, Some, filter, map}
 use Rattle.std.specs.List.{AllByRecursion}
 use Rattle.sip_model.specs.Machine.{Timed}
@@ -35,24 +35,28 @@ told_from calls invite life call (input ∷ inputs) =
 
 -- ---- what the other side said
 
-module _ (configs : Side → Config) (turns : List Turn) (side : Side) where
-  -- the other side said in these turns such a response, with this RSeq, as a reliable provisional
-  -- one with a tag in To
-  pub record SaidReliably (rseq status : ℕ) (local_tag remote_tag body : List ℕ)
-      : Type 0 where
-    pub response : SaidResponse configs turns side status local_tag remote_tag body
-    pub number : provisional_number (Some status) response.original ≡ Some rseq
+-- the other side said in these turns such a response, with this RSeq, as a reliable provisional one
+-- with a tag in To
+pub record SaidReliably (configs : Side → Config) (turns : List Turn) (side : Side)
+    (rseq status : ℕ) (local_tag remote_tag body : List ℕ) : Type 0 where
+  pub response : SaidResponse configs turns side status local_tag remote_tag body
+  pub number : provisional_number (Some status) response.original ≡ Some rseq
 
-  -- the response of a notice is such a one, and there is no other notice
-  abbrev pub IsSaidReliably : ℕ → CallOut → Type 0
-  IsSaidReliably rseq (Notice (Response call_id id status local_tag remote_tag body)) =
-      SaidReliably rseq status local_tag remote_tag body
-  IsSaidReliably rseq _ = ⊥
+-- the response of a notice is such a one, and there is no other notice
+abbrev pub IsSaidReliably : (Side → Config) → List Turn → Side → ℕ → CallOut → Type 0
+IsSaidReliably configs turns side rseq
+    (Notice (Response call_id id status local_tag remote_tag body)) =
+    SaidReliably configs turns side rseq status local_tag remote_tag body
+IsSaidReliably configs turns side rseq _ = ⊥
 
-  -- what a side's user is told of those to an INVITE in a life of a dialog, each with its RSeq
+-- ---- of a turn after others
+
+module _ (configs : Side → Config) (before : List Turn) (turn : Turn) where
+  -- what its user is told by its end of those to an INVITE in a life of a dialog, each with its
+  -- RSeq
   abbrev pub told_reliably : List ℕ → AnInvite → DialogLife → List (ℕ × CallOut)
-  told_reliably call_id invite life = told_from (calls_of (configs side)) invite life None
-      (call_inputs_of (configs side) (rounds_of side turns) call_id)
+  told_reliably call_id invite life = told_from (calls_of (configs turn.side)) invite life None
+      (call_inputs_of (configs turn.side) (rounds_of turn.side (before ++ turn ∷ [])) call_id)
 
   abbrev pub rseqs_told : List ℕ → AnInvite → DialogLife → List ℕ
   rseqs_told call_id invite life = map (λ told. told.0) (told_reliably call_id invite life)
@@ -61,11 +65,12 @@ module _ (configs : Side → Config) (turns : List Turn) (side : Side) where
       : Type 0 where
     pub consecutive : IsConsecutive (rseqs_told call_id invite life)
     pub once : AllPairs (λ x y. x ≢ y) (rseqs_told call_id invite life)
-    pub said : AllByRecursion (λ told. IsSaidReliably told.0 told.1)
+    pub said : AllByRecursion (λ told. IsSaidReliably configs before turn.side told.0 told.1)
         (told_reliably call_id invite life)
 
--- of every call, INVITE and life of a dialog
+-- of every turn, call, INVITE and life of a dialog
 abbrev pub ProvisionalsToldAsSaid : (Side → Config) → List Turn → Type 0
 ProvisionalsToldAsSaid configs turns =
-    (side : Side) (call_id : List ℕ) (invite : AnInvite) (life : DialogLife)
-    → ToldAsSaid configs turns side call_id invite life
+    (before after : List Turn) (turn : Turn) → turns ≡ before ++ turn ∷ after
+    → (call_id : List ℕ) (invite : AnInvite) (life : DialogLife)
+    → ToldAsSaid configs before turn call_id invite life

@@ -1,5 +1,5 @@
--- A response that a user is told of: one that the other side said.
-use Rattle.std.specs.Prelude.{◌≡◌, ℕ, List, Contains, Some}
+-- A response that a user is told of: one that the other side said before.
+use Rattle.std.specs.Prelude.{◌≡◌, ℕ, List, [], ◌∷◌, ◌++◌, Contains, Some}
 use Rattle.sip_message.specs.declared.id.Id.{Id}
 use Rattle.sip_message.specs.declared.message.Message.{Message}
 use Rattle.sip_message.specs.Party.{tag_of}
@@ -25,10 +25,11 @@ pub record SaidResponse (configs : Side → Config) (turns : List Turn) (side : 
   pub body_is : original.body ≡ body
   pub answers : AnswersSo (configs (peer side)) (rounds_of (peer side) turns) original status body
 
--- so is each response that a user is told of
+-- so is, in the turns before a turn, each response that its user is told of by its end
 abbrev pub ResponsesToldWereSaid : (Side → Config) → List Turn → Type 0
 ResponsesToldWereSaid configs turns =
-    (side : Side) (call_id : List ℕ) (id : Id) (status : ℕ) (local_tag remote_tag body : List ℕ)
-    → Contains (given_by configs turns side)
+    (before after : List Turn) (turn : Turn) → turns ≡ before ++ turn ∷ after
+    → (call_id : List ℕ) (id : Id) (status : ℕ) (local_tag remote_tag body : List ℕ)
+    → Contains (given_by configs (before ++ turn ∷ []) turn.side)
     (Notice (Response call_id id status local_tag remote_tag body))
-    → SaidResponse configs turns side status local_tag remote_tag body
+    → SaidResponse configs before turn.side status local_tag remote_tag body

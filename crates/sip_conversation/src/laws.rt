@@ -53,11 +53,12 @@ pub fn calls_hear_unchanged(one: Config, other: Config)
 }
 
 /// In such a conversation a user is told of reliable provisional responses to an INVITE, in one
-/// life of a dialog, with consecutive RSeqs, of each once (RFC 3262, section 4). The other side
-/// said a reliable provisional response of each of these RSeqs, with the status, the tags and the
-/// body that are told; where it answered a request with it, its user gave the command to respond
-/// with that status and that body. The law doesn't say that this request is the INVITE, nor that
-/// the first of these RSeqs is 1.
+/// life of a dialog, with consecutive RSeqs, of each once (RFC 3262, section 4). In the turns
+/// before the one in which it is told, the other side said a reliable provisional response of this
+/// RSeq, with the status, the tags and the body that are told; where it answered a request with it,
+/// its user gave the command to respond with that status and that body, since the agent itself
+/// gives no such answer. The law doesn't say that this request is the INVITE, nor that the first of
+/// these RSeqs is 1.
 pub fn provisionals_told_were_said(one: Config, other: Config)
     ensures { (turns : List Turn) → Carried (of_sides one other) turns
         → CallsKeepRules (of_sides one other) turns
@@ -76,10 +77,10 @@ pub fn provisionals_told_were_said(one: Config, other: Config)
     provisionals_in_each_life(&other);
 }
 
-/// In such a conversation, of each response that a user is told of the other side said one of that
-/// status, with those tags in From and To, and with that body. Where it answered a request with
-/// it, its user gave the command to respond with that status and that body, or the agent itself
-/// answered with 200, 420, 481, 482, 487 or 500 and no body.
+/// In such a conversation, of each response that a user is told of in a turn the other side said
+/// one of that status, with those tags in From and To, and with that body, in the turns before.
+/// Where it answered a request with it, its user gave the command to respond with that status and
+/// that body, or the agent itself answered with 200, 420, 481, 482, 487 or 500 and no body.
 pub fn responses_told_were_said(one: Config, other: Config)
     ensures { (turns : List Turn) → Carried (of_sides one other) turns
         → CallsKeepRules (of_sides one other) turns
