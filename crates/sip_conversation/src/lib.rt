@@ -1,4 +1,5 @@
-//! Laws of two agents over a network: what one user is told is what the other user said.
+//! Laws of two agents over a network: what comes to one side, and what its user is told of, the
+//! other side said.
 #![tactic(auto)]
 
 mod laws;
