@@ -1,6 +1,6 @@
 -- A front of a carried conversation is carried, and its last turn adds nothing to what the other
 -- side says.
-use Rattle.std.proofs.Common.{◌≡◌, false, cond, List, [], ◌∷◌, ◌++◌, map, refl, sym, ap, ◌∙◌, subst, append-nil}
+use Rattle.std.proofs.Common.{◌≡◌, false, cond, List, [], ◌∷◌, ◌++◌, map, refl, sym, ap, ◌∙◌, subst, append-nil, append_assoc}
 use Rattle.sip_round.specs.declared.config.Config.{Config}
 use Rattle.sip_conversation.specs.Conversation.{Carried, CarriedAfter, Side, Turn, is_side, peer, rounds_of}
 use Rattle.sip_conversation.specs.Conversation as side
@@ -14,7 +14,7 @@ module _ (configs : Side → Config) where
   carried_front start (turn ∷ front) more carried =
       (carried.0, carried_front (start ++ turn ∷ []) front more carried.1)
 
-  pub front_carried : (front more : List Turn) → Carried configs (front ++ more)
+  front_carried : (front more : List Turn) → Carried configs (front ++ more)
       → Carried configs front
   front_carried front more carried = carried_front [] front more carried
 
@@ -25,6 +25,24 @@ module _ (configs : Side → Config) where
       keep s out (subst (λ rounds. CallSays (configs s) rounds out)
       (sym (rounds_of-append s front more))
       (says_longer (configs s) (rounds_of s front) (rounds_of s more) out says))
+
+  -- ---- up to a turn
+
+  whole : (turns before after : List Turn) (turn : Turn) → turns ≡ before ++ turn ∷ after
+      → turns ≡ (before ++ turn ∷ []) ++ after
+  whole turns before after turn same = same ∙ sym (append_assoc before (turn ∷ []) after)
+
+  pub carried_to : (turns before after : List Turn) (turn : Turn) → turns ≡ before ++ turn ∷ after
+      → Carried configs turns → Carried configs (before ++ turn ∷ [])
+  carried_to turns before after turn same carried =
+      front_carried (before ++ turn ∷ []) after
+      (subst (Carried configs) (whole turns before after turn same) carried)
+
+  pub keeps_to : (turns before after : List Turn) (turn : Turn) → turns ≡ before ++ turn ∷ after
+      → CallsKeepRules configs turns → CallsKeepRules configs (before ++ turn ∷ [])
+  keeps_to turns before after turn same keep =
+      front_keeps (before ++ turn ∷ []) after
+      (subst (CallsKeepRules configs) (whole turns before after turn same) keep)
 
 -- ---- a turn is none of the other side
 

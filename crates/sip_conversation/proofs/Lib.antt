@@ -1,6 +1,7 @@
 pub mod Addresses
 pub mod Among
 pub mod Answered
+pub mod Before
 pub mod Bridge
 pub mod CallOuts
 pub mod Carrying

@@ -1,5 +1,5 @@
 -- A reliable provisional response that a user is told of, the other side said.
-use Rattle.std.proofs.Common.{◌≡◌, ◌≢◌, ℕ, Bool, true, false, cond, List, [], ◌∷◌, ◌++◌, map, refl, sym, ap, ◌∙◌, subst, append_assoc}
+use Rattle.std.proofs.Common.{◌≡◌, ◌≢◌, ℕ, Bool, true, false, cond, List, [], ◌∷◌, ◌++◌, map, refl, sym, ap, ◌∙◌, subst}
 use Rattle.std.specs.Prelude.{AllPairs, IfSome, Option, None, Some, filter}
 use Rattle.std.specs.List.{AllByRecursion}
 use Rattle.std.specs.Option.{option_and_then}
@@ -43,7 +43,7 @@ use Rattle.sip_conversation.specs.Conversation.{Carried, Side, Turn, rounds_of}
 use Rattle.sip_conversation.specs.Messages.{CallsKeepRules, ComesUnchanged}
 use Rattle.sip_conversation.specs.Provisionals.{IsSaidReliably, ProvisionalsToldAsSaid, SaidReliably, rseqs_told, told_from, told_with}
 use Rattle.sip_conversation.proofs.CallOuts.{HeldGiven, InputFits, KindTells, NoticeTells, OutFits, ResponseTells, allows_served, step_fits}
-use Rattle.sip_conversation.proofs.Fronts.{front_carried, front_keeps}
+use Rattle.sip_conversation.proofs.Fronts.{carried_to, keeps_to}
 use Rattle.sip_conversation.proofs.OneTransaction.{KindCame}
 use Rattle.sip_conversation.proofs.RepliesSaid.{Any, any_own, gives, response_said, said_before}
 use Rattle.sip_conversation.proofs.Unchanged.{inputs_unchanged}
@@ -232,7 +232,6 @@ pub provisionals_said : (configs : Side → Config) → ((s : Side) → IsAddr (
 provisionals_said configs addresses alone calls_alone in_lives turns carried keep before after turn
     same call_id invite life =
     let front = before ++ turn ∷ [] in
-    let whole : turns ≡ front ++ after = same ∙ sym (append_assoc before (turn ∷ []) after) in
     let rounds = rounds_of turn.side front in
     let calls = calls_of (configs turn.side) in
     let inputs = call_inputs_of (configs turn.side) rounds call_id in
@@ -245,7 +244,6 @@ provisionals_said configs addresses alone calls_alone in_lives turns carried kee
       once = subst (AllPairs (λ x y. x ≢ y)) rseqs order.once;
       said = told_said configs calls_alone before turn calls invite life None inputs
           (inputs_unchanged alone configs addresses front
-          (front_carried configs front after (subst (Carried configs) whole carried))
-          (front_keeps configs front after (subst (CallsKeepRules configs) whole keep)) turn.side
-          call_id);
+          (carried_to configs turns before after turn same carried)
+          (keeps_to configs turns before after turn same keep) turn.side call_id);
     }

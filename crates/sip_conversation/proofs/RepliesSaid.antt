@@ -1,5 +1,5 @@
 -- A response that a user is told of, the other side said.
-use Rattle.std.proofs.Common.{◌≡◌, ℕ, List, [], ◌∷◌, ◌++◌, sym, ap, ◌∙◌, subst, append_assoc}
+use Rattle.std.proofs.Common.{◌≡◌, ℕ, List, [], ◌∷◌, ◌++◌, sym, ap, ◌∙◌, subst}
 use Rattle.std.specs.Prelude.{Contains, IfSome, Option, None, Some}
 use Rattle.std.specs.List.{AllByRecursion, flat_map}
 use Rattle.std.proofs.lemmas.Cmp.{nat_list_cmp_total}
@@ -38,7 +38,7 @@ use Rattle.sip_conversation.specs.Answers.{AnswersSo}
 use Rattle.sip_conversation.specs.Replies.{ResponsesToldWereSaid, SaidResponse}
 use Rattle.sip_conversation.proofs.Among.{all_go, among_kept, each_of}
 use Rattle.sip_conversation.proofs.Answered.{answered_so}
-use Rattle.sip_conversation.proofs.Fronts.{front_carried, front_keeps, peer_rounds}
+use Rattle.sip_conversation.proofs.Fronts.{carried_to, keeps_to, peer_rounds}
 use Rattle.sip_conversation.proofs.OneTransaction.{KindCame}
 use Rattle.sip_conversation.proofs.CallOuts.{InputFits, KindTells, NoticeTells, OutFits, UserGives, all_fit}
 use Rattle.sip_conversation.proofs.Unchanged.{inputs_unchanged}
@@ -214,10 +214,8 @@ pub responses_said : (configs : Side → Config) → ((s : Side) → IsAddr (con
     → ResponsesToldWereSaid configs turns
 responses_said configs addresses alone calls_alone turns carried keep before after turn same call_id
     id status local_tag remote_tag body among =
-    let front = before ++ turn ∷ [] in
-    let whole : turns ≡ front ++ after = same ∙ sym (append_assoc before (turn ∷ []) after) in
     said_before configs before turn status local_tag remote_tag body
-    (responses_in configs addresses alone calls_alone front
-    (front_carried configs front after (subst (Carried configs) whole carried))
-    (front_keeps configs front after (subst (CallsKeepRules configs) whole keep)) turn.side call_id
-    id status local_tag remote_tag body among)
+    (responses_in configs addresses alone calls_alone (before ++ turn ∷ [])
+    (carried_to configs turns before after turn same carried)
+    (keeps_to configs turns before after turn same keep) turn.side call_id id status local_tag
+    remote_tag body among)

@@ -22,6 +22,7 @@ use Rattle.sip_transactions.specs.declared.output.Kind.{Kind}
 use Rattle.sip_transactions.specs.declared.output.Kind.TheVariants as kind
 use Rattle.sip_transactions.specs.declared.output.Out.{Out}
 use Rattle.sip_transactions.specs.declared.output.Out.TheVariants as out
+use Rattle.sip_transactions.specs.declared.output.Up.{Up as AnUp}
 use Rattle.sip_transactions.specs.Machine.{transaction_machine}
 use Rattle.sip_transactions.specs.Shard.{asked_by, command_key}
 use Rattle.sip_common.specs.declared.item.Item.TheVariants.{Up}
@@ -38,8 +39,8 @@ use Rattle.sip_round.specs.Arrivals.{arrival_of}
 use Rattle.sip_round.specs.Laws.{call_inputs_of, inputs_of, said_of}
 use Rattle.sip_message.specs.Addr.{IsAddr}
 use Rattle.sip_conversation.specs.Conversation.{Carried, CarriedAfter, IsCarried, Side, Turn, given_by, peer, rounds_of}
-use Rattle.sip_conversation.specs.Datagrams.{DatagramsAreTextsSaid, IsTextSaid}
-use Rattle.sip_conversation.specs.Messages.{CallSays, CallsHearUnchanged, CallsKeepRules, ComesUnchanged, IsSaid, KeepsRules, MessagesComeUnchanged, come_from, message_up}
+use Rattle.sip_conversation.specs.Datagrams.{IsTextSaid}
+use Rattle.sip_conversation.specs.Messages.{CallSays, CallsKeepRules, ComesUnchanged, ComesUp, IsGiven, IsSaid, KeepsRules, come_from, message_up}
 use Rattle.sip_conversation.specs.Messages.IsSaid.{Acknowledges, Asked, Direct, Trying}
 use Rattle.sip_conversation.proofs.Among.{all_go, all_of, each_of}
 use Rattle.sip_conversation.proofs.Bridge.{read_or_long, text_fits}
@@ -266,7 +267,9 @@ module _ (alone : EachKeyAlone key_cmp transaction_machine tick_at) where
 
     pub messages_unchanged : (turns : List Turn) → Carried configs turns
         → CallsKeepRules configs turns
-        → MessagesComeUnchanged configs turns
+        → (s : Side) (key : Key) (id : Id) (message : Message) (reply_to : Addr)
+        → IsGiven (configs s) (rounds_of s turns) key (input.Receive id message reply_to)
+        → ComesUnchanged configs turns s message
     messages_unchanged turns carried keep s key id message reply_to given =
         let fine = fine_after [] turns tt carried keep in
         let rounds = rounds_of s turns in
@@ -304,7 +307,9 @@ module _ (alone : EachKeyAlone key_cmp transaction_machine tick_at) where
     carried_text turns fine keep s (event.Command c) carried = tt
 
     pub datagrams_said : (turns : List Turn) → Carried configs turns → CallsKeepRules configs turns
-        → DatagramsAreTextsSaid configs turns
+        → (s : Side) (round : Round) → Contains (rounds_of s turns) round → (from : Addr)
+        (bytes : List ℕ) → Contains round.events (event.Datagram from bytes)
+        → IsTextSaid configs turns s bytes
     datagrams_said turns carried keep s round among from bytes has =
         let fine = fine_after [] turns tt carried keep in
         each_of (IsSaidText turns s) round.events (event.Datagram from bytes)
@@ -356,7 +361,9 @@ module _ (alone : EachKeyAlone key_cmp transaction_machine tick_at) where
     kind_unchanged turns s kind.Failed came = tt
 
     pub calls_hear : (turns : List Turn) → Carried configs turns → CallsKeepRules configs turns
-        → CallsHearUnchanged configs turns
+        → (s : Side) (call_id : List ℕ) (up : AnUp)
+        → ComesUp (configs s) (rounds_of s turns) call_id up
+        → IfSome (message_up up.kind) (ComesUnchanged configs turns s)
     calls_hear turns carried keep s call_id up comes =
         kind_unchanged turns s up.kind
         (each_of (TimedCame (ComesUnchanged configs turns s))

@@ -1,5 +1,5 @@
--- What a message that comes is: one that the other side said.
-use Rattle.std.specs.Prelude.{◌≡◌, ℕ, List, Contains, Option, None, Some, IfSome, if◌then◌else◌}
+-- What a message that comes is: one that the other side said before.
+use Rattle.std.specs.Prelude.{◌≡◌, ℕ, List, [], ◌∷◌, ◌++◌, Contains, Option, None, Some, IfSome, if◌then◌else◌}
 use Rattle.sip_message.specs.declared.addr.Addr.{Addr}
 use Rattle.sip_message.specs.declared.id.Id.{Id}
 use Rattle.sip_message.specs.declared.key.Key.{Key}
@@ -83,12 +83,14 @@ pub record ComesUnchanged (configs : Side → Config) (turns : List Turn) (side 
   pub rules : IsMessage original
   pub same : message ≡ come_from (configs (peer side)).local original
 
--- so is each message that comes to a transaction
+-- so is, in the turns before a turn, each message that came to a transaction of its side by its end
 abbrev pub MessagesComeUnchanged : (Side → Config) → List Turn → Type 0
 MessagesComeUnchanged configs turns =
-    (side : Side) (key : Key) (id : Id) (message : Message) (reply_to : Addr)
-    → IsGiven (configs side) (rounds_of side turns) key (input.Receive id message reply_to)
-    → ComesUnchanged configs turns side message
+    (before after : List Turn) (turn : Turn) → turns ≡ before ++ turn ∷ after
+    → (key : Key) (id : Id) (message : Message) (reply_to : Addr)
+    → IsGiven (configs turn.side) (rounds_of turn.side (before ++ turn ∷ [])) key
+    (input.Receive id message reply_to)
+    → ComesUnchanged configs before turn.side message
 
 -- ---- what comes up to calls
 
@@ -105,9 +107,10 @@ abbrev pub ComesUp : Config → List Round → List ℕ → Up → Type 0
 ComesUp config rounds call_id up = (now : ℕ) × (event : Id)
     × Contains (call_inputs_of config rounds call_id) (given_at now (event, item.Up up))
 
--- so is each message that comes up to a call
+-- so is each message that came up to a call
 abbrev pub CallsHearUnchanged : (Side → Config) → List Turn → Type 0
 CallsHearUnchanged configs turns =
-    (side : Side) (call_id : List ℕ) (up : Up)
-    → ComesUp (configs side) (rounds_of side turns) call_id up
-    → IfSome (message_up up.kind) (ComesUnchanged configs turns side)
+    (before after : List Turn) (turn : Turn) → turns ≡ before ++ turn ∷ after
+    → (call_id : List ℕ) (up : Up)
+    → ComesUp (configs turn.side) (rounds_of turn.side (before ++ turn ∷ [])) call_id up
+    → IfSome (message_up up.kind) (ComesUnchanged configs before turn.side)

@@ -14,10 +14,11 @@ use sip_model::laws_of_phases;
 use sip_round::{Config, provisionals_in_each_life};
 use sip_transactions::Transactions;
 
-/// In a carried conversation, each message that comes to a transaction of one side is one that the
-/// other side said: that a call of it asked to send, or that a transaction of it made of what it
-/// was given. It comes unchanged, but for the stamp of its source in a request (RFC 3261, section
-/// 18.2.1). It takes that all that calls of both sides ask to send keeps the rules of messages.
+/// In a carried conversation, each message that comes to a transaction of one side in a turn is one
+/// that the other side said in the turns before: that a call of it asked to send, or that a
+/// transaction of it made of what it was given. It comes unchanged, but for the stamp of its source
+/// in a request (RFC 3261, section 18.2.1). It takes that all that calls of both sides ask to send
+/// keeps the rules of messages.
 pub fn messages_come_unchanged(one: Config, other: Config)
     ensures { (turns : List Turn) → Carried (of_sides one other) turns
         → CallsKeepRules (of_sides one other) turns
@@ -28,8 +29,9 @@ pub fn messages_come_unchanged(one: Config, other: Config)
     laws_of_phases(&Transactions);
 }
 
-/// In such a conversation each datagram that comes is the text of a message that the other side
-/// said. It is read as that message, unless it has more than 65535 bytes.
+/// In such a conversation each datagram that comes in a turn is the text of a message that the
+/// other side said in the turns before. It is read as that message, unless it has more than 65535
+/// bytes.
 pub fn datagrams_are_texts_said(one: Config, other: Config)
     ensures { (turns : List Turn) → Carried (of_sides one other) turns
         → CallsKeepRules (of_sides one other) turns
@@ -40,8 +42,8 @@ pub fn datagrams_are_texts_said(one: Config, other: Config)
     laws_of_phases(&Transactions);
 }
 
-/// In such a conversation each message that comes up to a call is one that the other side said,
-/// too, but for the stamp.
+/// In such a conversation each message that comes up to a call in a turn is one that the other side
+/// said in the turns before, too, but for the stamp.
 pub fn calls_hear_unchanged(one: Config, other: Config)
     ensures { (turns : List Turn) → Carried (of_sides one other) turns
         → CallsKeepRules (of_sides one other) turns
