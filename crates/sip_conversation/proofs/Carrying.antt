@@ -60,14 +60,15 @@ module _ (configs : Side → Config) where
   carried_longer : (before more : List Turn) (s : Side) (e : Event) → IsCarried configs before s e
       → IsCarried configs (before ++ more) s e
   carried_longer before more s (Datagram from bytes) carried =
-      let sent = Send (carried.1).0 (configs s).local bytes in (
+      let sent = Send (carried.1).0 (carried.1).1 bytes in (
         carried.0,
         (
           (carried.1).0,
+          (carried.1).1,
           subst (λ rounds. Contains (all_given (answers (configs (peer s)) rounds)) sent)
               (sym (rounds_of-append (peer s) before more))
               (given_longer (configs (peer s)) (rounds_of (peer s) before)
-              (rounds_of (peer s) more) sent (carried.1).1),
+              (rounds_of (peer s) more) sent (carried.1).2),
         ),
       )
   carried_longer before more s (Failed key) carried = tt

@@ -17,7 +17,8 @@ use Rattle.sip_message.specs.Source.{asks_port, stamped, stamped_parameters, sta
 use Rattle.sip_message.specs.Via.{are_vias, has_cookie}
 use Rattle.sip_message.proofs.Stamps.{ip_is_value, port_is_value, stamp_leaves}
 use Rattle.sip_transactions.specs.Output.{trying_of}
-use Rattle.sip_conversation.specs.Address.{IsAddress}
+use Rattle.sip_conversation.proofs.Addresses.{octet}
+use Rattle.sip_message.specs.Addr.{IsAddr}
 
 -- ---- a 100
 
@@ -104,18 +105,19 @@ rport_token : IsTrue (is_token (codes "rport"))
 unfolding is_token is_token_byte
 rport_token = refl
 
-module _ (source : Addr) (address : IsAddress source) where
+module _ (source : Addr) (address : IsAddr source) where
   received_keeps : (ps : List Parameter) → AllByRecursion IsParameter ps
       → AllByRecursion IsParameter (with_received source ps)
   received_keeps ps all =
       value_keeps (codes "received") (ip_text source.ip) received_token
-      (ip_is_value source.ip address.first address.second address.third address.fourth) ps all
+      (ip_is_value source.ip (octet source.ip (address.0).1 0) (octet source.ip (address.0).1 1)
+      (octet source.ip (address.0).1 2) (octet source.ip (address.0).1 3)) ps all
 
   port_keeps : (ps : List Parameter) → AllByRecursion IsParameter ps
       → AllByRecursion IsParameter (with_port source ps)
   port_keeps ps all =
       value_keeps (codes "rport") (decimal source.port) rport_token
-      (port_is_value source.port address.port) ps all
+      (port_is_value source.port address.1) ps all
 
   by_tests : (asked here : Bool) (ps : List Parameter) → AllByRecursion IsParameter ps
       → AllByRecursion IsParameter (cond asked (with_received source (with_port source ps))

@@ -22,6 +22,7 @@ use Rattle.sip_transactions.specs.declared.output.Kind.{Kind}
 use Rattle.sip_transactions.specs.declared.output.Kind.TheVariants as kind
 use Rattle.sip_transactions.specs.declared.output.Out.{Out}
 use Rattle.sip_transactions.specs.declared.output.Out.TheVariants as out
+use Rattle.sip_transactions.specs.declared.output.Up.{Up as AnUp}
 use Rattle.sip_transactions.specs.Machine.{transaction_machine}
 use Rattle.sip_transactions.specs.Shard.{asked_by, command_key}
 use Rattle.sip_common.specs.declared.item.Item.TheVariants.{Up}
@@ -36,15 +37,15 @@ use Rattle.sip_round.specs.Answers.{answers, no_past, past_of}
 use Rattle.sip_round.specs.Given.{all_given}
 use Rattle.sip_round.specs.Arrivals.{arrival_of}
 use Rattle.sip_round.specs.Laws.{call_inputs_of, inputs_of, said_of}
-use Rattle.sip_conversation.specs.Address.{IsAddress}
+use Rattle.sip_message.specs.Addr.{IsAddr}
 use Rattle.sip_conversation.specs.Conversation.{Carried, CarriedAfter, IsCarried, Side, Turn, given_by, peer, rounds_of}
-use Rattle.sip_conversation.specs.Datagrams.{DatagramsAreTextsSaid, IsTextSaid}
-use Rattle.sip_conversation.specs.Messages.{CallSays, CallsHearUnchanged, CallsKeepRules, ComesUnchanged, IsSaid, KeepsRules, MessagesComeUnchanged, come_from, message_up}
+use Rattle.sip_conversation.specs.Datagrams.{IsTextSaid}
+use Rattle.sip_conversation.specs.Messages.{CallSays, CallsKeepRules, ComesUnchanged, ComesUp, IsGiven, IsSaid, KeepsRules, come_from, message_up}
 use Rattle.sip_conversation.specs.Messages.IsSaid.{Acknowledges, Asked, Direct, Trying}
 use Rattle.sip_conversation.proofs.Among.{all_go, all_of, each_of}
 use Rattle.sip_conversation.proofs.Bridge.{read_or_long, text_fits}
 use Rattle.sip_conversation.proofs.Carrying.{TurnHolds, all_carried, each_turn, in_rounds}
-use Rattle.sip_conversation.proofs.Longer.{rounds_of-append, says_longer}
+use Rattle.sip_conversation.proofs.Fronts.{front_keeps}
 use Rattle.sip_conversation.proofs.OneTransaction.{AreSaid, IsFaithful, IsTextOf, KindCame, faithful}
 use Rattle.sip_conversation.proofs.Rounds.{ArrivalFits, OutFits, RoundFits, TimedFits, call_says, calls_give, inputs_fit}
 use Rattle.sip_conversation.proofs.Rules.{ack_keeps, stamped_keeps, trying_keeps}
@@ -52,7 +53,7 @@ use Rattle.sip_conversation.proofs.Sends.{SendFits, direct_sends_fit, own_sends_
 use Rattle.sip_conversation.proofs.Ups.{OutCame, TimedCame, inputs_came}
 use Rattle.sip_common.proofs.Each.{both}
 
-come_keeps : (source : Addr) → IsAddress source → (message : Message) → IsMessage message
+come_keeps : (source : Addr) → IsAddr source → (message : Message) → IsMessage message
     → IsMessage (come_from source message)
 come_keeps source address message rules = by (is_request_message message)
   where
@@ -165,7 +166,7 @@ module _ (alone : EachKeyAlone key_cmp transaction_machine tick_at) where
 
   -- ---- both sides
 
-  module _ (configs : Side → Config) (addresses : (s : Side) → IsAddress (configs s).local) where
+  module _ (configs : Side → Config) (addresses : (s : Side) → IsAddr (configs s).local) where
     -- a datagram from the other side is the text of a message that keeps the rules
     abbrev IsFine : Side → Event → Type 0
     IsFine s (event.Datagram from bytes) = (from ≡ (configs (peer s)).local)
@@ -186,7 +187,7 @@ module _ (alone : EachKeyAlone key_cmp transaction_machine tick_at) where
     fine_sound turns s (event.Datagram from bytes) fine id =
         text_fits (configs s) (IsSoundInput (configs s) (rounds_of s turns)) id from fine.1 bytes
         fine.2 fine.3
-        (λ reply_to. come_keeps from (subst IsAddress (sym fine.0) (addresses (peer s))) fine.1
+        (λ reply_to. come_keeps from (subst IsAddr (sym fine.0) (addresses (peer s))) fine.1
         fine.3)
     fine_sound turns s (event.Failed key) fine id = tt
     fine_sound turns s (event.Command c) fine id = tt
@@ -205,19 +206,11 @@ module _ (alone : EachKeyAlone key_cmp transaction_machine tick_at) where
     carried_fine : (turns : List Turn) → AreFine turns → CallsKeepRules configs turns
         → (s : Side) (e : Event) → IsCarried configs turns s e → IsFine s e
     carried_fine turns fine keep s (event.Datagram from bytes) carried =
-        let text = texts turns fine keep (peer s) (carried.1).0 (configs s).local bytes
-        (carried.1).1 in
+        let text = texts turns fine keep (peer s) (carried.1).0 (carried.1).1 bytes
+        (carried.1).2 in
         (carried.0, text.0, text.1, (text.2).0)
     carried_fine turns fine keep s (event.Failed key) carried = tt
     carried_fine turns fine keep s (event.Command c) carried = tt
-
-    -- in a front of the turns calls keep the rules too
-    front_keeps : (before turns : List Turn) → CallsKeepRules configs (before ++ turns)
-        → CallsKeepRules configs before
-    front_keeps before turns keep s out says =
-        keep s out (subst (λ rounds. CallSays (configs s) rounds out)
-        (sym (rounds_of-append s before turns))
-        (says_longer (configs s) (rounds_of s before) (rounds_of s turns) out says))
 
     fine_after : (before turns : List Turn) → AreFine before → CarriedAfter configs before turns
         → CallsKeepRules configs (before ++ turns) → AreFine (before ++ turns)
@@ -225,7 +218,7 @@ module _ (alone : EachKeyAlone key_cmp transaction_machine tick_at) where
     fine_after before (turn ∷ turns) fine carried keep =
         let same = append_assoc before (turn ∷ []) turns in
         let here = all_go {P = IsCarried configs before turn.side} {Q = IsFine turn.side}
-        (carried_fine before fine (front_keeps before (turn ∷ turns) keep) turn.side)
+        (carried_fine before fine (front_keeps configs before (turn ∷ turns) keep) turn.side)
         (turn.round).events carried.0 in
         subst AreFine same
         (fine_after (before ++ turn ∷ []) turns
@@ -249,8 +242,8 @@ module _ (alone : EachKeyAlone key_cmp transaction_machine tick_at) where
         → (s : Side) (e : Event) → IsCarried configs turns s e → ArrivesUnchanged turns s e
     unfolding arrival_of
     carried_unchanged turns fine keep s (event.Datagram from bytes) carried id =
-        let text = texts turns fine keep (peer s) (carried.1).0 (configs s).local bytes
-        (carried.1).1 in
+        let text = texts turns fine keep (peer s) (carried.1).0 (carried.1).1 bytes
+        (carried.1).2 in
         text_fits (configs s) (IsUnchanged turns s) id from text.0 bytes text.1 (text.2).0
         (λ reply_to. record {
           original = text.0;
@@ -274,7 +267,9 @@ module _ (alone : EachKeyAlone key_cmp transaction_machine tick_at) where
 
     pub messages_unchanged : (turns : List Turn) → Carried configs turns
         → CallsKeepRules configs turns
-        → MessagesComeUnchanged configs turns
+        → (s : Side) (key : Key) (id : Id) (message : Message) (reply_to : Addr)
+        → IsGiven (configs s) (rounds_of s turns) key (input.Receive id message reply_to)
+        → ComesUnchanged configs turns s message
     messages_unchanged turns carried keep s key id message reply_to given =
         let fine = fine_after [] turns tt carried keep in
         let rounds = rounds_of s turns in
@@ -299,8 +294,8 @@ module _ (alone : EachKeyAlone key_cmp transaction_machine tick_at) where
     carried_text : (turns : List Turn) → AreFine turns → CallsKeepRules configs turns → (s : Side)
         (e : Event) → IsCarried configs turns s e → IsSaidText turns s e
     carried_text turns fine keep s (event.Datagram from bytes) carried =
-        let text = texts turns fine keep (peer s) (carried.1).0 (configs s).local bytes
-        (carried.1).1 in
+        let text = texts turns fine keep (peer s) (carried.1).0 (carried.1).1 bytes
+        (carried.1).2 in
         record {
           original = text.0;
           said = (text.2).1;
@@ -312,7 +307,9 @@ module _ (alone : EachKeyAlone key_cmp transaction_machine tick_at) where
     carried_text turns fine keep s (event.Command c) carried = tt
 
     pub datagrams_said : (turns : List Turn) → Carried configs turns → CallsKeepRules configs turns
-        → DatagramsAreTextsSaid configs turns
+        → (s : Side) (round : Round) → Contains (rounds_of s turns) round → (from : Addr)
+        (bytes : List ℕ) → Contains round.events (event.Datagram from bytes)
+        → IsTextSaid configs turns s bytes
     datagrams_said turns carried keep s round among from bytes has =
         let fine = fine_after [] turns tt carried keep in
         each_of (IsSaidText turns s) round.events (event.Datagram from bytes)
@@ -364,7 +361,9 @@ module _ (alone : EachKeyAlone key_cmp transaction_machine tick_at) where
     kind_unchanged turns s kind.Failed came = tt
 
     pub calls_hear : (turns : List Turn) → Carried configs turns → CallsKeepRules configs turns
-        → CallsHearUnchanged configs turns
+        → (s : Side) (call_id : List ℕ) (up : AnUp)
+        → ComesUp (configs s) (rounds_of s turns) call_id up
+        → IfSome (message_up up.kind) (ComesUnchanged configs turns s)
     calls_hear turns carried keep s call_id up comes =
         kind_unchanged turns s up.kind
         (each_of (TimedCame (ComesUnchanged configs turns s))

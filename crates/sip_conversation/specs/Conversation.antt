@@ -1,6 +1,8 @@
--- A conversation of two agents, over a network that loses, doubles, delays and reorders datagrams.
+-- A conversation of two agents, over a network that loses, doubles, delays, reorders and misdirects
+-- datagrams.
 use Rattle.std.specs.Prelude.{◌≡◌, ℕ, Bool, true, false, List, [], ◌∷◌, ◌++◌, Contains, Option, filter, map}
 use Rattle.std.specs.List.{AllByRecursion}
+use Rattle.sip_message.specs.declared.addr.Addr.{Addr}
 use Rattle.sip_message.specs.declared.key.Key.{Key}
 use Rattle.sip_round.specs.declared.config.Config.{Config}
 use Rattle.sip_round.specs.declared.output.Output.{Output}
@@ -48,10 +50,10 @@ module _ (configs : Side → Config) where
   abbrev pub given_by : List Turn → Side → List Output
   given_by turns side = all_given (answers (configs side) (rounds_of side turns))
 
-  -- in these turns the other side sent these bytes to this side's address
+  -- in these turns the other side sent these bytes; the laws don't ask to which address
   abbrev pub WasSent : List Turn → Side → List ℕ → Type 0
-  WasSent turns side bytes = (key : Option Key)
-      × Contains (given_by turns (peer side)) (Send key (configs side).local bytes)
+  WasSent turns side bytes = (key : Option Key) × (to : Addr)
+      × Contains (given_by turns (peer side)) (Send key to bytes)
 
   -- A datagram comes from the other side's address, and in these turns was sent from there. Of a
   -- send that failed, and of a command, nothing is asked.

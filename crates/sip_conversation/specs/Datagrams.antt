@@ -1,12 +1,11 @@
--- What a datagram is: the text of a message that the other side said.
-use Rattle.std.specs.Prelude.{◌≡◌, ◌⊎◌, ◌<◌, ℕ, List, Contains, Ok, length}
+-- What a datagram is: the text of a message that the other side said before.
+use Rattle.std.specs.Prelude.{◌≡◌, ◌⊎◌, ◌<◌, ℕ, List, Contains, Ok, length, ◌∷◌, ◌++◌}
 use Rattle.sip_message.specs.declared.addr.Addr.{Addr}
 use Rattle.sip_message.specs.declared.message.Message.{Message}
 use Rattle.sip_message.specs.Written.{written}
 use Rattle.sip_reader.specs.ReadMessage.{message_at}
 use Rattle.sip_round.specs.declared.config.Config.{Config}
 use Rattle.sip_round.specs.declared.round.Event.TheVariants.{Datagram}
-use Rattle.sip_round.specs.declared.round.Round.{Round}
 use Rattle.sip_conversation.specs.Conversation.{Side, Turn, peer, rounds_of}
 use Rattle.sip_conversation.specs.Messages.{IsSaid}
 
@@ -19,9 +18,9 @@ pub record IsTextSaid (configs : Side → Config) (turns : List Turn) (side : Si
   pub text : bytes ≡ written original
   pub read : (message_at bytes ≡ Ok original) ⊎ (65535 < length bytes)
 
--- so is each datagram
+-- so is, in the turns before a turn, each datagram that comes in it
 abbrev pub DatagramsAreTextsSaid : (Side → Config) → List Turn → Type 0
 DatagramsAreTextsSaid configs turns =
-    (side : Side) (round : Round) → Contains (rounds_of side turns) round
-    → (from : Addr) (bytes : List ℕ) → Contains round.events (Datagram from bytes)
-    → IsTextSaid configs turns side bytes
+    (before after : List Turn) (turn : Turn) → turns ≡ before ++ turn ∷ after
+    → (from : Addr) (bytes : List ℕ) → Contains (turn.round).events (Datagram from bytes)
+    → IsTextSaid configs before turn.side bytes

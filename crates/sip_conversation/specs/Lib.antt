@@ -1,5 +1,6 @@
-pub mod Address
+pub mod Answers
 pub mod Conversation
 pub mod Datagrams
 pub mod Messages
 pub mod Provisionals
+pub mod Replies

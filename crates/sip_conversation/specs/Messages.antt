@@ -1,5 +1,5 @@
--- What a message that comes is: one that the other side said.
-use Rattle.std.specs.Prelude.{◌≡◌, ℕ, List, Contains, Option, None, Some, IfSome, if◌then◌else◌}
+-- What a message that comes is: one that the other side said before.
+use Rattle.std.specs.Prelude.{◌≡◌, ℕ, List, [], ◌∷◌, ◌++◌, Contains, Option, None, Some, IfSome, if◌then◌else◌}
 use Rattle.sip_message.specs.declared.addr.Addr.{Addr}
 use Rattle.sip_message.specs.declared.id.Id.{Id}
 use Rattle.sip_message.specs.declared.key.Key.{Key}
@@ -41,9 +41,10 @@ module _ (config : Config) (rounds : List Round) where
   abbrev pub CallSays : CallOut → Type 0
   CallSays out = (call_id : List ℕ) × Contains (said_of_call config rounds call_id) out
 
-  -- In these rounds an agent said this message. A call asked a transaction to send it, or sent it
-  -- outside of any transaction. Or a transaction made it: 100 for a request that it was given
-  -- (RFC 3261, section 17.2.1), or the ACK of a response to an INVITE that it was given (17.1.1.3).
+  -- In these rounds an agent said this message. A call asked a transaction to send it, or sent its
+  -- text outside of any transaction. Or a transaction made it: the 100 of a message that came to it
+  -- (RFC 3261, section 17.2.1), or the ACK of a request that it was to start and of a message that
+  -- came to it (17.1.1.3).
   pub data IsSaid (message : Message) : Type 0 where
     Asked : (id : Id) (command : Command) → CallSays (call_out.Command id command)
         → message_of command ≡ message → IsSaid message
@@ -56,7 +57,7 @@ module _ (config : Config) (rounds : List Round) where
         → IsGiven key (input.Receive answered response reply_to)
         → message ≡ ack_of invite response → IsSaid message
 
--- what calls ask to send keeps the rules of messages
+-- what calls ask to send keeps the rules of messages, or is the text of a message that does
 abbrev pub KeepsRules : CallOut → Type 0
 KeepsRules (call_out.Notice notice) = Unit {0}
 KeepsRules (call_out.Command id command) = IsMessage (message_of command)
@@ -73,7 +74,8 @@ abbrev pub come_from : Addr → Message → Message
 come_from source message =
     if is_request_message message then stamped message source else message
 
--- the message is one that the other side said in these turns, but for the stamp
+-- the message is one that the other side said in these turns and that keeps the rules, but for the
+-- stamp
 pub record ComesUnchanged (configs : Side → Config) (turns : List Turn) (side : Side)
     (message : Message) : Type 0 where
   pub original : Message
@@ -81,12 +83,14 @@ pub record ComesUnchanged (configs : Side → Config) (turns : List Turn) (side 
   pub rules : IsMessage original
   pub same : message ≡ come_from (configs (peer side)).local original
 
--- so is each message that a transaction is given
+-- so is, in the turns before a turn, each message that came to a transaction of its side by its end
 abbrev pub MessagesComeUnchanged : (Side → Config) → List Turn → Type 0
 MessagesComeUnchanged configs turns =
-    (side : Side) (key : Key) (id : Id) (message : Message) (reply_to : Addr)
-    → IsGiven (configs side) (rounds_of side turns) key (input.Receive id message reply_to)
-    → ComesUnchanged configs turns side message
+    (before after : List Turn) (turn : Turn) → turns ≡ before ++ turn ∷ after
+    → (key : Key) (id : Id) (message : Message) (reply_to : Addr)
+    → IsGiven (configs turn.side) (rounds_of turn.side (before ++ turn ∷ [])) key
+    (input.Receive id message reply_to)
+    → ComesUnchanged configs before turn.side message
 
 -- ---- what comes up to calls
 
@@ -103,9 +107,10 @@ abbrev pub ComesUp : Config → List Round → List ℕ → Up → Type 0
 ComesUp config rounds call_id up = (now : ℕ) × (event : Id)
     × Contains (call_inputs_of config rounds call_id) (given_at now (event, item.Up up))
 
--- so is each message that comes up to a call
+-- so is each message that came up to a call
 abbrev pub CallsHearUnchanged : (Side → Config) → List Turn → Type 0
 CallsHearUnchanged configs turns =
-    (side : Side) (call_id : List ℕ) (up : Up)
-    → ComesUp (configs side) (rounds_of side turns) call_id up
-    → IfSome (message_up up.kind) (ComesUnchanged configs turns side)
+    (before after : List Turn) (turn : Turn) → turns ≡ before ++ turn ∷ after
+    → (call_id : List ℕ) (up : Up)
+    → ComesUp (configs turn.side) (rounds_of turn.side (before ++ turn ∷ [])) call_id up
+    → IfSome (message_up up.kind) (ComesUnchanged configs before turn.side)

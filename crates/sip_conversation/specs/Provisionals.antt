@@ -1,40 +1,76 @@
--- The reliable provisional responses that a user is told of: consecutive ones, each once, and each
--- of them said by the other side (RFC 3262, section 4).
-use Rattle.std.specs.Prelude.{◌≡◌, ◌≢◌, ℕ, List, AllPairs, Some}
+-- The reliable provisional responses that a user is told of: their RSeqs are consecutive, each is
+-- told once, and each is one that the other side said before (RFC 3262, section 4).
+use Rattle.std.specs.Prelude.{◌≡◌, ◌≢◌, ℕ, List, [], ◌∷◌, ◌++◌, AllPairs, Option, None, Some, filter, map}
 use Rattle.std.specs.List.{AllByRecursion}
-use Rattle.sip_message.specs.declared.message.Message.{Message}
+use Rattle.sip_model.specs.Machine.{Timed}
 use Rattle.sip_common.specs.declared.held_dialog.DialogLife.{DialogLife}
-use Rattle.sip_clients.specs.Clients.{status_of}
-use Rattle.sip_clients.specs.Provisionals.{AnInvite, provisional_number}
-use Rattle.sip_calls.specs.Provisionals.{IsConsecutive, shown}
+use Rattle.sip_common.specs.declared.item.CallOut.{CallOut}
+use Rattle.sip_common.specs.declared.item.CallOut.TheVariants.{Notice}
+use Rattle.sip_common.specs.declared.notice.Notice.TheVariants.{Response}
+use Rattle.sip_clients.specs.Provisionals.{AnInvite, is_response, provisional_number}
+use Rattle.sip_calls.specs.declared.call.Call.{Call}
+use Rattle.sip_calls.specs.declared.calls.Calls.{Calls}
+use Rattle.sip_calls.specs.Call.{CallItem}
+use Rattle.sip_calls.specs.Provisionals.{IsConsecutive, done, number_in_life}
 use Rattle.sip_round.specs.declared.config.Config.{Config}
 use Rattle.sip_round.specs.Answers.{calls_of}
 use Rattle.sip_round.specs.Laws.{call_inputs_of}
-use Rattle.sip_conversation.specs.Conversation.{Side, Turn, peer, rounds_of}
-use Rattle.sip_conversation.specs.Messages.{IsSaid}
+use Rattle.sip_conversation.specs.Conversation.{Side, Turn, rounds_of}
+use Rattle.sip_conversation.specs.Replies.{SaidResponse}
 
--- the other side said in these turns a reliable provisional response of this RSeq, in a dialog
+-- ---- what a user is told of them
+
+-- the notices of a response, each with the RSeq of the response
+abbrev pub told_with : Option ℕ → List CallOut → List (ℕ × CallOut)
+told_with None outs = []
+told_with (Some rseq) outs = map (λ out. (rseq, out)) (filter is_response outs)
+
+-- those of the reliable provisional responses to an INVITE in a life of a dialog, in order
+abbrev pub told_from : Calls → AnInvite → DialogLife → Option Call → List (Timed CallItem)
+    → List (ℕ × CallOut)
+told_from calls invite life call [] = []
+told_from calls invite life call (input ∷ inputs) =
+    told_with (number_in_life calls invite life call input) (done calls invite life call input).1
+    ++ told_from calls invite life (done calls invite life call input).0 inputs
+
+-- ---- what the other side said
+
+-- the other side said in these turns such a response, with this RSeq, as a reliable provisional one
+-- with a tag in To
 pub record SaidReliably (configs : Side → Config) (turns : List Turn) (side : Side)
-    (rseq : ℕ) : Type 0 where
-  pub original : Message
-  pub said : IsSaid (configs (peer side)) (rounds_of (peer side) turns) original
-  pub number : provisional_number (status_of original.start) original ≡ Some rseq
+    (rseq status : ℕ) (local_tag remote_tag body : List ℕ) : Type 0 where
+  pub response : SaidResponse configs turns side status local_tag remote_tag body
+  pub number : provisional_number (Some status) response.original ≡ Some rseq
 
-module _ (configs : Side → Config) (turns : List Turn) (side : Side) where
-  -- the RSeqs of those to an INVITE of which a side's user is told in a life of a dialog, in order
-  abbrev pub told_reliably : List ℕ → AnInvite → DialogLife → List ℕ
-  told_reliably call_id invite life = shown (calls_of (configs side)) invite life
-      (call_inputs_of (configs side) (rounds_of side turns) call_id)
+-- the response of a notice is such a one, and there is no other notice
+abbrev pub IsSaidReliably : (Side → Config) → List Turn → Side → ℕ → CallOut → Type 0
+IsSaidReliably configs turns side rseq
+    (Notice (Response call_id id status local_tag remote_tag body)) =
+    SaidReliably configs turns side rseq status local_tag remote_tag body
+IsSaidReliably configs turns side rseq _ = ⊥
+
+-- ---- of a turn after others
+
+module _ (configs : Side → Config) (before : List Turn) (turn : Turn) where
+  -- what its user is told by its end of those to an INVITE in a life of a dialog, each with its
+  -- RSeq
+  abbrev pub told_reliably : List ℕ → AnInvite → DialogLife → List (ℕ × CallOut)
+  told_reliably call_id invite life = told_from (calls_of (configs turn.side)) invite life None
+      (call_inputs_of (configs turn.side) (rounds_of turn.side (before ++ turn ∷ [])) call_id)
+
+  abbrev pub rseqs_told : List ℕ → AnInvite → DialogLife → List ℕ
+  rseqs_told call_id invite life = map (λ told. told.0) (told_reliably call_id invite life)
 
   pub record ToldAsSaid (call_id : List ℕ) (invite : AnInvite) (life : DialogLife)
       : Type 0 where
-    pub consecutive : IsConsecutive (told_reliably call_id invite life)
-    pub once : AllPairs (λ x y. x ≢ y) (told_reliably call_id invite life)
-    pub said : AllByRecursion (SaidReliably configs turns side)
+    pub consecutive : IsConsecutive (rseqs_told call_id invite life)
+    pub once : AllPairs (λ x y. x ≢ y) (rseqs_told call_id invite life)
+    pub said : AllByRecursion (λ told. IsSaidReliably configs before turn.side told.0 told.1)
         (told_reliably call_id invite life)
 
--- of every call, INVITE and life of a dialog
+-- of every turn, call, INVITE and life of a dialog
 abbrev pub ProvisionalsToldAsSaid : (Side → Config) → List Turn → Type 0
 ProvisionalsToldAsSaid configs turns =
-    (side : Side) (call_id : List ℕ) (invite : AnInvite) (life : DialogLife)
-    → ToldAsSaid configs turns side call_id invite life
+    (before after : List Turn) (turn : Turn) → turns ≡ before ++ turn ∷ after
+    → (call_id : List ℕ) (invite : AnInvite) (life : DialogLife)
+    → ToldAsSaid configs before turn call_id invite life

@@ -1,0 +1,60 @@
+-- A front of a carried conversation is carried, and its last turn adds nothing to what the other
+-- side says.
+use Rattle.std.proofs.Common.{◌≡◌, false, cond, List, [], ◌∷◌, ◌++◌, map, refl, sym, ap, ◌∙◌, subst, append-nil, append_assoc}
+use Rattle.sip_round.specs.declared.config.Config.{Config}
+use Rattle.sip_conversation.specs.Conversation.{Carried, CarriedAfter, Side, Turn, is_side, peer, rounds_of}
+use Rattle.sip_conversation.specs.Conversation as side
+use Rattle.sip_conversation.specs.Messages.{CallSays, CallsKeepRules}
+use Rattle.sip_conversation.proofs.Longer.{rounds_of-append, says_longer}
+
+module _ (configs : Side → Config) where
+  carried_front : (start front more : List Turn) → CarriedAfter configs start (front ++ more)
+      → CarriedAfter configs start front
+  carried_front start [] more carried = tt
+  carried_front start (turn ∷ front) more carried =
+      (carried.0, carried_front (start ++ turn ∷ []) front more carried.1)
+
+  front_carried : (front more : List Turn) → Carried configs (front ++ more)
+      → Carried configs front
+  front_carried front more carried = carried_front [] front more carried
+
+  -- in a front of the turns calls keep the rules too
+  pub front_keeps : (front more : List Turn) → CallsKeepRules configs (front ++ more)
+      → CallsKeepRules configs front
+  front_keeps front more keep s out says =
+      keep s out (subst (λ rounds. CallSays (configs s) rounds out)
+      (sym (rounds_of-append s front more))
+      (says_longer (configs s) (rounds_of s front) (rounds_of s more) out says))
+
+  -- ---- up to a turn
+
+  whole : (turns before after : List Turn) (turn : Turn) → turns ≡ before ++ turn ∷ after
+      → turns ≡ (before ++ turn ∷ []) ++ after
+  whole turns before after turn same = same ∙ sym (append_assoc before (turn ∷ []) after)
+
+  pub carried_to : (turns before after : List Turn) (turn : Turn) → turns ≡ before ++ turn ∷ after
+      → Carried configs turns → Carried configs (before ++ turn ∷ [])
+  carried_to turns before after turn same carried =
+      front_carried (before ++ turn ∷ []) after
+      (subst (Carried configs) (whole turns before after turn same) carried)
+
+  pub keeps_to : (turns before after : List Turn) (turn : Turn) → turns ≡ before ++ turn ∷ after
+      → CallsKeepRules configs turns → CallsKeepRules configs (before ++ turn ∷ [])
+  keeps_to turns before after turn same keep =
+      front_keeps (before ++ turn ∷ []) after
+      (subst (CallsKeepRules configs) (whole turns before after turn same) keep)
+
+-- ---- a turn is none of the other side
+
+other_side : (s : Side) → is_side (peer s) s ≡ false
+other_side side.One = refl
+other_side side.Other = refl
+
+pub peer_rounds : (before : List Turn) (turn : Turn)
+    → rounds_of (peer turn.side) (before ++ turn ∷ []) ≡ rounds_of (peer turn.side) before
+peer_rounds before turn =
+    let s = peer turn.side in
+    rounds_of-append s before (turn ∷ [])
+    ∙ (ap (λ own. rounds_of s before ++ map (λ (t : Turn). t.round) (cond own (turn ∷ []) []))
+    (other_side turn.side)
+    ∙ append-nil (rounds_of s before))
