@@ -20,20 +20,20 @@ abbrev pub own_statuses : List ℕ
 own_statuses = 200 ∷ 420 ∷ 481 ∷ 482 ∷ 487 ∷ 500 ∷ []
 
 module _ (config : Config) (rounds : List Round) where
-  -- in these rounds the user gave this command
+  -- in these rounds the user gave this command to a call
   abbrev pub Responds : Respond → Type 0
   Responds respond = (call_id : List ℕ) × (now : ℕ) × (event : Id)
       × Contains (call_inputs_of config rounds call_id)
       (given_at now (event, User (user.Respond respond)))
 
-  -- In these rounds a request was answered with this status and this body: by a command of the
-  -- user, or without a body by the agent itself.
+  -- This status and this body are those of an answer: of a command by which the user responded in
+  -- these rounds, or, without a body, of the agent itself.
   pub data IsAnswered (status : ℕ) (body : List ℕ) : Type 0 where
     ByUser : (respond : Respond) → Responds respond → respond.status ≡ status
         → respond.content.body ≡ body → IsAnswered status body
     ByAgent : Contains own_statuses status → body ≡ [] → IsAnswered status body
 
-  -- where a call answered a request with this message, the request was answered so
+  -- where a call answered a request with this message, they are those of an answer
   abbrev pub AnswersSo : Message → ℕ → List ℕ → Type 0
   AnswersSo message status body = (id : Id) (key : Key)
       → CallSays config rounds (Command id (Answer key message)) → IsAnswered status body

@@ -13,7 +13,7 @@ use Rattle.sip_conversation.specs.Conversation.{Side, Turn, given_by, peer, roun
 use Rattle.sip_conversation.specs.Messages.{IsSaid}
 
 -- the other side said in these turns a response of this status, these tags in From and To, and this
--- body; where it answered a request with it, its user or the agent itself answered so
+-- body; where it answered a request with it, that is an answer of its user or of the agent itself
 pub record SaidResponse (configs : Side → Config) (turns : List Turn) (side : Side) (status : ℕ)
     (local_tag remote_tag body : List ℕ) : Type 0 where
   pub original : Message
