@@ -71,13 +71,16 @@ up_so call event up (kind.Response response) stories so =
     goes_on (response_taken event up.id up.call_id response)
     (λ side outs stories. response_told event up.id response side outs stories)
     (response_holds event up.id up.call_id response)
-    (response_rules event up.id up.call_id response) (response_waits event up.id up.call_id response) (side_of call) stories so
+    (response_rules event up.id up.call_id response)
+    (response_waits event up.id up.call_id response) (side_of call) stories so
 up_so call event up kind.Timeout stories so =
     goes_on (request_lost up.id true) (λ side outs stories. lost_told up.id stories)
-    (lost_holds up.id true) (lost_rules up.id true) (lost_waits up.id true) (side_of call) stories so
+    (lost_holds up.id true) (lost_rules up.id true) (lost_waits up.id true) (side_of call) stories
+    so
 up_so call event up kind.Failed stories so =
     goes_on (request_lost up.id false) (λ side outs stories. lost_told up.id stories)
-    (lost_holds up.id false) (lost_rules up.id false) (lost_waits up.id false) (side_of call) stories so
+    (lost_holds up.id false) (lost_rules up.id false) (lost_waits up.id false) (side_of call)
+    stories so
 
 command_so : (call : Call) (event : Event) (command : UserCommand) (stories : ClientStories)
     → AreSo call.clients stories
@@ -88,7 +91,8 @@ command_so call event (PlainCommand plain) stories so = so
 command_so call event (Request request) stories so =
     goes_on (request_by_user event request) (λ side outs stories.
     in_dialog_told event (name_in request.local_tag request.remote_tag) side outs stories)
-    (request_holds event request) (request_rules event request) (request_waits event request) (side_of call) stories so
+    (request_holds event request) (request_rules event request) (request_waits event request)
+    (side_of call) stories so
 command_so call event (Respond respond) stories so = so
 command_so call event (Ack ack) stories so =
     goes_on (ack_by_user event ack) (λ side outs stories. ack_told ack side outs stories)
@@ -96,11 +100,13 @@ command_so call event (Ack ack) stories so =
 command_so call event (Prack prack) stories so =
     goes_on (prack_by_user event prack) (λ side outs stories.
     in_dialog_told event (name_in prack.local_tag prack.remote_tag) side outs stories)
-    (prack_holds event prack) (prack_rules event prack) (prack_waits event prack) (side_of call) stories so
+    (prack_holds event prack) (prack_rules event prack) (prack_waits event prack) (side_of call)
+    stories so
 command_so call event (Cancel cancel) stories so =
     goes_on (cancel_by_user event cancel)
     (λ side outs stories. cancel_told event cancel outs stories)
-    (cancel_holds event cancel) (cancel_rules event cancel) (cancel_waits event cancel) (side_of call) stories so
+    (cancel_holds event cancel) (cancel_rules event cancel) (cancel_waits event cancel)
+    (side_of call) stories so
 
 -- where nothing is held
 first_so : (calls : Calls) (event : Event) (command : UserCommand) (stories : ClientStories)
@@ -110,11 +116,13 @@ first_so : (calls : Calls) (event : Event) (command : UserCommand) (stories : Cl
     AreSo (taken.0).clients (told_by_command (side_of call) event command taken.1 stories)
 first_so calls event (Invite invite) stories so =
     goes_on (on_side (invite_taken event invite)) (λ side outs stories. invite_told outs stories)
-    (invite_holds event invite) (invite_rules event invite) (invite_waits event invite) (side_of (new_call calls.local)) stories
+    (invite_holds event invite) (invite_rules event invite) (invite_waits event invite)
+    (side_of (new_call calls.local)) stories
     so
 first_so calls event (PlainCommand plain) stories so =
     goes_on (on_side (plain_taken event plain)) (λ side outs stories. plain_told outs stories)
-    (plain_holds event plain) (plain_rules event plain) (plain_waits event plain) (side_of (new_call calls.local)) stories so
+    (plain_holds event plain) (plain_rules event plain) (plain_waits event plain)
+    (side_of (new_call calls.local)) stories so
 first_so calls event (Request request) stories so = so
 first_so calls event (Respond respond) stories so = so
 first_so calls event (Ack ack) stories so = so
@@ -185,7 +193,8 @@ pub holds_client_stories : HoldsClientStories
 holds_client_stories calls inputs = (after_all calls inputs).told
 
 -- what holds of each thing after those before it
-each_story : (P : ClientStory → Type 0) → ((story : ClientStory) → EachFits story [] story.life → P story)
+each_story : (P : ClientStory → Type 0)
+    → ((story : ClientStory) → EachFits story [] story.life → P story)
     → (stories : ClientStories) → AllLive stories
     → AllByRecursion (λ (entry : Id × ClientStory). P entry.1) stories
 each_story P so [] all = tt
@@ -201,7 +210,8 @@ pub cancels_once : CancelsOnce
 cancels_once calls inputs =
     each_story (λ story. (before later : List ClientHappening) (cancel : Outgoing)
     → story.life ≡ before ++ SendsCancel cancel ∷ later → IsCancelOf story before cancel)
-    (λ story fits before later cancel is. split_fits story before later (SendsCancel cancel) fits is)
+    (λ story fits before later cancel is.
+    split_fits story before later (SendsCancel cancel) fits is)
     (client_stories calls inputs) (after_all calls inputs).lived
 
 pub repeats_its_ack : RepeatsItsAck

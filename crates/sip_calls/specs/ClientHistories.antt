@@ -92,8 +92,9 @@ abbrev pub HoldsClientStories : Type 0
 HoldsClientStories = (calls : Calls) (inputs : List (Timed CallItem))
     → AreTold (side_held (call_from calls None inputs)).clients (client_stories calls inputs)
 
--- Each CANCEL of an INVITE goes out once, after a provisional response and before any 2xx, under the
--- id of the command that asked for it first, with the branch of the INVITE and to where that went.
+-- The CANCEL of an INVITE goes out once, after a provisional response and before any 2xx, under
+-- the id of the command that asked for it first, with the branch of the INVITE and to where that
+-- went.
 abbrev pub CancelsOnce : Type 0
 CancelsOnce = (calls : Calls) (inputs : List (Timed CallItem))
     → AllByRecursion (λ (entry : Id × ClientStory).
@@ -101,8 +102,8 @@ CancelsOnce = (calls : Calls) (inputs : List (Timed CallItem))
     → entry.1.life ≡ before ++ SendsCancel cancel ∷ later
     → IsCancelOf entry.1 before cancel) (client_stories calls inputs)
 
--- an ACK that answers a 2xx that comes again is the one that went out for it: the same bytes, to the
--- same address
+-- an ACK that answers a 2xx that comes again is the one that went out for it: the same bytes, to
+-- the same address
 abbrev pub RepeatsItsAck : Type 0
 RepeatsItsAck = (calls : Calls) (inputs : List (Timed CallItem))
     → AllByRecursion (λ (entry : Id × ClientStory).

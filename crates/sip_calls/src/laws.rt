@@ -106,11 +106,11 @@ pub fn a_response_awaits_its_prack_as_told()
 
 /// Whatever comes to a call: each client request that is held is what its story says, which begins
 /// as it was sent. Since then responses to it came, its ACKs went out, or the user asked to cancel
-/// it. An INVITE is removed 64*T1 after its first 2xx. Its CANCEL goes out once, after a provisional
-/// response and before any 2xx, under the id of the command that asked for it, and with its branch;
-/// it waits only while no provisional response came (RFC 3261, section 9.1). An ACK that answers a
-/// 2xx that comes again has the bytes of the one that went out for it, and goes to the same address
-/// (section 13.2.2.4).
+/// it. An INVITE is removed 64*T1 after its first 2xx. Its CANCEL goes out once, after a
+/// provisional response and before any 2xx, under the id of the command that asked for it, and with
+/// its branch; it waits only while no provisional response came (RFC 3261, section 9.1). An ACK
+/// that answers a 2xx that comes again has the bytes of the one that went out for it, and goes to
+/// the same address (section 13.2.2.4).
 pub fn a_client_request_holds_its_history()
     ensures history { HoldsClientStories }
     ensures cancel { CancelsOnce }

@@ -108,7 +108,8 @@ invite_holds event invite side stories told =
     side.clients stories refl told
 
 pub plain_holds : (event : Event) (plain : PlainCommand)
-    → HoldsStories (on_side (plain_taken event plain)) (λ side outs stories. plain_told outs stories)
+    → HoldsStories (on_side (plain_taken event plain))
+    (λ side outs stories. plain_told outs stories)
 plain_holds event plain side stories told = by_method (is_bad_outside plain.method)
   where
     by_method : (bad : Bool)
@@ -407,7 +408,8 @@ tick_rules now side stories told all =
     each_left LivesSo (λ entry. not (is_over now (client_told entry.1))) stories all
 
 pub invite_rules : (event : Event) (invite : Invite)
-    → HoldsRules (on_side (invite_taken event invite)) (λ side outs stories. invite_told outs stories)
+    → HoldsRules (on_side (invite_taken event invite))
+    (λ side outs stories. invite_told outs stories)
 invite_rules event invite =
     begun_rules (on_side (invite_taken event invite)) (λ side request. First)
 

@@ -1,5 +1,5 @@
--- No CANCEL goes out but by a provisional response or a command to cancel, and no ACK but by a final
--- response or a command.
+-- No CANCEL goes out but by a provisional response or a command to cancel, and no ACK but by a
+-- final response or a command.
 use Rattle.std.proofs.Common.{◌≡◌, ℕ, Bool, true, false, not, cond, ◌&&◌, ◌||◌, List, [], ◌∷◌, ◌++◌, map, refl, sym, ap, subst, ◌∙◌, append-nil}
 use Rattle.std.specs.Prelude.{Option, None, Some, Result, Ok, Err, codes, filter, if◌then◌else◌}
 use Rattle.std.specs.List.{AllByRecursion}
@@ -338,7 +338,8 @@ rest (first ∷ others) = others
 
 unrefused : (dialog : Dialog) (method : List ℕ)
     → first_refusal (request_refusals dialog method) None ≡ None → is_own_kind method ≡ false
-unrefused dialog method none = own_first (is_own_kind method) (rest (request_refusals dialog method)) none
+unrefused dialog method none =
+    own_first (is_own_kind method) (rest (request_refusals dialog method)) none
 
 none_in : (ack cancel prack : Bool) → ((ack || cancel) || prack) ≡ false → cancel ≡ false
 none_in true cancel prack none = absurd (true≢false none)
@@ -503,7 +504,8 @@ module _ (event : Event) (id : Id) (call_id : List ℕ) (response : Message) (st
       no_cancel (taken_with None done).1 (both_sent done.2 (settled_after done)
       ∙ (λ i. none_sent done.2 quiet i ++ requests_out (none i)))
 
-  success_quiet : (again there : Bool) → cancels_out (taken_with None (after_dialog name side.dialogs
+  success_quiet : (again there : Bool)
+      → cancels_out (taken_with None (after_dialog name side.dialogs
       (by_reply_case (if again then reply.Repeated else (if there then reply.Accepted
       else reply.Late)) (after_response true client) found answer))).1 ≡ []
   success_quiet true there =

@@ -230,7 +230,8 @@ module _ (event : Event) (id : Id) (call_id : List ℕ) (response : Message) (st
             Stays,
           )
 
-      by_service : (owed : HeldDialog × Service) → SuccessTold false (taken_with None (done_by owed))
+      by_service : (owed : HeldDialog × Service)
+          → SuccessTold false (taken_with None (done_by owed))
       by_service (held, service.Sent sending) =
           let ack = sent_ack sending in
           success_on (held_after_success answer (Some ack) (after_response true client))
@@ -553,7 +554,8 @@ module _ (event : Event) (id : Id) (call_id : List ℕ) (response : Message) (st
     came_now : (life : List ClientHappening)
         → list_any is_provisional_response (life ++ GetsProvisional ∷ []) ≡ true
     came_now life =
-        any_more is_provisional_response life GetsProvisional ∙ or_true (list_any is_provisional_response life)
+        any_more is_provisional_response life GetsProvisional
+        ∙ or_true (list_any is_provisional_response life)
       where
         or_true : (b : Bool) → (b || true) ≡ true
         or_true true = refl

@@ -61,7 +61,8 @@ module _ (clients : Clients) (stories : ClientStories) (told : AreTold clients s
 
       by_found : (found : Option ClientStory) → lookup (is_id id) stories ≡ found
           → AreTold (changed o)
-          (option_map_or (λ story. set_value (is_id id) stories (lives_on more story)) found stories)
+          (option_map_or (λ story. set_value (is_id id) stories (lives_on more story)) found
+          stories)
       by_found None is = ap changed (same None is) ∙ told
       by_found (Some story) is =
           ap changed (same (Some story) is)

@@ -162,7 +162,8 @@ module _ (story : ClientStory) where
       ≡ cancel.Waits id → (sent ≡ false) × (asked ≡ Some id)
   waiting_by true asked id is = absurd cc
   waiting_by false None id is = absurd cc
-  waiting_by false (Some other) id is = let same : other ≡ id = cc in (refl, ap (λ id. Some id) same)
+  waiting_by false (Some other) id is =
+      let same : other ≡ id = cc in (refl, ap (λ id. Some id) same)
 
   pub waits_ready : (id : Id) → EachFits story [] story.life
       → cancelling_of story.life ≡ cancel.Waits id → IsReady story.life id

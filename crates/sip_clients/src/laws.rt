@@ -81,8 +81,8 @@ pub fn each_notice_is_of_its_call()
 {}
 
 /// Where each held client request is what its story says, so it is after a response, the loss of a
-/// request, a command of the user or a tick: what they add to the stories is told by what comes, and
-/// by what goes out (RFC 3261, sections 9.1, 13.2.2.4 and 17.1.1; RFC 3262, section 4).
+/// request, a command of the user or a tick: what they add to the stories is told by what comes,
+/// and by what goes out (RFC 3261, sections 9.1, 13.2.2.4 and 17.1.1; RFC 3262, section 4).
 pub fn each_client_request_is_told()
     ensures response { (event : Event) (id : Id) (call_id : List ℕ) (response : Message)
         → HoldsStories (response_taken event id call_id response)

@@ -23,7 +23,8 @@ pub returns-clause-plain : goal.returns-clause-plain
 returns-clause-plain c event plain = (plain_no_cancel event plain, plain_no_ack event plain)
 
 pub returns-clause-request : goal.returns-clause-request
-returns-clause-request c event command = (request_no_cancel event command, request_no_ack event command)
+returns-clause-request c event command =
+    (request_no_cancel event command, request_no_ack event command)
 
 pub returns-clause-prack : goal.returns-clause-prack
 returns-clause-prack c event command = (prack_no_cancel event command, prack_no_ack event command)
