@@ -19,18 +19,16 @@ use Rattle.sip_common.specs.declared.notice.Notice.TheVariants as notice
 use Rattle.sip_common.specs.Dialogs.{Dialogs, dialog_at, is_named}
 use Rattle.sip_common.specs.Ids.{is_id}
 use Rattle.sip_common.specs.Sent.{name_of_dialog, sent_in}
+use Rattle.sip_common.proofs.EndedDialogs.{Goes, Which, ended_of, goes_as, goes_before, goes_same, left_of, lived_name, names_ended, no_name, none_ends, once}
 use Rattle.sip_common.proofs.Entries.{none_apart}
 use Rattle.sip_common.proofs.Heard.{AreApart, Goes as Went, Life, OpensBy}
-use Rattle.sip_served.specs.Endings.{ended_by_answer, ended_by_request, opened_by_answer}
 use Rattle.sip_served.specs.Tick.{tick_taken}
-use Rattle.sip_served.proofs.EndedDialogs.{Goes as GoesAtServer}
 use Rattle.sip_served.proofs.Endings.{ack_goes as server_ack, request_goes as server_request, respond_goes, tick_silent}
 use Rattle.sip_clients.specs.Client.{Side, client_at}
 use Rattle.sip_clients.specs.Clients.{request_lost}
 use Rattle.sip_clients.specs.Tick.{clients_ticked, ends_early_at}
 use Rattle.sip_clients.proofs.DialogSends.{AreNamed}
 use Rattle.sip_clients.proofs.EndedCommands.{ack_goes, cancel_goes, invite_silent, plain_silent, prack_goes, request_goes}
-use Rattle.sip_clients.proofs.EndedDialogs.{Goes, Which, ended_of, goes_as, goes_before, goes_same, left_of, lived_name, names_ended, no_name, none_ends, once}
 use Rattle.sip_clients.proofs.EndedKeys.{AreSound, ack_sound, cancel_sound, invite_sound, lost_sound, plain_sound, prack_sound, request_sound, response_sound, sound_tick}
 use Rattle.sip_clients.proofs.EndedReplies.{lost_goes, response_goes}
 use Rattle.sip_clients.proofs.EndedTicks.{tick_goes}
@@ -48,12 +46,6 @@ abbrev Step : (DialogName → Bool) → Which → Call → CallTaken → Type 0
 Step opening ending call taken =
     Goes opening ending (dialogs_of call) (dialogs_of taken.0) taken.1
 
--- both sides say it alike
-of_server : (opening : DialogName → Bool) (ending : Which) (before after : Dialogs)
-    (outs : List CallOut) → GoesAtServer opening ending before after outs
-    → Goes opening ending before after outs
-of_server opening ending before after outs goes = record { held = goes.held; told = goes.told }
-
 -- ---- what comes up
 
 up_step : (call : Call) (calls : Calls) (id : Id) (now : ℕ) (up : AnUp) (k : Kind)
@@ -61,15 +53,10 @@ up_step : (call : Call) (calls : Calls) (id : Id) (now : ℕ) (up : AnUp) (k : K
     → Step (opened_by_kind call up.id k) (ended_by_kind call up.id up.key k) call
     (up_taken call (event_of calls id now) up k)
 up_step call calls id now up (kind.Request request reply_to) apart named =
-    let taken = up_taken call (event_of calls id now) up (kind.Request request reply_to) in
-    of_server no_name (ended_by_request call.served up.key request) (dialogs_of call)
-    (dialogs_of taken.0) taken.1
-    (server_request call.served (made_tag (event_of calls id now)) up request reply_to now apart
-    named)
+    server_request call.served (made_tag (event_of calls id now)) up request reply_to now apart
+    named
 up_step call calls id now up (kind.Ack ack) apart named =
-    let taken = up_taken call (event_of calls id now) up (kind.Ack ack) in
-    of_server no_name none_ends (dialogs_of call) (dialogs_of taken.0) taken.1
-    (server_ack call.served up.call_id ack)
+    server_ack call.served up.call_id ack
 up_step call calls id now up (kind.Response response) apart named =
     response_goes (event_of calls id now) up.id up.call_id response (side_of call) apart named
 up_step call calls id now up kind.Timeout apart named =
@@ -107,10 +94,7 @@ command_step call calls id now (PlainCommand plain) apart named =
 command_step call calls id now (Request request) apart named =
     request_goes (event_of calls id now) (side_of call) apart named request
 command_step call calls id now (Respond respond) apart named =
-    let taken = command_taken call (event_of calls id now) (Respond respond) in
-    of_server (opened_by_answer call.served respond taken.1)
-    (λ name held. ended_by_answer call.served respond taken.1 held) (dialogs_of call)
-    (dialogs_of taken.0) taken.1 (respond_goes id call.served respond now apart named)
+    respond_goes id call.served respond now apart named
 command_step call calls id now (Ack ack) apart named =
     ack_goes (event_of calls id now) ack (side_of call)
 command_step call calls id now (Prack prack) apart named =

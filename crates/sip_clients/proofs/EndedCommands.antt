@@ -41,7 +41,7 @@ use Rattle.sip_clients.specs.Outputs.{request_said, start_command}
 use Rattle.sip_clients.specs.Outside.{plain_of}
 use Rattle.sip_clients.specs.Service.{Outcome, sending_in}
 use Rattle.sip_clients.proofs.DialogSends.{between_silent}
-use Rattle.sip_clients.proofs.EndedDialogs.{AreNamed, Goes, Which, changed_held, changed_named, goes_as, goes_before, goes_kept, goes_named_then, goes_removed, goes_same, names_ended, no_name, none_ends, silent_both}
+use Rattle.sip_common.proofs.EndedDialogs.{AreNamed, Goes, Which, changed_held, changed_named, goes_as, goes_before, goes_kept, goes_named_then, goes_removed, goes_same, names_ended, no_name, none_ends, silent_both}
 use Rattle.sip_clients.proofs.EndedReplies.{ack_silent, beside_goes, request_silent, settled_silent}
 use Rattle.sip_clients.proofs.SentIn.{request_cseqs, request_sent_in, said_sent, served_sent, unless_refused}
 use Rattle.sip_clients.proofs.Served.{paid_either, served_dialogs, served_in}

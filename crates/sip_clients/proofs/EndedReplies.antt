@@ -36,7 +36,7 @@ use Rattle.sip_clients.specs.Dialogs.{accepted, dialog_for_provisional, ended_wi
 use Rattle.sip_clients.specs.Outputs.{ack_said, direct, request_said, start_command}
 use Rattle.sip_clients.specs.Replied.{Replied, ack_owed, after_dialog, by_reply_case, dialogs_with, ends_dialog, notice, prack_owed, reply_taken, request_over}
 use Rattle.sip_clients.specs.Reply.{heard_of, is_dialog_response, is_inviting, is_last, is_there, reliable_case, reply_case, rseq_of}
-use Rattle.sip_clients.proofs.EndedDialogs.{AreNamed, Goes, Which, early_told, ended_none, ends_told, none_told, filtered_named, goes_as, goes_before, goes_beside, goes_filtered_then, goes_removed, goes_same, left_of, names_ended, no_name, none_ends}
+use Rattle.sip_common.proofs.EndedDialogs.{AreNamed, Goes, Which, early_told, ended_none, ends_told, none_told, filtered_named, goes_as, goes_before, goes_beside, goes_filtered_then, goes_removed, goes_same, left_of, names_ended, no_name, none_ends}
 
 -- ---- what ends with a client request
 

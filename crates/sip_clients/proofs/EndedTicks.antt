@@ -17,7 +17,7 @@ use Rattle.sip_clients.specs.declared.client.Client.{Client}
 use Rattle.sip_clients.specs.Client.{Clients, Side}
 use Rattle.sip_clients.specs.Tick.{dialogs_left, early_ends_told, ends_early_at, is_over, over_notices}
 use Rattle.sip_clients.proofs.AgainInvite.{AreApart}
-use Rattle.sip_clients.proofs.EndedDialogs.{AreNamed, Goes, early_told, ended_of, ends_told, goes_filtered, no_name, once, told_both}
+use Rattle.sip_common.proofs.EndedDialogs.{AreNamed, Goes, early_told, ended_of, ends_told, goes_filtered, no_name, once, told_both}
 
 -- each request is held under its own id
 abbrev pub AreKeyed : Clients → Type 0

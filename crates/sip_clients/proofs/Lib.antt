@@ -31,7 +31,6 @@ pub mod SentIn
 pub mod Served
 pub mod RefusedAlone
 pub mod Tally
-pub mod EndedDialogs
 pub mod EndedReplies
 pub mod EndedCommands
 pub mod EndedTicks

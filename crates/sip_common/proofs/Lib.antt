@@ -1,5 +1,6 @@
 pub mod Dues
 pub mod Each
+pub mod EndedDialogs
 pub mod Entries
 pub mod Heard
 pub mod Lives

@@ -47,7 +47,7 @@ use Rattle.sip_served.specs.Step.{arrival_taken, kind_taken}
 use Rattle.sip_served.specs.Tick.{provisionals_ticked, provisionals_told, request_ticked, success_answer, success_at_tick, success_ticked, success_told, tick_taken}
 use Rattle.sip_common.proofs.Entries as entries
 use Rattle.sip_common.proofs.Heard.{AreApart, name_laws}
-use Rattle.sip_served.proofs.EndedDialogs.{AreNamed, Goes, Which, changed_held, changed_named, ended_none, goes_as, goes_before, goes_changed, goes_early, goes_kept, goes_named_then, goes_removed, goes_same, left_of, lived_name, names_ended, no_name, none_ends, silent_both}
+use Rattle.sip_common.proofs.EndedDialogs.{AreNamed, Goes, Which, changed_held, changed_named, ended_none, goes_as, goes_before, goes_changed, goes_early, goes_kept, goes_named_then, goes_removed, goes_same, left_of, lived_name, names_ended, no_name, none_ends, silent_both}
 
 -- nothing is opened
 abbrev pub Closes : Which → State → ServedTaken → Type 0

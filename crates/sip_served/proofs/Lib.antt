@@ -3,7 +3,6 @@ pub mod Awaiting
 pub mod Changes
 pub mod DialogSteps
 pub mod Dues
-pub mod EndedDialogs
 pub mod Endings
 pub mod Joined
 pub mod Mapped

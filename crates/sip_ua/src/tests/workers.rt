@@ -26,14 +26,18 @@ impl Begun {
 
     // Whether each of so many shards has begun once, from 0 on.
     fn is_all(&self, count: u32) -> bool {
-        let bits = u64::MAX.checked_shr(64u32.saturating_sub(count)).unwrap_or(0);
+        let bits = u64::MAX
+            .checked_shr(64u32.saturating_sub(count))
+            .unwrap_or(0);
         self.0.load(Ordering::SeqCst) == bits
     }
 }
 
 impl Gate for Begun {
     fn begin(&self, shard: usize) {
-        let bit = u32::try_from(shard).ok().and_then(|shard| 1u64.checked_shl(shard));
+        let bit = u32::try_from(shard)
+            .ok()
+            .and_then(|shard| 1u64.checked_shl(shard));
         self.0.fetch_add(bit.unwrap_or(0), Ordering::SeqCst);
     }
 }
