@@ -94,7 +94,7 @@ public:
 
     /// The id of the event that was given last, if the next round has one.
     sip_ua_id last_id() {
-        sip_ua_id id;
+        sip_ua_id id{};
         check(sip_ua_last_id(&agent, &id));
         return id;
     }
@@ -120,7 +120,7 @@ public:
 
     /// The datagram that came in at a place of the last round.
     std::optional<Datagram> datagram_at(std::uint32_t place) {
-        sip_ua_came came;
+        sip_ua_came came{};
         const std::string bytes = text_of(came, [&](std::uint8_t *room, std::size_t size) {
             return sip_ua_datagram_at(&agent, place, &came, room, size);
         });
@@ -131,7 +131,7 @@ public:
 
     /// Its start line, if it has one.
     std::optional<StartLine> start_line(std::uint32_t place) {
-        sip_ua_start start;
+        sip_ua_start start{};
         check(sip_ua_start_line(&agent, place, &start, buffer.data(), buffer.size()));
         if (start.method_len + start.len > buffer.size()) {
             buffer.resize(start.method_len + start.len);
@@ -150,7 +150,7 @@ public:
     std::vector<std::string> header_values(std::uint32_t place, std::string_view name) {
         std::vector<std::string> values;
         for (;;) {
-            sip_ua_text told;
+            sip_ua_text told{};
             std::string value = text_of(told, [&](std::uint8_t *room, std::size_t size) {
                 return sip_ua_header_value(&agent, place, name.empty() ? "" : name.data(),
                                            name.size(), values.size(), &told, room, size);
