@@ -56,7 +56,7 @@ class Output(NamedTuple):
 
 
 class StartLine(NamedTuple):
-    """A start line: of a request its method and Request-URI, of a response its status and reason."""
+    """A start line: of a request method and Request-URI, of a response status and reason."""
 
     method: Optional[bytes]
     uri: Optional[bytes]
