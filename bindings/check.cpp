@@ -34,6 +34,7 @@ int main() {
     first.datagram(from, options);
     sip::Agent agent(std::move(first));
     expect_status(SIP_UA_NOT_HELD, "moved from", [&] { first.run(0); });
+    expect_status(SIP_UA_NOT_HELD, "a question of it", [&] { first.start_line(1); });
     auto told = agent.run(0);
     expect(told.size() == 1 && !told[0].to, "a request is told");
     expect(told[0].place == 1, "by its place");
@@ -44,10 +45,10 @@ int main() {
            "the values of a header");
     const auto came = agent.datagram_at(1);
     expect(came && came->bytes == options && came->from.port == 5060, "the datagram");
-    expect(!agent.last_id().is_given, "no event was given");
+    expect(!agent.last_id(), "no event was given");
     agent.event_lines(" Allow: INVITE, ACK, BYE\nrespond c1 0.1 200 plain - OK");
-    const sip_ua_id id = agent.last_id();
-    expect(id.is_given && id.round == 1 && id.place == 1, "the id of a command");
+    const auto id = agent.last_id();
+    expect(id && id->round == 1 && id->place == 1, "the id of a command");
     auto sent = agent.run(5);
     expect(sent.size() == 1 && sent[0].to && sent[0].text.rfind("SIP/2.0 200 OK\r\n", 0) == 0,
            "the answer is sent");

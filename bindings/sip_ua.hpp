@@ -27,7 +27,8 @@ using Address = sip_ua_address;
 using Configuration = sip_ua_configuration;
 
 /// An output of a round: a datagram with the address that it goes to, or a line without one. `place`
-/// is that of the event that it comes of, from 1, or 0 where it comes with time.
+/// is that of the event that it comes of, from 1, or 0 where no event stands behind it: it comes with
+/// time, or is the request or the answer of a command.
 struct Output {
     std::size_t index;
     std::optional<Address> to;
@@ -93,10 +94,10 @@ public:
     }
 
     /// The id of the event that was given last, if the next round has one.
-    sip_ua_id last_id() {
+    std::optional<sip_ua_id> last_id() {
         sip_ua_id id{};
         check(sip_ua_last_id(&agent, &id));
-        return id;
+        return id.is_given ? std::optional(id) : std::nullopt;
     }
 
     /// The send of this index of the last round could not be sent.
@@ -120,10 +121,12 @@ public:
 
     /// The datagram that came in at a place of the last round.
     std::optional<Datagram> datagram_at(std::uint32_t place) {
-        sip_ua_came came{};
-        const std::string bytes = text_of(came, [&](std::uint8_t *room, std::size_t size) {
-            return sip_ua_datagram_at(&agent, place, &came, room, size);
-        });
+        sip_ua_arrival came{};
+        const std::string bytes = text_of(
+            [&](std::uint8_t *room, std::size_t size) {
+                return sip_ua_datagram_at(&agent, place, &came, room, size);
+            },
+            [&] { return came.len; });
         if (!came.is_there)
             return std::nullopt;
         return Datagram{came.from, bytes};
@@ -132,13 +135,11 @@ public:
     /// Its start line, if it has one.
     std::optional<StartLine> start_line(std::uint32_t place) {
         sip_ua_start start{};
-        check(sip_ua_start_line(&agent, place, &start, buffer.data(), buffer.size()));
-        if (start.method_len + start.len > buffer.size()) {
-            buffer.resize(start.method_len + start.len);
-            check(sip_ua_start_line(&agent, place, &start, buffer.data(), buffer.size()));
-        }
-        const std::string text(reinterpret_cast<const char *>(buffer.data()),
-                               start.method_len + start.len);
+        const std::string text = text_of(
+            [&](std::uint8_t *room, std::size_t size) {
+                return sip_ua_start_line(&agent, place, &start, room, size);
+            },
+            [&] { return start.method_len + start.len; });
         if (start.kind == SIP_UA_REQUEST)
             return StartLine{text.substr(0, start.method_len), text.substr(start.method_len), 0, {}};
         if (start.kind == SIP_UA_RESPONSE)
@@ -151,10 +152,12 @@ public:
         std::vector<std::string> values;
         for (;;) {
             sip_ua_text told{};
-            std::string value = text_of(told, [&](std::uint8_t *room, std::size_t size) {
-                return sip_ua_header_value(&agent, place, name.empty() ? "" : name.data(),
-                                           name.size(), values.size(), &told, room, size);
-            });
+            std::string value = text_of(
+                [&](std::uint8_t *room, std::size_t size) {
+                    return sip_ua_header_value(&agent, place, name.empty() ? "" : name.data(),
+                                               name.size(), values.size(), &told, room, size);
+                },
+                [&] { return told.len; });
             if (!told.is_there)
                 return values;
             values.push_back(std::move(value));
@@ -169,14 +172,16 @@ private:
             throw Error(status);
     }
 
-    // The text that a call tells of, for which the buffer grows.
-    template <class Told, class Call> std::string text_of(const Told &told, Call call) {
+    // The text that a call writes, of the length that it tells then. The buffer grows for it.
+    template <class Call, class Length> std::string text_of(Call call, Length length) {
+        if (buffer.empty())
+            buffer.resize(1);
         check(call(buffer.data(), buffer.size()));
-        if (told.len > buffer.size()) {
-            buffer.resize(told.len);
+        if (length() > buffer.size()) {
+            buffer.resize(length());
             check(call(buffer.data(), buffer.size()));
         }
-        return std::string(reinterpret_cast<const char *>(buffer.data()), told.len);
+        return std::string(reinterpret_cast<const char *>(buffer.data()), length());
     }
 
     std::optional<Output> next_output() {

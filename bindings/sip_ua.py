@@ -4,7 +4,7 @@ The library is a static one; `cc -shared` makes it loadable (`bindings/run` show
 
     cc -shared -o libsip_ua.so -Wl,--whole-archive libsip_c.a -Wl,--no-whole-archive liblibc_c.a
 
-    agent = Agent("libsip_ua.so", ("192.0.2.1", 5060), seed=os.urandom(32))
+    agent = Agent("./libsip_ua.so", ("192.0.2.1", 5060), seed=os.urandom(32))
     agent.datagram(("192.0.2.9", 5060), b"OPTIONS ..")
     for output in agent.run(moment):
         if output.to is not None:
@@ -46,7 +46,8 @@ class Error(Exception):
 class Output(NamedTuple):
     """An output of a round: a datagram with the address that it goes to, or a line without one.
 
-    `place` is that of the event that it comes of, from 1, or 0 where it comes with time.
+    `place` is that of the event that it comes of, from 1, or 0 where no event stands behind it: it
+    comes with time, or is the request or the answer of a command.
     """
 
     index: int
@@ -79,8 +80,8 @@ class _Configuration(ctypes.Structure):
 class _Output(ctypes.Structure):
     _fields_ = [
         ("kind", ctypes.c_uint32),
-        ("place", ctypes.c_uint32),
         ("to", _Address),
+        ("place", ctypes.c_uint32),
         ("index", ctypes.c_size_t),
         ("len", ctypes.c_size_t),
     ]
@@ -98,7 +99,7 @@ class _Id(ctypes.Structure):
     ]
 
 
-class _Came(ctypes.Structure):
+class _Arrival(ctypes.Structure):
     _fields_ = [("is_there", ctypes.c_bool), ("source", _Address), ("len", ctypes.c_size_t)]
 
 
@@ -128,7 +129,7 @@ _FUNCTIONS = {
     "next_output": (ctypes.POINTER(_Output), ctypes.c_void_p, _size),
     "next_due": (ctypes.POINTER(_Due),),
     "last_id": (ctypes.POINTER(_Id),),
-    "datagram_at": (_place, ctypes.POINTER(_Came), ctypes.c_void_p, _size),
+    "datagram_at": (_place, ctypes.POINTER(_Arrival), ctypes.c_void_p, _size),
     "start_line": (_place, ctypes.POINTER(_Start), ctypes.c_void_p, _size),
     "header_value": (_place, _bytes, _size, _size, ctypes.POINTER(_Text), ctypes.c_void_p, _size),
     "free": (),
@@ -151,9 +152,21 @@ def _address(address: Tuple[str, int]) -> _Address:
     return _Address((ctypes.c_uint8 * 4)(*ipaddress.IPv4Address(ip).packed), port)
 
 
-def _escaped(value: bytes) -> bytes:
-    """A value as the last field of a line spells it."""
-    return value.replace(b"\\", b"\\\\").replace(b"\r", b"\\r").replace(b"\n", b"\\n")
+_SPELLED = {92: b"\\\\", 13: b"\\r", 10: b"\\n", 9: b"\\t"}
+
+
+def rest(data: bytes) -> bytes:
+    """Bytes as the last field of a line spells them."""
+    return b"".join(
+        _SPELLED.get(byte) or (bytes([byte]) if 31 < byte < 127 else b"\\x%02x" % byte)
+        for byte in data
+    )
+
+
+def word(data: bytes) -> bytes:
+    """Bytes as a word of a line, such as a body: a space is spelled too, and nothing is `-`."""
+    spelled = rest(data).replace(b" ", b"\\s")
+    return b"\\x2d" if spelled == b"-" else spelled or b"-"
 
 
 def _number(number: int, bits: int) -> int:
@@ -201,7 +214,7 @@ class Agent:
     def command(self, line: bytes, headers: Sequence[Tuple[bytes, bytes]] = ()) -> Tuple[int, int]:
         """A command of the user with headers of its own, each a name and a value; the id, round and
         place, by which lines tell of it."""
-        given = b"".join(b" %s: %s\n" % (name, _escaped(value)) for name, value in headers)
+        given = b"".join(b" %s: %s\n" % (name, rest(value)) for name, value in headers)
         self.event_lines(given + line)
         told = _Id()
         self._call("last_id", ctypes.byref(told))
@@ -246,7 +259,7 @@ class Agent:
 
     def datagram_at(self, place: int) -> Optional[Tuple[Tuple[str, int], bytes]]:
         """The source and the bytes of the datagram that came in at a place of the last round."""
-        told = _Came()
+        told = _Arrival()
         data = self._text("datagram_at", told, _number(place, 32))
         if not told.is_there:
             return None

@@ -1,11 +1,12 @@
 """An agent of sip_ua.py over a UDP socket of asyncio: rounds are run when something came or is due.
 
-    endpoint = await open_endpoint("libsip_ua.so", ("192.0.2.1", 5060), on_line)
+    endpoint = await open_endpoint("./libsip_ua.so", ("192.0.2.1", 5060), on_line)
     endpoint.command(b"plain c1 192.0.2.9:5060 OPTIONS sip:b@192.0.2.9 sip:a@192.0.2.1 ..")
 
-`on_line(line, place)` is told each notice and drop as a line without its end. In it
-`endpoint.agent.start_line(place)` and `header_values(place, name)` read the datagram that it tells
-of, and commands may be given. All is used from the thread of the event loop.
+`on_line(line, place)` is told each notice and drop as a line without its end, after all that a round
+sends was sent. In it `endpoint.agent.start_line(place)` and `header_values(place, name)` read the
+datagram that it tells of; it may give commands, and close the endpoint. All is used from the thread
+of the event loop.
 """
 
 import asyncio
@@ -20,13 +21,14 @@ Address = Tuple[str, int]
 class Endpoint(asyncio.DatagramProtocol):
     """An agent at a socket; `open_endpoint` makes one, and `close` ends it."""
 
-    def __init__(self, agent: Agent, on_line: Callable[[bytes, int], None]):
-        self.agent = agent
+    def __init__(self, on_line: Callable[[bytes, int], None]):
+        self.agent: Optional[Agent] = None
         self._on_line = on_line
         self._loop = asyncio.get_running_loop()
         self._start = self._loop.time()
         self._next: Optional[asyncio.Handle] = None
         self._transport: Optional[asyncio.DatagramTransport] = None
+        self._has_failed = False
 
     def command(self, line: bytes, headers: Sequence[Tuple[bytes, bytes]] = ()) -> Tuple[int, int]:
         """A command with headers of its own; the id by which lines tell of it."""
@@ -39,14 +41,20 @@ class Endpoint(asyncio.DatagramProtocol):
         if self._next is not None:
             self._next.cancel()
         self.agent.close()
+        self.agent = None
         self._transport.close()
 
     def connection_made(self, transport) -> None:
         self._transport = transport
 
     def datagram_received(self, data: bytes, addr: Address) -> None:
-        self.agent.datagram(addr, data)
-        self._run_soon()
+        if self.agent is not None:
+            self.agent.datagram(addr, data)
+            self._run_soon()
+
+    def error_received(self, exc: OSError) -> None:
+        """A send failed, which is told while it is asked for, or the system tells of an earlier one."""
+        self._has_failed = True
 
     def _run_soon(self) -> None:
         if self._next is not None:
@@ -55,21 +63,23 @@ class Endpoint(asyncio.DatagramProtocol):
 
     def _run(self) -> None:
         self._next = None
-        for output in self.agent.run(int((self._loop.time() - self._start) * 1000)):
-            if output.to is None:
-                self._on_line(output.text.rstrip(b"\n"), output.place)
-            elif not self._sends(output.text, output.to):
+        outputs = self.agent.run(int((self._loop.time() - self._start) * 1000))
+        for output in outputs:
+            if output.to is not None and not self._sends(output.text, output.to):
                 self.agent.failed(output.index)
                 self._run_soon()
-        if self._next is None:
-            self._wait()
+        try:
+            for output in outputs:
+                if output.to is None and self.agent is not None:
+                    self._on_line(output.text.rstrip(b"\n"), output.place)
+        finally:
+            if self._next is None and self.agent is not None:
+                self._wait()
 
     def _sends(self, data: bytes, to: Address) -> bool:
-        try:
-            self._transport.sendto(data, to)
-            return True
-        except OSError:
-            return False
+        self._has_failed = False
+        self._transport.sendto(data, to)
+        return not self._has_failed
 
     def _wait(self) -> None:
         """Until something is due; a ms more, so that its moment has come."""
@@ -84,9 +94,10 @@ async def open_endpoint(
     on_line: Callable[[bytes, int], None],
     seed: Optional[bytes] = None,
 ) -> Endpoint:
-    """An endpoint at this address, with a random seed if none is given."""
-    agent = Agent(library, local, seed if seed is not None else os.urandom(32))
-    _, endpoint = await asyncio.get_running_loop().create_datagram_endpoint(
-        lambda: Endpoint(agent, on_line), local_addr=local
+    """An endpoint at this address, with a random seed if none is given. Port 0 is one that is free."""
+    transport, endpoint = await asyncio.get_running_loop().create_datagram_endpoint(
+        lambda: Endpoint(on_line), local_addr=local
     )
+    own = transport.get_extra_info("sockname")[:2]
+    endpoint.agent = Agent(library, own, seed if seed is not None else os.urandom(32))
     return endpoint

@@ -11,8 +11,9 @@ import subprocess
 import sys
 import threading
 from dataclasses import dataclass, replace
-from hashlib import md5
 from secrets import token_hex
+
+from digest import credentials
 
 SPELLED = {"\r": r"\r", "\n": r"\n", "\t": r"\t", "\\": r"\\", " ": r"\s"}
 PLAIN = {spelled: plain for plain, spelled in SPELLED.items()}
@@ -30,10 +31,6 @@ def text(spelled):
     """The text that a word, or the rest of a line, spells."""
     return re.sub(r"\\(?:x..|.)", lambda one: PLAIN.get(one[0]) or chr(int(one[0][2:], 16)),
                   "" if spelled == "-" else spelled)
-
-
-def digest(*parts):
-    return md5(":".join(parts).encode()).hexdigest()
 
 
 @dataclass(frozen=True)
@@ -81,23 +78,6 @@ class Phone:
         return word(f"v=0\r\no=- 1 1 IN IP4 {ip}\r\ns=-\r\nc=IN IP4 {ip}\r\nt=0 0\r\n"
                     "m=audio 9 RTP/AVP 0\r\na=inactive\r\n")
 
-    def credentials(self, challenge, request):
-        """The answer to a challenge (RFC 7616, section 3.4)."""
-        found = re.findall(r'(\w+)=(?:"([^"]*)"|([^\s,]+))', challenge)
-        given = {name.lower(): quoted or plain for name, quoted, plain in found}
-        realm, nonce = given["realm"], given["nonce"]
-
-        secret = digest(self.name, realm, self.password)
-        asked = digest(request.method, request.uri)
-        fields = {"username": self.name, "realm": realm, "nonce": nonce, "uri": request.uri}
-        fields.update((key, given[key]) for key in ["opaque"] if key in given)
-        if "auth" not in given.get("qop", "").split(","):
-            more, fields["response"] = "", digest(secret, nonce, asked)
-        else:
-            more, own = ", qop=auth, nc=00000001", fields.setdefault("cnonce", token_hex(8))
-            fields["response"] = digest(secret, nonce, "00000001", own, "auth", asked)
-        return "Digest " + ", ".join(f'{key}="{value}"' for key, value in fields.items()) + more
-
     def told_response(self, headers, call_id, id_, status, local_tag, remote_tag, _body):
         request = self.sent.get(call_id)
         if not request or headers["cseq"].split()[1] != request.method or status < "200":
@@ -105,7 +85,8 @@ class Phone:
         print(request.method, status)
         challenge, answer = CHALLENGES.get(status, (None, None))
         if challenge and answer not in dict(request.headers):
-            line = (answer, self.credentials(headers[challenge], request))
+            line = (answer, credentials(headers[challenge], self.name, self.password,
+                                        request.method, request.uri))
             self.ask(replace(request, headers=(*request.headers, line)))
         elif status == "302":
             uri = re.search("sip:[^>;?]*", headers["contact"])[0]

@@ -1,44 +1,22 @@
-"""Registers with a password over the library, and says until when the registrar holds it.
+"""Registers with a password over the library, and prints the status and the Contacts that the
+registrar holds.
 
     PYTHONPATH=bindings python3 examples/register.py LIBRARY LOCAL REGISTRAR NAME@DOMAIN PASSWORD
 
 LOCAL and REGISTRAR are an address and a port, as in 192.0.2.1:5060. A challenge is answered by
-Digest with MD5 (RFC 3261, section 22). Status 0 where the registrar answered 200."""
+Digest. Status 0 where the registrar answered 200."""
 
 import asyncio
-import re
 import sys
-from hashlib import md5
 from secrets import token_hex
 
+from digest import credentials
 from sip_ua_udp import open_endpoint
 
 
 def address(text):
     ip, _, port = text.rpartition(":")
     return ip, int(port)
-
-
-def digest(*parts):
-    return md5(":".join(parts).encode()).hexdigest()
-
-
-def credentials(challenge, name, password, uri):
-    """The answer to a challenge (RFC 7616, section 3.4)."""
-    found = re.findall(r'(\w+)=(?:"([^"]*)"|([^\s,]+))', challenge)
-    given = {key.lower(): quoted or plain for key, quoted, plain in found}
-    secret = digest(name, given["realm"], password)
-    asked = digest("REGISTER", uri)
-    fields = {"username": name, "realm": given["realm"], "nonce": given["nonce"], "uri": uri}
-    more = ""
-    if "auth" in given.get("qop", "").split(","):
-        more, fields["cnonce"] = ", qop=auth, nc=00000001", token_hex(8)
-        fields["response"] = digest(
-            secret, given["nonce"], "00000001", fields["cnonce"], "auth", asked
-        )
-    else:
-        fields["response"] = digest(secret, given["nonce"], asked)
-    return "Digest " + ", ".join(f'{key}="{value}"' for key, value in fields.items()) + more
 
 
 async def register(library, local, registrar, user, password):
@@ -67,7 +45,9 @@ async def register(library, local, registrar, user, password):
     endpoint = await open_endpoint(library, address(local), told)
     status, challenges, contacts = await ask()
     if status == 401 and challenges:
-        answer = credentials(challenges[0].decode(), name, password, f"sip:{domain}")
+        answer = credentials(
+            challenges[0].decode(), name, password, "REGISTER", f"sip:{domain}"
+        )
         status, _, contacts = await ask((b"Authorization", answer.encode()))
     endpoint.close()
     print(status, *(held.decode() for held in contacts))

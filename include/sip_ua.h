@@ -79,13 +79,14 @@ typedef struct sip_ua_configuration {
     uint64_t first;
 } sip_ua_configuration;
 
-/* An output. `place` is that of the event that it comes of, from 1 in the order in which the events
- * were given, or 0 where it comes with time; `index` counts the outputs of a round from 0; `to`
- * counts for a send alone; `len` is the length of its text in bytes. */
+/* An output. `to` counts for a send alone; `place` is that of the event that it comes of, from 1 in
+ * the order in which the events were given, or 0 where no event stands behind it: it comes with
+ * time, or is the request or the answer of a command; `index` counts the outputs of a round from 0;
+ * `len` is the length of its text in bytes. */
 typedef struct sip_ua_output {
     uint32_t kind;
-    uint32_t place;
     sip_ua_address to;
+    uint32_t place;
     size_t index;
     size_t len;
 } sip_ua_output;
@@ -109,11 +110,11 @@ typedef struct sip_ua_id {
 } sip_ua_id;
 
 /* A datagram that came in, if one did. */
-typedef struct sip_ua_came {
+typedef struct sip_ua_arrival {
     bool is_there;
     sip_ua_address from;
     size_t len;
-} sip_ua_came;
+} sip_ua_arrival;
 
 /* A text, if there is one. */
 typedef struct sip_ua_text {
@@ -210,7 +211,7 @@ uint32_t sip_ua_raw_run(sip_ua *agent, uint64_t moment);
 uint32_t sip_ua_raw_next_output(sip_ua *agent, sip_ua_output *output, uint8_t *buffer, size_t room);
 uint32_t sip_ua_raw_next_due(sip_ua *agent, sip_ua_due *due);
 uint32_t sip_ua_raw_last_id(sip_ua *agent, sip_ua_id *id);
-uint32_t sip_ua_raw_datagram_at(sip_ua *agent, uint32_t place, sip_ua_came *came, uint8_t *buffer,
+uint32_t sip_ua_raw_datagram_at(sip_ua *agent, uint32_t place, sip_ua_arrival *arrival, uint8_t *buffer,
                                 size_t room);
 uint32_t sip_ua_raw_start_line(sip_ua *agent, uint32_t place, sip_ua_start *start, uint8_t *buffer,
                                size_t room);
@@ -248,9 +249,10 @@ static inline uint32_t sip_ua_event_line(sip_ua *agent, const char *line, size_t
     return sip_ua_raw_event_line(agent, (const uint8_t *)line, len);
 }
 
-/* The lines of an event as a session file has them, the last one without its line feed: before the
- * line of a command may stand its header lines, each of which begins with a space, as
- * " Contact: <sip:a@192.0.2.1>\n" (docs/FORMATS.md). An event of the next round. The same answers. */
+/* The lines of an event as a session file has them, the last one without its line feed. Before the
+ * line of a command may stand its header lines: each begins with a space and ends in a line feed, as
+ * " Contact: <sip:a@192.0.2.1>\n"; a backslash in one is spelled as two, and the command `cancel`
+ * takes none (docs/FORMATS.md). An event of the next round. The same answers. */
 static inline uint32_t sip_ua_event_lines(sip_ua *agent, const char *lines, size_t len)
 {
     if (agent == NULL || lines == NULL)
@@ -299,8 +301,8 @@ static inline uint32_t sip_ua_next_due(sip_ua *agent, sip_ua_due *due)
     return sip_ua_raw_next_due(agent, due);
 }
 
-/* The id of the event that was given last, if the next round has one: what a command sends goes by
- * it in the lines that tell of it. */
+/* The id of the event that was given last, if the next round has one. Notices name the request of a
+ * command by it. */
 static inline uint32_t sip_ua_last_id(sip_ua *agent, sip_ua_id *id)
 {
     if (agent == NULL || id == NULL)
@@ -309,18 +311,19 @@ static inline uint32_t sip_ua_last_id(sip_ua *agent, sip_ua_id *id)
 }
 
 /* The datagram that came in at a place of the last round, if one did: what an output of that place
- * tells of. Where its `len` is at most `room`, its bytes were written to the buffer. It is kept until
- * the next round is run. So are the following two; they read a datagram also where it was dropped. */
-static inline uint32_t sip_ua_datagram_at(sip_ua *agent, uint32_t place, sip_ua_came *came,
+ * tells of. It is kept until the next round has run, also where it was dropped. Where its `len` is at
+ * most `room`, its bytes were written to the buffer; else the buffer is as it was, and `len` says how
+ * much room is needed. With a room of 0 any buffer but NULL serves. */
+static inline uint32_t sip_ua_datagram_at(sip_ua *agent, uint32_t place, sip_ua_arrival *arrival,
                                           uint8_t *buffer, size_t room)
 {
-    if (agent == NULL || came == NULL || buffer == NULL)
+    if (agent == NULL || arrival == NULL || buffer == NULL)
         return SIP_UA_NULL;
-    return sip_ua_raw_datagram_at(agent, place, came, buffer, room);
+    return sip_ua_raw_datagram_at(agent, place, arrival, buffer, room);
 }
 
-/* Its start line. Where `method_len` and `len` together are at most `room`, the text was written to
- * the buffer. SIP_UA_NO_MEMORY. */
+/* The start line of the same datagram. Where `method_len` and `len` together are at most `room`, the
+ * text was written to the buffer; else that is as it was. SIP_UA_NO_MEMORY. */
 static inline uint32_t sip_ua_start_line(sip_ua *agent, uint32_t place, sip_ua_start *start,
                                          uint8_t *buffer, size_t room)
 {
@@ -329,9 +332,10 @@ static inline uint32_t sip_ua_start_line(sip_ua *agent, uint32_t place, sip_ua_s
     return sip_ua_raw_start_line(agent, place, start, buffer, room);
 }
 
-/* The value of a header, of which there may be several: `number` counts its header lines from 0. The
- * name may be the long or the compact one, in any case. The value has no folds, and no blanks at its
- * ends. Where its `len` is at most `room`, it was written to the buffer. SIP_UA_NO_MEMORY. */
+/* The value of a header of the same datagram, by its number from 0: each header line of the name
+ * counts. `is_there` is false where there is none of this number. The name may be the long or the
+ * compact one, in any case. The value has no folds, and no blanks at its ends. Where its `len` is at
+ * most `room`, it was written to the buffer; else that is as it was. SIP_UA_NO_MEMORY. */
 static inline uint32_t sip_ua_header_value(sip_ua *agent, uint32_t place, const char *name,
                                            size_t name_len, size_t number, sip_ua_text *text,
                                            uint8_t *buffer, size_t room)

@@ -94,16 +94,21 @@ static void say(uint32_t place, unsigned status)
            (const char *)contact);
 }
 
-/* A response to the INVITE, or to the BYE. */
-static void respond_to(unsigned status, const char *local, const char *remote, uint32_t place)
+/* A response to the INVITE, to its CANCEL or to the BYE, by the id of its request. */
+static void take_response(const char *id, unsigned status, const char *local, const char *remote,
+                          uint32_t place)
 {
+    char of_invite[64];
+    snprintf(of_invite, sizeof of_invite, "%" PRIu64 ".%" PRIu32, invite.round, invite.place);
     say(place, status);
-    if (status >= 200 && status < 300 && !is_answered) {
+    if (strcmp(id, of_invite) != 0) {
+        is_over = is_over || (hangs_up && status >= 200);
+    } else if (status >= 200 && status < 300 && !is_answered) {
         is_answered = true;
         until = moment + 1000 * seconds;
         snprintf(local_tag, sizeof local_tag, "%s", local);
         snprintf(remote_tag, sizeof remote_tag, "%s", remote);
-    } else if (status >= 200 && (!is_answered || hangs_up)) {
+    } else if (status >= 300) {
         is_over = true;
     }
 }
@@ -117,11 +122,12 @@ static void tell(const char *line, uint32_t place)
         return;
     if (strcmp(form, "response") == 0
         && sscanf(line, "notice %*s %*s %*s %u %255s %255s", &status, local, remote) == 3) {
-        respond_to(status, local, remote, place);
+        take_response(id, status, local, remote, place);
     } else if (strcmp(form, "request") == 0) {
         snprintf(answer, sizeof answer, "respond " CALL_ID " %s 200 plain - OK", id);
         command(answer);
-    } else if (strcmp(form, "timeout") == 0 || (strcmp(form, "ended") == 0 && !hangs_up)) {
+    } else if (strcmp(form, "timeout") == 0 || strcmp(form, "failed") == 0
+               || strcmp(form, "refused") == 0 || (strcmp(form, "ended") == 0 && !hangs_up)) {
         is_over = true;
     }
 }

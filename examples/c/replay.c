@@ -1,6 +1,7 @@
 /* Replays an event file through the library and writes its output file: `replay < EVENTS > OUTPUTS`.
  * Both forms are in docs/FORMATS.md. The library reads the lines of events and writes those of
  * notices; the head, the rounds and the sends are this program's. */
+#define _POSIX_C_SOURCE 200809L
 #include "sip_ua.h"
 
 #include <stdio.h>

@@ -50,11 +50,11 @@ kind_of (Some to) = 1
 
 -- what C is told of the next output, with zeros where there is none
 abbrev pub told_of : Option NextOutput → Told
-told_of None = record { kind = 0; place = 0; to = address_of None; index = 0; len = 0 }
+told_of None = record { kind = 0; to = address_of None; place = 0; index = 0; len = 0 }
 told_of (Some next) = record {
   kind = kind_of next.to;
-  place = next.place;
   to = address_of next.to;
+  place = next.place;
   index = next.index;
   len = next.len;
 }

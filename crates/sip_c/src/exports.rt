@@ -1,4 +1,5 @@
-//! The functions that C calls. Each takes the agent out of its handle, calls it, and puts it back.
+//! The functions by which C begins, feeds, runs and ends an agent, and takes what it gives. Each
+//! takes the agent out of its handle, calls it, and puts it back; so do those of `questions`.
 
 ghost use Rattle.std.specs.Prelude.{◌≡◌, ℕ, IfSome, IsSome, List, None, Option, is_some, if◌then◌else◌};
 ghost use Rattle.sip_round.specs.Answers.{StandsFor};

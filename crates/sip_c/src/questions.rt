@@ -50,7 +50,7 @@ pub extern "C" fn sip_ua_raw_datagram_at(
     OK
 }
 
-/// What the start line of the datagram says that came in at a place of the last round.
+/// What the start line says of the datagram that came in at a place of the last round.
 #[unsafe(no_mangle)]
 pub extern "C" fn sip_ua_raw_start_line(
     alloc: Global,
@@ -81,7 +81,7 @@ pub extern "C" fn sip_ua_raw_start_line(
     }
 }
 
-/// The value of this number, from 0, of a header of the datagram that came in at a place of the last
+/// The value of a header by its number, from 0, in the datagram that came in at a place of the last
 /// round.
 #[unsafe(no_mangle)]
 pub extern "C" fn sip_ua_raw_header_value(

@@ -45,14 +45,14 @@ impl Configuration {
     }
 }
 
-/// An output: its kind, the place of the event that it comes of, where it goes if it is a send, its
+/// An output: its kind, where it goes if it is a send, the place of the event that it comes of, its
 /// index among those of the last round, and the length of its text in bytes.
 #[repr(C)]
 #[derive(Clone, Copy)]
 pub struct Told {
     pub kind: u32,
-    pub place: u32,
     pub to: Address,
+    pub place: u32,
     pub index: usize,
     pub len: usize,
 }
@@ -89,8 +89,8 @@ pub(crate) fn told_of(next: Option<NextOutput>) -> Told
     match next {
         None => Told {
             kind: 0,
-            place: 0,
             to: address_of(None),
+            place: 0,
             index: 0,
             len: 0,
         },
@@ -103,8 +103,8 @@ pub(crate) fn told_of(next: Option<NextOutput>) -> Told
             },
         ) => Told {
             kind: if to.is_some() { 1 } else { 2 },
-            place,
             to: address_of(to),
+            place,
             index,
             len,
         },
