@@ -26,9 +26,9 @@ struct Error : std::runtime_error {
 using Address = sip_ua_address;
 using Configuration = sip_ua_configuration;
 
-/// An output of a round: a datagram with the address that it goes to, or a line without one. `place`
-/// is that of the event that it comes of, from 1, or 0 where no event stands behind it: it comes with
-/// time, or is the request or the answer of a command.
+/// An output of a round: a datagram with the address that it goes to, or a line without one.
+/// `place` is that of the event that it comes of, from 1, or 0 where no event stands behind it: it
+/// comes with time, or is the request or the answer of a command.
 struct Output {
     std::size_t index;
     std::optional<Address> to;
@@ -87,8 +87,8 @@ public:
         check(sip_ua_event_line(&agent, line.empty() ? "" : line.data(), line.size()));
     }
 
-    /// The lines of an event as a session file has them, without the end of the last: a command with
-    /// its header lines before it.
+    /// The lines of an event as a session file has them, without the end of the last: a command
+    /// with its header lines before it.
     void event_lines(std::string_view lines) {
         check(sip_ua_event_lines(&agent, lines.empty() ? "" : lines.data(), lines.size()));
     }
@@ -141,7 +141,7 @@ public:
             },
             [&] { return start.method_len + start.len; });
         if (start.kind == SIP_UA_REQUEST)
-            return StartLine{text.substr(0, start.method_len), text.substr(start.method_len), 0, {}};
+            return StartLine{text.substr(0, start.method_len), text.substr(start.method_len), 0, ""};
         if (start.kind == SIP_UA_RESPONSE)
             return StartLine{{}, {}, start.status, text};
         return std::nullopt;

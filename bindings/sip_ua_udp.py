@@ -3,8 +3,8 @@
     endpoint = await open_endpoint("./libsip_ua.so", ("192.0.2.1", 5060), on_line)
     endpoint.command(b"plain c1 192.0.2.9:5060 OPTIONS sip:b@192.0.2.9 sip:a@192.0.2.1 ..")
 
-`on_line(line, place)` is told each notice and drop as a line without its end, after all that a round
-sends was sent. In it `endpoint.agent.start_line(place)` and `header_values(place, name)` read the
+`on_line(line, place)` is told each notice and drop as a line without its end, after all sends of its
+round. In it `endpoint.agent.start_line(place)` and `header_values(place, name)` read the
 datagram that it tells of; it may give commands, and close the endpoint. All is used from the thread
 of the event loop.
 """
@@ -53,7 +53,7 @@ class Endpoint(asyncio.DatagramProtocol):
             self._run_soon()
 
     def error_received(self, exc: OSError) -> None:
-        """A send failed, which is told while it is asked for, or the system tells of an earlier one."""
+        """A send failed: this is called within sendto, or later for one that the network refused."""
         self._has_failed = True
 
     def _run_soon(self) -> None:
@@ -94,7 +94,7 @@ async def open_endpoint(
     on_line: Callable[[bytes, int], None],
     seed: Optional[bytes] = None,
 ) -> Endpoint:
-    """An endpoint at this address, with a random seed if none is given. Port 0 is one that is free."""
+    """An endpoint at this address, with a random seed if none is given. Port 0 takes a free one."""
     transport, endpoint = await asyncio.get_running_loop().create_datagram_endpoint(
         lambda: Endpoint(on_line), local_addr=local
     )

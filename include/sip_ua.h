@@ -211,8 +211,8 @@ uint32_t sip_ua_raw_run(sip_ua *agent, uint64_t moment);
 uint32_t sip_ua_raw_next_output(sip_ua *agent, sip_ua_output *output, uint8_t *buffer, size_t room);
 uint32_t sip_ua_raw_next_due(sip_ua *agent, sip_ua_due *due);
 uint32_t sip_ua_raw_last_id(sip_ua *agent, sip_ua_id *id);
-uint32_t sip_ua_raw_datagram_at(sip_ua *agent, uint32_t place, sip_ua_arrival *arrival, uint8_t *buffer,
-                                size_t room);
+uint32_t sip_ua_raw_datagram_at(sip_ua *agent, uint32_t place, sip_ua_arrival *arrival,
+                                uint8_t *buffer, size_t room);
 uint32_t sip_ua_raw_start_line(sip_ua *agent, uint32_t place, sip_ua_start *start, uint8_t *buffer,
                                size_t room);
 uint32_t sip_ua_raw_header_value(sip_ua *agent, uint32_t place, const uint8_t *name,
