@@ -13,7 +13,6 @@ use Rattle.sip_headers.specs.Faults.{Decides, HasBadValue, HasBadHeader, HeaderC
 use Rattle.sip_message.specs.declared.header.Header.{Header}
 use Rattle.sip_headers.specs.Headers.{AreHeaders, Headers, IsOther}
 use Rattle.sip_headers.specs.HeaderLine.{IsHeaderLine}
-use Rattle.sip_headers.specs.Named.{IsSomeHeaderLine}
 use Rattle.sip_headers.specs.Presence.{presence_of, is_unfit, has_bad_header, missing, repeated}
 use Rattle.sip_headers.specs.Section.{has_bad_line, has_no_values, values}
 use Rattle.sip_headers.specs.declared.draft.Draft.{Draft}
@@ -22,7 +21,7 @@ use Rattle.sip_headers.proofs.FaultOrder.{first_more, first_behind, none_both, t
 use Rattle.sip_headers.proofs.FaultlessDrafts.{fault_from}
 use Rattle.sip_headers.proofs.HeaderSets.{complete_headers}
 use Rattle.sip_headers.proofs.KeptHeaders.{lines_are, no_good_lines, others_list_from}
-use Rattle.sip_headers.proofs.NamedLines.{named_of, same_others, same_values}
+use Rattle.sip_headers.proofs.NamedLines.{IsSomeHeaderLine, named_of, same_others, same_values}
 use Rattle.sip_headers.proofs.OthersFit.{others_fit}
 use Rattle.sip_headers.proofs.Presences.{fits, missing_is, repeated_is}
 use Rattle.sip_headers.proofs.UnfitValues.{unfit_value, fit_value}

@@ -17,9 +17,17 @@ use Rattle.sip_values.specs.declared.via.ViaDraft.{ViaDraft}
 use Rattle.sip_text.specs.Options.{◌>>=◌}
 use Rattle.sip_headers.specs.Complete.{slot_of, draft_with}
 use Rattle.sip_headers.specs.Headers.{Headers}
-use Rattle.sip_headers.specs.Numbers.{via_draft, rack_draft, headers_with, rack_words, port_words, number_words, are_numbers, known, known_slot, known_both, known_rack, known_port, port_of, numbers_in, via_with, rack_with, message_with}
+use Rattle.sip_headers.specs.Numbers.{via_draft, rack_draft, headers_with, number_words, are_numbers, known, known_slot, known_both, known_rack, known_port, port_of, numbers_in, via_with, rack_with, message_with}
 use Rattle.sip_headers.specs.declared.numbers.Numbers.{Numbers}
 use Rattle.sip_headers.specs.declared.slot.Slot.TheVariants.{Once}
+
+-- the two words of a RAck that are to be numbers
+abbrev rack_words : RAckDraft → List Numeral
+rack_words rack = rack.rseq ∷ (rack.cseq ∷ [])
+
+-- the ports of the Via values
+abbrev pub port_words : List ViaDraft → List Numeral
+port_words vias = flat_map (λ via. option_to_list via.port) vias
 
 -- ---- when there are numbers
 

@@ -8,7 +8,8 @@ use Rattle.sip_parts.specs.declared.header_name.HeaderName.TheVariants as name
 use Rattle.sip_values.proofs.Rows.{numeral_reads, party_reads, name_addrs_reads, vias_reads, tokens_reads, call_id_reads, cseq_reads, rack_reads}
 use Rattle.sip_headers.specs.Complete.{slot_of, draft_with, faultless}
 use Rattle.sip_headers.specs.Draft.{no_draft, draft_of}
-use Rattle.sip_headers.specs.Headers.{Headers, One, AtMostOne, Many, AreHeaders}
+use Rattle.sip_headers.specs.Headers.{Headers, One, AtMostOne, AreHeaders}
+use Rattle.sip_headers.specs.Slot.{Many}
 use Rattle.sip_headers.specs.Presence.{list_presence, is_nowhere, has_bad_header, missing, repeated}
 use Rattle.sip_headers.specs.Section.{values, others_of, IsDraftOf}
 use Rattle.sip_headers.specs.Slot.{met, listed, slot_from, list_from, IsSlot}

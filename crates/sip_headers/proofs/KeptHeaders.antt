@@ -12,12 +12,11 @@ use Rattle.sip_message.specs.declared.header.Header.{Header}
 use Rattle.sip_headers.specs.Draft.{long_name, other_from, no_draft, draft_of}
 use Rattle.sip_headers.specs.HeaderLine.{class_by_name, class_by_parts, line_from}
 use Rattle.sip_headers.specs.Headers.{IsOther}
-use Rattle.sip_headers.specs.Named.{IsSomeHeaderLine}
 use Rattle.sip_headers.specs.Section.{is_bad_class, has_bad_line, others_of}
 use Rattle.sip_headers.specs.Slot.{listed}
 use Rattle.sip_headers.specs.declared.draft.Draft.{Draft}
 use Rattle.sip_headers.proofs.Drafts.{fold-with_line}
-use Rattle.sip_headers.proofs.NamedLines.{line_reads}
+use Rattle.sip_headers.proofs.NamedLines.{IsSomeHeaderLine, line_reads}
 
 -- ---- header lines
 

@@ -1,4 +1,5 @@
 mod Names
+pub mod NamesApart
 pub mod Drafts
 pub mod Folds
 pub mod PlainLines

@@ -7,13 +7,18 @@ use Rattle.sip_text.specs.Token.{is_token}
 use Rattle.sip_text.specs.Trimmed.{trimmed, trimmed_end}
 use Rattle.sip_text.specs.declared.separator.Separator.TheVariants.{Byte}
 use Rattle.sip_text.proofs.ReadForms.{Reads, passing_reads, never_reads, of_reads, told_reads, both_reads, cut_reads}
-use Rattle.sip_parts.specs.HeaderEntry.{header_named}
+use Rattle.sip_parts.specs.HeaderEntry.{header_named, is_named}
 use Rattle.sip_parts.specs.HeaderValue.{has_no_line_byte}
 use Rattle.sip_parts.specs.declared.header_name.HeaderName.{HeaderName}
 use Rattle.sip_headers.specs.HeaderLine.{IsHeaderLine, class_by_name, class_by_parts, line_from}
 use Rattle.sip_headers.specs.Headers.{AreHeaders, AreRows, Headers}
-use Rattle.sip_headers.specs.Named.{IsSomeHeaderLine, is_name_of, is_same, others_in, values_of}
+use Rattle.sip_headers.specs.Named.{is_same, others_in, values_of}
+use Rattle.sip_headers.proofs.NamesApart.{named_by_table}
 use Rattle.sip_headers.specs.Section.{before_others, before_values, others_of, values}
+
+-- a header line of any name
+abbrev pub IsSomeHeaderLine : List ℕ → Type 0
+IsSomeHeaderLine line = (parts : List ℕ × List ℕ) × IsHeaderLine parts line
 
 pub line_reads : Reads (List ℕ) (List ℕ × List ℕ) line_from IsHeaderLine
 line_reads =
@@ -59,10 +64,12 @@ same_values (parts ∷ named) (line ∷ lines) all header =
     ap (λ o. before_values header (class_by_parts o) (values header lines))
     (line_reads.again line parts all.0)
     ∙ one_value header parts.0 parts.1 (values header lines) (header_named parts.0)
-    ∙ ap (λ vs. cond (is_name_of header parts.0) (parts.1 ∷ vs) vs)
+    ∙ ap (λ b. cond b (parts.1 ∷ values header lines) (values header lines))
+    (named_by_table header parts.0)
+    ∙ ap (λ vs. cond (is_named header parts.0) (parts.1 ∷ vs) vs)
     (same_values named lines all.1 header)
-    ∙ kept_value (is_name_of header parts.0) parts
-    (filter (λ line. is_name_of header line.0) named)
+    ∙ kept_value (is_named header parts.0) parts
+    (filter (λ line. is_named header line.0) named)
 
 -- ---- the headers of no entry of the table
 

@@ -17,6 +17,7 @@ use Rattle.sip_parts.proofs.BlankEnds.{ends_kept}
 use Rattle.sip_parts.specs.DisplayText.{is_display_text_byte, is_display_text}
 use Rattle.sip_parts.specs.HeaderValue.{has_no_blank_ends, has_no_line_byte}
 use Rattle.sip_parts.specs.PartyDisplay.{is_party_display_byte, is_party_display}
+use Rattle.sip_parts.specs.Tag.{has_good_tag}
 use Rattle.sip_parts.specs.Uri.{is_uri_byte, is_uri}
 use Rattle.sip_parts.specs.declared.parameter.Parameter.{Parameter}
 use Rattle.sip_message.specs.declared.name_addr.NameAddr.{NameAddr}
@@ -133,7 +134,7 @@ address_again : (is_display : List ℕ → Bool) (display uri : List ℕ) (ps : 
     → address.address_from is_display (shown_text display uri ps) ≡ Some (display, (uri, ps))
 address_again is_display display uri ps shown is all =
     ap (λ o. by_cut o (both (address.display_from is_display) address.bracketed_from)
-    (told address.without_display address.bare_from (shown_text display uri ps)))
+    (told (λ target. ([], target)) address.bare_from (shown_text display uri ps)))
     (cut_here (Byte 60) (display_part display) 60
     (uri ++ (62 ∷ parameters_text ps)) shown.passes refl)
     ∙ ap (λ o. option_and_then (λ x.
@@ -164,7 +165,7 @@ party_again party is =
     let shown = party_shown party.display is.display in
     moved (address_is party.display party.uri party.parameters) (record {
       read = ap (λ o. option_map address.party_of
-          (option_and_then (λ x. cond (address.has_address_tag x) (Some x) None) o))
+          (option_and_then (λ x. cond (has_good_tag x.1.1) (Some x) None) o))
           (address_again is_party_display party.display party.uri party.parameters shown is.uri
           is.parameters)
           ∙ ap (λ r. option_map address.party_of

@@ -11,7 +11,8 @@ use Rattle.sip_values.specs.Address.{AreNameAddrs, IsPartyText}
 use Rattle.sip_values.specs.Numeral.{IsNumeral}
 use Rattle.sip_values.specs.Sequence.{AreTokens, IsCallId, IsCSeqText, IsRAckText}
 use Rattle.sip_values.specs.ViaValue.{AreVias}
-use Rattle.sip_headers.specs.Named.{IsSomeHeaderLine, OfHeaderLines, values_of}
+use Rattle.sip_headers.specs.HeaderLine.{IsHeaderLine}
+use Rattle.sip_headers.specs.Named.{OfHeaderLines, values_of}
 use Rattle.sip_headers.specs.Slot.{HasBad}
 
 -- ---- the first of several faults
@@ -54,7 +55,7 @@ HasBadValue name.ContentLength values = HasBad IsNumeral values
 -- not every line is a header line, or a value isn't in its header's form
 abbrev pub HasBadHeader : List (List ℕ) → Type 0
 HasBadHeader lines =
-    (AllByRecursion IsSomeHeaderLine lines → ⊥)
+    (AllByRecursion (λ line. (parts : List ℕ × List ℕ) × IsHeaderLine parts line) lines → ⊥)
     ⊎ OfHeaderLines (λ named. (header : HeaderName) × HasBadValue header (values_of header named))
     lines
 

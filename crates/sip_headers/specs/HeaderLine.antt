@@ -12,17 +12,12 @@ use Rattle.sip_headers.specs.declared.header_line.LineClass.TheVariants as decla
 
 -- ---- one line
 
--- a token, and white space behind it
-abbrev pub NameText : List ℕ → List ℕ → Type 0
-NameText name text = Of (Passing is_token) trimmed_end name text
-
--- a text without CR and LF, and white space round it
-abbrev pub ValueText : List ℕ → List ℕ → Type 0
-ValueText value text = Told trimmed (Passing has_no_line_byte) value text
-
--- a name, a colon, and a value
+-- A name, a colon, and a value: the name is a token with white space behind it, the value a text
+-- without CR and LF, with white space round it.
 abbrev pub IsHeaderLine : List ℕ × List ℕ → List ℕ → Type 0
-IsHeaderLine parts line = OnCut (Byte 58) (Both NameText ValueText) Never parts line
+IsHeaderLine parts line =
+    OnCut (Byte 58) (Both (Of (Passing is_token) trimmed_end)
+    (Told trimmed (Passing has_no_line_byte))) Never parts line
 
 -- what reading a header line finds: the name and the value
 abbrev pub line_from : List ℕ → Option (List ℕ × List ℕ)

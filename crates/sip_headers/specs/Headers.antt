@@ -1,6 +1,6 @@
 -- The headers of a message: what its header lines say together, where each value is in its header's
 -- form and none is missing or stands too often (RFC 3261, sections 7.3 and 20).
-use Rattle.std.specs.Prelude.{◌≡◌, ℕ, IsTrue, List, [], ◌∷◌, Option, Some}
+use Rattle.std.specs.Prelude.{◌≡◌, ℕ, IsTrue, List, [], ◌∷◌, Option}
 use Rattle.std.specs.List.{AllZip}
 use Rattle.std.specs.Option.{option_to_list}
 use Rattle.sip_parts.specs.HeaderValue.{is_header_value}
@@ -20,7 +20,7 @@ use Rattle.sip_values.specs.declared.sequence.RAckDraft.{RAckDraft}
 use Rattle.sip_values.specs.declared.via.ViaDraft.{ViaDraft}
 use Rattle.sip_headers.specs.Draft.{long_name}
 use Rattle.sip_headers.specs.Named.{OfHeaderLines, others_in, values_of}
-use Rattle.sip_headers.specs.Slot.{IsList}
+use Rattle.sip_headers.specs.Slot.{Many}
 
 -- words in the places of numbers
 pub record Headers : Type 0 where
@@ -49,10 +49,6 @@ One P x values = AllZip P (x ∷ []) values
 -- one line with this value, or none
 abbrev pub AtMostOne : {X : Type 0} → (X → List ℕ → Type 0) → Option X → List (List ℕ) → Type 0
 AtMostOne P value values = AllZip P (option_to_list value) values
-
--- the lists of all lines, one after the other
-abbrev pub Many : {X : Type 0} → (List X → List ℕ → Type 0) → List X → List (List ℕ) → Type 0
-Many P xs values = IsList P (Some xs) values
 
 -- ---- a header that stays as it stands
 

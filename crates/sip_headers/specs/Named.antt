@@ -1,8 +1,7 @@
 -- Header lines by their names (RFC 3261, sections 7.3.1 and 7.3.3).
 use Rattle.std.specs.Prelude.{ℕ, Bool, true, false, List, map, is_none}
 use Rattle.std.specs.List.{AllZip, filter}
-use Rattle.std.specs.Option.{option_map_or}
-use Rattle.sip_parts.specs.HeaderEntry.{header_named}
+use Rattle.sip_parts.specs.HeaderEntry.{header_named, is_named}
 use Rattle.sip_parts.specs.declared.header_name.HeaderName.{HeaderName}
 use Rattle.sip_parts.specs.declared.header_name.HeaderName.TheVariants as name
 use Rattle.sip_headers.specs.HeaderLine.{IsHeaderLine}
@@ -25,21 +24,13 @@ is_same name.RAck name.RAck = true
 is_same name.ContentLength name.ContentLength = true
 is_same one another = false
 
--- the name is one of this header
-abbrev pub is_name_of : HeaderName → List ℕ → Bool
-is_name_of header name = option_map_or (is_same header) (header_named name) false
-
--- of header lines, each a name and a value: the values of one header, in order
+-- of header lines, each a name and a value: the values under the names of one header, in order
 abbrev pub values_of : HeaderName → List (List ℕ × List ℕ) → List (List ℕ)
-values_of header named = map (λ line. line.1) (filter (λ line. is_name_of header line.0) named)
+values_of header named = map (λ line. line.1) (filter (λ line. is_named header line.0) named)
 
 -- those whose names are of no header of the table, in order
 abbrev pub others_in : List (List ℕ × List ℕ) → List (List ℕ × List ℕ)
 others_in named = filter (λ line. is_none (header_named line.0)) named
-
--- a header line of any name
-abbrev pub IsSomeHeaderLine : List ℕ → Type 0
-IsSomeHeaderLine line = (parts : List ℕ × List ℕ) × IsHeaderLine parts line
 
 -- all lines are header lines, and of their names and values this holds
 abbrev pub OfHeaderLines : (List (List ℕ × List ℕ) → Type 0) → List (List ℕ) → Type 0

@@ -55,19 +55,11 @@ headers_with m length = record {
 
 -- ---- words in the places of numbers
 
--- the two words of a RAck that are to be numbers
-abbrev pub rack_words : RAckDraft → List Numeral
-rack_words rack = rack.rseq ∷ (rack.cseq ∷ [])
-
--- the ports of the Via values
-abbrev pub port_words : List ViaDraft → List Numeral
-port_words vias = flat_map (λ via. option_to_list via.port) vias
-
--- the numbers of the other headers
+-- the numbers of the headers but those of the Via values
 abbrev pub number_words : Headers → List Numeral
 number_words h =
     h.cseq.number ∷ (option_to_list h.max_forwards
-    ++ (option_to_list h.rseq ++ (flat_map rack_words (option_to_list h.rack)
+    ++ (option_to_list h.rseq ++ (flat_map (λ rack. rack.rseq ∷ (rack.cseq ∷ [])) (option_to_list h.rack)
     ++ option_to_list h.content_length)))
 
 -- the number
@@ -82,7 +74,7 @@ port_of word = known word >>= λ n. if nat_lt 65535 n then None else Some n
 -- the word of each port is a port, and each other word a number
 abbrev pub are_numbers : Headers → Bool
 are_numbers h =
-    list_all (λ word. is_some (port_of word)) (port_words h.vias)
+    list_all (λ word. is_some (port_of word)) (flat_map (λ via. option_to_list via.port) h.vias)
     && list_all (λ word. is_some (known word)) (number_words h)
 
 -- ---- the numbers, read

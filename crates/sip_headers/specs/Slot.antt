@@ -37,9 +37,13 @@ IsSlot P (Once x) values = AllZip P (x ∷ []) values
 IsSlot {X = X} P Twice values = (xs : List X) × AllZip P xs values × (2 ≤ length values)
 IsSlot P Bad values = HasBad P values
 
+-- the lists of all lines, one after the other
+abbrev pub Many : {X : Type 0} → (List X → List ℕ → Type 0) → List X → List (List ℕ) → Type 0
+Many {X = X} P xs values =
+    (lists : List (List X)) × AllZip P lists values × (xs ≡ flat_map (λ list. list) lists)
+
 -- several lines are one list, in order
 abbrev pub IsList : {X : Type 0} → (List X → List ℕ → Type 0) → Option (List X) → List (List ℕ)
     → Type 0
 IsList P None values = HasBad P values
-IsList {X = X} P (Some xs) values =
-    (lists : List (List X)) × AllZip P lists values × (xs ≡ flat_map (λ list. list) lists)
+IsList P (Some xs) values = Many P xs values

@@ -2,6 +2,7 @@
 
 ghost use Rattle.std.specs.Prelude.{◌≡◌, ◌++◌, take, IfOk, IsTrue, OnOk};
 ghost use Rattle.std.specs.List.{list_all};
+ghost use Rattle.sip_reader.specs.ReadMessage.{Gives, message_at};
 ghost use Rattle.sip_ladder.specs.Label as spec;
 
 use sip_message::{Message, ReadFault, StartLine};
@@ -26,11 +27,17 @@ pub(crate) fn of_datagram(alloc: Global, bytes: &[u8], is_again: bool) -> Result
     ensures printable { IfOk result (λ label. IsTrue (list_all spec.is_printable label)) }
     ensures label { IfOk result (λ label. label ≡ spec.datagram_label bytes.now is_again) }
 {
-    match read(alloc, bytes) {
+    match read_datagram(alloc, bytes) {
         Ok(message) => of_message(alloc, &message, is_again),
         Err(ReadFault::NoMemory) => Err(AllocError),
         Err(_) => unread(alloc, bytes, is_again),
     }
+}
+
+fn read_datagram(alloc: Global, bytes: &[u8]) -> Result<Message, ReadFault>
+    ensures { Gives result (message_at bytes.now) }
+{
+    read(alloc, bytes)
 }
 
 /// The fields of a line, of which the long ones are cut.

@@ -302,7 +302,7 @@ first_fault text = by_size text (ltb 65535 (length text)) refl
 
 -- ---- a message has no fault
 
-none_first : (C : ReadFault → Type 0) (es : List ReadFault) (e : ReadFault) → NoneHolds C es
+pub none_first : (C : ReadFault → Type 0) (es : List ReadFault) (e : ReadFault) → NoneHolds C es
     → IsFirst C es e → ⊥
 none_first C [] e none is = is
 none_first C (f ∷ es) e none (inl here) = none.0 here.1

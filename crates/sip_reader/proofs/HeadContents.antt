@@ -7,7 +7,8 @@ use Rattle.sip_parts.specs.declared.header_name.HeaderName.{HeaderName}
 use Rattle.sip_parts.specs.declared.header_name.HeaderName.TheVariants as table
 use Rattle.sip_message.specs.Content.{Content, contacts_of_content, with_content_of, with_type_of}
 use Rattle.sip_message.specs.declared.message.Message.{Message}
-use Rattle.sip_headers.specs.Headers.{AreRows, Headers, Many}
+use Rattle.sip_headers.specs.Headers.{AreRows, Headers}
+use Rattle.sip_headers.specs.Slot.{Many}
 use Rattle.sip_headers.specs.Named.{others_in}
 use Rattle.sip_headers.specs.Numbers.{headers_with}
 use Rattle.sip_values.specs.Address.{AreNameAddrs, IsPartyText}

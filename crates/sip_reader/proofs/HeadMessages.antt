@@ -5,7 +5,7 @@ use Rattle.std.specs.List.{AllZip, cons_option, filter, filter_map}
 use Rattle.std.specs.Option.{option_map_or}
 use Rattle.std.specs.Str.{str_eq_ignore_ascii_case}
 use Rattle.sip_text.proofs.ReadForms.{only_one}
-use Rattle.sip_parts.specs.HeaderEntry.{entry, header_named}
+use Rattle.sip_parts.specs.HeaderEntry.{entry, header_named, is_named}
 use Rattle.sip_parts.proofs.HeaderNames.{long_names}
 use Rattle.sip_parts.specs.declared.header_name.HeaderName.{HeaderName}
 use Rattle.sip_message.specs.declared.header.Header.{Header}
@@ -13,9 +13,10 @@ use Rattle.sip_message.specs.declared.message.Message.{Message}
 use Rattle.sip_headers.specs.Draft.{long_name}
 use Rattle.sip_headers.specs.HeaderLine.{IsHeaderLine}
 use Rattle.sip_headers.specs.Headers.{AreRows, IsOther}
-use Rattle.sip_headers.specs.Named.{is_name_of, is_same, others_in, values_of}
+use Rattle.sip_headers.specs.Named.{is_same, others_in, values_of}
 use Rattle.sip_headers.specs.Numbers.{headers_with}
 use Rattle.sip_headers.proofs.NamedLines.{line_reads}
+use Rattle.sip_headers.proofs.NamesApart.{named_by_table}
 use Rattle.sip_reader.specs.Head.{BeginsWith, HasValues, IsFirst, OrNone, is_same_header, is_same_entry, value_under, first_of}
 use Rattle.sip_reader.specs.Spells.{Spells}
 use Rattle.sip_reader.specs.declared.first_line.FirstLine.{FirstLine}
@@ -157,9 +158,9 @@ under_known name header e (parts ∷ named) =
     cons_option (cond (is_same_entry o (header_named parts.0) same) (Some parts.1) None)
     (under name named)) e
     ∙ ap (λ (b : Bool). cons_option (cond b (Some parts.1) None) (under name named))
-    (same_known header (header_named parts.0) same)
-    ∙ kept_known (is_name_of header parts.0) parts (under name named)
-    (filter (λ line. is_name_of header line.0) named)
+    (same_known header (header_named parts.0) same ∙ named_by_table header parts.0)
+    ∙ kept_known (is_named header parts.0) parts (under name named)
+    (filter (λ line. is_named header line.0) named)
     (under_known name header e named)
 
 pub known_said : (text : List ℕ) (m : Message) (values : HeaderName → List (List ℕ))

@@ -11,12 +11,12 @@ use Rattle.sip_headers.specs.Folding.{folded_onto, whole_lines}
 use Rattle.sip_headers.specs.Steps.Drafted.{lines_at, onto_lines}
 use Rattle.sip_headers.proofs.Folds.{line_onto, none_onto}
 use Rattle.sip_reader.specs.Head.{BeginsWith, OrNone, IsFirst, IsHead, from_full, is_full}
-use Rattle.sip_reader.specs.Layout.{IsFull, Lays}
+use Rattle.sip_reader.specs.Layout.{Lays}
 use Rattle.sip_reader.specs.ReadHead.{first_at, head_at}
 use Rattle.sip_reader.specs.ReadStart.{start_at}
 use Rattle.sip_reader.specs.SkippedEnds.{without_line_ends}
 use Rattle.sip_reader.specs.declared.first_line.FirstLine.{FirstLine}
-use Rattle.sip_reader.proofs.Layouts.{NoEnd, after_shorter, empty_line, skips}
+use Rattle.sip_reader.proofs.Layouts.{IsFull, NoEnd, after_shorter, empty_line, skips}
 use Rattle.sip_reader.proofs.StartLines.{start_reads}
 use Rattle.sip_reader.proofs.Unfolding.{found_first, not_ended}
 

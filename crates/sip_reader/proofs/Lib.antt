@@ -16,3 +16,4 @@ pub mod Heads
 pub mod HeadValues
 pub mod HeadMessages
 pub mod HeadContents
+pub mod Exactly

@@ -16,8 +16,8 @@ use Rattle.sip_values.specs.declared.numeral.Numeral.{Numeral}
 use Rattle.sip_values.specs.declared.numeral.Numeral.TheVariants.{Number}
 use Rattle.sip_headers.specs.Complete.{draft_with, faultless}
 use Rattle.sip_headers.specs.Draft.{no_draft}
-use Rattle.sip_headers.specs.Numbers.{via_draft, rack_draft, headers_with, port_words, are_numbers}
-use Rattle.sip_headers.proofs.HeaderNumbers.{is_number, is_port}
+use Rattle.sip_headers.specs.Numbers.{via_draft, rack_draft, headers_with, are_numbers}
+use Rattle.sip_headers.proofs.HeaderNumbers.{is_number, is_port, port_words}
 use Rattle.sip_headers.specs.declared.draft.Draft.{Draft}
 use Rattle.sip_headers.specs.declared.slot.Slot.TheVariants.{Absent}
 use Rattle.sip_headers.proofs.Folds.{ends_here}

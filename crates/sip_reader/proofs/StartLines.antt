@@ -1,5 +1,5 @@
 -- Start lines are read as they are spelled.
-use Rattle.std.proofs.Common.{◌≡◌, inl, inr, ℕ, ◌^◌, ◌<◌, ◌≤◌, Bool, true, false, cond, eqb, ltb, ◌&&◌, ◌||◌, List, [], ◌∷◌, ◌++◌, length, take, drop, codes, Some, None, Result, Ok, Err, refl, sym, ap, subst, ◌∙◌, arith, Option}
+use Rattle.std.proofs.Common.{◌≡◌, ◌⊎◌, inl, inr, ℕ, ◌^◌, ◌<◌, ◌≤◌, Bool, true, false, cond, eqb, ltb, ◌&&◌, ◌||◌, List, [], ◌∷◌, ◌++◌, length, take, drop, codes, Some, None, Result, Ok, Err, refl, sym, ap, subst, ◌∙◌, arith, Option}
 use Rattle.std.specs.Char.{is_ascii_digit}
 use Rattle.std.specs.Str.{all_ascii_digits}
 use Rattle.std.specs.Str.Parse.{digits_value}
@@ -20,11 +20,15 @@ use Rattle.sip_text.proofs.ReadForms.{Reads}
 use Rattle.sip_text.specs.Options.{◌>>=◌}
 use Rattle.sip_reader.specs.ReadStart.{request_at, code_in, code_at, reason_at, status_at, start_at}
 use Rattle.sip_reader.specs.Head.{SpellsFirst}
-use Rattle.sip_reader.specs.StartLine.{is_version, IsStatusCode, IsReasonPart}
+use Rattle.sip_reader.specs.StartLine.{is_version, IsStatusCode}
 use Rattle.sip_values.proofs.Characters.{same_lower, lower_without, token_without, no_space, no_slash, word_without_space}
 use Rattle.sip_values.proofs.Cuts.{at_takes, at_again, run_all}
 use Rattle.sip_values.proofs.Digits.{is_number, all_digits, number_is, number_again}
 use Rattle.sip_values.proofs.Pieces.{guard_some, by_bool}
+
+-- a space and the reason, or nothing
+abbrev IsReasonPart : List ℕ → List ℕ → Type 0
+IsReasonPart reason text = (text ≡ 32 ∷ reason) ⊎ ((text ≡ []) × (reason ≡ []))
 
 -- a step that gave a value
 bind_some : {A B : Type 0} (o : Option A) (f : A → Option B) (y : B) → (o >>= f) ≡ Some y

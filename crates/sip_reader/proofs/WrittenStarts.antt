@@ -9,7 +9,7 @@ use Rattle.sip_text.specs.Token.{is_token}
 use Rattle.sip_message.specs.declared.start_line.StartLine.{StartLine}
 use Rattle.sip_message.specs.declared.start_line.StartLine.TheVariants as start
 use Rattle.sip_message.specs.Written.{start_text}
-use Rattle.sip_reader.specs.Layout.{IsFull}
+use Rattle.sip_reader.proofs.Layouts.{IsFull}
 use Rattle.sip_message.specs.Rules.{IsStartLine}
 use Rattle.sip_reader.specs.StartLine.{SpellsStart, IsStatusCode}
 use Rattle.sip_reader.proofs.StartLines.{is_three}

@@ -6,10 +6,6 @@ use Rattle.std.specs.List.{AllByRecursion}
 use Rattle.sip_text.specs.Lines.{IsLines}
 use Rattle.sip_headers.specs.Folding.{whole_lines}
 
--- a line that isn't empty
-abbrev pub IsFull : List ℕ → Type 0
-IsFull line = line ≡ [] → ⊥
-
 -- Empty lines that are skipped, the start line, the header lines, the empty line that ends them,
 -- and the rest. A line that begins with white space goes on with the line before it.
 pub record Lays (text start : List ℕ) (lines : List (List ℕ)) (rest : List ℕ) : Type 0 where
@@ -17,6 +13,6 @@ pub record Lays (text start : List ℕ) (lines : List (List ℕ)) (rest : List �
   pub first : List ℕ
   pub more : List (List ℕ)
   pub parts : IsLines text (replicate skipped [] ++ (first ∷ (more ++ ([] ∷ [])))) rest
-  pub first_is : IsFull first
-  pub more_are : AllByRecursion IsFull more
+  pub first_is : first ≡ [] → ⊥
+  pub more_are : AllByRecursion (λ line. line ≡ [] → ⊥) more
   pub whole : start ∷ lines ≡ whole_lines (first ∷ more)

@@ -29,12 +29,8 @@ pub record IsStatusCode (status : ℕ) (text : List ℕ) : Type 0 where
   pub least : 100 ≤ status
   pub most : status ≤ 699
 
--- A space and the reason. Where the reason is empty the space may be missing, which is this
--- project's choice.
-abbrev pub IsReasonPart : List ℕ → List ℕ → Type 0
-IsReasonPart reason text = (text ≡ 32 ∷ reason) ⊎ ((text ≡ []) × (reason ≡ []))
-
--- the version, a space, the status code and the reason
+-- The version, a space, the status code, a space and the reason. Where the reason is empty the space
+-- before it may be missing, which is this project's choice.
 pub record IsStatusLine (status : ℕ) (reason line : List ℕ) : Type 0 where
   pub version : List ℕ
   pub code : List ℕ
@@ -42,7 +38,7 @@ pub record IsStatusLine (status : ℕ) (reason line : List ℕ) : Type 0 where
   pub parts : line ≡ version ++ (32 ∷ (code ++ end))
   pub version_is : IsTrue (is_version version)
   pub code_is : IsStatusCode status code
-  pub end_is : IsReasonPart reason end
+  pub end_is : (end ≡ 32 ∷ reason) ⊎ ((end ≡ []) × (reason ≡ []))
   pub reason_is : IsTrue (is_reason reason)
 
 -- The line is this start line; a request's method is given beside it.

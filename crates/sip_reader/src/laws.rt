@@ -9,8 +9,9 @@ ghost use Rattle.sip_parts.specs.declared.header_name.HeaderName.TheVariants as 
 ghost use Rattle.sip_values.specs.Address.{AreNameAddrs};
 ghost use Rattle.sip_values.specs.Sequence.{AreTokens};
 ghost use Rattle.sip_headers.specs.Faults.{Decides};
-ghost use Rattle.sip_headers.specs.Headers.{AreRows, Many};
+ghost use Rattle.sip_headers.specs.Headers.{AreRows};
 ghost use Rattle.sip_headers.specs.Numbers.{headers_with};
+ghost use Rattle.sip_headers.specs.Slot.{Many};
 ghost use Rattle.sip_message.specs.Content.{Content, contacts_of_content, with_type_of};
 ghost use Rattle.sip_message.specs.declared.fault.ReadFault.{ReadFault};
 ghost use Rattle.sip_message.specs.declared.message.Message.{Message};

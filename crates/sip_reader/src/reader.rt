@@ -30,8 +30,6 @@ pub fn read(alloc: Global, text: &[u8]) -> Result<Message, ReadFault>
     ensures only { (message : Message) → Spells message text.now → Answers result message }
     // A fault is the first whose condition holds.
     ensures fault { IfErr result (λ fault. TellsFault fault text.now) }
-    // So it is what reading from left to right gives.
-    ensures exact { reading.Gives result (reading.message_at text.now) }
 {
     read_text(alloc, text)
 }

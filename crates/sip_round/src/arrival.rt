@@ -1,7 +1,7 @@
 //! What an event is to the transactions and the calls: its input is set out, and the rest waits.
 
 ghost use Rattle.std.specs.Prelude.{◌≡◌, ◌++◌, IfOk, OnOk};
-ghost use Rattle.sip_reader.specs.ReadMessage.{message_at};
+ghost use Rattle.sip_reader.specs.ReadMessage.{Gives, message_at};
 ghost use Rattle.sip_round.specs.Arrivals as arrival;
 ghost use Rattle.sip_round.specs.Arrivals.{arrival_of, datagram_arrival, message_arrival};
 ghost use Rattle.sip_round.specs.Phases.{transaction_item};
@@ -51,11 +51,17 @@ fn set_out_datagram(
     ensures left { IfOk result (λ left. left
         ≡ waiting_of (datagram_arrival local id from (message_at bytes.now))) }
 {
-    match read(alloc, bytes) {
+    match read_datagram(alloc, bytes) {
         Ok(message) => set_out_message(alloc, local, id, from, message, items),
         Err(ReadFault::NoMemory) => Err(AllocError),
         Err(fault) => Ok(Waiting::Dropped(DropReason::Unreadable(fault))),
     }
+}
+
+fn read_datagram(alloc: Global, bytes: &[u8]) -> Result<Message, ReadFault>
+    ensures { Gives result (message_at bytes.now) }
+{
+    read(alloc, bytes)
 }
 
 // The source is stamped on requests alone.

@@ -1,5 +1,5 @@
 -- Each value of a header is read as it stands in its form: the proof is composed as the form is.
-use Rattle.std.proofs.Common.{ℕ, Bool, List, codes}
+use Rattle.std.proofs.Common.{ℕ, Bool, List, [], codes}
 use Rattle.sip_text.specs.Forms.{Guarded}
 use Rattle.sip_text.specs.Token.{is_token}
 use Rattle.sip_text.specs.Trimmed.{trimmed}
@@ -8,6 +8,7 @@ use Rattle.sip_text.proofs.ParameterForms.{parameter_reads, parameters_reads}
 use Rattle.sip_text.proofs.ReadForms.{Reads, passing_reads, never_reads, or_empty_reads, of_reads, guarded_reads, checked_reads, told_reads, behind_reads, both_reads, cut_reads, split_reads}
 use Rattle.sip_parts.specs.DisplayText.{is_display_text}
 use Rattle.sip_parts.specs.Host.{is_host}
+use Rattle.sip_parts.specs.Tag.{has_good_tag}
 use Rattle.sip_parts.specs.PartyDisplay.{is_party_display}
 use Rattle.sip_parts.specs.Uri.{is_uri}
 use Rattle.sip_parts.specs.Word.{is_word}
@@ -51,18 +52,18 @@ bracketed_reads = cut_reads (Byte 62) (both_reads uri_reads all_reads) never_rea
 
 bare_reads : Reads (List ℕ) address.Target address.bare_from address.Bare
 bare_reads = cut_reads (Byte 59) (both_reads uri_reads many_reads)
-    (told_reads address.without_parameters uri_reads)
+    (told_reads (λ uri. (uri, [])) uri_reads)
 
 address_reads : (is_display : List ℕ → Bool)
     → Reads (List ℕ) (List ℕ × address.Target) (address.address_from is_display)
     (address.Address is_display)
 address_reads is_display =
     cut_reads (Byte 60) (both_reads (of_reads trimmed (passing_reads is_display)) bracketed_reads)
-    (told_reads address.without_display bare_reads)
+    (told_reads (λ target. ([], target)) bare_reads)
 
 pub party_reads : Reads (List ℕ) Party address.party_from address.IsPartyText
 party_reads = told_reads address.party_of
-    (checked_reads address.has_address_tag (address_reads is_party_display))
+    (checked_reads (λ address. has_good_tag address.1.1) (address_reads is_party_display))
 
 name_addr_reads : Reads (List ℕ) NameAddr address.name_addr_from address.IsNameAddr
 name_addr_reads = told_reads address.name_addr_of (address_reads is_display_text)

@@ -39,19 +39,15 @@ Bracketed target text = OnCut (Byte 62) (Both UriText AllParameters) Never targe
 abbrev pub bracketed_from : List ℕ → Option Target
 bracketed_from text = on_cut (Byte 62) (both uri_from all_parameters) never text
 
--- a URI alone
-abbrev pub without_parameters : List ℕ → Target
-without_parameters uri = (uri, [])
-
 -- A URI alone, and parameters. All that stands behind the first semicolon belongs to the header.
 abbrev pub Bare : Target → List ℕ → Type 0
 Bare target text =
-    OnCut (Byte 59) (Both UriText ManyParameters) (Told without_parameters UriText) target text
+    OnCut (Byte 59) (Both UriText ManyParameters) (Told (λ uri. (uri, [])) UriText) target text
 
 -- what reading an address without brackets finds
 abbrev pub bare_from : List ℕ → Option Target
 bare_from text =
-    on_cut (Byte 59) (both uri_from many_parameters) (told without_parameters uri_from) text
+    on_cut (Byte 59) (both uri_from many_parameters) (told (λ uri. (uri, [])) uri_from) text
 
 -- the display text before `<`, with blanks allowed round it
 abbrev pub Display : (List ℕ → Bool) → List ℕ → List ℕ → Type 0
@@ -61,20 +57,16 @@ Display is_display display text = Of (Passing is_display) trimmed display text
 abbrev pub display_from : (List ℕ → Bool) → List ℕ → Option (List ℕ)
 display_from is_display text = reading_of (passing is_display) trimmed text
 
--- an address without display text
-abbrev pub without_display : Target → List ℕ × Target
-without_display target = ([], target)
-
 -- a display text, `<`, a URI, `>` and parameters; or a URI alone and parameters
 abbrev pub Address : (List ℕ → Bool) → List ℕ × Target → List ℕ → Type 0
 Address is_display address text =
-    OnCut (Byte 60) (Both (Display is_display) Bracketed) (Told without_display Bare) address text
+    OnCut (Byte 60) (Both (Display is_display) Bracketed) (Told (λ target. ([], target)) Bare) address text
 
 -- what reading an address finds
 abbrev pub address_from : (List ℕ → Bool) → List ℕ → Option (List ℕ × Target)
 address_from is_display text =
     on_cut (Byte 60) (both (display_from is_display) bracketed_from)
-    (told without_display bare_from) text
+    (told (λ target. ([], target)) bare_from) text
 
 -- ---- From and To
 
@@ -82,18 +74,14 @@ address_from is_display text =
 abbrev pub party_of : List ℕ × Target → Party
 party_of address = record { display = address.0; uri = address.1.0; parameters = address.1.1 }
 
--- the first parameter `tag`, where there is one, has a token
-abbrev pub has_address_tag : List ℕ × Target → Bool
-has_address_tag address = has_good_tag address.1.1
-
 -- the value of a From or a To, whose tag is a token
 abbrev pub IsPartyText : Party → List ℕ → Type 0
 IsPartyText party text =
-    Told party_of (Checked has_address_tag (Address is_party_display)) party text
+    Told party_of (Checked (λ address. has_good_tag address.1.1) (Address is_party_display)) party text
 
 -- what reading it finds
 abbrev pub party_from : List ℕ → Option Party
-party_from text = told party_of (checked has_address_tag (address_from is_party_display)) text
+party_from text = told party_of (checked (λ address. has_good_tag address.1.1) (address_from is_party_display)) text
 
 -- ---- Contact, Route and Record-Route
 

@@ -1,20 +1,16 @@
 -- Words in the place of a number (RFC 3261, section 25.1).
-use Rattle.std.specs.Prelude.{ℕ, List, Option, Result, Ok, Err}
+use Rattle.std.specs.Prelude.{ℕ, List, Option}
+use Rattle.std.specs.Option.{option_map_or}
+use Rattle.std.specs.Result.{result_ok}
 use Rattle.sip_text.specs.Forms.{Passing, passing, Told, told}
 use Rattle.sip_text.specs.Number.{number_of}
-use Rattle.sip_text.specs.declared.fault.TextFault.{TextFault}
 use Rattle.sip_parts.specs.Word.{is_word}
 use Rattle.sip_values.specs.declared.numeral.Numeral.{Numeral}
 use Rattle.sip_values.specs.declared.numeral.Numeral.TheVariants.{Number, NotANumber}
 
--- the number that reading gave, or that there is none
-abbrev pub as_numeral : Result ℕ TextFault → Numeral
-as_numeral (Ok number) = Number number
-as_numeral (Err fault) = NotANumber
-
--- the number that a word of digits stands for
+-- the number that a word of digits stands for, or that it stands for none
 abbrev pub numeral : List ℕ → Numeral
-numeral word = as_numeral (number_of word)
+numeral word = option_map_or Number (result_ok (number_of word)) NotANumber
 
 -- a word without white space, and the number that it stands for, if any
 abbrev pub IsNumeral : Numeral → List ℕ → Type 0

@@ -37,10 +37,6 @@ abbrev pub IsPortPart : Option Numeral → List ℕ → Type 0
 IsPortPart None text = text ≡ []
 IsPortPart (Some port) text = IsPort port text
 
--- each quoted string has its end
-abbrev pub is_closed : List ℕ → Bool
-is_closed text = not (has_open_quote text)
-
 -- One Via value: `SIP`, a slash, `2.0`, a slash, the transport, white space, the host, and the port
 -- and the parameters where they are given.
 pub record IsVia (via : ViaDraft) (text : List ℕ) : Type 0 where
@@ -62,7 +58,7 @@ pub record IsVia (via : ViaDraft) (text : List ℕ) : Type 0 where
   pub host_is : IsTrue (is_host via.host)
   pub port_is : IsPortPart via.port port
   pub parameters_is : AllParameters via.parameters parameters
-  pub quotes_end : IsTrue (is_closed text)
+  pub quotes_end : IsTrue (not (has_open_quote text))
 
 -- Via values between commas, which count outside quotes and angle brackets
 abbrev pub AreVias : List ViaDraft → List ℕ → Type 0
@@ -102,6 +98,10 @@ sent_by_now sent_by = (sent_by.0.now, sent_by.1)
 -- a sent-by without parameters
 abbrev pub sent_by_alone : SentBy → SentBy × List Parameter
 sent_by_alone sent_by = (sent_by, [])
+
+-- each quoted string has its end
+abbrev pub is_closed : List ℕ → Bool
+is_closed text = not (has_open_quote text)
 
 -- what reading a sent-by and its parameters finds
 abbrev pub end_from : List ℕ → Option (SentBy × List Parameter)

@@ -1,0 +1,5 @@
+use Rattle.sip_reader.proofs.Exactly.{exactly}
+use Rattle.sip_round.proofs.arrival.read_datagram.Goals as goal
+
+pub returns : goal.returns
+returns c = exactly c.args.bytes.now c.read.result c.read.ensures.found c.read.ensures.fault
