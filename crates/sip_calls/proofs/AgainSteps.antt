@@ -23,9 +23,11 @@ use Rattle.sip_clients.proofs.AgainSides.{response_again}
 use Rattle.sip_clients.proofs.Hearing.{heard_in_order}
 use Rattle.sip_calls.specs.declared.call.Call.{Call}
 use Rattle.sip_calls.specs.declared.calls.Calls.{Calls}
-use Rattle.sip_calls.specs.Call.{CallItem, call_step, command_taken, event_of, first_command_taken, kept, lost_taken, new_call, up_taken}
+use Rattle.sip_calls.specs.Call.{Taken, CallItem, call_step, event_of, kept, new_call}
 use Rattle.sip_calls.specs.Provisionals.{EventsDiffer, came, done, event_in, event_of_kind, number_in, number_in_life, number_up, shown, side_held}
-use Rattle.sip_calls.specs.Sides.{CallTaken, side_of, ticked}
+use Rattle.sip_calls.specs.Sides.{CallTaken, side_of}
+use Rattle.sip_calls.specs.Steps.Call.{step_taken, command_taken, first_command_taken, lost_taken, ticked, up_taken}
+use Rattle.sip_calls.proofs.SameSteps.{same_step}
 use Rattle.sip_calls.proofs.KeptSides.{kept_side}
 
 module _ (life : DialogLife) (invite : Id) where
@@ -146,34 +148,44 @@ module _ (life : DialogLife) (invite : Id) where
       subst (λ (side : Side). Result event number before side taken.1)
       (sym (kept_side taken.0)) step
 
+  by_input_taken : (calls : Calls) (state : Option Call) (input : Option CallItem) (now : ℕ)
+      → AreApart (side_held state).clients → Once (event_in input) (side_held state).clients
+      → KeptStep (event_in input)
+      (number_in (InTheDialog invite) life input (side_held state)) (side_held state).clients
+      (step_taken calls state input now)
+  by_input_taken calls None None now apart once =
+      silent None [] (side_held None) [] (keeps_same life invite None [] apart)
+  by_input_taken calls (Some call) None now apart once =
+      kept_step None None call.clients (ticked call now) (tick_step call now apart)
+  by_input_taken calls None (Some (id, Up up)) now apart once =
+      let call = new_call calls.local in
+      kept_step (event_of_kind id up.kind)
+      (number_up (InTheDialog invite) life up.id up.kind (side_of call)) call.clients
+      (up_taken call (event_of calls id now) up up.kind)
+      (up_step call calls id now up up.kind apart once)
+  by_input_taken calls None (Some (id, User command)) now apart once =
+      let call = new_call calls.local in
+      kept_step (Some id) None call.clients
+      (first_command_taken call (event_of calls id now) command)
+      (first_command_step call calls id now command apart)
+  by_input_taken calls (Some call) (Some (id, Up up)) now apart once =
+      kept_step (event_of_kind id up.kind)
+      (number_up (InTheDialog invite) life up.id up.kind (side_of call)) call.clients
+      (up_taken call (event_of calls id now) up up.kind)
+      (up_step call calls id now up up.kind apart once)
+  by_input_taken calls (Some call) (Some (id, User command)) now apart once =
+      kept_step (Some id) None call.clients (command_taken call (event_of calls id now) command)
+      (command_step call calls id now command apart)
+
   by_input : (calls : Calls) (state : Option Call) (input : Option CallItem) (now : ℕ)
       → AreApart (side_held state).clients → Once (event_in input) (side_held state).clients
       → KeptStep (event_in input)
       (number_in (InTheDialog invite) life input (side_held state)) (side_held state).clients
       (call_step calls state input now)
-  by_input calls None None now apart once =
-      silent None [] (side_held None) [] (keeps_same life invite None [] apart)
-  by_input calls (Some call) None now apart once =
-      kept_step None None call.clients (ticked call now) (tick_step call now apart)
-  by_input calls None (Some (id, Up up)) now apart once =
-      let call = new_call calls.local in
-      kept_step (event_of_kind id up.kind)
-      (number_up (InTheDialog invite) life up.id up.kind (side_of call)) call.clients
-      (up_taken call (event_of calls id now) up up.kind)
-      (up_step call calls id now up up.kind apart once)
-  by_input calls None (Some (id, User command)) now apart once =
-      let call = new_call calls.local in
-      kept_step (Some id) None call.clients
-      (first_command_taken call (event_of calls id now) command)
-      (first_command_step call calls id now command apart)
-  by_input calls (Some call) (Some (id, Up up)) now apart once =
-      kept_step (event_of_kind id up.kind)
-      (number_up (InTheDialog invite) life up.id up.kind (side_of call)) call.clients
-      (up_taken call (event_of calls id now) up up.kind)
-      (up_step call calls id now up up.kind apart once)
-  by_input calls (Some call) (Some (id, User command)) now apart once =
-      kept_step (Some id) None call.clients (command_taken call (event_of calls id now) command)
-      (command_step call calls id now command apart)
+  by_input calls state input now apart once =
+      subst (λ (taken : Taken). KeptStep (event_in input)
+      (number_in (InTheDialog invite) life input (side_held state)) (side_held state).clients taken)
+      (sym (same_step calls state input now)) (by_input_taken calls state input now apart once)
 
   pub again_in_order : (calls : Calls) (inputs : List (Timed CallItem)) → EventsDiffer inputs
       → shown calls (InTheDialog invite) life inputs

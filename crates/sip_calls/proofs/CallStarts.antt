@@ -1,6 +1,6 @@
 -- An input of a call starts transactions of clients alone, each under the id of its event or of a
 -- command whose CANCEL waited; a tick starts none.
-use Rattle.std.proofs.Common.{◌≡◌, ℕ, Bool, true, false, List, [], ◌∷◌, refl, sym, subst}
+use Rattle.std.proofs.Common.{◌≡◌, ℕ, Bool, true, false, List, [], ◌∷◌, refl, sym, subst, ap, ◌∙◌}
 use Rattle.std.specs.Prelude.{Option, None, Some}
 use Rattle.sip_message.specs.declared.id.Id.{Id}
 use Rattle.sip_transactions.specs.declared.output.Kind.{Kind}
@@ -27,9 +27,11 @@ use Rattle.sip_clients.proofs.ReplyStarts.{response_fits}
 use Rattle.sip_clients.proofs.WithoutStarts.{lost_fits, quiet_then, stays_quiet, tick_fits, tick_none}
 use Rattle.sip_calls.specs.declared.call.Call.{Call}
 use Rattle.sip_calls.specs.declared.calls.Calls.{Calls}
-use Rattle.sip_calls.specs.Call.{CallItem, call_step, command_taken, event_of, first_command_taken, kept, lost_taken, made_tag, new_call, up_taken}
+use Rattle.sip_calls.specs.Call.{Taken, CallItem, call_step, event_of, kept, made_tag, new_call}
 use Rattle.sip_calls.specs.Provisionals.{event_in, event_of_kind, side_held}
-use Rattle.sip_calls.specs.Sides.{CallTaken, side_of, ticked}
+use Rattle.sip_calls.specs.Sides.{CallTaken, side_of}
+use Rattle.sip_calls.specs.Steps.Call.{step_taken, command_taken, first_command_taken, lost_taken, ticked, up_taken}
+use Rattle.sip_calls.proofs.SameSteps.{same_step}
 use Rattle.sip_calls.proofs.KeptSides.{kept_side}
 
 -- the ids of the commands whose CANCEL waits in a call
@@ -125,27 +127,35 @@ kept_starts event call taken fits =
     subst (λ (side : Side). Fits event call.clients taken.1 side.clients)
     (sym (kept_side taken.0)) fits
 
-pub call_starts : (calls : Calls) (state : Option Call) (input : Option CallItem) (now : ℕ)
-    → StartsBy (event_in input) state (call_step calls state input now)
-call_starts calls None None now = stays_quiet None [] [] refl
-call_starts calls (Some call) None now =
+call_starts_taken : (calls : Calls) (state : Option Call) (input : Option CallItem) (now : ℕ)
+    → StartsBy (event_in input) state (step_taken calls state input now)
+call_starts_taken calls None None now = stays_quiet None [] [] refl
+call_starts_taken calls (Some call) None now =
     kept_starts None call (ticked call now) (ticked_starts call now)
-call_starts calls None (Some (id, Up up)) now =
+call_starts_taken calls None (Some (id, Up up)) now =
     let call = new_call calls.local in
     kept_starts (event_of_kind id up.kind) call (up_taken call (event_of calls id now) up up.kind)
     (up_starts call calls id now up up.kind)
-call_starts calls None (Some (id, User command)) now =
+call_starts_taken calls None (Some (id, User command)) now =
     let call = new_call calls.local in
     kept_starts (Some id) call (first_command_taken call (event_of calls id now) command)
     (first_command_starts call calls id now command)
-call_starts calls (Some call) (Some (id, Up up)) now =
+call_starts_taken calls (Some call) (Some (id, Up up)) now =
     kept_starts (event_of_kind id up.kind) call (up_taken call (event_of calls id now) up up.kind)
     (up_starts call calls id now up up.kind)
-call_starts calls (Some call) (Some (id, User command)) now =
+call_starts_taken calls (Some call) (Some (id, User command)) now =
     kept_starts (Some id) call (command_taken call (event_of calls id now) command)
     (command_starts call calls id now command)
+
+pub call_starts : (calls : Calls) (state : Option Call) (input : Option CallItem) (now : ℕ)
+    → StartsBy (event_in input) state (call_step calls state input now)
+call_starts calls state input now =
+    subst (λ (taken : Taken). StartsBy (event_in input) state taken)
+    (sym (same_step calls state input now)) (call_starts_taken calls state input now)
 
 pub tick_silent : (calls : Calls) (state : Option Call) (now : ℕ)
     → starts (call_step calls state None now).1 ≡ []
 tick_silent calls None now = refl
-tick_silent calls (Some call) now = tick_silent_of call now
+tick_silent calls (Some call) now =
+    ap (λ (taken : Taken). starts taken.1) (same_step calls (Some call) None now)
+    ∙ tick_silent_of call now

@@ -32,11 +32,13 @@ use Rattle.sip_clients.proofs.StoryFits.{fits_at}
 use Rattle.sip_clients.proofs.Waiting.{ack_waits, cancel_waits, invite_waits, lost_waits, plain_waits, prack_waits, request_waits, response_waits, tick_waits}
 use Rattle.sip_calls.specs.declared.call.Call.{Call}
 use Rattle.sip_calls.specs.declared.calls.Calls.{Calls}
-use Rattle.sip_calls.specs.Call.{CallItem, call_step, command_taken, event_of, first_command_taken, kept, new_call, up_taken}
+use Rattle.sip_calls.specs.Call.{Taken, CallItem, call_step, event_of, kept, new_call}
 use Rattle.sip_calls.specs.ClientHistories.{CancelsOnce, HoldsClientStories, RepeatsItsAck, WaitsAsAsked, client_stories, told_by_command, told_by_input, told_by_kind, told_from, told_next}
 use Rattle.sip_calls.specs.Histories.{call_from}
 use Rattle.sip_calls.specs.Provisionals.{side_held}
-use Rattle.sip_calls.specs.Sides.{CallTaken, by_server, side_of, ticked}
+use Rattle.sip_calls.specs.Sides.{CallTaken, by_server, side_of}
+use Rattle.sip_calls.specs.Steps.Call.{step_taken, command_taken, first_command_taken, ticked, up_taken}
+use Rattle.sip_calls.proofs.SameSteps.{same_step}
 use Rattle.sip_calls.proofs.KeptSides.{kept_side}
 
 -- ---- one input
@@ -140,38 +142,48 @@ tick_so now =
     goes_on (λ side. clients_ticked side now) (λ side outs stories. ticked_told now stories)
     (tick_holds now) (tick_rules now) (tick_waits now)
 
-input_so : (calls : Calls) (state : Option Call) (input : Option CallItem) (now : ℕ)
+input_so_taken : (calls : Calls) (state : Option Call) (input : Option CallItem) (now : ℕ)
     (stories : ClientStories) → AreSo (side_held state).clients stories
-    → let taken = call_step calls state input now in
+    → let taken = step_taken calls state input now in
     AreSo (side_held taken.0).clients
     (told_by_input calls (side_held state) input now taken.1 stories)
-input_so calls None None now stories so = tick_so now (side_held None) stories so
-input_so calls (Some call) None now stories so =
+input_so_taken calls None None now stories so = tick_so now (side_held None) stories so
+input_so_taken calls (Some call) None now stories so =
     let after = by_server call (served.tick_taken call.served now) in
     kept_so (ticked call now) (ticked_told now stories)
     (tick_so now (side_of after.0) stories so)
-input_so calls None (Some (id, Up up)) now stories so =
+input_so_taken calls None (Some (id, Up up)) now stories so =
     let call = new_call calls.local in
     let event = event_of calls id now in
     let taken = up_taken call event up up.kind in
     kept_so taken (told_by_kind (side_of call) event up up.kind taken.1 stories)
     (up_so call event up up.kind stories so)
-input_so calls None (Some (id, User command)) now stories so =
+input_so_taken calls None (Some (id, User command)) now stories so =
     let call = new_call calls.local in
     let event = event_of calls id now in
     let taken = first_command_taken call event command in
     kept_so taken (told_by_command (side_of call) event command taken.1 stories)
     (first_so calls event command stories so)
-input_so calls (Some call) (Some (id, Up up)) now stories so =
+input_so_taken calls (Some call) (Some (id, Up up)) now stories so =
     let event = event_of calls id now in
     let taken = up_taken call event up up.kind in
     kept_so taken (told_by_kind (side_of call) event up up.kind taken.1 stories)
     (up_so call event up up.kind stories so)
-input_so calls (Some call) (Some (id, User command)) now stories so =
+input_so_taken calls (Some call) (Some (id, User command)) now stories so =
     let event = event_of calls id now in
     let taken = command_taken call event command in
     kept_so taken (told_by_command (side_of call) event command taken.1 stories)
     (command_so call event command stories so)
+
+input_so : (calls : Calls) (state : Option Call) (input : Option CallItem) (now : ℕ)
+    (stories : ClientStories) → AreSo (side_held state).clients stories
+    → let taken = call_step calls state input now in
+    AreSo (side_held taken.0).clients
+    (told_by_input calls (side_held state) input now taken.1 stories)
+input_so calls state input now stories so =
+    subst (λ (taken : Taken). AreSo (side_held taken.0).clients
+    (told_by_input calls (side_held state) input now taken.1 stories))
+    (sym (same_step calls state input now)) (input_so_taken calls state input now stories so)
 
 -- ---- all inputs
 

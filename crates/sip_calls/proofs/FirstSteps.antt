@@ -26,9 +26,11 @@ use Rattle.sip_clients.proofs.FirstSides.{ResultOf, ack_leads, ear, lost_leads, 
 use Rattle.sip_clients.proofs.Hearing.{heard_in_order}
 use Rattle.sip_calls.specs.declared.call.Call.{Call}
 use Rattle.sip_calls.specs.declared.calls.Calls.{Calls}
-use Rattle.sip_calls.specs.Call.{CallItem, call_step, command_taken, event_of, first_command_taken, kept, lost_taken, made_tag, new_call, up_taken}
+use Rattle.sip_calls.specs.Call.{Taken, CallItem, call_step, event_of, kept, made_tag, new_call}
 use Rattle.sip_calls.specs.Provisionals.{EventsDiffer, came, done, event_in, event_of_kind, number_in, number_in_life, number_up, shown, side_held}
-use Rattle.sip_calls.specs.Sides.{CallTaken, side_of, ticked}
+use Rattle.sip_calls.specs.Sides.{CallTaken, side_of}
+use Rattle.sip_calls.specs.Steps.Call.{step_taken, command_taken, first_command_taken, lost_taken, ticked, up_taken}
+use Rattle.sip_calls.proofs.SameSteps.{same_step}
 use Rattle.sip_calls.proofs.KeptSides.{kept_side}
 
 module _ (life : DialogLife) where
@@ -131,32 +133,41 @@ module _ (life : DialogLife) where
       subst (λ (side : Side). ResultOf life event before side.dialogs number taken.1)
       (sym (kept_side taken.0)) step
 
-  by_input : (calls : Calls) (state : Option Call) (input : Option CallItem) (now : ℕ)
+  by_input_taken : (calls : Calls) (state : Option Call) (input : Option CallItem) (now : ℕ)
       → AreApart (side_held state).dialogs
       → KeptStep (event_in input) (number_in OfTheCall life input (side_held state))
-      (side_held state).dialogs (call_step calls state input now)
-  by_input calls None None now apart =
+      (side_held state).dialogs (step_taken calls state input now)
+  by_input_taken calls None None now apart =
       silent life None quiet [] [] [] (leads_same [] apart)
-  by_input calls (Some call) None now apart =
+  by_input_taken calls (Some call) None now apart =
       kept_step None None (dialogs_of call) (ticked call now) (tick_step call now apart)
-  by_input calls None (Some (id, Up up)) now apart =
+  by_input_taken calls None (Some (id, Up up)) now apart =
       let call = new_call calls.local in
       kept_step (event_of_kind id up.kind) (number_up OfTheCall life up.id up.kind (side_of call))
       (dialogs_of call) (up_taken call (event_of calls id now) up up.kind)
       (up_step call calls id now up up.kind apart)
-  by_input calls None (Some (id, User command)) now apart =
+  by_input_taken calls None (Some (id, User command)) now apart =
       let call = new_call calls.local in
       kept_step (Some id) None (dialogs_of call)
       (first_command_taken call (event_of calls id now) command)
       (first_command_step call calls id now command apart)
-  by_input calls (Some call) (Some (id, Up up)) now apart =
+  by_input_taken calls (Some call) (Some (id, Up up)) now apart =
       kept_step (event_of_kind id up.kind) (number_up OfTheCall life up.id up.kind (side_of call))
       (dialogs_of call) (up_taken call (event_of calls id now) up up.kind)
       (up_step call calls id now up up.kind apart)
-  by_input calls (Some call) (Some (id, User command)) now apart =
+  by_input_taken calls (Some call) (Some (id, User command)) now apart =
       kept_step (Some id) None (dialogs_of call)
       (command_taken call (event_of calls id now) command)
       (command_step call calls id now command apart)
+
+  by_input : (calls : Calls) (state : Option Call) (input : Option CallItem) (now : ℕ)
+      → AreApart (side_held state).dialogs
+      → KeptStep (event_in input) (number_in OfTheCall life input (side_held state))
+      (side_held state).dialogs (call_step calls state input now)
+  by_input calls state input now apart =
+      subst (λ (taken : Taken). KeptStep (event_in input) (number_in OfTheCall life input (side_held state))
+      (side_held state).dialogs taken)
+      (sym (same_step calls state input now)) (by_input_taken calls state input now apart)
 
   pub first_in_order : (calls : Calls) (inputs : List (Timed CallItem)) → EventsDiffer inputs
       → shown calls OfTheCall life inputs ≡ in_order (came calls OfTheCall life inputs)

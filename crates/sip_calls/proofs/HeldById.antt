@@ -21,10 +21,12 @@ use Rattle.sip_served.proofs.RequestIds.{Adds, ack_ids, arrival_adds, ids_of, re
 use Rattle.sip_calls.specs.declared.call.Call.{Call}
 use Rattle.sip_calls.specs.declared.calls.Calls.{Calls}
 use Rattle.sip_calls.specs.HeldRequests.{id_of_kind, request_brought, requests_held}
-use Rattle.sip_calls.specs.Call.{CallItem, call_step, command_taken, event_of, first_command_taken, kept, made_tag, new_call, up_taken}
+use Rattle.sip_calls.specs.Call.{Taken, CallItem, call_step, event_of, kept, made_tag, new_call}
 use Rattle.sip_calls.specs.HeldById.{HeldById}
 use Rattle.sip_calls.specs.Histories.{call_from}
-use Rattle.sip_calls.specs.Sides.{CallTaken, ticked}
+use Rattle.sip_calls.specs.Sides.{CallTaken}
+use Rattle.sip_calls.specs.Steps.Call.{step_taken, command_taken, first_command_taken, ticked, up_taken}
+use Rattle.sip_calls.proofs.SameSteps.{same_step}
 use Rattle.sip_calls.proofs.HeldRequests.{first_command, kept_requests, requests_of}
 
 -- ---- lists of ids that rise
@@ -139,26 +141,33 @@ kept_rises : (coming : List Id) (taken : CallTaken) → Rises (requests_of taken
 kept_rises coming taken rise =
     subst (λ requests. Rises requests coming) (sym (kept_requests taken.0)) rise
 
-by_input : (calls : Calls) (state : Option Call) (input : Option CallItem) (now : ℕ)
+by_input_taken : (calls : Calls) (state : Option Call) (input : Option CallItem) (now : ℕ)
     (coming : List Id) → Rises (requests_held state) (cons_option (request_brought input) coming)
-    → Rises (requests_held (call_step calls state input now).0) coming
-by_input calls None None now coming rise = rise
-by_input calls (Some call) None now coming rise =
+    → Rises (requests_held (step_taken calls state input now).0) coming
+by_input_taken calls None None now coming rise = rise
+by_input_taken calls (Some call) None now coming rise =
     kept_rises coming (ticked call now) (rise_left now coming (requests_of call) rise)
-by_input calls None (Some (id, Up up)) now coming rise =
+by_input_taken calls None (Some (id, Up up)) now coming rise =
     let call = new_call calls.local in
     kept_rises coming (up_taken call (event_of calls id now) up up.kind)
     (up_rises calls call coming id now up up.kind rise)
-by_input calls None (Some (id, User command)) now coming rise =
+by_input_taken calls None (Some (id, User command)) now coming rise =
     let taken = first_command_taken (new_call calls.local) (event_of calls id now) command in
     kept_rises coming taken
     (subst (λ requests. Rises requests coming) (first_command calls id now command) rise)
-by_input calls (Some call) (Some (id, Up up)) now coming rise =
+by_input_taken calls (Some call) (Some (id, Up up)) now coming rise =
     kept_rises coming (up_taken call (event_of calls id now) up up.kind)
     (up_rises calls call coming id now up up.kind rise)
-by_input calls (Some call) (Some (id, User command)) now coming rise =
+by_input_taken calls (Some call) (Some (id, User command)) now coming rise =
     kept_rises coming (command_taken call (event_of calls id now) command)
     (command_rises calls call coming id now command rise)
+
+by_input : (calls : Calls) (state : Option Call) (input : Option CallItem) (now : ℕ)
+    (coming : List Id) → Rises (requests_held state) (cons_option (request_brought input) coming)
+    → Rises (requests_held (call_step calls state input now).0) coming
+by_input calls state input now coming rise =
+    subst (λ (taken : Taken). Rises (requests_held taken.0) coming)
+    (sym (same_step calls state input now)) (by_input_taken calls state input now coming rise)
 
 from : (calls : Calls) (inputs : List (Timed CallItem)) (state : Option Call)
     → Rises (requests_held state) (filter_map (λ timed. request_brought timed.input) inputs)

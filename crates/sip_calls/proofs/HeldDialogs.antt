@@ -34,11 +34,13 @@ use Rattle.sip_clients.proofs.EndedReplies.{lost_goes, response_goes}
 use Rattle.sip_clients.proofs.EndedTicks.{tick_goes}
 use Rattle.sip_calls.specs.declared.call.Call.{Call}
 use Rattle.sip_calls.specs.declared.calls.Calls.{Calls}
-use Rattle.sip_calls.specs.Call.{CallItem, call_step, command_taken, event_of, first_command_taken, kept, made_tag, new_call, up_taken}
+use Rattle.sip_calls.specs.Call.{Taken, CallItem, call_step, event_of, kept, made_tag, new_call}
 use Rattle.sip_calls.specs.HeldDialogs.{EachEndHasItsOpening, EachEndIsToldOnce, HeldUntilItEnds, ended_by, ended_by_command, ended_by_kind, ended_by_loss, ends, ends_told, held_from, held_next, held_now, opened_from, told_from, opened_by_command, opened_by_kind, opens}
 use Rattle.sip_calls.specs.Histories.{call_from, happens_in, opening_in}
 use Rattle.sip_calls.specs.Provisionals.{event_in, side_held}
-use Rattle.sip_calls.specs.Sides.{CallTaken, side_of, ticked}
+use Rattle.sip_calls.specs.Sides.{CallTaken, side_of}
+use Rattle.sip_calls.specs.Steps.Call.{step_taken, command_taken, first_command_taken, ticked, up_taken}
+use Rattle.sip_calls.proofs.SameSteps.{same_step}
 use Rattle.sip_calls.proofs.KeptSides.{kept_side}
 use Rattle.sip_calls.proofs.LifeSteps.{by_input as moves_by, dialogs_of, first_none}
 
@@ -197,13 +199,13 @@ pub record Orderly (state : Option Call) : Type 0 where
   pub named : AreNamed (side_held state).dialogs
   pub sound : AreSound (side_held state).clients
 
-pub input_goes : (calls : Calls) (state : Option Call) (input : Option CallItem) (now : ℕ)
-    → Orderly state → InputGoes state input now (call_step calls state input now)
-input_goes calls None None now orderly = goes_same [] [] refl
-input_goes calls (Some call) None now orderly =
+input_goes_taken : (calls : Calls) (state : Option Call) (input : Option CallItem) (now : ℕ)
+    → Orderly state → InputGoes state input now (step_taken calls state input now)
+input_goes_taken calls None None now orderly = goes_same [] [] refl
+input_goes_taken calls (Some call) None now orderly =
     kept_step no_name (λ name held. ends_early_at now call.clients held) (dialogs_of call)
     (ticked call now) (tick_step call now orderly.apart orderly.named orderly.sound)
-input_goes calls None (Some (id, Up up)) now orderly =
+input_goes_taken calls None (Some (id, Up up)) now orderly =
     let call = new_call calls.local in
     let taken = up_taken call (event_of calls id now) up up.kind in
     kept_step no_name none_ends [] taken
@@ -214,37 +216,50 @@ input_goes calls None (Some (id, Up up)) now orderly =
   where
     never : (held : HeldDialog) → None ≡ Some held → ⊥
     never held e = absurd cc
-input_goes calls None (Some (id, User command)) now orderly =
+input_goes_taken calls None (Some (id, User command)) now orderly =
     kept_step no_name none_ends []
     (first_command_taken (new_call calls.local) (event_of calls id now) command)
     (first_step calls id now command)
-input_goes calls (Some call) (Some (id, Up up)) now orderly =
+input_goes_taken calls (Some call) (Some (id, Up up)) now orderly =
     kept_step (opened_by_kind call up.id up.kind) (ended_by_kind call up.id up.key up.kind)
     (dialogs_of call) (up_taken call (event_of calls id now) up up.kind)
     (up_step call calls id now up up.kind orderly.apart orderly.named)
-input_goes calls (Some call) (Some (id, User command)) now orderly =
+input_goes_taken calls (Some call) (Some (id, User command)) now orderly =
     let taken = command_taken call (event_of calls id now) command in
     kept_step (opened_by_command call command taken.1) (ended_by_command call command taken.1)
     (dialogs_of call) taken (command_step call calls id now command orderly.apart orderly.named)
 
+pub input_goes : (calls : Calls) (state : Option Call) (input : Option CallItem) (now : ℕ)
+    → Orderly state → InputGoes state input now (call_step calls state input now)
+input_goes calls state input now orderly =
+    subst (λ (taken : Taken). InputGoes state input now taken) (sym (same_step calls state input now))
+    (input_goes_taken calls state input now orderly)
+
+input_sound_taken : (calls : Calls) (state : Option Call) (input : Option CallItem) (now : ℕ)
+    → AreSound (side_held state).clients
+    → AreSound (side_held (step_taken calls state input now).0).clients
+input_sound_taken calls None None now sound = sound
+input_sound_taken calls (Some call) None now sound =
+    kept_sound (ticked call now) (sound_tick now call.clients sound)
+input_sound_taken calls None (Some (id, Up up)) now sound =
+    kept_sound (up_taken (new_call calls.local) (event_of calls id now) up up.kind)
+    (up_sound (new_call calls.local) calls id now up up.kind sound)
+input_sound_taken calls None (Some (id, User command)) now sound =
+    kept_sound (first_command_taken (new_call calls.local) (event_of calls id now) command)
+    (first_sound calls id now command sound)
+input_sound_taken calls (Some call) (Some (id, Up up)) now sound =
+    kept_sound (up_taken call (event_of calls id now) up up.kind)
+    (up_sound call calls id now up up.kind sound)
+input_sound_taken calls (Some call) (Some (id, User command)) now sound =
+    kept_sound (command_taken call (event_of calls id now) command)
+    (command_sound call calls id now command sound)
+
 input_sound : (calls : Calls) (state : Option Call) (input : Option CallItem) (now : ℕ)
     → AreSound (side_held state).clients
     → AreSound (side_held (call_step calls state input now).0).clients
-input_sound calls None None now sound = sound
-input_sound calls (Some call) None now sound =
-    kept_sound (ticked call now) (sound_tick now call.clients sound)
-input_sound calls None (Some (id, Up up)) now sound =
-    kept_sound (up_taken (new_call calls.local) (event_of calls id now) up up.kind)
-    (up_sound (new_call calls.local) calls id now up up.kind sound)
-input_sound calls None (Some (id, User command)) now sound =
-    kept_sound (first_command_taken (new_call calls.local) (event_of calls id now) command)
-    (first_sound calls id now command sound)
-input_sound calls (Some call) (Some (id, Up up)) now sound =
-    kept_sound (up_taken call (event_of calls id now) up up.kind)
-    (up_sound call calls id now up up.kind sound)
-input_sound calls (Some call) (Some (id, User command)) now sound =
-    kept_sound (command_taken call (event_of calls id now) command)
-    (command_sound call calls id now command sound)
+input_sound calls state input now sound =
+    subst (λ (taken : Taken). AreSound (side_held taken.0).clients)
+    (sym (same_step calls state input now)) (input_sound_taken calls state input now sound)
 
 -- a dialog that stays or begins has the name of its tags
 still_named : (event : Option Id) (start : Option Opening) (came : Option ℕ) (life : Life)

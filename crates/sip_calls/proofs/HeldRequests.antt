@@ -16,8 +16,9 @@ use Rattle.sip_clients.proofs.Hearing.{NoneOf}
 use Rattle.sip_calls.specs.declared.call.Call.{Call}
 use Rattle.sip_calls.specs.declared.calls.Calls.{Calls}
 use Rattle.sip_calls.specs.HeldRequests.{requests_held}
-use Rattle.sip_calls.specs.Call.{event_of, first_command_taken, kept_call, new_call}
+use Rattle.sip_calls.specs.Call.{event_of, kept_call, new_call}
 use Rattle.sip_calls.specs.Sides.{holds_any}
+use Rattle.sip_calls.specs.Steps.Call.{first_command_taken}
 use Rattle.sip_calls.proofs.KeptSides.{some_items}
 
 -- ---- what is held

@@ -29,10 +29,12 @@ use Rattle.sip_clients.proofs.ClientLives.{ack_lives, cancel_lives, lost_lives, 
 use Rattle.sip_clients.proofs.DialogSends.{AreNamed, AreNumbered, Sends, by_outs, sends_none, silent_outs}
 use Rattle.sip_calls.specs.declared.call.Call.{Call}
 use Rattle.sip_calls.specs.declared.calls.Calls.{Calls}
-use Rattle.sip_calls.specs.Call.{CallItem, call_step, command_taken, event_of, first_command_taken, kept, lost_taken, made_tag, new_call, up_taken}
+use Rattle.sip_calls.specs.Call.{Taken, CallItem, call_step, event_of, kept, made_tag, new_call}
 use Rattle.sip_calls.specs.Histories.{brought_by_command, brought_by_kind, happens_in, opening_by_command, opening_by_kind, opening_in}
 use Rattle.sip_calls.specs.Provisionals.{event_in, event_of_kind, side_held}
-use Rattle.sip_calls.specs.Sides.{CallTaken, side_of, ticked}
+use Rattle.sip_calls.specs.Sides.{CallTaken, side_of}
+use Rattle.sip_calls.specs.Steps.Call.{step_taken, command_taken, first_command_taken, lost_taken, ticked, up_taken}
+use Rattle.sip_calls.proofs.SameSteps.{same_step}
 use Rattle.sip_calls.proofs.CallStarts.{tick_silent_of}
 use Rattle.sip_calls.proofs.KeptSides.{kept_side}
 
@@ -235,14 +237,14 @@ kept_step event start lives before taken step =
     subst (λ (side : Side). MovesTo event start lives taken.1 before side.dialogs)
     (sym (kept_side taken.0)) step
 
-pub by_input : (calls : Calls) (state : Option Call) (input : Option CallItem) (now : ℕ)
+by_input_taken : (calls : Calls) (state : Option Call) (input : Option CallItem) (now : ℕ)
     → AreApart (side_held state).dialogs → AreNamed (side_held state).dialogs
-    → InputMoves state input (call_step calls state input now)
-by_input calls None None now apart named = none_held None (by_outs []) []
-by_input calls (Some call) None now apart named =
+    → InputMoves state input (step_taken calls state input now)
+by_input_taken calls None None now apart named = none_held None (by_outs []) []
+by_input_taken calls (Some call) None now apart named =
     let taken = ticked call now in
     kept_step None None (by_outs taken.1) (dialogs_of call) taken (tick_step call now apart)
-by_input calls None (Some (id, Up up)) now apart named =
+by_input_taken calls None (Some (id, Up up)) now apart named =
     let call = new_call calls.local in
     let taken = up_taken call (event_of calls id now) up up.kind in
     kept_step (event_of_kind id up.kind) None (by_outs taken.1) [] taken
@@ -250,17 +252,24 @@ by_input calls None (Some (id, Up up)) now apart named =
     (with_outs (brought_by_kind call up.id up.kind) taken.1) (by_outs taken.1) taken.1
     (dialogs_of taken.0) (no_opening calls up.id up.kind)
     (up_step call calls id now up up.kind apart named))
-by_input calls None (Some (id, User command)) now apart named =
+by_input_taken calls None (Some (id, User command)) now apart named =
     let taken = first_command_taken (new_call calls.local) (event_of calls id now) command in
     kept_step (Some id) None (by_outs taken.1) [] taken (first_command calls id now command)
-by_input calls (Some call) (Some (id, Up up)) now apart named =
+by_input_taken calls (Some call) (Some (id, Up up)) now apart named =
     let taken = up_taken call (event_of calls id now) up up.kind in
     kept_step (event_of_kind id up.kind) (opening_by_kind call up.id up.kind)
     (with_outs (brought_by_kind call up.id up.kind) taken.1) (dialogs_of call) taken
     (up_step call calls id now up up.kind apart named)
-by_input calls (Some call) (Some (id, User command)) now apart named =
+by_input_taken calls (Some call) (Some (id, User command)) now apart named =
     let taken = command_taken call (event_of calls id now) command in
     kept_step (Some id) (opening_by_command call command)
     (with_outs (λ name held. brought_by_command call command taken.1 name held) taken.1)
     (dialogs_of call) taken
     (command_step call calls id now command apart named)
+
+pub by_input : (calls : Calls) (state : Option Call) (input : Option CallItem) (now : ℕ)
+    → AreApart (side_held state).dialogs → AreNamed (side_held state).dialogs
+    → InputMoves state input (call_step calls state input now)
+by_input calls state input now apart named =
+    subst (λ (taken : Taken). InputMoves state input taken) (sym (same_step calls state input now))
+    (by_input_taken calls state input now apart named)

@@ -27,11 +27,13 @@ use Rattle.sip_clients.proofs.DialogDebts.{lost_owes}
 use Rattle.sip_clients.proofs.ReplyDebts.{response_leaves}
 use Rattle.sip_calls.specs.declared.call.Call.{Call}
 use Rattle.sip_calls.specs.declared.calls.Calls.{Calls}
-use Rattle.sip_calls.specs.Call.{CallItem, call_step, command_taken, event_of, first_command_taken, kept, made_tag, new_call, up_taken}
+use Rattle.sip_calls.specs.Call.{Taken, CallItem, call_step, event_of, kept, made_tag, new_call}
 use Rattle.sip_calls.specs.Histories.{History, call_from, history_after}
 use Rattle.sip_calls.specs.Owing.{OwesAsTold, owed_by_command, owed_by_kind, owed_from, owed_in, owed_next}
 use Rattle.sip_calls.specs.Provisionals.{event_in, event_of_kind, side_held}
-use Rattle.sip_calls.specs.Sides.{CallTaken, side_of, ticked}
+use Rattle.sip_calls.specs.Sides.{CallTaken, side_of}
+use Rattle.sip_calls.specs.Steps.Call.{step_taken, command_taken, first_command_taken, ticked, up_taken}
+use Rattle.sip_calls.proofs.SameSteps.{same_step}
 use Rattle.sip_calls.proofs.Histories.{Sound, Stands, are_named, born_of, ids_of, next_sound, none_yet, not_born, rest_differ}
 use Rattle.sip_calls.proofs.KeptSides.{kept_side}
 use Rattle.sip_calls.proofs.LifeSteps.{dialogs_of, first_none}
@@ -113,18 +115,18 @@ kept_to : (event : Option Id) (change : DialogName → List Debt → List Debt) 
 kept_to event change before taken owes =
     subst (λ (side : Side). OwesTo event change before side.dialogs) (sym (kept_side taken.0)) owes
 
-input_owes : (calls : Calls) (state : Option Call) (input : Option CallItem) (now : ℕ)
+input_owes_taken : (calls : Calls) (state : Option Call) (input : Option CallItem) (now : ℕ)
     → AreApart (side_held state).dialogs → AreNamed (side_held state).dialogs
-    → let taken = call_step calls state input now in
+    → let taken = step_taken calls state input now in
     OwesTo (event_in input) (λ name. owed_in state input name taken.1) (side_held state).dialogs
     (side_held taken.0).dialogs
-input_owes calls None None now apart named = none_held None (λ name. unchanged)
-input_owes calls (Some call) None now apart named =
+input_owes_taken calls None None now apart named = none_held None (λ name. unchanged)
+input_owes_taken calls (Some call) None now apart named =
     let taken = ticked call now in
     kept_to None (λ name. unchanged) (dialogs_of call) taken
     (same_to None (dialogs_of call) (dialogs_of taken.0)
     (filtered_same (λ held. not (ends_early_at now call.clients held)) (dialogs_of call) apart))
-input_owes calls None (Some (id, Up up)) now apart named =
+input_owes_taken calls None (Some (id, Up up)) now apart named =
     let call = new_call calls.local in
     let taken = up_taken call (event_of calls id now) up up.kind in
     let event = event_of_kind id up.kind in
@@ -132,20 +134,30 @@ input_owes calls None (Some (id, Up up)) now apart named =
     (λ name. owes_as event (owed_by_kind call up.id up.kind name taken.1) unchanged None
     (dialog_at name (dialogs_of taken.0)) (none_owed calls up.id up.kind name taken.1)
     (up_owes call calls id now up up.kind apart named name))
-input_owes calls None (Some (id, User command)) now apart named =
+input_owes_taken calls None (Some (id, User command)) now apart named =
     let taken = first_command_taken (new_call calls.local) (event_of calls id now) command in
     kept_to (Some id) (λ name. unchanged) [] taken
     (subst (OwesTo (Some id) (λ name. unchanged) []) (first_none calls id now command)
     (none_held (Some id) (λ name. unchanged)))
-input_owes calls (Some call) (Some (id, Up up)) now apart named =
+input_owes_taken calls (Some call) (Some (id, Up up)) now apart named =
     let taken = up_taken call (event_of calls id now) up up.kind in
     kept_to (event_of_kind id up.kind)
     (λ name. owed_by_kind call up.id up.kind name taken.1) (dialogs_of call) taken
     (up_owes call calls id now up up.kind apart named)
-input_owes calls (Some call) (Some (id, User command)) now apart named =
+input_owes_taken calls (Some call) (Some (id, User command)) now apart named =
     let taken = command_taken call (event_of calls id now) command in
     kept_to (Some id) (λ name. owed_by_command command name taken.1) (dialogs_of call) taken
     (command_owes call calls id now command apart named)
+
+input_owes : (calls : Calls) (state : Option Call) (input : Option CallItem) (now : ℕ)
+    → AreApart (side_held state).dialogs → AreNamed (side_held state).dialogs
+    → let taken = call_step calls state input now in
+    OwesTo (event_in input) (λ name. owed_in state input name taken.1) (side_held state).dialogs
+    (side_held taken.0).dialogs
+input_owes calls state input now apart named =
+    subst (λ (taken : Taken). OwesTo (event_in input) (λ name. owed_in state input name taken.1)
+    (side_held state).dialogs (side_held taken.0).dialogs)
+    (sym (same_step calls state input now)) (input_owes_taken calls state input now apart named)
 
 -- ---- one dialog
 

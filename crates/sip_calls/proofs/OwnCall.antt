@@ -1,5 +1,5 @@
 -- A call holds and tells what is of its own Call-ID, and nothing else.
-use Rattle.std.proofs.Common.{◌≡◌, ℕ, Bool, true, false, List, [], ◌∷◌, subst}
+use Rattle.std.proofs.Common.{◌≡◌, ℕ, Bool, true, false, List, [], ◌∷◌, subst, sym}
 use Rattle.std.specs.Prelude.{Option, None, Some}
 use Rattle.std.specs.List.{AllByRecursion}
 use Rattle.sip_model.specs.Machine.{Timed, adds, next, outputs_from, state_from}
@@ -31,9 +31,11 @@ use Rattle.sip_clients.proofs.OwnCommands.{ack_own, cancel_own, dialog_request_o
 use Rattle.sip_clients.proofs.OwnReplies.{lost_own, response_own, tick_own}
 use Rattle.sip_calls.specs.declared.call.Call.{Call}
 use Rattle.sip_calls.specs.declared.calls.Calls.{Calls}
-use Rattle.sip_calls.specs.Call.{CallItem, Taken, call_machine, call_step, command_taken, event_of, first_command_taken, kept, lost_taken, made_tag, new_call, served_taken, up_taken}
+use Rattle.sip_calls.specs.Call.{CallItem, Taken, call_machine, call_step, event_of, kept, made_tag, new_call}
 use Rattle.sip_calls.specs.OwnCall.{AreSidesOf, EachNoticeIsOwn, IsCallOf, IsInputOf, IsNoticeOf}
-use Rattle.sip_calls.specs.Sides.{CallTaken, by_clients, by_server, one_after_other, holds_any, side_of, ticked}
+use Rattle.sip_calls.specs.Sides.{CallTaken, by_clients, by_server, holds_any, side_of}
+use Rattle.sip_calls.specs.Steps.Call.{step_taken, command_taken, first_command_taken, lost_taken, one_after_other, served_taken, ticked, up_taken}
+use Rattle.sip_calls.proofs.SameSteps.{same_step}
 
 -- a step that keeps to a Call-ID keeps to an equal one
 keeps_same : (step : Side → ClientTaken) (own call_id : List ℕ) → own ≡ call_id
@@ -173,29 +175,37 @@ module _ (call_id : List ℕ) where
   new_own : (local : Addr) → AreSidesOf call_id (new_call local)
   new_own local = record { state = server.empty_is call_id local; clients = tt }
 
-  pub step_own : (calls : Calls) (state : Option Call) (input : Option CallItem) (now : ℕ)
+  step_own_taken : (calls : Calls) (state : Option Call) (input : Option CallItem) (now : ℕ)
       → IsCallOf call_id state → IsInputOf call_id input
-      → IsCallOf call_id (call_step calls state input now).0
-      × AreNoticesOf call_id (call_step calls state input now).1
-  step_own calls None None now own its = (tt, tt)
-  step_own calls (Some call) None now own its =
+      → IsCallOf call_id (step_taken calls state input now).0
+      × AreNoticesOf call_id (step_taken calls state input now).1
+  step_own_taken calls None None now own its = (tt, tt)
+  step_own_taken calls (Some call) None now own its =
       kept_own (ticked call now) (ticked_own call now own)
-  step_own calls None (Some (id, Up up)) now own its =
+  step_own_taken calls None (Some (id, Up up)) now own its =
       let call = new_call calls.local in
       let event = event_of calls id now in
       kept_own (up_taken call event up up.kind)
       (up_own call event up up.kind its.0 its.1 (new_own calls.local))
-  step_own calls None (Some (id, User command)) now own its =
+  step_own_taken calls None (Some (id, User command)) now own its =
       let call = new_call calls.local in
       let event = event_of calls id now in
       kept_own (first_command_taken call event command)
       (first_command_own call event command its (new_own calls.local))
-  step_own calls (Some call) (Some (id, Up up)) now own its =
+  step_own_taken calls (Some call) (Some (id, Up up)) now own its =
       let event = event_of calls id now in
       kept_own (up_taken call event up up.kind) (up_own call event up up.kind its.0 its.1 own)
-  step_own calls (Some call) (Some (id, User command)) now own its =
+  step_own_taken calls (Some call) (Some (id, User command)) now own its =
       let event = event_of calls id now in
       kept_own (command_taken call event command) (command_own call event command its own)
+
+  pub step_own : (calls : Calls) (state : Option Call) (input : Option CallItem) (now : ℕ)
+      → IsCallOf call_id state → IsInputOf call_id input
+      → IsCallOf call_id (call_step calls state input now).0
+      × AreNoticesOf call_id (call_step calls state input now).1
+  step_own calls state input now own its =
+      subst (λ (taken : Taken). IsCallOf call_id taken.0 × AreNoticesOf call_id taken.1)
+      (sym (same_step calls state input now)) (step_own_taken calls state input now own its)
 
   -- ---- the machine of a call
 

@@ -28,15 +28,17 @@ use Rattle.sip_clients.specs.Tick.{is_over, early_ends_told, over_notices}
 use Rattle.sip_clients.proofs.Hearing.{NoneOf}
 use Rattle.sip_calls.specs.declared.call.Call.{Call}
 use Rattle.sip_calls.specs.declared.calls.Calls.{Calls}
-use Rattle.sip_calls.specs.Call.{CallItem, call_step, command_taken, event_of, first_command_taken, kept, made_tag, new_call, up_taken}
+use Rattle.sip_calls.specs.Call.{Taken, CallItem, call_step, event_of, kept, made_tag, new_call}
 use Rattle.sip_calls.specs.Histories.{call_from}
-use Rattle.sip_calls.specs.Sides.{CallTaken, ticked}
+use Rattle.sip_calls.specs.Sides.{CallTaken}
 use Rattle.std.specs.Option.{option_map_or}
 use Rattle.sip_served.specs.Unacknowledged.{at_tick}
 use Rattle.sip_served.proofs.ItemsFollow.{ack_follows, arrival_follows, respond_follows}
 use Rattle.sip_served.proofs.Reading.{Follows, IsTold, Quiet, Reading, fold_on, quiet_both}
 use Rattle.sip_served.proofs.TickFollows.{tick_follows}
 use Rattle.sip_calls.specs.HeldRequests.{OfEachRequest, RequestsDiffer, id_of_kind, kind_is_about, read_from, read_in, read_next, request_brought, requests_held}
+use Rattle.sip_calls.specs.Steps.Call.{step_taken, command_taken, first_command_taken, ticked, up_taken}
+use Rattle.sip_calls.proofs.SameSteps.{same_step}
 use Rattle.sip_calls.proofs.HeldRequests.{Sound, adds_sound, first_command, heads, kept_requests, none_differ, none_found, requests_of, rest_differ, same_sound}
 
 -- ---- what is said of the request of each id
@@ -249,6 +251,36 @@ module _ {X : Type 0} (none : X) (read : HeldRequest → X) (by : Id → X → C
   kept_step said ids taken step =
       subst (Step said ids) (sym (kept_requests taken.0)) step
 
+  by_input_taken : (calls : Calls) (state : Option Call) (input : Option CallItem) (now : ℕ)
+      (said : Id → X) (ids : List Id)
+      → IsDistinct is_id (cons_option (request_brought input) ids)
+      → Sound (requests_held state) (cons_option (request_brought input) ids)
+      → Says none read (requests_held state) said
+      → Step (λ invite. read_in (by invite) input
+      (before_of none read (requests_held state) said invite)
+      (step_taken calls state input now).1) ids
+      (requests_held (step_taken calls state input now).0)
+  by_input_taken calls None None now said ids differ sound says =
+      none_held (λ invite. read_in (by invite) None (before_of none read [] said invite) []) ids
+  by_input_taken calls (Some call) None now said ids differ sound says =
+      kept_step _ ids (ticked call now) (tick_step calls call said says now ids sound)
+  by_input_taken calls None (Some (id, Up up)) now said ids differ sound says =
+      let call = new_call calls.local in
+      kept_step _ ids (up_taken call (event_of calls id now) up up.kind)
+      (up_step calls call said says id now up up.kind ids differ sound)
+  by_input_taken calls None (Some (id, User command)) now said ids differ sound says =
+      let taken = first_command_taken (new_call calls.local) (event_of calls id now) command in
+      kept_step _ ids taken (subst (Step (λ invite. read_in (by invite) (Some (id, User command))
+      (before_of none read [] said invite) taken.1) ids) (first_command calls id now command)
+      (none_held (λ invite. read_in (by invite) (Some (id, User command))
+      (before_of none read [] said invite) taken.1) ids))
+  by_input_taken calls (Some call) (Some (id, Up up)) now said ids differ sound says =
+      kept_step _ ids (up_taken call (event_of calls id now) up up.kind)
+      (up_step calls call said says id now up up.kind ids differ sound)
+  by_input_taken calls (Some call) (Some (id, User command)) now said ids differ sound says =
+      kept_step _ ids (command_taken call (event_of calls id now) command)
+      (command_step calls call said says id now command ids sound)
+
   by_input : (calls : Calls) (state : Option Call) (input : Option CallItem) (now : ℕ)
       (said : Id → X) (ids : List Id)
       → IsDistinct is_id (cons_option (request_brought input) ids)
@@ -258,26 +290,11 @@ module _ {X : Type 0} (none : X) (read : HeldRequest → X) (by : Id → X → C
       (before_of none read (requests_held state) said invite)
       (call_step calls state input now).1) ids
       (requests_held (call_step calls state input now).0)
-  by_input calls None None now said ids differ sound says =
-      none_held (λ invite. read_in (by invite) None (before_of none read [] said invite) []) ids
-  by_input calls (Some call) None now said ids differ sound says =
-      kept_step _ ids (ticked call now) (tick_step calls call said says now ids sound)
-  by_input calls None (Some (id, Up up)) now said ids differ sound says =
-      let call = new_call calls.local in
-      kept_step _ ids (up_taken call (event_of calls id now) up up.kind)
-      (up_step calls call said says id now up up.kind ids differ sound)
-  by_input calls None (Some (id, User command)) now said ids differ sound says =
-      let taken = first_command_taken (new_call calls.local) (event_of calls id now) command in
-      kept_step _ ids taken (subst (Step (λ invite. read_in (by invite) (Some (id, User command))
-      (before_of none read [] said invite) taken.1) ids) (first_command calls id now command)
-      (none_held (λ invite. read_in (by invite) (Some (id, User command))
-      (before_of none read [] said invite) taken.1) ids))
-  by_input calls (Some call) (Some (id, Up up)) now said ids differ sound says =
-      kept_step _ ids (up_taken call (event_of calls id now) up up.kind)
-      (up_step calls call said says id now up up.kind ids differ sound)
-  by_input calls (Some call) (Some (id, User command)) now said ids differ sound says =
-      kept_step _ ids (command_taken call (event_of calls id now) command)
-      (command_step calls call said says id now command ids sound)
+  by_input calls state input now said ids differ sound says =
+      subst (λ (taken : Taken). Step (λ invite. read_in (by invite) input
+      (before_of none read (requests_held state) said invite) taken.1) ids (requests_held taken.0))
+      (sym (same_step calls state input now))
+      (by_input_taken calls state input now said ids differ sound says)
 
   from : (calls : Calls) (inputs : List (Timed CallItem)) (state : Option Call) (said : Id → X)
       → RequestsDiffer inputs

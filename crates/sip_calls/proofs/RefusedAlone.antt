@@ -1,8 +1,10 @@
 -- A command that is refused gives its notice alone, and changes nothing.
-use Rattle.std.proofs.Common.{◌≡◌, ℕ, false, List, refl, ap}
+use Rattle.std.proofs.Common.{◌≡◌, ℕ, false, List, refl, ap, subst, sym}
 use Rattle.std.specs.Prelude.{Option, None, Some, filter, find}
 use Rattle.std.specs.Map.{values_of}
 use Rattle.std.specs.List.{list_any}
+use Rattle.std.specs.Option.{option_and_then}
+use Rattle.sip_common.specs.declared.item.Item.TheVariants.{User}
 use Rattle.std.proofs.lemmas.Bool.{false≢true}
 use Rattle.sip_message.specs.declared.id.Id.{Id}
 use Rattle.sip_message.specs.declared.message.Message.{Message}
@@ -23,10 +25,13 @@ use Rattle.sip_clients.specs.Clients.{ack_by_user, prack_by_user, request_by_use
 use Rattle.sip_clients.specs.Commands.{is_bad_outside}
 use Rattle.sip_clients.specs.Outputs.{start_command}
 use Rattle.sip_clients.specs.declared.event.Event.{Event}
-use Rattle.sip_calls.specs.Call.{command_taken, event_of, first_command_taken, kept, new_call}
+use Rattle.sip_calls.specs.Call.{Taken, event_of, kept, kept_call, new_call}
 use Rattle.sip_calls.specs.RefusedCommands.{RefusedAlone}
 use Rattle.sip_calls.specs.Sides.{by_clients, by_server, side_of}
 use Rattle.sip_calls.specs.declared.call.Call.{Call}
+use Rattle.sip_calls.specs.declared.calls.Calls.{Calls}
+use Rattle.sip_calls.specs.Steps.Call.{command_taken, first_command_taken, step_taken}
+use Rattle.sip_calls.proofs.SameSteps.{same_step}
 use Rattle.sip_clients.specs.RefusedCommands.{is_refusal, IsRefusedAlone}
 use Rattle.sip_clients.proofs.RefusedAlone.{ack_alone, by_bool, cancel_alone, ends_told, prack_alone, request_alone, silent, told_alone}
 
@@ -110,9 +115,17 @@ later_alone call event (Cancel cancel) =
     by_clients_alone call cancel.call_id event.id
     (cancel_by_user event cancel (side_of call)) (cancel_alone event (side_of call) cancel)
 
-pub refused_alone : RefusedAlone
-refused_alone calls None id command now some =
+refused_taken : (calls : Calls) (call : Option Call) (id : Id) (command : UserCommand) (now : ℕ)
+    → IsRefusedAlone (option_and_then kept_call call) (call_of_command command) id
+    (step_taken calls call (Some (id, User command)) now)
+refused_taken calls None id command now some =
     let m = first_alone (new_call calls.local) (event_of calls id now) command some in
     (m.0, ap kept m.1)
-refused_alone calls (Some call) id command now some =
+refused_taken calls (Some call) id command now some =
     let m = later_alone call (event_of calls id now) command some in (m.0, ap kept m.1)
+
+pub refused_alone : RefusedAlone
+refused_alone calls call id command now =
+    subst (λ (taken : Taken).
+    IsRefusedAlone (option_and_then kept_call call) (call_of_command command) id taken)
+    (sym (same_step calls call (Some (id, User command)) now)) (refused_taken calls call id command now)

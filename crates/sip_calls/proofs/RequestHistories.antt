@@ -1,5 +1,5 @@
 -- Over all inputs of a call: the requests that are held are what their stories say.
-use Rattle.std.proofs.Common.{◌≡◌, ℕ, List, [], ◌∷◌, map, refl, sym, subst, ◌∙◌}
+use Rattle.std.proofs.Common.{◌≡◌, ℕ, List, [], ◌∷◌, map, refl, sym, subst, ◌∙◌, ap}
 use Rattle.std.specs.Prelude.{Option, None, Some}
 use Rattle.std.specs.List.{AllByRecursion}
 use Rattle.sip_model.specs.Machine.{Timed}
@@ -24,10 +24,12 @@ use Rattle.sip_served.proofs.Stories.{event_on}
 use Rattle.sip_clients.specs.declared.event.Event.{Event}
 use Rattle.sip_calls.specs.declared.call.Call.{Call}
 use Rattle.sip_calls.specs.declared.calls.Calls.{Calls}
-use Rattle.sip_calls.specs.Call.{CallItem, call_step, command_taken, event_of, first_command_taken, made_tag, new_call, ticked, up_taken}
+use Rattle.sip_calls.specs.Call.{Taken, CallItem, call_step, event_of, made_tag, new_call}
 use Rattle.sip_calls.specs.HeldRequests.{requests_held}
 use Rattle.sip_calls.specs.Histories.{call_from}
 use Rattle.sip_calls.specs.RequestHistories.{FewUnacknowledged, HoldsItsStories, served_event, served_state, stories_from, stories_of}
+use Rattle.sip_calls.specs.Steps.Call.{step_taken, command_taken, first_command_taken, ticked, up_taken}
+use Rattle.sip_calls.proofs.SameSteps.{same_step}
 use Rattle.sip_calls.proofs.HeldRequests.{first_command, kept_requests, requests_of}
 
 -- ---- what an input makes of the requests is what it makes of the server side
@@ -63,24 +65,31 @@ none_answered local id (Ack ack) now = refl
 none_answered local id (Prack prack) now = refl
 none_answered local id (Cancel cancel) now = refl
 
-served_so : (calls : Calls) (state : Option Call) (input : Option CallItem) (now : ℕ)
-    → requests_held (call_step calls state input now).0
+served_so_taken : (calls : Calls) (state : Option Call) (input : Option CallItem) (now : ℕ)
+    → requests_held (step_taken calls state input now).0
     ≡ ((event_taken (served_state calls state) (served_event calls input now)).0).requests
-served_so calls None None now = refl
-served_so calls (Some call) None now = kept_requests (ticked call now).0
-served_so calls None (Some (id, Up up)) now =
+served_so_taken calls None None now = refl
+served_so_taken calls (Some call) None now = kept_requests (ticked call now).0
+served_so_taken calls None (Some (id, Up up)) now =
     let call = new_call calls.local in
     let event = event_of calls id now in
     kept_requests (up_taken call event up up.kind).0 ∙ up_served call event up up.kind
-served_so calls None (Some (id, User command)) now =
+served_so_taken calls None (Some (id, User command)) now =
     kept_requests (first_command_taken (new_call calls.local) (event_of calls id now) command).0
     ∙ sym (first_command calls id now command) ∙ none_answered calls.local id command now
-served_so calls (Some call) (Some (id, Up up)) now =
+served_so_taken calls (Some call) (Some (id, Up up)) now =
     let event = event_of calls id now in
     kept_requests (up_taken call event up up.kind).0 ∙ up_served call event up up.kind
-served_so calls (Some call) (Some (id, User command)) now =
+served_so_taken calls (Some call) (Some (id, User command)) now =
     kept_requests (command_taken call (event_of calls id now) command).0
     ∙ command_served call calls id now command
+
+served_so : (calls : Calls) (state : Option Call) (input : Option CallItem) (now : ℕ)
+    → requests_held (call_step calls state input now).0
+    ≡ ((event_taken (served_state calls state) (served_event calls input now)).0).requests
+served_so calls state input now =
+    ap (λ (taken : Taken). requests_held taken.0) (same_step calls state input now)
+    ∙ served_so_taken calls state input now
 
 -- ---- all inputs
 

@@ -23,9 +23,11 @@ use Rattle.sip_common.proofs.ToldRequests.{shown as asked_in}
 use Rattle.sip_clients.proofs.NoRequests.{ack_command_asks, cancel_asks, invite_asks, lost_asks, plain_asks, prack_command_asks, request_asks, response_asks, tick_asks}
 use Rattle.sip_calls.specs.declared.call.Call.{Call}
 use Rattle.sip_calls.specs.declared.calls.Calls.{Calls}
-use Rattle.sip_calls.specs.Call.{CallItem, call_step, command_taken, event_of, first_command_taken, made_tag, new_call, up_taken}
+use Rattle.sip_calls.specs.Call.{Taken, CallItem, call_step, event_of, made_tag, new_call}
 use Rattle.sip_calls.specs.Requests.{EachToldOnce, comes_up_by, tells_of}
-use Rattle.sip_calls.specs.Sides.{by_server, side_of, ticked}
+use Rattle.sip_calls.specs.Sides.{by_server, side_of}
+use Rattle.sip_calls.specs.Steps.Call.{step_taken, command_taken, first_command_taken, ticked, up_taken}
+use Rattle.sip_calls.proofs.SameSteps.{same_step}
 
 module _ (id : Id) where
   abbrev Few : List CallOut → Bool → Type 0
@@ -119,18 +121,24 @@ module _ (id : Id) where
 
   -- ---- all of it
 
+  step_few_taken : (calls : Calls) (state : Option Call) (input : Option CallItem) (now : ℕ)
+      → Few (step_taken calls state input now).1 (comes_up_by id input)
+  step_few_taken calls None None now = few_of_none [] false refl
+  step_few_taken calls (Some call) None now = ticked_few call now
+  step_few_taken calls None (Some (event, Up up)) now =
+      up_few (new_call calls.local) (event_of calls event now) up up.kind
+  step_few_taken calls (Some call) (Some (event, Up up)) now =
+      up_few call (event_of calls event now) up up.kind
+  step_few_taken calls None (Some (event, User command)) now =
+      first_command_few (new_call calls.local) (event_of calls event now) command
+  step_few_taken calls (Some call) (Some (event, User command)) now =
+      command_few call (event_of calls event now) command
+
   step_few : (calls : Calls) (state : Option Call) (input : Option CallItem) (now : ℕ)
       → Few (call_step calls state input now).1 (comes_up_by id input)
-  step_few calls None None now = few_of_none [] false refl
-  step_few calls (Some call) None now = ticked_few call now
-  step_few calls None (Some (event, Up up)) now =
-      up_few (new_call calls.local) (event_of calls event now) up up.kind
-  step_few calls (Some call) (Some (event, Up up)) now =
-      up_few call (event_of calls event now) up up.kind
-  step_few calls None (Some (event, User command)) now =
-      first_command_few (new_call calls.local) (event_of calls event now) command
-  step_few calls (Some call) (Some (event, User command)) now =
-      command_few call (event_of calls event now) command
+  step_few calls state input now =
+      subst (λ (taken : Taken). Few taken.1 (comes_up_by id input))
+      (sym (same_step calls state input now)) (step_few_taken calls state input now)
 
 pub each_told_once : EachToldOnce
 each_told_once calls state input now id = step_few id calls state input now

@@ -1,15 +1,16 @@
--- The machine of one call: what is held after each input, and what it gives (RFC 3261, sections 8,
--- 12 and 13; RFC 3262).
-use Rattle.std.specs.Prelude.{ℕ, Bool, true, false, List, [], ◌∷◌, Option, None, Some, if◌then◌else◌}
+-- The rules of one call: what each input makes of it, and what it gives (RFC 3261, sections 8, 12
+-- and 13; RFC 3262).
+use Rattle.std.specs.Prelude.{ℕ, Bool, true, false, List, [], ◌∷◌, ◌++◌, Option, None, Some, if◌then◌else◌}
+use Rattle.std.specs.Option.{option_map_or}
 use Rattle.sip_message.specs.declared.addr.Addr.{Addr}
 use Rattle.sip_message.specs.declared.id.Id.{Id}
 use Rattle.sip_model.specs.Machine.{Machine, Timed}
+use Rattle.sip_timers.specs.Earlier.{earlier}
 use Rattle.sip_transactions.specs.declared.output.Kind.{Kind}
 use Rattle.sip_transactions.specs.declared.output.Kind.TheVariants as kind
 use Rattle.sip_transactions.specs.declared.output.Up.{Up as AnUp}
-use Rattle.sip_served.specs.Respond.{respond_taken}
-use Rattle.sip_served.specs.State.{empty_at}
-use Rattle.sip_served.specs.Step.{kind_taken}
+use Rattle.sip_common.specs.Command.{call_of_command}
+use Rattle.sip_common.specs.Notices.{refused}
 use Rattle.sip_common.specs.declared.command.UserCommand.{UserCommand}
 use Rattle.sip_common.specs.declared.command.UserCommand.TheVariants.{Invite, Plain, Request, Respond, Ack, Prack, Cancel}
 use Rattle.sip_common.specs.declared.item.Item.{Item}
@@ -18,16 +19,22 @@ use Rattle.sip_common.specs.declared.item.CallOut.{CallOut}
 use Rattle.sip_common.specs.declared.item.CallOut.TheVariants.{Notice}
 use Rattle.sip_common.specs.declared.notice.Notice.{Notice as ANotice}
 use Rattle.sip_common.specs.declared.notice.Notice.TheVariants.{Timeout, Failed}
-use Rattle.sip_common.specs.Notices.{refused}
+use Rattle.sip_common.specs.declared.refusal.Refusal.{Refusal}
 use Rattle.sip_common.specs.declared.refusal.Refusal.TheVariants.{CallInUse, NoSuchCall}
-use Rattle.sip_clients.specs.Cancel.{cancel_by_user}
+use Rattle.sip_served.specs.State.{empty_at}
+use Rattle.sip_served.specs.Rules.Arrivals.{kind_rule}
+use Rattle.sip_served.specs.Rules.Responses.{respond_rule}
+use Rattle.sip_served.specs.Rules.Ticks as served
 use Rattle.sip_clients.specs.Client.{Clients}
-use Rattle.sip_clients.specs.Clients.{ack_by_user, invite_taken, request_lost, plain_taken, prack_by_user, request_by_user, response_taken}
 use Rattle.sip_clients.specs.Name.{name_of}
+use Rattle.sip_clients.specs.Rules.Ends as clients
+use Rattle.sip_clients.specs.Rules.Ends.{lost_rule}
+use Rattle.sip_clients.specs.Rules.Requests.{ack_rule, cancel_rule, invite_rule, plain_rule, prack_rule, request_rule}
+use Rattle.sip_clients.specs.Rules.Responses.{response_rule}
 use Rattle.sip_clients.specs.declared.event.Event.{Event}
 use Rattle.sip_calls.specs.declared.call.Call.{Call}
 use Rattle.sip_calls.specs.declared.calls.Calls.{Calls}
-pub use Rattle.sip_calls.specs.Sides.{CallTaken, by_clients, by_server, one_after_other, holds_any, next_due, side_of, ticked}
+pub use Rattle.sip_calls.specs.Sides.{CallTaken, by_clients, by_server, holds_any, side_of}
 
 -- a call after what happens to it, `None` if it isn't held, and what it gives
 abbrev pub Taken : Type 0
@@ -55,27 +62,21 @@ event_of calls id now = record { local = calls.local; seed = calls.seed; id = id
 abbrev pub made_tag : Event → List ℕ
 made_tag event = name_of event.seed event.id 0
 
--- what comes up for the server side
-abbrev pub served_taken : Call → Event → AnUp → Kind → CallTaken
-served_taken call event up kind =
-    by_server call (kind_taken call.served (made_tag event) up kind event.moment)
+-- That a transaction is lost is told, and then its request is over.
+abbrev pub loss_rule : Call → Id → ANotice → Bool → CallTaken
+loss_rule call id notice timed_out =
+    let after = by_clients call (lost_rule id timed_out (side_of call)) in
+    (after.0, Notice notice ∷ after.1)
 
--- that a transaction is lost is told, and then what ends with its request ends
-abbrev pub lost_taken : Call → Id → ANotice → Bool → CallTaken
-lost_taken call id notice timed_out =
-    one_after_other (call, Notice notice ∷ []) (λ call. by_clients call
-    (request_lost id timed_out (side_of call)))
-
--- what comes up from a transaction: a request and an ACK go to the server side, the others to the
--- client side
-abbrev pub up_taken : Call → Event → AnUp → Kind → CallTaken
-up_taken call event up (kind.Request request reply_to) =
-    served_taken call event up (kind.Request request reply_to)
-up_taken call event up (kind.Ack ack) = served_taken call event up (kind.Ack ack)
-up_taken call event up (kind.Response response) =
-    by_clients call (response_taken event up.id up.call_id response (side_of call))
-up_taken call event up kind.Timeout = lost_taken call up.id (Timeout up.call_id up.id) true
-up_taken call event up kind.Failed = lost_taken call up.id (Failed up.call_id up.id) false
+-- What comes up from a transaction: a response is for the client side, a request or an ACK for the
+-- server side.
+abbrev pub up_rule : Call → Event → AnUp → Kind → CallTaken
+up_rule call event up (kind.Response response) =
+    by_clients call (response_rule event up.id up.call_id response (side_of call))
+up_rule call event up kind.Timeout = loss_rule call up.id (Timeout up.call_id up.id) true
+up_rule call event up kind.Failed = loss_rule call up.id (Failed up.call_id up.id) false
+up_rule call event up of_server =
+    by_server call (kind_rule call.served (made_tag event) up of_server event.moment)
 
 -- ---- commands of the user
 
@@ -83,44 +84,39 @@ up_taken call event up kind.Failed = lost_taken call up.id (Failed up.call_id up
 abbrev pub with_clients : Call → Clients × List CallOut → CallTaken
 with_clients call taken = (record call { clients = taken.0 }, taken.1)
 
--- where nothing is held, only a first request is sent
-abbrev pub first_command_taken : Call → Event → UserCommand → CallTaken
-first_command_taken call event (Invite invite) =
-    with_clients call (invite_taken event invite call.clients)
-first_command_taken call event (Plain plain) =
-    with_clients call (plain_taken event plain call.clients)
-first_command_taken call event (Request request) =
-    (call, refused event.id request.call_id NoSuchCall)
-first_command_taken call event (Respond respond) =
-    (call, refused event.id respond.call_id NoSuchCall)
-first_command_taken call event (Ack ack) = (call, refused event.id ack.call_id NoSuchCall)
-first_command_taken call event (Prack prack) = (call, refused event.id prack.call_id NoSuchCall)
-first_command_taken call event (Cancel cancel) = (call, refused event.id cancel.call_id NoSuchCall)
+-- a request outside of dialogs begins a call, and all else needs one that is held
+abbrev pub use_refusal : Bool → UserCommand → Option Refusal
+use_refusal held (Invite invite) = if held then Some CallInUse else None
+use_refusal held (Plain plain) = if held then Some CallInUse else None
+use_refusal held command = if held then None else Some NoSuchCall
 
--- where something is held, no first request is
-abbrev pub command_taken : Call → Event → UserCommand → CallTaken
-command_taken call event (Invite invite) = (call, refused event.id invite.call_id CallInUse)
-command_taken call event (Plain plain) = (call, refused event.id plain.call_id CallInUse)
-command_taken call event (Request request) =
-    by_clients call (request_by_user event request (side_of call))
-command_taken call event (Respond respond) =
-    by_server call (respond_taken call.served event.id respond event.moment)
-command_taken call event (Ack ack) = by_clients call (ack_by_user event ack (side_of call))
-command_taken call event (Prack prack) = by_clients call (prack_by_user event prack (side_of call))
-command_taken call event (Cancel cancel) =
-    by_clients call (cancel_by_user event cancel (side_of call))
+-- a command that isn't refused so
+abbrev pub used_rule : Call → Event → UserCommand → CallTaken
+used_rule call event (Invite invite) = with_clients call (invite_rule event invite call.clients)
+used_rule call event (Plain plain) = with_clients call (plain_rule event plain call.clients)
+used_rule call event (Request request) =
+    by_clients call (request_rule event request (side_of call))
+used_rule call event (Respond respond) =
+    by_server call (respond_rule call.served event.id respond event.moment)
+used_rule call event (Ack ack) = by_clients call (ack_rule event ack (side_of call))
+used_rule call event (Prack prack) = by_clients call (prack_rule event prack (side_of call))
+used_rule call event (Cancel cancel) = by_clients call (cancel_rule event cancel (side_of call))
 
 -- ---- the machine
 
--- an item of a call that isn't held: what comes up, or a first request, may begin it
-abbrev pub first_item_taken : Call → Event → Item → CallTaken
-first_item_taken call event (Up up) = up_taken call event up up.kind
-first_item_taken call event (User command) = first_command_taken call event command
+-- an item of a call that is held, or of which nothing is held yet
+abbrev pub item_rule : Bool → Call → Event → Item → CallTaken
+item_rule held call event (Up up) = up_rule call event up up.kind
+item_rule held call event (User command) =
+    option_map_or (λ refusal. (call, refused event.id (call_of_command command) refusal))
+    (use_refusal held command) (used_rule call event command)
 
--- an item: what comes up, or a command of the user
-abbrev pub item_taken : Call → Event → Item → CallTaken
-item_taken call event (Up up) = up_taken call event up up.kind
-item_taken call event (User command) = command_taken call event command
+-- At a tick first the server side, and then the client side.
+abbrev pub call_tick_rule : Call → ℕ → CallTaken
+call_tick_rule call now =
+    let first = by_server call (served.tick_rule call.served now) in
+    let second = by_clients first.0 (clients.tick_rule (side_of first.0) now) in
+    (second.0, first.1 ++ second.1)
 
 -- an item, and the id of its event
 abbrev pub CallItem : Type 0
@@ -130,10 +126,10 @@ CallItem = Id × Item
 abbrev pub call_step : Calls → Option Call → Option CallItem → ℕ → Taken
 call_step calls None None now = (None, [])
 call_step calls None (Some (id, item)) now =
-    kept (first_item_taken (new_call calls.local) (event_of calls id now) item)
-call_step calls (Some call) None now = kept (ticked call now)
+    kept (item_rule false (new_call calls.local) (event_of calls id now) item)
+call_step calls (Some call) None now = kept (call_tick_rule call now)
 call_step calls (Some call) (Some (id, item)) now =
-    kept (item_taken call (event_of calls id now) item)
+    kept (item_rule true call (event_of calls id now) item)
 
 -- one machine for every Call-ID
 abbrev pub call_machine : Calls → Machine (List ℕ) Call (Timed CallItem) CallOut
@@ -142,4 +138,6 @@ call_machine calls =
 
 -- the moment at which something is due of a call; one under which nothing is held is over at once
 abbrev pub call_due : Call → Option ℕ
-call_due call = if holds_any call then next_due call else Some 0
+call_due call =
+    if holds_any call then earlier (served.due_rule call.served) (clients.removal_rule call.clients)
+    else Some 0

@@ -14,7 +14,8 @@ use Rattle.sip_clients.proofs.QuietBeforeDue.{clients_quiet_before}
 use Rattle.sip_calls.specs.declared.call.Call.{Call}
 use Rattle.sip_calls.specs.declared.calls.Calls.{Calls}
 use Rattle.sip_calls.specs.Call.{call_due, call_machine, kept_call}
-use Rattle.sip_calls.specs.Sides.{CallTaken, by_clients, by_server, holds_any, next_due, side_of, ticked}
+use Rattle.sip_calls.specs.Sides.{CallTaken, by_clients, by_server, holds_any, side_of}
+use Rattle.sip_calls.specs.Steps.Call.{next_due, ticked}
 
 due_at_once : (now : ℕ) → is_due now (Some 0) ≡ true
 due_at_once now = grind (arith, common_steps)

@@ -14,4 +14,5 @@ pub mod RefusedCommands
 pub mod RequestHistories
 pub mod Requests
 pub mod Sides
+pub mod Steps
 pub mod Unacknowledged

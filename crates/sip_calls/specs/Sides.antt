@@ -31,21 +31,6 @@ by_clients call taken = (
   taken.1,
 )
 
--- one thing after another
-abbrev pub one_after_other : CallTaken → (Call → CallTaken) → CallTaken
-one_after_other done more = ((more done.0).0, done.1 ++ (more done.0).1)
-
 -- something is held
 abbrev pub holds_any : Call → Bool
 holds_any call = holds call.served || not (length call.clients == 0)
-
--- first the server side, and then the client side
-abbrev pub ticked : Call → ℕ → CallTaken
-ticked call now =
-    one_after_other (by_server call (served.tick_taken call.served now))
-    (λ call. by_clients call (clients.clients_ticked (side_of call) now))
-
--- the first moment at which something is due
-abbrev pub next_due : Call → Option ℕ
-next_due call =
-    earlier (served.next_server_due call.served) (clients.next_removal call.clients)

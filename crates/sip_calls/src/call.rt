@@ -5,6 +5,7 @@ ghost use Rattle.sip_clients.specs.Cancel.{cancel_by_user};
 ghost use Rattle.sip_clients.specs.Clients as clients;
 ghost use Rattle.sip_clients.specs.Tick.{clients_ticked};
 ghost use Rattle.sip_calls.specs.Sides as spec;
+ghost use Rattle.sip_calls.specs.Steps.Call as steps;
 
 use sip_clients::{Clients, Event};
 use sip_message::{CallId, Id, Message};
@@ -29,7 +30,7 @@ impl Call {
 
     /// The first moment, in ms, at which something is due.
     pub(crate) fn next_due(&self) -> Option<u64>
-        ensures { result ≡ spec.next_due self.now }
+        ensures { result ≡ steps.next_due self.now }
     {
         earlier(self.served.next_due(), self.clients.next_due())
     }
@@ -37,7 +38,7 @@ impl Call {
     /// The moment `now`, in ms, has come: first for the server side.
     pub(crate) fn tick(&mut self, now: u64) -> Result<Vec<CallOut>, AllocError>
         requires { now ≤ 2 ^ 62 }
-        ensures { IfOk result (λ outs. (self.new, outs.items) ≡ spec.ticked self.old now) }
+        ensures { IfOk result (λ outs. (self.new, outs.items) ≡ steps.ticked self.old now) }
     {
         let mut outs = self.served.tick(now)?;
         outs.append(&mut self.tick_clients(now)?)?;

@@ -3,6 +3,7 @@
 ghost use Rattle.std.specs.Prelude.{◌≡◌, ◌≤◌, ◌^◌, IfOk, None, Some, if◌then◌else◌};
 ghost use Rattle.sip_common.specs.Requests.{local_tag_of};
 ghost use Rattle.sip_calls.specs.Call as spec;
+ghost use Rattle.sip_calls.specs.Steps.Call as steps;
 ghost use Rattle.sip_calls.specs.Call.{call_due, call_machine, call_step};
 ghost use Rattle.sip_calls.specs.Idle.{call_ticks_are_idle};
 ghost use Rattle.std.proofs.lemmas.Map.Lookups.{exact_bytes};
@@ -157,7 +158,7 @@ fn take_first(
 ) -> Result<Vec<CallOut>, AllocError>
     requires { event.moment ≤ 2 ^ 62 }
     ensures { IfOk result (λ outs. (call.new, outs.items)
-        ≡ spec.first_item_taken call.old event item) }
+        ≡ steps.first_item_taken call.old event item) }
 {
     match item {
         Item::Up(up) => take_up(alloc, call, event, up),
@@ -173,7 +174,7 @@ fn take_next(
     item: Item,
 ) -> Result<Vec<CallOut>, AllocError>
     requires { event.moment ≤ 2 ^ 62 }
-    ensures { IfOk result (λ outs. (call.new, outs.items) ≡ spec.item_taken call.old event item) }
+    ensures { IfOk result (λ outs. (call.new, outs.items) ≡ steps.item_taken call.old event item) }
 {
     match item {
         Item::Up(up) => take_up(alloc, call, event, up),
@@ -192,7 +193,7 @@ fn kept(call: Call) -> Option<Call>
 fn take_up(alloc: Global, call: &mut Call, event: Event, up: Up) -> Result<Vec<CallOut>, AllocError>
     requires { event.moment ≤ 2 ^ 62 }
     ensures { IfOk result (λ outs. (call.new, outs.items)
-        ≡ spec.up_taken call.old event up up.kind) }
+        ≡ steps.up_taken call.old event up up.kind) }
 {
     let Up {
         key,
@@ -238,7 +239,7 @@ fn fail_request(
     timed_out: bool,
 ) -> Result<Vec<CallOut>, AllocError>
     ensures { IfOk result (λ outs. (call.new, outs.items)
-        ≡ spec.lost_taken call.old id notice timed_out) }
+        ≡ steps.lost_taken call.old id notice timed_out) }
 {
     let mut outs = Vec::new(alloc);
     outs.push(CallOut::Notice(notice))?;
@@ -254,7 +255,7 @@ fn take_first_command(
     command: UserCommand,
 ) -> Result<Vec<CallOut>, AllocError>
     ensures { IfOk result (λ outs. (call.new, outs.items)
-        ≡ spec.first_command_taken call.old event command) }
+        ≡ steps.first_command_taken call.old event command) }
 {
     match &command {
         UserCommand::Invite(invite) => call.clients.invite(event, invite),
@@ -275,7 +276,7 @@ fn take_command(
 ) -> Result<Vec<CallOut>, AllocError>
     requires { event.moment ≤ 2 ^ 62 }
     ensures { IfOk result (λ outs. (call.new, outs.items)
-        ≡ spec.command_taken call.old event command) }
+        ≡ steps.command_taken call.old event command) }
 {
     match command {
         UserCommand::Invite(invite) => {

@@ -1,9 +1,10 @@
 -- What a call gives: it tells of a response only where one comes up, with its status, its tags and
 -- its body; and each answer to a request is one of the user's or one of its own, first or again.
-use Rattle.sip_calls.specs.Call.{CallItem, call_machine, call_step, command_taken, event_of, first_command_taken, made_tag, new_call, up_taken, kept}
-use Rattle.sip_calls.specs.Sides.{by_server, side_of, ticked, holds_any}
+use Rattle.sip_calls.specs.Call.{CallItem, call_machine, call_step, event_of, made_tag, new_call, kept}
+use Rattle.sip_calls.specs.Sides.{by_server, side_of, holds_any}
 use Rattle.sip_calls.specs.declared.call.Call.{Call}
 use Rattle.sip_calls.specs.declared.calls.Calls.{Calls}
+use Rattle.sip_calls.specs.Steps.Call.{command_taken, first_command_taken, ticked, up_taken}
 use Rattle.sip_clients.specs.Clients.{status_of}
 use Rattle.sip_clients.specs.Outputs.{start_command}
 use Rattle.sip_clients.specs.Tick.{clients_ticked}
