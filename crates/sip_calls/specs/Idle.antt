@@ -15,7 +15,8 @@ use Rattle.sip_calls.specs.declared.call.Call.{Call}
 use Rattle.sip_calls.specs.declared.calls.Calls.{Calls}
 use Rattle.sip_calls.specs.Call.{call_due, call_machine, kept_call}
 use Rattle.sip_calls.specs.Sides.{CallTaken, by_clients, by_server, holds_any, side_of}
-use Rattle.sip_calls.specs.Steps.Call.{next_due, ticked}
+use Rattle.sip_calls.specs.Steps.Call.{due_taken, next_due, ticked}
+use Rattle.sip_calls.proofs.SameSteps.{same_due, same_tick}
 
 due_at_once : (now : ℕ) → is_due now (Some 0) ≡ true
 due_at_once now = grind (arith, common_steps)
@@ -47,8 +48,9 @@ held_is_calm : (calls : Calls) (now : ℕ) (key : List ℕ) (call : Call) → ho
     → (call_machine calls).step key (Some call) (tick_at now) ≡ (Some call, [])
 held_is_calm calls now key call some calm =
     let later : is_due now (next_due call) ≡ false =
-    ap (λ b. is_due now (if b then next_due call else Some 0)) (sym some) ∙ calm in
-    ap (λ (taken : CallTaken). (kept_call taken.0, taken.1)) (calm_tick now call later)
+    sym (ap (λ b. is_due now (if b then next_due call else Some 0)) some)
+    ∙ ap (is_due now) (sym (same_due call)) ∙ calm in
+    ap (λ (taken : CallTaken). (kept_call taken.0, taken.1)) (same_tick call now ∙ calm_tick now call later)
     ∙ (λ i. (if some i then Some call else None, []))
 
 pub call_ticks_are_idle : (calls : Calls) (now : ℕ)
@@ -57,5 +59,6 @@ call_ticks_are_idle calls now key None calm = refl
 call_ticks_are_idle calls now key (Some call) calm =
     by_bool (holds_any call) (λ some. held_is_calm calls now key call some calm)
     (λ none. absurd (true≢false (sym
-    (ap (λ b. is_due now (if b then next_due call else Some 0)) none ∙ due_at_once now)
+    (ap (is_due now) (same_due call)
+    ∙ ap (λ b. is_due now (if b then next_due call else Some 0)) none ∙ due_at_once now)
     ∙ calm)))

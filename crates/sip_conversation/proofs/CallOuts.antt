@@ -1,10 +1,11 @@
 -- What a call gives: it tells of a response only where one comes up, with its status, its tags and
 -- its body; and each answer to a request is one of the user's or one of its own, first or again.
-use Rattle.sip_calls.specs.Call.{CallItem, call_machine, call_step, event_of, made_tag, new_call, kept}
+use Rattle.sip_calls.specs.Call.{CallItem, Taken, call_machine, call_step, event_of, made_tag, new_call, kept}
 use Rattle.sip_calls.specs.Sides.{by_server, side_of, holds_any}
 use Rattle.sip_calls.specs.declared.call.Call.{Call}
 use Rattle.sip_calls.specs.declared.calls.Calls.{Calls}
-use Rattle.sip_calls.specs.Steps.Call.{command_taken, first_command_taken, ticked, up_taken}
+use Rattle.sip_calls.specs.Steps.Call.{command_taken, first_command_taken, step_taken, ticked, up_taken}
+use Rattle.sip_calls.proofs.SameSteps.{same_step}
 use Rattle.sip_clients.specs.Clients.{status_of}
 use Rattle.sip_clients.specs.Outputs.{start_command}
 use Rattle.sip_clients.specs.Tick.{clients_ticked}
@@ -25,7 +26,7 @@ use Rattle.sip_served.specs.Tick.{tick_taken}
 use Rattle.sip_transactions.specs.declared.input.Command.{Command}
 use Rattle.sip_transactions.specs.declared.output.Kind.{Kind}
 use Rattle.sip_transactions.specs.declared.output.Up.{Up as AnUp}
-use Rattle.std.proofs.Common.{◌≡◌, ℕ, Bool, true, false, cond, List, [], ◌∷◌}
+use Rattle.std.proofs.Common.{◌≡◌, ℕ, Bool, true, false, cond, List, [], ◌∷◌, subst, sym}
 use Rattle.std.specs.List.{AllByRecursion}
 use Rattle.std.specs.Prelude.{Option, None, Some, IfSome}
 use Rattle.sip_served.proofs.ServedOuts.{AllowsServed, IsOther, OwnAnswers, RespondGiven, StateGiven, kind_fits, respond_fits, server_tick}
@@ -189,27 +190,35 @@ module _ (Tells : ℕ → List ℕ → List ℕ → List ℕ → Type 0) (Given 
     kept_fits : (taken : Call × List CallOut) → CallFits taken → After (kept taken)
     kept_fits taken fits = (kept_by (holds_any taken.0) taken.0 fits.0, fits.1)
 
+    step_fits_taken : (calls : Calls) (state : Option Call) (input : Option CallItem) (now : ℕ)
+        → InputFits input → HeldGiven state
+        → HeldGiven (step_taken calls state input now).0
+        × AllByRecursion OutFits (step_taken calls state input now).1
+    step_fits_taken calls None None now fits given = (tt, tt)
+    step_fits_taken calls (Some call) None now fits given =
+        kept_fits (ticked call now) (ticked_fits call now given)
+    step_fits_taken calls None (Some (event, Up up)) now fits given =
+        let call = new_call calls.local in
+        kept_fits (up_taken call (event_of calls event now) up up.kind)
+        (up_fits call (event_of calls event now) up up.kind fits tt)
+    step_fits_taken calls (Some call) (Some (event, Up up)) now fits given =
+        kept_fits (up_taken call (event_of calls event now) up up.kind)
+        (up_fits call (event_of calls event now) up up.kind fits given)
+    step_fits_taken calls None (Some (event, User command)) now fits given =
+        let call = new_call calls.local in
+        kept_fits (first_command_taken call (event_of calls event now) command)
+        (first_fits call (event_of calls event now) command tt)
+    step_fits_taken calls (Some call) (Some (event, User command)) now fits given =
+        kept_fits (command_taken call (event_of calls event now) command)
+        (user_fits call (event_of calls event now) command fits given)
+
     pub step_fits : (calls : Calls) (state : Option Call) (input : Option CallItem) (now : ℕ)
         → InputFits input → HeldGiven state
         → HeldGiven (call_step calls state input now).0
         × AllByRecursion OutFits (call_step calls state input now).1
-    step_fits calls None None now fits given = (tt, tt)
-    step_fits calls (Some call) None now fits given =
-        kept_fits (ticked call now) (ticked_fits call now given)
-    step_fits calls None (Some (event, Up up)) now fits given =
-        let call = new_call calls.local in
-        kept_fits (up_taken call (event_of calls event now) up up.kind)
-        (up_fits call (event_of calls event now) up up.kind fits tt)
-    step_fits calls (Some call) (Some (event, Up up)) now fits given =
-        kept_fits (up_taken call (event_of calls event now) up up.kind)
-        (up_fits call (event_of calls event now) up up.kind fits given)
-    step_fits calls None (Some (event, User command)) now fits given =
-        let call = new_call calls.local in
-        kept_fits (first_command_taken call (event_of calls event now) command)
-        (first_fits call (event_of calls event now) command tt)
-    step_fits calls (Some call) (Some (event, User command)) now fits given =
-        kept_fits (command_taken call (event_of calls event now) command)
-        (user_fits call (event_of calls event now) command fits given)
+    step_fits calls state input now fits given =
+        subst (λ (taken : Taken). HeldGiven taken.0 × AllByRecursion OutFits taken.1)
+        (sym (same_step calls state input now)) (step_fits_taken calls state input now fits given)
 
     -- ---- all inputs
 

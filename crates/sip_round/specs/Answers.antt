@@ -152,7 +152,7 @@ past_of config rounds = past_from config config.first no_past rounds
 
 -- the outputs of each round, from the first
 unfoldable pub answers : Config → List Round → List (List Output)
-answers config rounds = answers_from config config.first no_past rounds
+answers config rounds = each_from answer config config.first no_past rounds
 
 -- the same, each output with the place of the event that it comes of: 0 at the ticks, and for what
 -- the calls' commands send

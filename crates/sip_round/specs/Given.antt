@@ -36,9 +36,7 @@ use Rattle.sip_round.specs.Laws.{NothingAfterEnds, OneRequestInLives, call_input
 -- a Send with this key
 abbrev pub is_send_with : Key → Output → Bool
 is_send_with key (output.Send (Some sender) to bytes) = is_at (key_cmp key) sender
-is_send_with key (output.Send None to bytes) = false
-is_send_with key (output.Dropped place why) = false
-is_send_with key (output.Notice notice) = false
+is_send_with key _ = false
 
 -- all of them, in order
 abbrev pub sends_with : Key → List Output → List Output
@@ -46,9 +44,8 @@ sends_with key outputs = filter (is_send_with key) outputs
 
 -- what a transaction says to send, as it is given
 abbrev pub send_in : Out → List Output
-send_in (out.Up up) = []
 send_in (out.Send key to bytes) = output.Send (Some key) to bytes ∷ []
-send_in (out.Dropped place why) = []
+send_in _ = []
 
 -- the outputs of all rounds, in order
 abbrev pub all_given : List (List Output) → List Output
@@ -69,9 +66,8 @@ AnswersGiveOwnSends =
 
 -- a notice with this Call-ID
 abbrev pub is_notice_of : List ℕ → Output → Bool
-is_notice_of call_id (output.Send sender to bytes) = false
-is_notice_of call_id (output.Dropped place why) = false
 is_notice_of call_id (output.Notice notice) = is_at (call_cmp call_id) (call_of_notice notice)
+is_notice_of call_id _ = false
 
 -- all of them, in order
 abbrev pub notices_of : List ℕ → List Output → List Output
@@ -80,8 +76,7 @@ notices_of call_id outputs = filter (is_notice_of call_id) outputs
 -- what a call says to tell the user, as it is given
 abbrev pub notice_in : CallOut → List Output
 notice_in (call_out.Notice notice) = output.Notice notice ∷ []
-notice_in (call_out.Command id command) = []
-notice_in (call_out.Direct to bytes) = []
+notice_in _ = []
 
 -- of all that rounds give, the notices with a Call-ID are in order just those that the call's own
 -- history says

@@ -25,8 +25,7 @@ sent_of (out.Dropped place why) = output.Dropped place why ∷ []
 -- what a transaction hands up is an item of a call
 abbrev pub raised_of : Id → Out → List (Id × Item)
 raised_of id (out.Up up) = (id, item.Up up) ∷ []
-raised_of id (out.Send key to bytes) = []
-raised_of id (out.Dropped place why) = []
+raised_of id _ = []
 
 -- what a call tells the user, or sends outside of any transaction
 abbrev pub shown_of : CallOut → List Output
@@ -52,9 +51,8 @@ place_of items index = unwrap_or (slice_get (map (λ item. (item.0).place) items
 
 -- what a call asks of a transaction
 abbrev pub command_of : CallOut → List (Id × Command)
-command_of (call_out.Notice notice) = []
 command_of (call_out.Command id command) = (id, command) ∷ []
-command_of (call_out.Direct to bytes) = []
+command_of _ = []
 
 -- all that groups of outputs say, in their order
 abbrev pub joined : {L O : Type 0} → List (L × List O) → List O
@@ -76,6 +74,5 @@ outs_of said id (arrival.User command) = []
 
 -- a command of the user is an item of its call
 abbrev pub user_items : Id → Arrival → List (Id × Item)
-user_items id (arrival.Transaction key input) = []
-user_items id (arrival.Dropped why) = []
 user_items id (arrival.User command) = (id, item.User command) ∷ []
+user_items id _ = []

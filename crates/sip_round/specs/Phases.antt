@@ -20,8 +20,7 @@ use Rattle.sip_round.specs.Arrivals as arrival
 abbrev pub transaction_item : Id → Arrival → List (Item Key Input)
 transaction_item id (arrival.Transaction key input) =
     record { place = id.place; key = key; input = input } ∷ []
-transaction_item id (arrival.Dropped why) = []
-transaction_item id (arrival.User command) = []
+transaction_item id _ = []
 
 -- what arrived for transactions
 abbrev pub transaction_items : List (Id × Arrival) → List (Item Key Input)

@@ -1,0 +1,104 @@
+-- The rules of a call are the steps of its code.
+use Rattle.std.proofs.Common.{◌≡◌, ℕ, Bool, true, false, List, [], ◌∷◌, ◌++◌, Option, Some, None, refl, ap, ◌∙◌}
+use Rattle.std.specs.Prelude.{if◌then◌else◌}
+use Rattle.sip_message.specs.declared.id.Id.{Id}
+use Rattle.sip_transactions.specs.declared.output.Kind.{Kind}
+use Rattle.sip_transactions.specs.declared.output.Kind.TheVariants as kind
+use Rattle.sip_transactions.specs.declared.output.Up.{Up as AnUp}
+use Rattle.sip_common.specs.declared.command.UserCommand.{UserCommand}
+use Rattle.sip_common.specs.declared.command.UserCommand.TheVariants.{Invite, Plain, Request, Respond, Ack, Prack, Cancel}
+use Rattle.sip_common.specs.declared.item.Item.TheVariants.{Up, User}
+use Rattle.sip_common.specs.declared.item.CallOut.TheVariants.{Notice}
+use Rattle.sip_common.specs.declared.notice.Notice.{Notice as ANotice}
+use Rattle.sip_common.specs.declared.notice.Notice.TheVariants.{Timeout, Failed}
+use Rattle.sip_served.specs.State.{ServedTaken}
+use Rattle.sip_served.specs.Tick.{tick_taken}
+use Rattle.sip_served.proofs.ArrivalRules.{kind_same}
+use Rattle.sip_served.proofs.ResponseRules.{respond_same}
+use Rattle.sip_served.proofs.TickRules as served
+use Rattle.sip_timers.specs.Earlier.{earlier}
+use Rattle.sip_clients.specs.Client.{ClientTaken}
+use Rattle.sip_clients.specs.Tick.{next_removal}
+use Rattle.sip_clients.specs.Rules.Ends as rules
+use Rattle.sip_clients.specs.declared.event.Event.{Event}
+use Rattle.sip_clients.proofs.RuleEnds as clients
+use Rattle.sip_clients.proofs.RuleEnds.{lost_same}
+use Rattle.sip_clients.proofs.RuleRequests.{ack_same, cancel_same, invite_same, plain_same, prack_same, request_same}
+use Rattle.sip_clients.proofs.RuleResponses.{response_same}
+use Rattle.sip_calls.specs.declared.call.Call.{Call}
+use Rattle.sip_calls.specs.declared.calls.Calls.{Calls}
+use Rattle.sip_calls.specs.Call.{CallItem, call_due, call_step, call_tick_rule, event_of, item_rule, kept, loss_rule, made_tag, new_call, up_rule, with_clients}
+use Rattle.sip_calls.specs.Sides.{CallTaken, by_clients, by_server, holds_any, side_of}
+use Rattle.sip_calls.specs.Steps.Call.{command_taken, due_taken, first_command_taken, lost_taken, step_taken, ticked, up_taken}
+
+same_loss : (call : Call) (id : Id) (notice : ANotice) (timed_out : Bool)
+    → loss_rule call id notice timed_out ≡ lost_taken call id notice timed_out
+same_loss call id notice timed_out =
+    ap (λ (taken : ClientTaken). let after = by_clients call taken in
+    (after.0, Notice notice ∷ after.1)) (lost_same id timed_out (side_of call))
+
+same_up : (call : Call) (event : Event) (up : AnUp) (k : Kind)
+    → up_rule call event up k ≡ up_taken call event up k
+same_up call event up (kind.Request request reply_to) =
+    ap (by_server call) (kind_same call.served (made_tag event) up (kind.Request request reply_to)
+    event.moment)
+same_up call event up (kind.Ack ack) =
+    ap (by_server call) (kind_same call.served (made_tag event) up (kind.Ack ack) event.moment)
+same_up call event up (kind.Response response) =
+    ap (by_clients call) (response_same event up.id up.call_id response (side_of call))
+same_up call event up kind.Timeout =
+    same_loss call up.id (Timeout up.call_id up.id) true
+same_up call event up kind.Failed = same_loss call up.id (Failed up.call_id up.id) false
+
+same_first : (call : Call) (event : Event) (command : UserCommand)
+    → item_rule false call event (User command) ≡ first_command_taken call event command
+same_first call event (Invite invite) =
+    ap (with_clients call) (invite_same event invite call.clients)
+same_first call event (Plain plain) =
+    ap (with_clients call) (plain_same event plain call.clients)
+same_first call event (Request request) = refl
+same_first call event (Respond respond) = refl
+same_first call event (Ack ack) = refl
+same_first call event (Prack prack) = refl
+same_first call event (Cancel cancel) = refl
+
+same_later : (call : Call) (event : Event) (command : UserCommand)
+    → item_rule true call event (User command) ≡ command_taken call event command
+same_later call event (Invite invite) = refl
+same_later call event (Plain plain) = refl
+same_later call event (Request request) =
+    ap (by_clients call) (request_same event request (side_of call))
+same_later call event (Respond respond) =
+    ap (by_server call) (respond_same call.served event.id respond event.moment)
+same_later call event (Ack ack) = ap (by_clients call) (ack_same event ack (side_of call))
+same_later call event (Prack prack) =
+    ap (by_clients call) (prack_same event prack (side_of call))
+same_later call event (Cancel cancel) =
+    ap (by_clients call) (cancel_same event cancel (side_of call))
+
+pub same_tick : (call : Call) (now : ℕ) → call_tick_rule call now ≡ ticked call now
+same_tick call now =
+    let after : CallTaken = by_server call (tick_taken call.served now) in
+    ap (λ (taken : ServedTaken). let first = by_server call taken in
+    let second = by_clients first.0 (rules.tick_rule (side_of first.0) now) in
+    (second.0, first.1 ++ second.1)) (served.tick_same call.served now)
+    ∙ ap (λ (taken : ClientTaken). let second = by_clients after.0 taken in
+    (second.0, after.1 ++ second.1)) (clients.tick_same (side_of after.0) now)
+
+pub same_due : (call : Call) → call_due call ≡ due_taken call
+same_due call =
+    ap (λ due. if holds_any call then earlier due (next_removal call.clients) else Some 0)
+    (served.due_same call.served)
+
+pub same_step : (calls : Calls) (state : Option Call) (input : Option CallItem) (now : ℕ)
+    → call_step calls state input now ≡ step_taken calls state input now
+same_step calls None None now = refl
+same_step calls (Some call) None now = ap kept (same_tick call now)
+same_step calls None (Some (id, Up up)) now =
+    ap kept (same_up (new_call calls.local) (event_of calls id now) up up.kind)
+same_step calls None (Some (id, User command)) now =
+    ap kept (same_first (new_call calls.local) (event_of calls id now) command)
+same_step calls (Some call) (Some (id, Up up)) now =
+    ap kept (same_up call (event_of calls id now) up up.kind)
+same_step calls (Some call) (Some (id, User command)) now =
+    ap kept (same_later call (event_of calls id now) command)
