@@ -25,6 +25,7 @@ pub mod Stories
 pub mod StoryLives
 pub mod Terminations
 pub mod TickFollows
+pub mod TickRules
 pub mod Ticks
 pub mod Unacknowledged
 pub mod ServedOuts

@@ -1,0 +1,3 @@
+pub mod Arrivals
+pub mod Responses
+pub mod Ticks
