@@ -1,12 +1,15 @@
 -- A tick by the rules is the tick by its steps, and so is the first moment at which one is due.
-use Rattle.std.proofs.Common.{◌≡◌, ℕ, ◌||◌, Bool, true, false, cond, List, [], ◌∷◌, ◌++◌, map, min, refl, sym, ap, ◌∙◌, arith}
+use Rattle.std.proofs.Common.{◌≡◌, ℕ, ◌||◌, ◌==◌, Bool, true, false, cond, List, [], ◌∷◌, ◌++◌, map, min, refl, sym, ap, ◌∙◌, arith}
 use Rattle.std.specs.Prelude.{Option, None, Some, filter, fold}
 use Rattle.std.specs.List.{flat_map, list_any}
+use Rattle.std.specs.Option.{option_and_then}
 use Rattle.sip_reliable.specs.declared.tick.Tick.TheVariants as tick
 use Rattle.sip_reliable.specs.Ledger.{Ledger, due_numbers, first_moment, next_moment}
-use Rattle.sip_reliable.specs.Provisional.{Provisional, after_repeat, due_moment, is_late, is_repeated}
+use Rattle.sip_reliable.specs.Provisional.{Provisional, after_repeat, due_moment, is_late, is_repeated, sent_again}
 use Rattle.sip_timers.specs.Earlier.{earlier}
+use Rattle.sip_transactions.specs.declared.input.Command.TheVariants.{Answer}
 use Rattle.sip_common.specs.declared.item.CallOut.{CallOut}
+use Rattle.sip_common.specs.declared.item.CallOut.TheVariants.{Command}
 use Rattle.sip_served.specs.declared.held_request.HeldRequest.{HeldRequest}
 use Rattle.sip_served.specs.declared.held_request.Success.{Success}
 use Rattle.sip_served.specs.declared.provisionals.NumberedResponse.{NumberedResponse}
@@ -14,7 +17,7 @@ use Rattle.sip_served.specs.declared.tick.SuccessDue.TheVariants as repeat
 use Rattle.sip_served.specs.RequestLife.{went_on}
 use Rattle.sip_served.specs.Rules.Ticks.{due_rule, moments_of, provisionals_tick, success_tick, tick_rule}
 use Rattle.sip_served.specs.State.{State}
-use Rattle.sip_served.specs.Tick.{Ticked, is_kept_at, next_server_due, provisionals_by, provisionals_ticked, request_due, request_ticked, success_at_tick, success_goes, success_ticked, success_told, tick_taken}
+use Rattle.sip_served.specs.Tick.{Ticked, is_kept_at, next_server_due, provisionals_by, provisionals_ticked, request_due, request_ticked, success_at_tick, success_goes, success_moment, success_ticked, success_told, tick_taken}
 
 -- ---- the first moment
 
@@ -68,9 +71,11 @@ moments_first removal success waiting =
 
 request_first : (held : HeldRequest) → fold earlier None (moments_of held) ≡ request_due held
 request_first held =
-    moments_first held.removal _ _
-    ∙ ap (λ o. earlier (earlier _ o) held.removal)
-    (waiting_first held.ledger.closed held.ledger.waiting)
+    let success = option_and_then success_moment held.success in
+    let waiting = held.ledger.waiting in
+    moments_first held.removal success (cond held.ledger.closed [] (map due_moment waiting))
+    ∙ ap (λ o. earlier (earlier success o) held.removal)
+    (waiting_first held.ledger.closed waiting)
 
 due_from : (a : Option ℕ) (requests : List HeldRequest)
     → fold earlier a (flat_map moments_of requests)
@@ -108,8 +113,10 @@ module _ (now : ℕ) (held : HeldRequest) where
       → success_at_tick now (with_success o) o ≡ left (success_tick now (with_success o))
   success_same None = refl
   success_same (Some success) =
-      by_success (λ due. (went_on (success_goes due now) (with_success (Some success)),
-      success_told due (with_success (Some success)) success.response)) left _ _ _
+      by_success (λ due. (
+        went_on (success_goes due now) (with_success (Some success)),
+        success_told due (with_success (Some success)) success.response,
+      )) left _ _ _
       repeat.Nothing repeat.GivenUp repeat.Again _ _ _ refl refl refl
 
 -- ---- the reliable provisional responses of a request
@@ -125,9 +132,9 @@ none_repeated now [] none = (refl, refl)
 none_repeated now (p ∷ ps) none =
     let parts = neither (is_repeated now p) (list_any (is_repeated now) ps) none in
     let rest = none_repeated now ps parts.1 in (
-      ap (λ b. map (λ one. one.number) (cond b (p ∷ filter (is_repeated now) ps)
-      (filter (is_repeated now) ps))) parts.0 ∙ rest.0,
-      ?,
+      ap (λ b. map (λ (one : Provisional). one.number) (cond b (p ∷ filter (is_repeated now) ps)
+          (filter (is_repeated now) ps))) parts.0 ∙ rest.0,
+      λ i. cond (parts.0 i) (sent_again now p) p ∷ rest.1 i,
     )
 
 none_kept : (responses : List NumberedResponse) → filter (λ _. false) responses ≡ []
@@ -143,3 +150,65 @@ by_tick f g true late due nothing given_up again same gone sent p q r s = p
 by_tick f g false true due nothing given_up again same gone sent p q r s = q
 by_tick f g false false true nothing given_up again same gone sent p q r s = r refl
 by_tick f g false false false nothing given_up again same gone sent p q r s = s refl
+
+module _ (now : ℕ) (held : HeldRequest) (success : Option Success) where
+  abbrev with_both : Ledger × List CallOut → Ticked
+  with_both after = (record held { ledger = after.0; success = success }, after.1)
+
+  -- where none is due nothing changes, and nothing is sent
+  none_sent : list_any (is_repeated now) held.ledger.waiting ≡ false
+      → (record held { success = success }, []) ≡ with_both (
+        record (held.ledger) { waiting = map (after_repeat now) held.ledger.waiting },
+        map (λ one. Command held.id (Answer held.key one.response))
+            (filter (λ one. list_any (λ number. one.number == number)
+            (due_numbers now held.ledger.waiting)) held.provisionals),
+      )
+  none_sent none =
+      let parts = none_repeated now held.ledger.waiting none in
+      λ i. with_both (
+        record (held.ledger) { waiting = sym parts.1 i },
+        map (λ one. Command held.id (Answer held.key one.response)) (nothing i),
+      )
+    where
+      nothing : [] ≡ filter (λ one. list_any (λ number. one.number == number)
+          (due_numbers now held.ledger.waiting)) held.provisionals
+      nothing =
+          sym (none_kept held.provisionals)
+          ∙ (λ i. filter (λ one. list_any (λ number. one.number == number)
+          (sym (none_repeated now held.ledger.waiting none).0 i)) held.provisionals)
+
+  provisionals_same : provisionals_ticked now (record held { success = success })
+      ≡ with_both (provisionals_tick now held)
+  provisionals_same =
+      let ledger : Ledger = held.ledger in
+      by_tick (λ answer. provisionals_by answer now (record held { success = success })) with_both
+      ledger.closed (list_any (is_late now) ledger.waiting)
+      (list_any (is_repeated now) ledger.waiting)
+      tick.Nothing tick.GivenUp _ _ _ _ refl refl (λ due. refl) none_sent
+
+-- ---- all of it
+
+request_same : (now : ℕ) (held : HeldRequest) → request_ticked now held
+    ≡ (
+      record held {
+        ledger = (provisionals_tick now held).0;
+        success = (success_tick now held).0;
+      },
+      (success_tick now held).1 ++ (provisionals_tick now held).1,
+    )
+request_same now held =
+    ap (λ first. (
+      (provisionals_ticked now first.0).0,
+      first.1 ++ (provisionals_ticked now first.0).1,
+    )) (success_same now held held.success)
+    ∙ ap (λ second. (second.0, (success_tick now held).1 ++ second.1))
+    (provisionals_same now held (success_tick now held).0)
+
+pub tick_same : (state : State) (now : ℕ) → tick_rule state now ≡ tick_taken state now
+tick_same state now = λ i. (
+  record state {
+    requests = filter (is_kept_at now)
+        (map (λ held. (sym (request_same now held) i).0) state.requests);
+  },
+  flat_map (λ held. (sym (request_same now held) i).1) state.requests,
+)

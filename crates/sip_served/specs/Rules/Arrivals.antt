@@ -4,6 +4,7 @@ use Rattle.std.specs.Prelude.{ℕ, Bool, true, false, not, ◌+◌, ◌&&◌, �
 use Rattle.std.specs.List.{list_any, join_by}
 use Rattle.std.specs.Option.{option_map, option_map_or}
 use Rattle.std.specs.Str.{bytes_eq, str_eq_ignore_ascii_case}
+use Rattle.sip_message.specs.declared.header.Header.{Header}
 use Rattle.sip_message.specs.declared.id.Id.{Id}
 use Rattle.sip_message.specs.declared.key.Key.{Key}
 use Rattle.sip_message.specs.declared.key.Key.TheVariants.{Server}
@@ -137,7 +138,7 @@ request_rule state call_id arrival now =
     && (held.request.cseq.number == request.cseq.number)
     && bytes_eq held.request.cseq.method request.cseq.method) state.requests in
     let unknown = join_by (λ o. o) (codes ", ") (filter is_unknown_option request.require) in
-    let unsupported = record { name = codes "Unsupported"; value = unknown } in
+    let unsupported : Header = record { name = codes "Unsupported"; value = unknown } in
     let refusal = response_of request 420 (codes "Bad Extension") arrival.tag in
     let bad_extension = Answer arrival.key (record refusal { others = unsupported ∷ [] }) in
     let noted : State =
@@ -165,7 +166,7 @@ ack_rule state call_id ack =
     option_map_or (λ invite. (
       record state {
         requests = changed_at invite.id (λ held. record held {
-          success = option_map (λ success. record success { over = Some Acknowledged })
+          success = option_map (λ (success : Success). record success { over = Some Acknowledged })
               held.success;
         }) state.requests;
       },

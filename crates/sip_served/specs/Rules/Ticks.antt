@@ -55,7 +55,7 @@ abbrev pub tick_rule : State → ℕ → ServedTaken
 tick_rule state now = (
   record state {
     requests = filter (λ held. option_map_or (λ moment. nat_lt now moment) held.removal true)
-        (map (λ held. record held {
+        (map (λ (held : HeldRequest). record held {
           ledger = (provisionals_tick now held).0;
           success = (success_tick now held).0;
         }) state.requests);

@@ -1,3 +1,0 @@
-pub mod Arrivals
-pub mod Responses
-pub mod Ticks
