@@ -15,7 +15,7 @@ use Rattle.sip_served.specs.declared.held_request.Success.{Success}
 use Rattle.sip_served.specs.declared.provisionals.NumberedResponse.{NumberedResponse}
 use Rattle.sip_served.specs.declared.tick.SuccessDue.TheVariants as repeat
 use Rattle.sip_served.specs.RequestLife.{went_on}
-use Rattle.sip_served.specs.Rules.Ticks.{due_rule, moments_of, provisionals_tick, success_tick, tick_rule}
+use Rattle.sip_served.specs.Rules.Ticks.{due_rule, provisionals_tick, success_tick, tick_rule}
 use Rattle.sip_served.specs.State.{State}
 use Rattle.sip_served.specs.Tick.{Ticked, is_kept_at, next_server_due, provisionals_by, provisionals_ticked, request_due, request_ticked, success_at_tick, success_goes, success_moment, success_ticked, success_told, tick_taken}
 
@@ -68,6 +68,11 @@ moments_first removal success waiting =
     fold_from (earlier removal success) waiting
     ∙ earlier_all removal success (fold earlier None waiting)
     ∙ earlier_both removal (earlier success (fold earlier None waiting))
+
+abbrev moments_of : HeldRequest → List (Option ℕ)
+moments_of held =
+    held.removal ∷ option_and_then success_moment held.success
+    ∷ cond held.ledger.closed [] (map due_moment held.ledger.waiting)
 
 request_first : (held : HeldRequest) → fold earlier None (moments_of held) ≡ request_due held
 request_first held =

@@ -63,15 +63,13 @@ tick_rule state now = (
   flat_map (λ held. (success_tick now held).1 ++ (provisionals_tick now held).1) state.requests,
 )
 
--- the moments at which something of a held request is due, of which each may be missing
-abbrev pub moments_of : HeldRequest → List (Option ℕ)
-moments_of held =
-    held.removal
-    ∷ option_and_then (λ success.
-    if is_some success.over then None
-    else Some (min success.end success.retransmission.due)) held.success
-    ∷ (if held.ledger.closed then [] else map due_moment held.ledger.waiting)
-
--- The first moment at which a tick does something.
+-- The first moment at which a tick does something: of those at which something of a held request
+-- is due.
 abbrev pub due_rule : State → Option ℕ
-due_rule state = fold earlier None (flat_map moments_of state.requests)
+due_rule state =
+    fold earlier None (flat_map (λ held.
+    let success = option_and_then (λ success.
+    if is_some success.over then None
+    else Some (min success.end success.retransmission.due)) held.success in
+    let waiting = if held.ledger.closed then [] else map due_moment held.ledger.waiting in
+    held.removal ∷ success ∷ waiting) state.requests)
