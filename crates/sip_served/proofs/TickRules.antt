@@ -1,5 +1,5 @@
 -- A tick by the rules is the tick by its steps, and so is the first moment at which one is due.
-use Rattle.std.proofs.Common.{◌≡◌, ℕ, ◌||◌, ◌==◌, Bool, true, false, cond, List, [], ◌∷◌, ◌++◌, map, min, refl, sym, ap, ◌∙◌, arith}
+use Rattle.std.proofs.Common.{◌≡◌, ℕ, not, ◌&&◌, ◌||◌, ◌==◌, Bool, true, false, cond, List, [], ◌∷◌, ◌++◌, map, min, refl, sym, ap, ◌∙◌, arith}
 use Rattle.std.specs.Prelude.{Option, None, Some, filter, fold}
 use Rattle.std.specs.List.{flat_map, list_any}
 use Rattle.std.specs.Option.{option_and_then}
@@ -101,7 +101,7 @@ by_success : {A B C : Type 0} (f : A → C) (g : B → C) (over end due : Bool)
     (nothing given_up again : A) (same gone sent : B) → f nothing ≡ g same → f given_up ≡ g gone
     → f again ≡ g sent
     → f (cond over nothing (cond end given_up (cond due again nothing)))
-    ≡ g (cond over same (cond end gone (cond due sent same)))
+    ≡ g (cond (not over && end) gone (cond (not over && due) sent same))
 by_success f g true end due nothing given_up again same gone sent p q r = p
 by_success f g false true due nothing given_up again same gone sent p q r = q
 by_success f g false false true nothing given_up again same gone sent p q r = r

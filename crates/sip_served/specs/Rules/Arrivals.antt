@@ -18,7 +18,7 @@ use Rattle.sip_transactions.specs.declared.input.Command.TheVariants.{Answer}
 use Rattle.sip_transactions.specs.declared.output.Kind.{Kind}
 use Rattle.sip_transactions.specs.declared.output.Kind.TheVariants as kind
 use Rattle.sip_transactions.specs.declared.output.Up.{Up}
-use Rattle.sip_common.specs.declared.command.UserCommand.TheVariants as command
+use Rattle.sip_common.specs.declared.command.UserCommand.TheVariants.{Respond}
 use Rattle.sip_common.specs.declared.held_dialog.DialogName.{DialogName}
 use Rattle.sip_common.specs.declared.held_dialog.HeldDialog.{HeldDialog}
 use Rattle.sip_common.specs.declared.item.CallOut.{CallOut}
@@ -71,8 +71,9 @@ request_for_user state call_id name arrival =
           request.body) ∷ after.1,
     )
 
--- A PRACK in the dialog of this name, born so: 200 where its RAck names a reliable provisional
--- response of an INVITE there that waits for it, and otherwise 481 (RFC 3262, section 3).
+-- A PRACK in the dialog of this name, born so. It gets a 200 where its RAck names a reliable
+-- provisional response to an INVITE there that waits for it, and is no longer sent again; otherwise
+-- a 481 (RFC 3262, section 3).
 abbrev pub prack_rule : State → List ℕ → DialogName → Id → Arrival → Option RAck → ServedTaken
 prack_rule state call_id name born arrival None = (state, no_such_call arrival)
 prack_rule state call_id name born arrival (Some rack) =
@@ -180,6 +181,5 @@ kind_rule state made up _ now = (state, [])
 -- What an item makes of the server side, at a moment in ms: what comes up, or the user's answer.
 abbrev pub server_item_rule : State → List ℕ → Id → Item → ℕ → ServedTaken
 server_item_rule state tag id (item.Up up) now = kind_rule state tag up up.kind now
-server_item_rule state tag id (item.User (command.Respond respond)) now =
-    respond_rule state id respond now
+server_item_rule state tag id (item.User (Respond answer)) now = respond_rule state id answer now
 server_item_rule state tag id _ now = (state, [])

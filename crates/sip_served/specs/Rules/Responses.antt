@@ -80,13 +80,11 @@ answer_refusal dialogs held respond =
 -- 3261, section 12.1.1), a reliable one `Require: 100rel` and an RSeq (RFC 3262, section 3).
 abbrev pub answer_sent : Addr → HeldRequest → Respond → Message
 answer_sent local held respond =
-    let contacts = contact_of local ∷ [] in
     let routes = held.request.record_routes in
     let bare = response_of held.request respond.status respond.reason held.tag in
-    let routed : Message = record bare { contacts = contacts; record_routes = routes } in
+    let routed = record bare { contacts = contact_of local ∷ []; record_routes = routes } in
     let plain = if is_of_dialog held respond.status then routed else bare in
-    let rseq = Some held.ledger.next in
-    let reliable : Message = record plain { require = codes "100rel" ∷ []; rseq = rseq } in
+    let reliable = record plain { require = codes "100rel" ∷ []; rseq = Some held.ledger.next } in
     with_content_of (if is_sent_reliably held respond then reliable else plain) respond.content
 
 -- The dialogs after it: it makes one, a 2xx confirms it, and any other final response ends the
@@ -115,7 +113,7 @@ dialogs_after event held status response dialogs =
 abbrev pub held_after : Id → HeldRequest → Respond → Message → ℕ → HeldRequest
 held_after event held respond response now =
     let status = respond.status in
-    let ledger : Ledger = held.ledger in
+    let ledger = held.ledger in
     let life : DialogLife = record { name = dialog_name held.request held.tag; born = event } in
     let dialog = if makes_dialog held status then Some life else held.dialog in
     let waits : Provisional = record {
