@@ -1,4 +1,5 @@
 pub mod QuietBeforeDue
+pub mod ArrivalRules
 pub mod Awaiting
 pub mod Changes
 pub mod DialogSteps
@@ -19,12 +20,14 @@ pub mod Places
 pub mod Reading
 pub mod RequestLives
 pub mod RequestIds
+pub mod ResponseRules
 pub mod Rseqs
 pub mod Shows
 pub mod Stories
 pub mod StoryLives
 pub mod Terminations
 pub mod TickFollows
+pub mod TickRules
 pub mod Ticks
 pub mod Unacknowledged
 pub mod ServedOuts

@@ -18,3 +18,4 @@ pub mod Story
 pub mod Telling
 pub mod Tick
 pub mod Unacknowledged
+pub mod Rules

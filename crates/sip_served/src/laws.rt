@@ -5,14 +5,22 @@ ghost use Rattle.std.specs.List.{AllByRecursion};
 ghost use Rattle.sip_message.specs.declared.id.Id.{Id};
 ghost use Rattle.sip_message.specs.declared.addr.Addr.{Addr};
 ghost use Rattle.sip_timers.specs.Queue.{is_due};
+ghost use Rattle.sip_transactions.specs.declared.output.Kind.{Kind};
+ghost use Rattle.sip_transactions.specs.declared.output.Up.{Up};
 ghost use Rattle.sip_transactions.specs.declared.input.Command.TheVariants.{Answer};
 ghost use Rattle.sip_served.specs.Cancel.{invite_terminated, is_unanswered_invite, request_terminated, user_termination};
 ghost use Rattle.sip_common.specs.OwnCall.{IsNoticeOf};
+ghost use Rattle.sip_common.specs.declared.command.Respond.{Respond};
+ghost use Rattle.sip_common.specs.declared.item.Item.{Item};
 ghost use Rattle.sip_served.specs.OwnCall.{IsEventOf, IsStateOf};
 ghost use Rattle.sip_served.specs.Respond.{respond_taken};
 ghost use Rattle.sip_served.specs.Run.{Event, FewWaitEach, event_taken, server_state_after};
 ghost use Rattle.sip_served.specs.ForUser.{brings, ids_for_user, told_by, told_from};
 ghost use Rattle.sip_common.specs.Ids.{is_id};
+ghost use Rattle.sip_served.specs.Rules.Arrivals.{kind_rule, server_item_rule};
+ghost use Rattle.sip_served.specs.Rules.Responses.{respond_rule};
+ghost use Rattle.sip_served.specs.Rules.Ticks.{due_rule, tick_rule};
+ghost use Rattle.sip_served.specs.Step.{kind_taken, server_item_taken};
 ghost use Rattle.sip_served.specs.State.{State, empty_at, followed, has_id, quiet};
 ghost use Rattle.sip_served.specs.Tick.{next_server_due, tick_taken};
 ghost use Rattle.sip_served.specs.declared.held_request.HeldRequest.{HeldRequest};
@@ -63,4 +71,18 @@ pub fn each_notice_is_of_its_call()
     ensures notices { (call_id : List ℕ) (state : State) (event : Event) → IsStateOf call_id state
         → IsEventOf call_id event
         → AllByRecursion (IsNoticeOf call_id) (event_taken state event).1 }
+{}
+
+/// The rules of the server side say what its steps do: of what comes up and of the user's answer
+/// (RFC 3261, sections 8.2, 9.2, 12 and 13.3; RFC 3262, section 3), of a tick, and of the moment at
+/// which one is due.
+pub fn the_rules_say_the_steps()
+    ensures item { (state : State) (tag : List ℕ) (id : Id) (item : Item) (now : ℕ)
+        → server_item_rule state tag id item now ≡ server_item_taken state tag id item now }
+    ensures kind { (state : State) (tag : List ℕ) (up : Up) (kind : Kind) (now : ℕ)
+        → kind_rule state tag up kind now ≡ kind_taken state tag up kind now }
+    ensures answer { (state : State) (event : Id) (respond : Respond) (now : ℕ)
+        → respond_rule state event respond now ≡ respond_taken state event respond now }
+    ensures tick { (state : State) (now : ℕ) → tick_rule state now ≡ tick_taken state now }
+    ensures due { (state : State) → due_rule state ≡ next_server_due state }
 {}

@@ -20,7 +20,7 @@ pub use arrival::Arrival;
 pub use held_request::{HeldRequest, Retransmission, Success, SuccessEnd};
 pub use laws::{
     a_cancel_answers_as_the_user_would, each_notice_is_of_its_call, each_request_is_told_once,
-    few_provisionals_wait, ticks_when_due,
+    few_provisionals_wait, the_rules_say_the_steps, ticks_when_due,
 };
 pub use provisionals::{NumberedResponse, Provisionals};
 pub use served::Served;

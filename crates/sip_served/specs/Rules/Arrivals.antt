@@ -18,7 +18,7 @@ use Rattle.sip_transactions.specs.declared.input.Command.TheVariants.{Answer}
 use Rattle.sip_transactions.specs.declared.output.Kind.{Kind}
 use Rattle.sip_transactions.specs.declared.output.Kind.TheVariants as kind
 use Rattle.sip_transactions.specs.declared.output.Up.{Up}
-use Rattle.sip_common.specs.declared.command.UserCommand.TheVariants as command
+use Rattle.sip_common.specs.declared.command.UserCommand.TheVariants.{Respond}
 use Rattle.sip_common.specs.declared.held_dialog.DialogName.{DialogName}
 use Rattle.sip_common.specs.declared.held_dialog.HeldDialog.{HeldDialog}
 use Rattle.sip_common.specs.declared.item.CallOut.{CallOut}
@@ -39,8 +39,8 @@ use Rattle.sip_served.specs.State.{State, ServedTaken, changed_at}
 -- the agent answers a request by itself
 abbrev pub own_answer : Arrival → ℕ → List ℕ → List CallOut
 own_answer arrival status reason =
-    Command arrival.id
-    (Answer arrival.key (response_of arrival.request status reason arrival.tag)) ∷ []
+    let response = response_of arrival.request status reason arrival.tag in
+    Command arrival.id (Answer arrival.key response) ∷ []
 
 -- by a 481
 abbrev pub no_such_call : Arrival → List CallOut
@@ -64,35 +64,32 @@ request_for_user state call_id name arrival =
       success = None;
       removal = None;
     } in
-    let after : Dialogs × List CallOut =
-    if is_inside request && is_bye request then ended_at name state.dialogs
-    else (state.dialogs, []) in (
+    let ends = is_inside request && is_bye request in
+    let after = if ends then ended_at name state.dialogs else (state.dialogs, []) in (
       record state { requests = state.requests ++ held ∷ []; dialogs = after.0 },
       Notice (Request call_id arrival.id request.cseq.method arrival.tag (tag_of request.from)
           request.body) ∷ after.1,
     )
 
--- A PRACK in the dialog of this name, born so. Where its RAck names a reliable provisional response
--- to an INVITE of the dialog that has no PRACK yet, that isn't sent again, and the PRACK gets a 200;
--- otherwise it gets a 481 (RFC 3262, section 3).
+-- A PRACK in the dialog of this name, born so. It gets a 200 where its RAck names a reliable
+-- provisional response to an INVITE there that waits for it, and is no longer sent again; otherwise
+-- a 481 (RFC 3262, section 3).
 abbrev pub prack_rule : State → List ℕ → DialogName → Id → Arrival → Option RAck → ServedTaken
 prack_rule state call_id name born arrival None = (state, no_such_call arrival)
 prack_rule state call_id name born arrival (Some rack) =
-    option_map_or (λ invite. (
-      record state {
-        requests = changed_at invite.id (λ held. record held {
-          ledger = acknowledged rack.rseq held.ledger;
-          provisionals = filter (λ one. not (one.number == rack.rseq)) held.provisionals;
-        }) state.requests;
-      },
-      own_answer arrival 200 (codes "OK")
-          ++ Notice (Prack call_id invite.id rack.rseq arrival.request.body) ∷ [],
-    )) (find (λ held.
+    let acknowledged_by = λ (held : HeldRequest).
     option_map_or (λ life. is_named life.name name && is_id life.born born) held.dialog false
     && is_invite held.request && bytes_eq rack.method held.request.cseq.method
-    && (held.request.cseq.number == rack.cseq)
-    && waits_for rack.rseq held.ledger) state.requests)
-    (state, no_such_call arrival)
+    && (held.request.cseq.number == rack.cseq) && waits_for rack.rseq held.ledger in
+    let after = λ (held : HeldRequest). record held {
+      ledger = acknowledged rack.rseq held.ledger;
+      provisionals = filter (λ one. not (one.number == rack.rseq)) held.provisionals;
+    } in
+    option_map_or (λ invite. (
+      record state { requests = changed_at invite.id after state.requests },
+      own_answer arrival 200 (codes "OK")
+          ++ Notice (Prack call_id invite.id rack.rseq arrival.request.body) ∷ [],
+    )) (find acknowledged_by state.requests) (state, no_such_call arrival)
 
 -- the keys of two requests have the same branch and sent-by, whatever their methods
 abbrev pub is_same_branch : Key → Key → Bool
@@ -106,23 +103,18 @@ is_same_branch _ _ = false
 -- (RFC 3261, section 9.2).
 abbrev pub cancel_rule : State → List ℕ → Arrival → ℕ → ServedTaken
 cancel_rule state call_id arrival now =
+    let over = λ (held : HeldRequest).
+    record held { ledger = closed_now held.ledger; removal = Some (now + LIFETIME) } in
     option_map_or (λ held.
     let ok = own_answer (record arrival { tag = held.tag }) 200 (codes "OK") in
     let terminated = response_of held.request 487 (codes "Request Terminated") held.tag in
     let after = early_ended held.id state.dialogs in
     if not (is_invite held.request && is_none held.removal) then (state, ok)
     else (
-      record state {
-        requests = changed_at held.id (λ one. record one {
-          ledger = closed_now one.ledger;
-          removal = Some (now + LIFETIME);
-        }) state.requests;
-        dialogs = after.0;
-      },
-      ok ++ Command held.id (Answer held.key terminated)
-          ∷ Notice (Cancel call_id held.id) ∷ after.1,
-    ))
-    (find (λ held. is_same_branch arrival.key held.key) (reverse state.requests))
+      record state { requests = changed_at held.id over state.requests; dialogs = after.0 },
+      ok ++ Command held.id (Answer held.key terminated) ∷ Notice (Cancel call_id held.id)
+          ∷ after.1,
+    )) (find (λ held. is_same_branch arrival.key held.key) (reverse state.requests))
     (state, no_such_call arrival)
 
 -- A request that comes up, by the first case that fits (RFC 3261, section 8.2). It gets a 482 where
@@ -141,8 +133,8 @@ request_rule state call_id arrival now =
     let unsupported : Header = record { name = codes "Unsupported"; value = unknown } in
     let refusal = response_of request 420 (codes "Bad Extension") arrival.tag in
     let bad_extension = Answer arrival.key (record refusal { others = unsupported ∷ [] }) in
-    let noted : State =
-    record state { dialogs = dialog_changed name (visited request) state.dialogs } in
+    let dialogs = dialog_changed name (visited request) state.dialogs in
+    let noted : State = record state { dialogs = dialogs } in
     if is_cancel request then cancel_rule state call_id arrival now
     else (if not (is_inside request) && merged
     then (state, own_answer arrival 482 (codes "Loop Detected"))
@@ -163,21 +155,18 @@ request_rule state call_id arrival now =
 -- 3261, section 13.3.1.4). Any other ACK says nothing.
 abbrev pub ack_rule : State → List ℕ → Message → ServedTaken
 ack_rule state call_id ack =
-    option_map_or (λ invite. (
-      record state {
-        requests = changed_at invite.id (λ held. record held {
-          success = option_map (λ (success : Success). record success { over = Some Acknowledged })
-              held.success;
-        }) state.requests;
-      },
-      Notice (Ack call_id invite.id ack.body) ∷ [],
-    )) (find (λ held.
+    let acknowledged_by = λ (held : HeldRequest).
     is_invite held.request
     && option_map_or (λ success. is_none success.over) held.success false
     && str_eq_ignore_ascii_case (tag_of ack.to) held.tag
     && str_eq_ignore_ascii_case (tag_of ack.from) (tag_of held.request.from)
-    && (ack.cseq.number == held.request.cseq.number)) state.requests)
-    (state, [])
+    && (ack.cseq.number == held.request.cseq.number) in
+    let over = λ (success : Success). record success { over = Some Acknowledged } in
+    let after = λ (held : HeldRequest). record held { success = option_map over held.success } in
+    option_map_or (λ invite. (
+      record state { requests = changed_at invite.id after state.requests },
+      Notice (Ack call_id invite.id ack.body) ∷ [],
+    )) (find acknowledged_by state.requests) (state, [])
 
 -- What a transaction hands up: of the server side are the requests and the ACKs. `made` is the To
 -- tag of the answers to a request without one.
@@ -192,6 +181,5 @@ kind_rule state made up _ now = (state, [])
 -- What an item makes of the server side, at a moment in ms: what comes up, or the user's answer.
 abbrev pub server_item_rule : State → List ℕ → Id → Item → ℕ → ServedTaken
 server_item_rule state tag id (item.Up up) now = kind_rule state tag up up.kind now
-server_item_rule state tag id (item.User (command.Respond respond)) now =
-    respond_rule state id respond now
+server_item_rule state tag id (item.User (Respond answer)) now = respond_rule state id answer now
 server_item_rule state tag id _ now = (state, [])

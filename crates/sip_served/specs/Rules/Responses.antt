@@ -80,17 +80,12 @@ answer_refusal dialogs held respond =
 -- 3261, section 12.1.1), a reliable one `Require: 100rel` and an RSeq (RFC 3262, section 3).
 abbrev pub answer_sent : Addr → HeldRequest → Respond → Message
 answer_sent local held respond =
-    let contacts = contact_of local ∷ [] in
     let routes = held.request.record_routes in
-    let plain = response_of held.request respond.status respond.reason held.tag in
-    let of_dialog : Message =
-    if is_of_dialog held respond.status
-    then record plain { contacts = contacts; record_routes = routes } else plain in
-    let reliable : Message =
-    if is_sent_reliably held respond
-    then record of_dialog { require = codes "100rel" ∷ []; rseq = Some held.ledger.next }
-    else of_dialog in
-    with_content_of reliable respond.content
+    let bare = response_of held.request respond.status respond.reason held.tag in
+    let routed = record bare { contacts = contact_of local ∷ []; record_routes = routes } in
+    let plain = if is_of_dialog held respond.status then routed else bare in
+    let reliable = record plain { require = codes "100rel" ∷ []; rseq = Some held.ledger.next } in
+    with_content_of (if is_sent_reliably held respond then reliable else plain) respond.content
 
 -- The dialogs after it: it makes one, a 2xx confirms it, and any other final response ends the
 -- early ones (RFC 3261, sections 12.1.1 and 13.3.1).
@@ -118,7 +113,7 @@ dialogs_after event held status response dialogs =
 abbrev pub held_after : Id → HeldRequest → Respond → Message → ℕ → HeldRequest
 held_after event held respond response now =
     let status = respond.status in
-    let ledger : Ledger = held.ledger in
+    let ledger = held.ledger in
     let life : DialogLife = record { name = dialog_name held.request held.tag; born = event } in
     let dialog = if makes_dialog held status then Some life else held.dialog in
     let waits : Provisional = record {
@@ -133,6 +128,7 @@ held_after event held respond response now =
       retransmission = record { due = now + T1; interval = T1 };
       over = None;
     } in
+    let awaits_ack = is_invite held.request && is_success status in
     if is_sent_reliably held respond
     then record held {
       dialog = dialog;
@@ -144,7 +140,7 @@ held_after event held respond response now =
     then record held {
       dialog = dialog;
       ledger = closed_now ledger;
-      success = if is_invite held.request && is_success status then Some success else held.success;
+      success = if awaits_ack then Some success else held.success;
       removal = Some (now + LIFETIME);
     }
     else record held { dialog = dialog })
@@ -157,10 +153,9 @@ respond_rule state event respond now =
     let dialogs = dialogs_after event held respond.status response state.dialogs in
     let after = held_after event held respond response now in
     let requests = changed_at respond.id (λ _. after) state.requests in
-    let given : ServedTaken = (
+    option_map_or (λ refusal. (state, refused event respond.call_id refusal))
+    (answer_refusal state.dialogs held respond) (
       record state { requests = requests; dialogs = dialogs.0 },
       Command held.id (Answer held.key response) ∷ dialogs.1,
-    ) in
-    option_map_or (λ refusal. (state, refused event respond.call_id refusal))
-    (answer_refusal state.dialogs held respond) given) (find (has_id respond.id) state.requests)
+    )) (find (has_id respond.id) state.requests)
     (state, refused event respond.call_id NoSuchRequest)

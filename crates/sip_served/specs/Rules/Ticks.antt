@@ -2,7 +2,7 @@
 -- (RFC 3261, section 13.3.1.4; RFC 3262, section 3). Moments are in ms.
 use Rattle.std.specs.Prelude.{ℕ, Bool, true, false, ◌+◌, ◌*◌, ◌&&◌, ◌==◌, nat_le, nat_lt, min, List, [], ◌∷◌, ◌++◌, map, filter, fold, Option, None, Some, if◌then◌else◌}
 use Rattle.std.specs.List.{flat_map, list_any}
-use Rattle.std.specs.Option.{is_some, option_and_then, option_map, option_map_or}
+use Rattle.std.specs.Option.{is_none, is_some, option_and_then, option_map, option_map_or}
 use Rattle.sip_reliable.specs.Ledger.{Ledger}
 use Rattle.sip_reliable.specs.Provisional.{after_repeat, due_moment, given_up, is_late, is_repeated}
 use Rattle.sip_timers.specs.Earlier.{earlier}
@@ -26,19 +26,18 @@ success_tick now held =
     let later : Retransmission = record { due = now + interval; interval = interval } in
     let again = Command held.id (Answer held.key success.response) in
     let no_ack = Notice (NoAck held.request.call_id held.id) in
-    if is_some success.over then (Some success, [])
-    else (if nat_le success.end now
+    if is_none success.over && nat_le success.end now
     then (Some (record success { over = Some GivenUp }), no_ack ∷ [])
-    else (if nat_le success.retransmission.due now
+    else (if is_none success.over && nat_le success.retransmission.due now
     then (Some (record success { retransmission = later }), again ∷ [])
-    else (Some success, [])))) held.success (None, [])
+    else (Some success, []))) held.success (None, [])
 
 -- The reliable provisional responses that have no PRACK are given up, all of them, 64*T1 after one
 -- was sent. Until then each is sent again when it is due, and each interval is twice the last. A
 -- final response ends both (RFC 3262, section 3).
 abbrev pub provisionals_tick : ℕ → HeldRequest → Ledger × List CallOut
 provisionals_tick now held =
-    let ledger : Ledger = held.ledger in
+    let ledger = held.ledger in
     let no_prack = Notice (NoPrack held.request.call_id held.id) in
     let due = map (λ p. p.number) (filter (is_repeated now) ledger.waiting) in
     if ledger.closed then (ledger, [])
@@ -63,15 +62,12 @@ tick_rule state now = (
   flat_map (λ held. (success_tick now held).1 ++ (provisionals_tick now held).1) state.requests,
 )
 
--- the moments at which something of a held request is due, of which each may be missing
-abbrev pub moments_of : HeldRequest → List (Option ℕ)
-moments_of held =
-    held.removal
-    ∷ option_and_then (λ success.
-    if is_some success.over then None
-    else Some (min success.end success.retransmission.due)) held.success
-    ∷ (if held.ledger.closed then [] else map due_moment held.ledger.waiting)
-
 -- The first moment at which a tick does something.
 abbrev pub due_rule : State → Option ℕ
-due_rule state = fold earlier None (flat_map moments_of state.requests)
+due_rule state =
+    fold earlier None (flat_map (λ held.
+    let success = option_and_then (λ success.
+    if is_some success.over then None
+    else Some (min success.end success.retransmission.due)) held.success in
+    let waiting = if held.ledger.closed then [] else map due_moment held.ledger.waiting in
+    held.removal ∷ success ∷ waiting) state.requests)

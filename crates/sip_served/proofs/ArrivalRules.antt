@@ -1,0 +1,244 @@
+-- What comes up is taken by the rules as by its steps.
+use Rattle.std.proofs.Common.{◌≡◌, ℕ, ◌+◌, not, ◌&&◌, ◌||◌, Bool, true, false, cond, List, [], ◌∷◌, ◌++◌, refl, sym, ap, ◌∙◌}
+use Rattle.std.specs.Prelude.{◌==◌, Option, None, Some, find, option_map, if◌then◌else◌}
+use Rattle.std.specs.List.{list_any}
+use Rattle.std.specs.Option.{option_map_or}
+use Rattle.std.specs.Str.{bytes_eq, str_eq_ignore_ascii_case}
+use Rattle.sip_timers.specs.declared.estimate.TheConstants.{LIFETIME}
+use Rattle.sip_message.specs.declared.id.Id.{Id}
+use Rattle.sip_message.specs.declared.message.Message.{Message}
+use Rattle.sip_message.specs.declared.rack.RAck.{RAck}
+use Rattle.sip_message.specs.Party.{tag_of}
+use Rattle.sip_reliable.specs.Ledger.{closed_now, waits_for}
+use Rattle.sip_transactions.specs.declared.output.Kind.{Kind}
+use Rattle.sip_transactions.specs.declared.output.Kind.TheVariants as kind
+use Rattle.sip_transactions.specs.declared.output.Up.{Up}
+use Rattle.sip_common.specs.declared.command.UserCommand.TheVariants as command
+use Rattle.sip_common.specs.declared.held_dialog.DialogName.{DialogName}
+use Rattle.sip_common.specs.declared.held_dialog.HeldDialog.{HeldDialog}
+use Rattle.sip_common.specs.declared.item.CallOut.{CallOut}
+use Rattle.sip_common.specs.declared.item.Item.{Item}
+use Rattle.sip_common.specs.declared.item.Item.TheVariants as item
+use Rattle.sip_common.specs.Dialogs.{Dialogs, dialog_at, dialog_changed, early_ended, ended_at, takes, visited}
+use Rattle.sip_common.specs.Requests.{dialog_name, is_bye, is_cancel, is_inside, is_invite, is_prack, is_unknown_option}
+use Rattle.sip_served.specs.declared.arrival.Arrival.{Arrival}
+use Rattle.sip_served.specs.declared.arrival.ArrivalCase.{ArrivalCase}
+use Rattle.sip_served.specs.declared.arrival.ArrivalCase.TheVariants.{Merged, BadExtension, NoDialog, OutOfOrder, Acknowledges, AcknowledgesNothing, ForUser}
+use Rattle.sip_served.specs.declared.held_request.HeldRequest.{HeldRequest}
+use Rattle.sip_served.specs.Acknowledgment.{ack_noted, ack_taken, awaits_ack, is_ack_of}
+use Rattle.sip_served.specs.Arrival.{arrival_of, by_case, case_inside, case_outside, for_user, is_in_dialog, is_merged, is_named_by, no_such_dialog, noted, prack_case, prack_taken, request_held}
+use Rattle.sip_served.specs.Cancel.{by_cancelled, cancel_taken, cancelled_request, is_unanswered_invite, request_terminated, terminates, termination_told}
+use Rattle.sip_served.specs.RequestLife.{success_sent, went_on}
+use Rattle.sip_served.specs.Rules.Arrivals.{ack_rule, cancel_rule, kind_rule, prack_rule, request_for_user, request_rule, server_item_rule}
+use Rattle.sip_served.specs.State.{State, ServedTaken, changed_at, followed, quiet}
+use Rattle.sip_served.specs.Step.{arrival_taken, kind_taken, server_item_taken}
+use Rattle.sip_served.proofs.ResponseRules.{respond_same}
+
+-- ---- choices
+
+-- the request that was found, by its id
+found : {X C : Type 0} (f : Option Id → C) (id : X → Id) (h : X → C) (d : C) (o : Option X)
+    → f None ≡ d → ((x : X) → f (Some (id x)) ≡ h x) → f (option_map id o) ≡ option_map_or h o d
+found f id h d None p q = p
+found f id h d (Some x) p q = q x
+
+and_three : (a x y z : Bool) → (a && (x && y && z)) ≡ (a && x && y && z)
+and_three true x y z = refl
+and_three false x y z = refl
+
+and_four : (a x y z w : Bool) → (a && (x && y && z && w)) ≡ (a && x && y && z && w)
+and_four true x y z w = refl
+and_four false x y z w = refl
+
+-- ---- a request for the user
+
+bye_same : (b : Bool) (state : State) (outs : List CallOut) (ended : Dialogs × List CallOut)
+    → followed (state, outs) (λ later. cond b
+    (record later { dialogs = ended.0 }, ended.1) (quiet later))
+    ≡ (
+      record state { dialogs = (cond b ended (state.dialogs, [])).0 },
+      outs ++ (cond b ended (state.dialogs, [])).1,
+    )
+bye_same true state outs ended = refl
+bye_same false state outs ended = refl
+
+for_user_same : (state : State) (call_id : List ℕ) (name : DialogName) (arrival : Arrival)
+    → for_user state call_id name arrival ≡ request_for_user state call_id name arrival
+for_user_same state call_id name arrival =
+    bye_same (is_inside arrival.request && is_bye arrival.request)
+    (request_held state call_id name arrival).0 (request_held state call_id name arrival).1
+    (ended_at name state.dialogs)
+
+-- ---- a request in a dialog
+
+module _ (state : State) (call_id : List ℕ) (name : DialogName) (arrival : Arrival)
+    (inside : is_inside arrival.request ≡ true) where
+  abbrev noted_so : State
+  noted_so = record state {
+    dialogs = dialog_changed name (visited arrival.request) state.dialogs;
+  }
+
+  is_noted : noted state name arrival.request ≡ noted_so
+  is_noted = ap (λ b. if b then noted_so else state) inside
+
+  prack_same : (born : Id) (rack : Option RAck)
+      → by_case (prack_case state.requests name born rack) state call_id name arrival
+      ≡ prack_rule noted_so call_id name born arrival rack
+  prack_same born None = ap (λ later. (later, no_such_dialog arrival)) is_noted
+  prack_same born (Some rack) =
+      (λ i. by_rack (find (λ held. same_invite held i) state.requests))
+      ∙ found by_rack_id (λ held. held.id) _ _ _
+      (ap (λ later. (later, no_such_dialog arrival)) is_noted)
+      (λ held. ap (λ later. prack_taken later call_id arrival held.id rack.rseq) is_noted)
+    where
+      by_rack_id : Option Id → ServedTaken
+      by_rack_id o =
+          by_case (option_map_or (λ id. Acknowledges id rack.rseq) o AcknowledgesNothing) state
+          call_id name arrival
+
+      by_rack : Option HeldRequest → ServedTaken
+      by_rack o = by_rack_id (option_map (λ held. held.id) o)
+
+      same_invite : (held : HeldRequest)
+          → (is_in_dialog name born held && is_named_by rack held)
+          ≡ (is_in_dialog name born held && is_invite held.request
+          && bytes_eq rack.method held.request.cseq.method
+          && (held.request.cseq.number == rack.cseq) && waits_for rack.rseq held.ledger)
+      same_invite held =
+          and_four (is_in_dialog name born held) (is_invite held.request)
+          (bytes_eq rack.method held.request.cseq.method)
+          (held.request.cseq.number == rack.cseq) (waits_for rack.rseq held.ledger)
+
+  in_dialog : (h : HeldDialog → ServedTaken) (o : Option HeldDialog)
+      → ((held : HeldDialog)
+      → by_case (case_inside state.requests name arrival.request (Some held)) state call_id name
+      arrival ≡ h held)
+      → by_case (case_inside state.requests name arrival.request o) state call_id name arrival
+      ≡ option_map_or h o (state, no_such_dialog arrival)
+  in_dialog h None each = refl
+  in_dialog h (Some held) each = each held
+
+  for_user_noted : by_case ForUser state call_id name arrival
+      ≡ request_for_user noted_so call_id name arrival
+  for_user_noted =
+      ap (λ later. for_user later call_id name arrival) is_noted
+      ∙ for_user_same noted_so call_id name arrival
+
+-- ---- the first case that fits
+
+two : {A C : Type 0} (f : A → C) (p q : Bool) (a b c : A) (x y z : C) → f a ≡ x → f b ≡ y
+    → f c ≡ z → f (cond p a (cond q b c)) ≡ cond p x (cond q y z)
+two f true q a b c x y z p1 p2 p3 = p1
+two f false true a b c x y z p1 p2 p3 = p2
+two f false false a b c x y z p1 p2 p3 = p3
+
+first : {A C : Type 0} (f : A → C) (k m u i : Bool) (c c' : C) (merged bad inside outside : A)
+    (x y z w : C) → c ≡ c' → f merged ≡ x → f bad ≡ y → (i ≡ true → f inside ≡ z)
+    → (i ≡ false → f outside ≡ w)
+    → cond k c (f (cond m merged (cond u bad (cond i inside outside))))
+    ≡ cond k c' (cond m x (cond u y (cond i z w)))
+first f true m u i c c' merged bad inside outside x y z w p1 p2 p3 p4 p5 = p1
+first f false true u i c c' merged bad inside outside x y z w p1 p2 p3 p4 p5 = p2
+first f false false true i c c' merged bad inside outside x y z w p1 p2 p3 p4 p5 = p3
+first f false false false true c c' merged bad inside outside x y z w p1 p2 p3 p4 p5 = p4 refl
+first f false false false false c c' merged bad inside outside x y z w p1 p2 p3 p4 p5 = p5 refl
+
+either : {A C : Type 0} (f : A → C) (b : Bool) (none user : A) (x y : C) → f none ≡ x → f user ≡ y
+    → f (cond b none user) ≡ cond b x y
+either f true none user x y p q = p
+either f false none user x y p q = q
+
+-- ---- a CANCEL
+
+by_option : {X C : Type 0} (f : Option X → C) (h : X → C) (d : C) (o : Option X) → f None ≡ d
+    → ((x : X) → f (Some x) ≡ h x) → f o ≡ option_map_or h o d
+by_option f h d None p q = p
+by_option f h d (Some x) p q = q x
+
+not_or : {C : Type 0} (b : Bool) (x x' y : C) → x ≡ x' → cond b x y ≡ cond (not b) y x'
+not_or true x x' y e = e
+not_or false x x' y e = refl
+
+abbrev over : ℕ → HeldRequest → HeldRequest
+over now one = record one { ledger = closed_now one.ledger; removal = Some (now + LIFETIME) }
+
+terminated_same : (response : Message) (now : ℕ) (one : HeldRequest)
+    → went_on (terminates response now) one ≡ over now one
+terminated_same response now one =
+    elim (is_invite one.request) as (λ b. record (over now one) {
+      success = cond (b && false) (Some (success_sent response now)) one.success;
+    } ≡ over now one) [
+      | true ↦ refl
+      | false ↦ refl
+    ]
+
+cancel_same : (state : State) (call_id : List ℕ) (arrival : Arrival) (now : ℕ)
+    → cancel_taken state call_id arrival now ≡ cancel_rule state call_id arrival now
+cancel_same state call_id arrival now =
+    by_option (λ o. by_cancelled state call_id arrival now o) _ _
+    (cancelled_request arrival.key state.requests) refl
+    (λ held. not_or (is_unanswered_invite held) _ _ _
+    (λ i. (
+      record state {
+        requests = changed_at held.id
+            (λ one. terminated_same (request_terminated held) now one i) state.requests;
+        dialogs = (early_ended held.id state.dialogs).0;
+      },
+      termination_told call_id arrival held (request_terminated held)
+          ++ (early_ended held.id state.dialogs).1,
+    )))
+
+-- ---- what a transaction hands up
+
+arrival_same : (state : State) (call_id : List ℕ) (arrival : Arrival) (now : ℕ)
+    → arrival_taken state call_id arrival now ≡ request_rule state call_id arrival now
+arrival_same state call_id arrival now =
+    let request = arrival.request in
+    let name = dialog_name request arrival.tag in
+    first (λ one. by_case one state call_id name arrival) (is_cancel request)
+    (not (is_inside request) && list_any (is_merged request) state.requests)
+    (list_any is_unknown_option request.require) (is_inside request)
+    _ _ Merged BadExtension (case_inside state.requests name request (dialog_at name state.dialogs))
+    (case_outside request) _ _ _ _ (cancel_same state call_id arrival now) refl refl
+    (λ inside. in_dialog state call_id name arrival inside _ (dialog_at name state.dialogs)
+    (λ held. two (λ one. by_case one state call_id name arrival)
+    (not (takes held request.cseq.number)) (is_prack request) _ _ _ _ _ _ refl
+    (prack_same state call_id name arrival inside held.born request.rack)
+    (for_user_noted state call_id name arrival inside)))
+    (λ outside. either (λ one. by_case one state call_id name arrival)
+    (is_bye request || is_prack request) _ _ _ _ refl
+    (ap (λ b. for_user (if b
+    then record state { dialogs = dialog_changed name (visited request) state.dialogs }
+    else state) call_id name arrival) outside ∙ for_user_same state call_id name arrival))
+
+ack_same : (state : State) (call_id : List ℕ) (ack : Message)
+    → ack_taken state call_id ack ≡ ack_rule state call_id ack
+ack_same state call_id ack =
+    (λ i. ack_noted state call_id ack
+    (option_map (λ held. held.id) (find (λ held. same_ack held i) state.requests)))
+    ∙ found (λ id. ack_noted state call_id ack id) (λ held. held.id) _ _ _ refl (λ held. refl)
+  where
+    same_ack : (held : HeldRequest) → (awaits_ack held && is_ack_of ack held)
+        ≡ (awaits_ack held && str_eq_ignore_ascii_case (tag_of ack.to) held.tag
+        && str_eq_ignore_ascii_case (tag_of ack.from) (tag_of held.request.from)
+        && (ack.cseq.number == held.request.cseq.number))
+    same_ack held =
+        and_three (awaits_ack held) (str_eq_ignore_ascii_case (tag_of ack.to) held.tag)
+        (str_eq_ignore_ascii_case (tag_of ack.from) (tag_of held.request.from))
+        (ack.cseq.number == held.request.cseq.number)
+
+pub kind_same : (state : State) (tag : List ℕ) (up : Up) (kind : Kind) (now : ℕ)
+    → kind_rule state tag up kind now ≡ kind_taken state tag up kind now
+kind_same state tag up (kind.Request request reply_to) now =
+    sym (arrival_same state up.call_id (arrival_of up request reply_to tag) now)
+kind_same state tag up (kind.Ack ack) now = sym (ack_same state up.call_id ack)
+kind_same state tag up (kind.Response response) now = refl
+kind_same state tag up kind.Timeout now = refl
+kind_same state tag up kind.Failed now = refl
+
+pub item_same : (state : State) (tag : List ℕ) (id : Id) (item : Item) (now : ℕ)
+    → server_item_rule state tag id item now ≡ server_item_taken state tag id item now
+item_same state tag id (item.Up up) now = kind_same state tag up up.kind now
+item_same state tag id (item.User (command.Respond respond)) now =
+    respond_same state id respond now
+item_same state tag id (item.User _) now = refl
