@@ -190,8 +190,9 @@ cancel_same state call_id arrival now =
 
 -- ---- what a transaction hands up
 
-arrival_same : (state : State) (call_id : List ℕ) (arrival : Arrival) (now : ℕ)
+pub arrival_same : (state : State) (call_id : List ℕ) (arrival : Arrival) (now : ℕ)
     → arrival_taken state call_id arrival now ≡ request_rule state call_id arrival now
+unfolding request_rule
 arrival_same state call_id arrival now =
     let request = arrival.request in
     let name = dialog_name request arrival.tag in
@@ -211,8 +212,9 @@ arrival_same state call_id arrival now =
     then record state { dialogs = dialog_changed name (visited request) state.dialogs }
     else state) call_id name arrival) outside ∙ for_user_same state call_id name arrival))
 
-ack_same : (state : State) (call_id : List ℕ) (ack : Message)
+pub ack_same : (state : State) (call_id : List ℕ) (ack : Message)
     → ack_taken state call_id ack ≡ ack_rule state call_id ack
+unfolding ack_rule
 ack_same state call_id ack =
     (λ i. ack_noted state call_id ack
     (option_map (λ held. held.id) (find (λ held. same_ack held i) state.requests)))

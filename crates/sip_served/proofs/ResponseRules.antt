@@ -267,6 +267,7 @@ module _ (state : State) (event : Id) (respond : Respond) (now : ℕ) where
   by_found h (Some held) each = each held refl
 
   taken_same : respond_taken state event respond now ≡ respond_rule state event respond now
+  unfolding respond_rule
   taken_same =
       by_found _ (find (has_id respond.id) state.requests) (λ held found.
       ap (by_refusal state event respond now held) (refusal_same state.dialogs held respond)

@@ -93,6 +93,7 @@ due_from a (held ∷ requests) =
     ∙ due_from (earlier a (request_due held)) requests
 
 pub due_same : (state : State) → due_rule state ≡ next_server_due state
+unfolding due_rule
 due_same state = due_from None state.requests
 
 -- ---- the 2xx of a request
@@ -210,6 +211,7 @@ request_same now held =
     (provisionals_same now held (success_tick now held).0)
 
 pub tick_same : (state : State) (now : ℕ) → tick_rule state now ≡ tick_taken state now
+unfolding tick_rule
 tick_same state now = λ i. (
   record state {
     requests = filter (is_kept_at now)

@@ -5,9 +5,12 @@ ghost use Rattle.sip_served.specs.Acknowledgment.{ack_taken};
 ghost use Rattle.sip_served.specs.Arrival as arrived;
 ghost use Rattle.sip_served.specs.Cancel as cancels;
 ghost use Rattle.sip_served.specs.Respond as answers;
+ghost use Rattle.sip_served.specs.Rules.Arrivals as rules;
+ghost use Rattle.sip_served.specs.Rules.Responses.{respond_rule};
+ghost use Rattle.sip_served.specs.Rules.Ticks.{due_rule, tick_rule};
 ghost use Rattle.sip_served.specs.Step as step;
 ghost use Rattle.std.specs.List.{slice_get};
-ghost use Rattle.sip_served.specs.Tick.{tick_taken, next_server_due, is_kept_at};
+ghost use Rattle.sip_served.specs.Tick.{is_kept_at};
 ghost use Rattle.sip_served.specs.declared.held_request.HeldRequest.{HeldRequest};
 
 use crate::acknowledgment::{acknowledge, acknowledged_invite, prack};
@@ -90,8 +93,9 @@ impl ServerSide {
     }
 
     /// The first moment, in ms, at which a tick does something, if there is one. Takes no memory.
+    #[tactic(auto, using(crate::proofs::TickRules::due_same))]
     pub fn next_due(&self) -> Option<u64>
-        ensures { result ≡ next_server_due self.now }
+        ensures { result ≡ due_rule self.now }
     {
         next_due(self.requests.as_slice())
     }
@@ -122,7 +126,7 @@ impl ServerSide {
     ) -> Result<Vec<CallOut>, AllocError>
         requires { now ≤ 2 ^ 62 }
         ensures { IfOk result (λ outs. (self.new, outs.items)
-            ≡ step.server_item_taken self.old tag id item now) }
+            ≡ rules.server_item_rule self.old tag id item now) }
     {
         match item {
             Item::Up(up) => self.come_up(tag, up, now),
@@ -135,7 +139,7 @@ impl ServerSide {
     fn come_up(&mut self, tag: Token, up: Up, now: u64) -> Result<Vec<CallOut>, AllocError>
         requires { now ≤ 2 ^ 62 }
         ensures { IfOk result (λ outs. (self.new, outs.items)
-            ≡ step.kind_taken self.old tag up up.kind now) }
+            ≡ rules.kind_rule self.old tag up up.kind now) }
     {
         let Up {
             key,
@@ -167,6 +171,20 @@ impl ServerSide {
     ///
     /// Want of memory.
     pub fn request(
+        &mut self,
+        call_id: CallId,
+        arrival: Arrival,
+        now: u64,
+    ) -> Result<Vec<CallOut>, AllocError>
+        requires { now ≤ 2 ^ 62 }
+        ensures { IfOk result (λ outs. (self.new, outs.items)
+            ≡ rules.request_rule self.old call_id arrival now) }
+    {
+        self.take_arrival(call_id, arrival, now)
+    }
+
+    // A CANCEL, or another request.
+    fn take_arrival(
         &mut self,
         call_id: CallId,
         arrival: Arrival,
@@ -350,6 +368,14 @@ impl ServerSide {
     /// Want of memory.
     pub fn ack(&mut self, call_id: CallId, ack: &Message) -> Result<Vec<CallOut>, AllocError>
         ensures { IfOk result (λ outs. (self.new, outs.items)
+            ≡ rules.ack_rule self.old call_id ack.now) }
+    {
+        self.take_ack(call_id, ack)
+    }
+
+    // The ACK of a 2xx that waits for it, or another.
+    fn take_ack(&mut self, call_id: CallId, ack: &Message) -> Result<Vec<CallOut>, AllocError>
+        ensures { IfOk result (λ outs. (self.new, outs.items)
             ≡ ack_taken self.old call_id ack.now) }
     {
         let Some(invite) = acknowledged_invite(ack, self.requests.as_slice()) else {
@@ -371,7 +397,7 @@ impl ServerSide {
     /// # Errors
     ///
     /// Want of memory.
-    #[tactic(auto, using(std::proofs::lemmas::Option::slice_get_read))]
+    #[tactic(auto, using(std::proofs::lemmas::Option::slice_get_read, crate::proofs::ResponseRules::respond_same))]
     pub fn respond(
         &mut self,
         event: Id,
@@ -380,7 +406,7 @@ impl ServerSide {
     ) -> Result<Vec<CallOut>, AllocError>
         requires { now ≤ 2 ^ 62 }
         ensures { IfOk result (λ outs. (self.new, outs.items)
-            ≡ answers.respond_taken self.old event respond now) }
+            ≡ respond_rule self.old event respond now) }
     {
         let Some(index) = place_of(self.requests.as_slice(), respond.id) else {
             return refused(self.alloc, event, respond.call_id, Refusal::NoSuchRequest);
@@ -430,7 +456,7 @@ impl ServerSide {
     /// Want of memory.
     pub fn tick(&mut self, now: u64) -> Result<Vec<CallOut>, AllocError>
         requires { now ≤ 2 ^ 62 }
-        ensures { IfOk result (λ outs. (self.new, outs.items) ≡ tick_taken self.old now) }
+        ensures { IfOk result (λ outs. (self.new, outs.items) ≡ tick_rule self.old now) }
     {
         let mut outs = Vec::new(self.alloc);
         tick_requests(self.alloc, &mut self.requests, now, &mut outs)?;

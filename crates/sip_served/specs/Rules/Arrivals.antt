@@ -121,7 +121,7 @@ cancel_rule state call_id arrival now =
 -- it was merged: one with its From tag and CSeq is held. It gets a 420 where it requires an option
 -- that the agent doesn't know, a 481 in no dialog that is held, and a 500 where its number isn't
 -- above those that came before it in its dialog (section 12.2.2).
-abbrev pub request_rule : State → List ℕ → Arrival → ℕ → ServedTaken
+unfoldable pub request_rule : State → List ℕ → Arrival → ℕ → ServedTaken
 request_rule state call_id arrival now =
     let request = arrival.request in
     let name = dialog_name request arrival.tag in
@@ -153,7 +153,7 @@ request_rule state call_id arrival now =
 
 -- The ACK of a 2xx, by its tags and its number: the 2xx isn't sent again, and the user is told (RFC
 -- 3261, section 13.3.1.4). Any other ACK says nothing.
-abbrev pub ack_rule : State → List ℕ → Message → ServedTaken
+unfoldable pub ack_rule : State → List ℕ → Message → ServedTaken
 ack_rule state call_id ack =
     let acknowledged_by = λ (held : HeldRequest).
     is_invite held.request

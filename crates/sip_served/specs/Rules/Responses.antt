@@ -146,7 +146,7 @@ held_after event held respond response now =
     else record held { dialog = dialog })
 
 -- The user's answer to the held request of its id: it is refused, and nothing changes, or goes out.
-abbrev pub respond_rule : State → Id → Respond → ℕ → ServedTaken
+unfoldable pub respond_rule : State → Id → Respond → ℕ → ServedTaken
 respond_rule state event respond now =
     option_map_or (λ held.
     let response = answer_sent state.local held respond in

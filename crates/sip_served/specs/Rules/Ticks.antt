@@ -50,7 +50,7 @@ provisionals_tick now held =
     ))
 
 -- Each held request takes the tick; those whose time is over are removed.
-abbrev pub tick_rule : State → ℕ → ServedTaken
+unfoldable pub tick_rule : State → ℕ → ServedTaken
 tick_rule state now = (
   record state {
     requests = filter (λ held. option_map_or (λ moment. nat_lt now moment) held.removal true)
@@ -63,7 +63,7 @@ tick_rule state now = (
 )
 
 -- The first moment at which a tick does something.
-abbrev pub due_rule : State → Option ℕ
+unfoldable pub due_rule : State → Option ℕ
 due_rule state =
     fold earlier None (flat_map (λ held.
     let success = option_and_then (λ success.
