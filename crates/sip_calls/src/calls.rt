@@ -1,9 +1,9 @@
 //! The machine of one call: what each of its inputs makes of it, and what it gives.
 
-ghost use Rattle.std.specs.Prelude.{◌≡◌, ◌≤◌, ◌^◌, IfOk, None, Some, if◌then◌else◌};
+ghost use Rattle.std.specs.Prelude.{◌≡◌, ◌≤◌, ◌^◌, IfOk, None, Some, false, true, if◌then◌else◌};
 ghost use Rattle.sip_common.specs.Requests.{local_tag_of};
+ghost use Rattle.sip_common.specs.declared.item.Item.TheVariants.{User};
 ghost use Rattle.sip_calls.specs.Call as spec;
-ghost use Rattle.sip_calls.specs.Steps.Call as steps;
 ghost use Rattle.sip_calls.specs.Call.{call_due, call_machine, call_step};
 ghost use Rattle.sip_calls.specs.Idle.{call_ticks_are_idle};
 ghost use Rattle.std.proofs.lemmas.Map.Lookups.{exact_bytes};
@@ -158,7 +158,7 @@ fn take_first(
 ) -> Result<Vec<CallOut>, AllocError>
     requires { event.moment ≤ 2 ^ 62 }
     ensures { IfOk result (λ outs. (call.new, outs.items)
-        ≡ steps.first_item_taken call.old event item) }
+        ≡ spec.item_rule false call.old event item) }
 {
     match item {
         Item::Up(up) => take_up(alloc, call, event, up),
@@ -174,7 +174,7 @@ fn take_next(
     item: Item,
 ) -> Result<Vec<CallOut>, AllocError>
     requires { event.moment ≤ 2 ^ 62 }
-    ensures { IfOk result (λ outs. (call.new, outs.items) ≡ steps.item_taken call.old event item) }
+    ensures { IfOk result (λ outs. (call.new, outs.items) ≡ spec.item_rule true call.old event item) }
 {
     match item {
         Item::Up(up) => take_up(alloc, call, event, up),
@@ -193,7 +193,7 @@ fn kept(call: Call) -> Option<Call>
 fn take_up(alloc: Global, call: &mut Call, event: Event, up: Up) -> Result<Vec<CallOut>, AllocError>
     requires { event.moment ≤ 2 ^ 62 }
     ensures { IfOk result (λ outs. (call.new, outs.items)
-        ≡ steps.up_taken call.old event up up.kind) }
+        ≡ spec.up_rule call.old event up up.kind) }
 {
     let Up {
         key,
@@ -239,7 +239,7 @@ fn fail_request(
     timed_out: bool,
 ) -> Result<Vec<CallOut>, AllocError>
     ensures { IfOk result (λ outs. (call.new, outs.items)
-        ≡ steps.lost_taken call.old id notice timed_out) }
+        ≡ spec.loss_rule call.old id notice timed_out) }
 {
     let mut outs = Vec::new(alloc);
     outs.push(CallOut::Notice(notice))?;
@@ -255,7 +255,7 @@ fn take_first_command(
     command: UserCommand,
 ) -> Result<Vec<CallOut>, AllocError>
     ensures { IfOk result (λ outs. (call.new, outs.items)
-        ≡ steps.first_command_taken call.old event command) }
+        ≡ spec.item_rule false call.old event (User command)) }
 {
     match &command {
         UserCommand::Invite(invite) => call.clients.invite(event, invite),
@@ -276,7 +276,7 @@ fn take_command(
 ) -> Result<Vec<CallOut>, AllocError>
     requires { event.moment ≤ 2 ^ 62 }
     ensures { IfOk result (λ outs. (call.new, outs.items)
-        ≡ steps.command_taken call.old event command) }
+        ≡ spec.item_rule true call.old event (User command)) }
 {
     match command {
         UserCommand::Invite(invite) => {
