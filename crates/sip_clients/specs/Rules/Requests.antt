@@ -155,7 +155,7 @@ is_callee Callee = true
 -- (section 15). An ACK takes no number of its own.
 abbrev pub refusals_in : Dialog → List ℕ → List (Bool × Refusal)
 refusals_in dialog method =
-    let bad = bytes_eq method (codes "INVITE") || bytes_eq method (codes "ACK")
+    let bad = bytes_eq method (codes "ACK") || bytes_eq method (codes "INVITE")
     || (is_callee dialog.side && bytes_eq method (codes "BYE")) in
     let last = nat_le (2 ^ 31 - 1) dialog.local_cseq in
     (is_early dialog.state && bad, BadMethod)
@@ -210,40 +210,43 @@ pub record Served : Type 0 where
   -- the same ACK, which has no transaction, or that it is refused
   pub outs : List CallOut
 
--- It goes out with this content, or is refused; without one it waits for the user. Then the dialog
--- is `paid` if it goes out, and `owing` if not (RFC 3261, section 13.2.2.4; RFC 3262, section 4).
-abbrev pub served : Event → List ℕ → DialogName → Debt → Option Content → HeldDialog → HeldDialog
-    → Served
-served event call_id name debt None paid owing =
-    record { dialog = owing; ack = None; prack = []; outs = [] }
-served event call_id name (Ack invite number) (Some content) paid owing =
-    let message = request_in owing.dialog (codes "ACK") number content (branch_of event)
+-- it goes out with this content (RFC 3261, section 13.2.2.4; RFC 3262, section 4)
+abbrev pub sent_for : Event → DialogName → Debt → Content → HeldDialog → Served
+sent_for event name (Ack invite number) content held =
+    let message = request_in held.dialog (codes "ACK") number content (branch_of event)
     event.local in
-    let to = hop_of owing.dialog owing.address in
-    option_map_or (λ refusal. record {
-      dialog = owing;
-      ack = None;
-      prack = [];
-      outs = refused event.id call_id refusal;
-    }) (first_refusal (refusals_in owing.dialog (codes "ACK")) None) (record {
-      dialog = paid;
+    let to = hop_of held.dialog held.address in
+    record {
+      dialog = held;
       ack = Some record { to = to; bytes = written message };
       prack = [];
       outs = Direct to (written message) ∷ [];
-    })
-served event call_id name (Prack rseq number) (Some content) paid owing =
+    }
+sent_for event name (Prack rseq number) content held =
     let rack = Some record { rseq = rseq; cseq = number; method = codes "INVITE" } in
-    option_map_or (λ refusal. record {
-      dialog = owing;
+    record {
+      dialog = with_number held;
       ack = None;
-      prack = [];
-      outs = refused event.id call_id refusal;
-    }) (first_refusal (refusals_in owing.dialog (codes "PRACK")) None) (record {
-      dialog = with_number paid;
-      ack = None;
-      prack = request_within event name (codes "PRACK") rack content owing ∷ [];
+      prack = request_within event name (codes "PRACK") rack content held ∷ [];
       outs = [];
-    })
+    }
+
+-- the method of what is owed
+abbrev pub method_owed : Debt → List ℕ
+method_owed (Ack invite number) = codes "ACK"
+method_owed (Prack rseq number) = codes "PRACK"
+
+-- It goes out, or is refused; without a content it waits for the user. Where it doesn't go out the
+-- dialog is `owing`, and otherwise `paid`.
+abbrev pub served : Event → List ℕ → DialogName → Debt → Option Content → HeldDialog → HeldDialog
+    → Served
+served event call_id name debt content paid owing =
+    let unsent : List CallOut → Served =
+        λ outs. record { dialog = owing; ack = None; prack = []; outs = outs } in
+    option_map_or (λ content.
+    option_map_or (λ refusal. unsent (refused event.id call_id refusal))
+    (first_refusal (refusals_in paid.dialog (method_owed debt)) None)
+    (sent_for event name debt content paid)) content (unsent [])
 
 -- what is owed is an ACK
 abbrev pub is_ack : Debt → Bool

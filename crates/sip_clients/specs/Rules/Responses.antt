@@ -11,14 +11,16 @@ use Rattle.sip_message.specs.declared.message.Message.{Message}
 use Rattle.sip_message.specs.declared.start_line.StartLine.{StartLine}
 use Rattle.sip_message.specs.declared.start_line.StartLine.TheVariants as start_line
 use Rattle.sip_timers.specs.declared.estimate.TheConstants.{LIFETIME}
+use Rattle.sip_dialog.specs.Dialog.{is_ended}
 use Rattle.sip_dialog.specs.Opening.{contact_uri, opened_by_response}
+use Rattle.sip_dialog.specs.Step.{confirmed_by}
 use Rattle.sip_common.specs.declared.debt.Debt.{Debt}
 use Rattle.sip_common.specs.declared.debt.Debt.TheVariants.{Ack, Prack}
 use Rattle.sip_common.specs.declared.held_dialog.HeldDialog.{HeldDialog}
 use Rattle.sip_common.specs.declared.item.CallOut.{CallOut}
 use Rattle.sip_common.specs.declared.item.CallOut.TheVariants.{Direct, Notice}
 use Rattle.sip_common.specs.declared.notice.Notice.TheVariants.{Response}
-use Rattle.sip_common.specs.Dialogs.{confirmed, is_named, lives, retargeted, Dialogs}
+use Rattle.sip_common.specs.Dialogs.{is_named, lives, Dialogs}
 use Rattle.sip_common.specs.Ids.{is_id}
 use Rattle.sip_common.specs.Requests.{is_final, is_inside, is_success, name_of_tags, requires_100rel}
 use Rattle.sip_clients.specs.declared.answers.SentAck.{SentAck}
@@ -56,6 +58,15 @@ dialog_made_by answer client = record {
 abbrev pub owing : Debt → HeldDialog → HeldDialog
 owing debt held = record held { owed = held.owed ++ debt ∷ [] }
 
+-- A 2xx to an initial INVITE confirms its dialog, and one to a re-INVITE refreshes the target, unless
+-- the dialog has ended (RFC 3261, sections 12.2.1.2 and 13.2.2.4).
+abbrev pub success_in : Bool → Message → HeldDialog → HeldDialog
+success_in initial response held =
+    let target = unwrap_or (contact_uri response) held.dialog.target in
+    if is_ended held.dialog.state then held
+    else (if initial then record held { dialog = confirmed_by held.dialog response }
+    else record held { dialog = record held.dialog { target = target } })
+
 -- The first case that fits. `initial` is an initial INVITE. The dialog of an INVITE stands if it is
 -- held still, or may be made.
 abbrev pub outcome_of : Answer → Client → Dialogs → Outcome
@@ -92,8 +103,7 @@ outcome_of answer client dialogs =
     (option_and_then (λ ack. ack) (lookup (is_named answer.name) client.answers)) [])
     -- the first 2xx of a dialog, which it makes, confirms or, to a re-INVITE, refreshes
     else (if final && stands then (
-    let held = option_map_or (λ held. if initial then confirmed response held
-    else retargeted (contact_uri response) held) found (dialog_made_by answer client) in
+    let held = option_map_or (success_in initial response) found (dialog_made_by answer client) in
     let debt = Ack client.id number in
     let done = served answer.event answer.call_id answer.name debt content held
     (owing debt held) in
