@@ -43,21 +43,21 @@ over_same client gone dialogs =
     ap (λ (own : Dialogs × List CallOut). (own.0, early.1 ++ own.1))
     (own_same client.kind gone early.0)
 
+abbrev lost_after : Id → Side → Dialogs × List CallOut → ClientTaken
+lost_after id side ended =
+    (record { dialogs = ended.0; clients = remove_entry (is_id id) side.clients }, ended.1)
+
+lost_held : (id : Id) (timed_out : Bool) (side : Side) (held : Option Client)
+    → lost_after id side (option_map_or
+    (λ client. request_over client timed_out side.dialogs) held (side.dialogs, []))
+    ≡ lost_of id timed_out held side
+lost_held id timed_out side None = refl
+lost_held id timed_out side (Some client) =
+    ap (lost_after id side) (over_same client timed_out side.dialogs)
+
 pub lost_same : (id : Id) (timed_out : Bool) (side : Side)
     → lost_rule id timed_out side ≡ request_lost id timed_out side
-lost_same id timed_out side = by_held (client_at id side.clients)
-  where
-    after : Dialogs × List CallOut → ClientTaken
-    unfolding after
-    after ended =
-        (record { dialogs = ended.0; clients = remove_entry (is_id id) side.clients }, ended.1)
-
-    by_held : (held : Option Client)
-        → after (option_map_or (λ client. request_over client timed_out side.dialogs) held
-        (side.dialogs, [])) ≡ lost_of id timed_out held side
-    unfolding after
-    by_held None = refl
-    by_held (Some client) = ap after (over_same client timed_out side.dialogs)
+lost_same id timed_out side = lost_held id timed_out side (client_at id side.clients)
 
 -- ---- a tick
 

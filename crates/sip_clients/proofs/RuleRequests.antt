@@ -65,24 +65,26 @@ use Rattle.sip_clients.proofs.Served.{found_passes}
 
 -- ---- outside of dialogs
 
+abbrev bare_invite : Event → Invite → Message
+bare_invite event invite =
+    bare_request event invite.call_id (codes "INVITE") invite.request_uri invite.from invite.to
+
+supported_so : (event : Event) (invite : Invite) (asked : ProvisionalSupport)
+    → rule.with_100rel asked (with_contact event.local
+    (through invite.routes (bare_invite event invite)))
+    ≡ through invite.routes (supporting asked (with_contact event.local
+    (bare_invite event invite)))
+supported_so event invite support.None = refl
+supported_so event invite support.Supported = refl
+supported_so event invite support.Required = refl
+
 pub invite_same : (event : Event) (invite : Invite) (clients : Clients)
     → rule.invite_rule event invite clients ≡ invite_taken event invite clients
 unfolding start_command bare_request
 invite_same event invite clients =
-    ap (λ (request : Message). rule.start (clients, []) (client_for event.id _
-    (with_content_of request invite.content) invite.address)) (by_support invite.support)
-  where
-    bare : Message
-    unfolding bare
-    bare = bare_request event invite.call_id (codes "INVITE") invite.request_uri invite.from
-    invite.to
-
-    by_support : (asked : ProvisionalSupport)
-        → rule.with_100rel asked (with_contact event.local (through invite.routes bare))
-        ≡ through invite.routes (supporting asked (with_contact event.local bare))
-    by_support support.None = refl
-    by_support support.Supported = refl
-    by_support support.Required = refl
+    ap (λ (request : Message). rule.start (clients, []) (client_for event.id First
+    (with_content_of request invite.content) invite.address))
+    (supported_so event invite invite.support)
 
 pub plain_same : (event : Event) (plain : PlainCommand) (clients : Clients)
     → rule.plain_rule event plain clients ≡ plain_taken event plain clients
@@ -145,15 +147,13 @@ prack_by Confirmed side false false = refl
 prack_by Ended side strict last = refl
 
 -- why what is owed isn't sent
-fault_of : Debt → Dialog → Option DialogFault
-unfolding fault_of
+abbrev fault_of : Debt → Dialog → Option DialogFault
 fault_of (Ack invite number) dialog = ack_fault dialog
 fault_of (Prack rseq number) dialog = request_fault dialog (codes "PRACK")
 
 debt_refusal : (debt : Debt) (dialog : Dialog)
     → first_refusal (rule.refusals_in dialog (rule.method_owed debt)) None
     ≡ option_map refusal_for_fault (fault_of debt dialog)
-unfolding fault_of
 debt_refusal (Ack invite number) dialog =
     ack_by dialog.state (is_strict dialog.route_set) (nat_le 2147483647 dialog.local_cseq)
 debt_refusal (Prack rseq number) dialog =
@@ -163,13 +163,13 @@ debt_refusal (Prack rseq number) dialog =
 -- ---- a request in a dialog
 
 module _ (event : Event) (command : DialogRequest) (side : Side) where
-  abbrev name : DialogName
-  name = name_in command.local_tag command.remote_tag
+  abbrev own_name : DialogName
+  own_name = name_in command.local_tag command.remote_tag
 
   abbrev request_done : Dialogs × Service → ClientTaken
   request_done done =
-      let bye = bye_ended name command.method done.1 done.0 in
-      let said = request_said event command.call_id name done.1 in
+      let bye = bye_ended own_name command.method done.1 done.0 in
+      let said = request_said event command.call_id own_name done.1 in
       let after = request_settled event said.0 said.1 bye.1 side.clients in
       (record { dialogs = bye.0; clients = after.0 }, after.1)
 
@@ -178,7 +178,7 @@ module _ (event : Event) (command : DialogRequest) (side : Side) where
 
   abbrev request_step : Option HeldDialog → ClientTaken
   request_step found = request_done (option_map_or
-      (λ held. (set_value (is_named name) side.dialogs (serve held).0, (serve held).1)) found
+      (λ held. (set_value (is_named own_name) side.dialogs (serve held).0, (serve held).1)) found
       (side.dialogs, service.Refused refusal.NoSuchDialog))
 
   abbrev refuse : Refusal → ClientTaken
@@ -187,17 +187,17 @@ module _ (event : Event) (command : DialogRequest) (side : Side) where
   abbrev sent_in : HeldDialog → ClientTaken
   sent_in held =
       let sent = rule.start (side.clients, [])
-      (rule.request_within event name command.method None command.content held) in
-      let dialogs = set_value (is_named name) side.dialogs (rule.with_number held) in
-      let ended = bye_ended name command.method (service.Sent (sending_in event command.method None
+      (rule.request_within event own_name command.method None command.content held) in
+      let dialogs = set_value (is_named own_name) side.dialogs (rule.with_number held) in
+      let ended = bye_ended own_name command.method (service.Sent (sending_in event command.method None
       command.content held)) dialogs in
       (record { dialogs = ended.0; clients = sent.0 }, sent.1 ++ ended.1)
 
   by_refusal : (held : HeldDialog) (why : Option Refusal)
-      → set_value (is_named name) side.dialogs held ≡ side.dialogs
+      → set_value (is_named own_name) side.dialogs held ≡ side.dialogs
       → option_map_or refuse why (sent_in held) ≡ request_done
       (let done = sent_unless why (sending_in event command.method None command.content held) held
-      in (set_value (is_named name) side.dialogs done.0, done.1))
+      in (set_value (is_named own_name) side.dialogs done.0, done.1))
   unfolding start_command with_content_of
   by_refusal held None same = refl
   by_refusal held (Some why) same =
@@ -206,7 +206,7 @@ module _ (event : Event) (command : DialogRequest) (side : Side) where
         refused event.id command.call_id why,
       )) (sym same)
 
-  by_found : (found : Option HeldDialog) → dialog_at name side.dialogs ≡ found
+  by_found : (found : Option HeldDialog) → dialog_at own_name side.dialogs ≡ found
       → option_map_or (λ (held : HeldDialog). option_map_or refuse
       (first_refusal ((rule.has_command command.method, refusal.BadMethod)
       ∷ rule.refusals_in held.dialog command.method) None) (sent_in held)) found
@@ -218,7 +218,7 @@ module _ (event : Event) (command : DialogRequest) (side : Side) where
       ap (λ why. option_map_or refuse why (sent_in held))
       (request_refusal held.dialog command.method)
       ∙ by_refusal held (first_refusal (request_refusals held.dialog command.method) None)
-      (set_value_same (is_named name) side.dialogs held at)
+      (set_value_same (is_named own_name) side.dialogs held at)
 
 pub request_same : (event : Event) (command : DialogRequest) (side : Side)
     → rule.request_rule event command side ≡ request_by_user event command side
@@ -290,7 +290,6 @@ module _ (event : Event) (call_id : List ℕ) (name : DialogName) (held : HeldDi
   by_debt : (debt : Debt) (content : Content)
       → sent_or debt content (option_map refusal_for_fault (fault_of debt held.dialog))
       ≡ served_by event call_id name debt paid owing (discharged event debt (Some content) held)
-  unfolding fault_of
   by_debt (Ack invite number) content =
       ack_by_fault invite number content (ack_fault held.dialog) refl
   by_debt (Prack rseq number) content =

@@ -6,6 +6,7 @@ use Rattle.std.specs.Map.{lookup, remove_entry, values_of}
 use Rattle.std.specs.Option.{option_map_or}
 use Rattle.sip_message.specs.declared.id.Id.{Id}
 use Rattle.sip_timers.specs.Earlier.{earlier}
+use Rattle.sip_common.specs.declared.held_dialog.HeldDialog.{HeldDialog}
 use Rattle.sip_common.specs.declared.item.CallOut.{CallOut}
 use Rattle.sip_common.specs.Dialogs.{early_ended, ended_at, is_early_of, lives, Dialogs}
 use Rattle.sip_common.specs.Ids.{is_id}
@@ -39,7 +40,7 @@ is_over now client = option_map_or (λ moment. nat_le moment now) client.removal
 abbrev pub tick_rule : Side → ℕ → ClientTaken
 tick_rule side now =
     let over = filter (is_over now) (values_of side.clients) in
-    let ends = λ held. list_any (λ client. is_early_of client.id held) over in (
+    let ends = λ (held : HeldDialog). list_any (λ client. is_early_of client.id held) over in (
       record {
         dialogs = filter (λ entry. not (ends entry.1)) side.dialogs;
         clients = filter (λ entry. not (is_over now entry.1)) side.clients;

@@ -317,7 +317,7 @@ cancel_rule event command side =
     else (if is_some invite.removal then refuse AlreadyFinal
     else (if is_asked invite.cancel then (side, [])
     else (
-    let held = λ cancel. set_value (is_id command.id) side.clients
+    let held : Cancelling → Clients = λ cancel. set_value (is_id command.id) side.clients
     (record invite { cancel = cancel }) in
     let done = if invite.provisional
     then start (held Sent, []) (cancel_request event.id invite)
