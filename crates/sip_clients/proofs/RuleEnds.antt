@@ -62,25 +62,29 @@ lost_same id timed_out side = lost_held id timed_out side (client_at id side.cli
 -- ---- a tick
 
 module _ {X : Type 0} (p : X → Bool) where
+  any_step : (q : X → Bool) (x : X) (xs : List X) (b : Bool)
+      → list_any q (filter p xs) ≡ list_any (λ x. p x && q x) xs
+      → list_any q (cond b (x ∷ filter p xs) (filter p xs))
+      ≡ ((b && q x) || list_any (λ x. p x && q x) xs)
+  any_step q x xs true later = ap (λ rest. q x || rest) later
+  any_step q x xs false later = later
+
   any_filtered : (q : X → Bool) (xs : List X)
       → list_any q (filter p xs) ≡ list_any (λ x. p x && q x) xs
   any_filtered q [] = refl
-  any_filtered q (x ∷ xs) = step (p x)
-    where
-      step : (b : Bool) → list_any q (cond b (x ∷ filter p xs) (filter p xs))
-          ≡ ((b && q x) || list_any (λ x. p x && q x) xs)
-      step true = ap (λ rest. q x || rest) (any_filtered q xs)
-      step false = any_filtered q xs
+  any_filtered q (x ∷ xs) = any_step q x xs (p x) (any_filtered q xs)
+
+  map_step : {Y : Type 0} (f : X → List Y) (x : X) (xs : List X) (b : Bool)
+      → flat_map f (filter p xs) ≡ flat_map (λ x. if p x then f x else []) xs
+      → flat_map f (cond b (x ∷ filter p xs) (filter p xs))
+      ≡ cond b (f x) [] ++ flat_map (λ x. if p x then f x else []) xs
+  map_step {Y} f x xs true later = ap (λ (rest : List Y). f x ++ rest) later
+  map_step f x xs false later = later
 
   map_filtered : {Y : Type 0} (f : X → List Y) (xs : List X)
       → flat_map f (filter p xs) ≡ flat_map (λ x. if p x then f x else []) xs
   map_filtered f [] = refl
-  map_filtered {Y} f (x ∷ xs) = step (p x)
-    where
-      step : (b : Bool) → flat_map f (cond b (x ∷ filter p xs) (filter p xs))
-          ≡ cond b (f x) [] ++ flat_map (λ x. if p x then f x else []) xs
-      step true = ap (λ (rest : List Y). f x ++ rest) (map_filtered f xs)
-      step false = map_filtered f xs
+  map_filtered f (x ∷ xs) = map_step f x xs (p x) (map_filtered f xs)
 
 pub tick_same : (side : Side) (now : ℕ) → tick_rule side now ≡ clients_ticked side now
 tick_same side now =

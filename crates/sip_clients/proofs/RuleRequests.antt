@@ -324,7 +324,7 @@ is_a_prack : (debt : Debt) → not (rule.is_ack debt) ≡ is_of kind.Prack debt
 is_a_prack (Ack invite number) = refl
 is_a_prack (Prack rseq number) = refl
 
-owed_kept : (event : Event) (debt : Debt) (content : Option Content) (held : HeldDialog)
+pub owed_kept : (event : Event) (debt : Debt) (content : Option Content) (held : HeldDialog)
     → (discharged event debt content held).0.owed ≡ held.owed
 unfolding discharged
 owed_kept event (Ack invite number) None held = refl
