@@ -90,7 +90,7 @@ pub tick_same : (side : Side) (now : ℕ) → tick_rule side now ≡ clients_tic
 tick_same side now =
     let clients = values_of side.clients in
     let ends = λ (held : HeldDialog).
-        any_filtered (is_over now) (λ (client : Client). is_early_of client.id held) clients in
+    any_filtered (is_over now) (λ (client : Client). is_early_of client.id held) clients in
     let outs = map_filtered (is_over now)
     (λ (client : Client). (early_ended client.id side.dialogs).1) clients in
     λ i. (

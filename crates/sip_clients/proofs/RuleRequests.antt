@@ -431,13 +431,13 @@ module _ (event : Event) (command : DialogBody) (side : Side) where
       let debt = Ack invite number in
       let said = ack_said event command.call_id (step_served held debt).1 in
       let after : rule_paid held debt ≡ ack_after debt (at_name (paid event debt command.content)
-          (Some held)) = served_as held debt ∙ (λ i. (
-            record {
-              dialogs = set_value (is_named asked_name) side.dialogs (dropped_in held debt i);
-              clients = kept_same debt asked_name said.1 side.clients i;
-            },
-            said.0,
-          )) in
+      (Some held)) = served_as held debt ∙ (λ i. (
+        record {
+          dialogs = set_value (is_named asked_name) side.dialogs (dropped_in held debt i);
+          clients = kept_same debt asked_name said.1 side.clients i;
+        },
+        said.0,
+      )) in
       after ∙ ap (λ found. ack_after debt (at_name (paid event debt command.content) found))
       (sym at)
 
@@ -472,7 +472,7 @@ module _ (event : Event) (command : DialogBody) (side : Side) where
       ≡ (let said = request_said event command.call_id asked_name o in
       let kept = settled event event.id said.1 side.clients in
       let after : ClientTaken =
-          (record { dialogs = dialogs; clients = kept.0 }, said.0 ++ kept.1) in after)
+      (record { dialogs = dialogs; clients = kept.0 }, said.0 ++ kept.1) in after)
   unfolding start_command
   prack_by_service (Ack invite number) dialogs o is = absurd (false≢true is)
   prack_by_service (Prack rseq number) dialogs (service.Sent sending) is = refl

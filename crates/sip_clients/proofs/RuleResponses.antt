@@ -111,11 +111,11 @@ over_put event id side None client dialogs outs =
     )
 over_put event id side (Some cancel) client dialogs outs =
     λ i. (
-      let sent = rule.start (
-        sym (removed_set (is_id id) side.clients client) i,
-        sym (append-nil outs) i,
-      ) cancel in
-      (record { dialogs = dialogs; clients = sent.0 }, sent.1)
+    let sent = rule.start (
+      sym (removed_set (is_id id) side.clients client) i,
+      sym (append-nil outs) i,
+    ) cancel in
+    (record { dialogs = dialogs; clients = sent.0 }, sent.1)
     )
 
 -- a PRACK is sent, waits or is refused
@@ -393,30 +393,34 @@ module _ (answer : Answer) (side : Side) (cancel : Option Client) where
           let number = ((client.request).cseq).number in
           let heard : HeldDialog = record held { heard = Some rseq } in
           let left : outcome_of answer (initial client) side.dialogs
-              ≡ with_served (λ ack. initial client) (asked_for content (Prack rseq number) heard)
-              = rw (f, d, at, is, n) refl in
+          ≡ with_served (λ ack. initial client) (asked_for content (Prack rseq number) heard)
+          = rw (f, d, at, is, n) refl in
           let right : reply_taken (initial client) side.dialogs answer
-              ≡ after_dialog answer.name side.dialogs (reliable rseq (initial client) held answer)
-              = rw (f, d, at, is, case) refl in
+          ≡ after_dialog answer.name side.dialogs (reliable rseq (initial client) held answer)
+          = rw (f, d, at, is, case) refl in
           let hears : hearing rseq held ≡ heard =
-              ap (λ (last : Option ℕ). record held { heard = last }) (latest held.heard rseq n) in
+          ap (λ (last : Option ℕ). record held { heard = last }) (latest held.heard rseq n) in
           ap ours left ∙ prack_asked (initial client) content rseq number heard
           ∙ ap (λ (heard : HeldDialog).
           let done = owed answer.event (Prack rseq number) content heard in
           let told = told_of_prack answer done.1 in
-          theirs (initial client, insert_entry is_named side.dialogs answer.name done.0, told.0,
-          told.1)) (sym hears)
+          theirs (
+            initial client,
+            insert_entry is_named side.dialogs answer.name done.0,
+            told.0,
+            told.1,
+          )) (sym hears)
           ∙ ap theirs (sym right)
       by_next false n case =
           let left : outcome_of answer (initial client) side.dialogs ≡ record {
-                request = Some (initial client);
-                dialogs = side.dialogs;
-                outs = [];
-                prack = [];
-              } = rw (f, d, at, is, n) refl in
+            request = Some (initial client);
+            dialogs = side.dialogs;
+            outs = [];
+            prack = [];
+          } = rw (f, d, at, is, n) refl in
           let right : reply_taken (initial client) side.dialogs answer
-              ≡ (initial client, side.dialogs, [], Stays)
-              = rw (f, d, at, is, case) refl in
+          ≡ (initial client, side.dialogs, [], Stays)
+          = rw (f, d, at, is, case) refl in
           ap ours left ∙ stays (initial client) side.dialogs [] ∙ ap theirs (sym right)
 
   provisional_of_first : (client : Client) → is_final answer.status ≡ false
@@ -432,7 +436,6 @@ module _ (answer : Answer) (side : Side) (cancel : Option Client) where
       by_bool (is_final answer.status)
       (λ f. by_bool (nat_lt answer.status 300) (success_of_first client f)
       (λ s. rw (f, s) (over (initial client)))) (provisional_of_first client)
-
   -- ---- a re-INVITE: the response is of its dialog
 
 module _ (life : DialogLife) (given : Answer) (side : Side) (cancel : Option Client) where
@@ -495,33 +498,37 @@ module _ (life : DialogLife) (given : Answer) (side : Side) (cancel : Option Cli
           let number = ((client.request).cseq).number in
           let after : Client = record (again client) { heard = Some rseq } in
           let left : outcome_of own (again client) side.dialogs
-              ≡ with_served own side cancel (λ ack. after)
-              (asked_for own side cancel content (Prack rseq number) held)
-              = rw (f, at, l, d, is, n) refl in
+          ≡ with_served own side cancel (λ ack. after)
+          (asked_for own side cancel content (Prack rseq number) held)
+          = rw (f, at, l, d, is, n) refl in
           let right : reply_taken (again client) side.dialogs own
-              ≡ after_dialog own.name side.dialogs (reliable rseq (again client) held own)
-              = rw (f, at, l, d, is, case) refl in
+          ≡ after_dialog own.name side.dialogs (reliable rseq (again client) held own)
+          = rw (f, at, l, d, is, case) refl in
           let hears_it : hears rseq (again client) ≡ after =
-              ap (λ (last : Option ℕ). record (again client) { heard = last })
-              (latest client.heard rseq n) in
+          ap (λ (last : Option ℕ). record (again client) { heard = last })
+          (latest client.heard rseq n) in
           ap (ours own side cancel) left
           ∙ prack_asked own side cancel after content rseq number held
           ∙ ap (λ (after : Client).
           let done = owed own.event (Prack rseq number) content held in
           let told = told_of_prack own done.1 in
-          theirs own side cancel (after, insert_entry is_named side.dialogs own.name done.0, told.0,
-          told.1)) (sym hears_it)
+          theirs own side cancel (
+            after,
+            insert_entry is_named side.dialogs own.name done.0,
+            told.0,
+            told.1,
+          )) (sym hears_it)
           ∙ ap (theirs own side cancel) (sym right)
       by_next false n case =
           let left : outcome_of own (again client) side.dialogs ≡ record {
-                request = Some (again client);
-                dialogs = side.dialogs;
-                outs = [];
-                prack = [];
-              } = rw (f, at, l, d, is, n) refl in
+            request = Some (again client);
+            dialogs = side.dialogs;
+            outs = [];
+            prack = [];
+          } = rw (f, at, l, d, is, n) refl in
           let right : reply_taken (again client) side.dialogs own
-              ≡ (again client, side.dialogs, [], Stays)
-              = rw (f, at, l, d, is, case) refl in
+          ≡ (again client, side.dialogs, [], Stays)
+          = rw (f, at, l, d, is, case) refl in
           ap (ours own side cancel) left ∙ stays own side cancel (again client) side.dialogs []
           ∙ ap (theirs own side cancel) (sym right)
 

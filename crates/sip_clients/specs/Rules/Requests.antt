@@ -93,8 +93,8 @@ abbrev pub start : Clients × List CallOut → Client → Clients × List CallOu
 start done client = (
   insert_entry is_id done.0 client.id client,
   done.1 ++ Command client.id
-  (Start (client_key (top_branch client.request) client.request.cseq.method)
-  client.request.call_id client.request client.to) ∷ [],
+      (Start (client_key (top_branch client.request) client.request.cseq.method)
+      client.request.call_id client.request client.to) ∷ [],
 )
 
 -- ---- outside of dialogs
@@ -184,7 +184,7 @@ abbrev pub request_rule : Event → DialogRequest → Side → ClientTaken
 request_rule event command side =
     let name = name_of_tags (tag_text command.local_tag) (tag_text command.remote_tag) in
     let refuse : Refusal → ClientTaken =
-        λ refusal. (side, refused event.id command.call_id refusal) in
+    λ refusal. (side, refused event.id command.call_id refusal) in
     option_map_or (λ (held : HeldDialog).
     option_map_or refuse
     (first_refusal
@@ -242,7 +242,7 @@ abbrev pub served : Event → List ℕ → DialogName → Debt → Option Conten
     → Served
 served event call_id name debt content paid owing =
     let unsent : List CallOut → Served =
-        λ outs. record { dialog = owing; ack = None; prack = []; outs = outs } in
+    λ outs. record { dialog = owing; ack = None; prack = []; outs = outs } in
     option_map_or (λ content.
     option_map_or (λ refusal. unsent (refused event.id call_id refusal))
     (first_refusal (refusals_in paid.dialog (method_owed debt)) None)
@@ -274,7 +274,7 @@ abbrev pub debt_rule : (Debt → Bool) → Refusal → Event → DialogBody → 
 debt_rule is_meant nothing event command side =
     let name = name_of_tags (tag_text command.local_tag) (tag_text command.remote_tag) in
     let refuse : Refusal → ClientTaken =
-        λ refusal. (side, refused event.id command.call_id refusal) in
+    λ refusal. (side, refused event.id command.call_id refusal) in
     option_map_or (λ (held : HeldDialog). option_map_or (λ debt.
     let paid = record held { owed = filter (λ other. not (is_debt debt other)) held.owed } in
     let done = served event command.call_id name debt (Some command.content) paid held in
@@ -311,7 +311,7 @@ is_asked _ = true
 abbrev pub cancel_rule : Event → Cancel → Side → ClientTaken
 cancel_rule event command side =
     let refuse : Refusal → ClientTaken =
-        λ refusal. (side, refused event.id command.call_id refusal) in
+    λ refusal. (side, refused event.id command.call_id refusal) in
     option_map_or (λ (invite : Client).
     if not (is_inviting invite.kind) then refuse NoSuchRequest
     else (if is_some invite.removal then refuse AlreadyFinal

@@ -80,7 +80,7 @@ outcome_of answer client dialogs =
     let notice = Notice (Response answer.call_id answer.id answer.status (tag_of response.from)
     (tag_of response.to) response.body) in
     let kept : List CallOut → Outcome =
-        λ outs. record { request = Some client; dialogs = dialogs; outs = outs; prack = [] } in
+    λ outs. record { request = Some client; dialogs = dialogs; outs = outs; prack = [] } in
     -- the dialogs with one of them changed or made
     let with_dialog : HeldDialog → Dialogs = insert_entry is_named dialogs answer.name in
     let number = client.request.cseq.number in
