@@ -49,7 +49,7 @@ use Rattle.sip_clients.specs.Reply.{is_dialog_response, offer_case, rseq_of}
 use Rattle.sip_clients.specs.Service.{discharged}
 use Rattle.sip_clients.specs.Rules.Ends as ends
 use Rattle.sip_clients.specs.Rules.Requests as rule
-use Rattle.sip_clients.specs.Rules.Responses.{Outcome, dialog_made_by, outcome_of, owing, response_rule, success_in, waiting_cancel}
+use Rattle.sip_clients.specs.Rules.Responses.{Outcome, dialog_made_by, asks_for, outcome_of, response_rule, success_in, waiting_cancel}
 use Rattle.sip_clients.specs.Rules.Responses as response
 use Rattle.sip_clients.proofs.RuleEnds.{over_same}
 use Rattle.sip_clients.proofs.RuleRequests.{dialog_by, owed_kept, served_by, served_same, started_by}
@@ -184,7 +184,7 @@ owed_seen event call_id name (Prack rseq number) content held =
 
 owed_same : (event : Event) (call_id : List ℕ) (name : DialogName) (debt : Debt)
     (content : Option Content) (held : HeldDialog)
-    → rule.served event call_id name debt content held (owing debt held)
+    → rule.served event call_id name debt content held (record held { owed = held.owed ++ debt ∷ [] })
     ≡ seen event call_id name debt (owed event debt content held)
 owed_same event call_id name debt content held =
     served_same event call_id name held held.owed (held.owed ++ debt ∷ []) debt content
@@ -275,7 +275,7 @@ module _ (answer : Answer) (side : Side) (cancel : Option Client) where
 
   abbrev asked_for : Option Content → Debt → HeldDialog → rule.Served
   asked_for content debt held = rule.served answer.event answer.call_id answer.name debt content held
-      (owing debt held)
+      (record held { owed = held.owed ++ debt ∷ [] })
 
   abbrev with_served : (Option SentAck → Client) → rule.Served → Outcome
   with_served after done = record {

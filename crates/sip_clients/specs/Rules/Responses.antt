@@ -54,9 +54,28 @@ dialog_made_by answer client = record {
   owed = [];
 }
 
--- an ACK or a PRACK is owed in a dialog, the last of all
-abbrev pub owing : Debt → HeldDialog → HeldDialog
-owing debt held = record held { owed = held.owed ++ debt ∷ [] }
+-- the user is told of a response
+abbrev pub notice_of : Answer → CallOut
+notice_of answer =
+    Notice (Response answer.call_id answer.id answer.status (tag_of answer.response.from)
+    (tag_of answer.response.to) answer.response.body)
+
+-- A response that asks for an ACK or a PRACK is told, and that goes out, or is owed last of all. It
+-- has no body where the INVITE had an offer, or the response has none; otherwise the user answers
+-- the offer (RFC 3261, section 13.2.1; RFC 3262, section 5).
+abbrev pub asks_for : Debt → Answer → Client → (Option SentAck → Client) → HeldDialog → Dialogs
+    → Outcome
+asks_for debt answer client after held dialogs =
+    let content = if not (length client.request.body == 0) || (length answer.response.body == 0)
+    then Some (content_of_body []) else None in
+    let owing = record held { owed = held.owed ++ debt ∷ [] } in
+    let done = served answer.event answer.call_id answer.name debt content held owing in
+    record {
+      request = Some (after done.ack);
+      dialogs = insert_entry is_named dialogs answer.name done.dialog;
+      outs = notice_of answer ∷ done.outs;
+      prack = done.prack;
+    }
 
 -- A 2xx to an initial INVITE confirms its dialog, and one to a re-INVITE refreshes the target, unless
 -- the dialog has ended (RFC 3261, sections 12.2.1.2 and 13.2.2.4).
@@ -67,81 +86,54 @@ success_in initial response held =
     else (if initial then record held { dialog = confirmed_by held.dialog response }
     else record held { dialog = record held.dialog { target = target } })
 
--- The first case that fits. `initial` is an initial INVITE. The dialog of an INVITE stands if it is
--- held still, or may be made.
+-- The first case that fits.
 abbrev pub outcome_of : Answer → Client → Dialogs → Outcome
 outcome_of answer client dialogs =
-    let response = answer.response in
     let final = is_final answer.status in
     let initial = is_none (life_of client.kind) in
+    -- the dialog of an INVITE is held still, or may be made
     let stands = is_inviting client.kind
     && option_map_or (lives dialogs) (life_of client.kind) true in
     let found = lookup (is_named answer.name) dialogs in
-    let notice = Notice (Response answer.call_id answer.id answer.status (tag_of response.from)
-    (tag_of response.to) response.body) in
-    let kept : List CallOut → Outcome =
-    λ outs. record { request = Some client; dialogs = dialogs; outs = outs; prack = [] } in
-    -- the dialogs with one of them changed or made
-    let with_dialog : HeldDialog → Dialogs = insert_entry is_named dialogs answer.name in
+    let made = dialog_made_by answer client in
+    let sent_ack = lookup (is_named answer.name) client.answers in
     let number = client.request.cseq.number in
-    -- what a response asks for has no body where the INVITE had an offer, or the response has none;
-    -- otherwise the user answers the offer (RFC 3261, section 13.2.1; RFC 3262, section 5)
-    let content = if not (length client.request.body == 0) || (length response.body == 0)
-    then Some (content_of_body []) else None in
+    let kept : Client → Dialogs → List CallOut → Outcome = λ after dialogs outs.
+    record { request = Some after; dialogs = dialogs; outs = outs; prack = [] } in
     -- a 2xx keeps an INVITE for 64*T1 after the first one (RFC 6026, section 7.2)
     let accepted : Option SentAck → Client = λ ack. record client {
       answers = insert_entry is_named client.answers answer.name ack;
       removal = Some (unwrap_or client.removal (answer.event.moment + LIFETIME));
     } in
-    -- the final response of a request, or one that rejects an INVITE (RFC 3261, section 12.2.1.2)
+    -- the last response: final, and no 2xx to an INVITE (RFC 3261, section 12.2.1.2)
     if final && not (is_inviting client.kind && is_success answer.status) then (
-    let ended = request_over client ((answer.status == 481) || (answer.status == 408)) dialogs in
-    record { request = None; dialogs = ended.0; outs = notice ∷ ended.1; prack = [] })
+    let gone = (answer.status == 481) || (answer.status == 408) in
+    let ended = request_over client gone dialogs in
+    record { request = None; dialogs = ended.0; outs = notice_of answer ∷ ended.1; prack = [] })
     -- a 2xx that comes again: the same ACK, to the same address (section 13.2.2.4)
-    else (if final && is_some (lookup (is_named answer.name) client.answers) then
-    kept (option_map_or (λ ack. Direct ack.to ack.bytes ∷ [])
-    (option_and_then (λ ack. ack) (lookup (is_named answer.name) client.answers)) [])
-    -- the first 2xx of a dialog, which it makes, confirms or, to a re-INVITE, refreshes
-    else (if final && stands then (
-    let held = option_map_or (success_in initial response) found (dialog_made_by answer client) in
-    let debt = Ack client.id number in
-    let done = served answer.event answer.call_id answer.name debt content held
-    (owing debt held) in
-    record {
-      request = Some (accepted done.ack);
-      dialogs = with_dialog done.dialog;
-      outs = notice ∷ done.outs;
-      prack = done.prack;
-    })
-    -- a 2xx to a re-INVITE whose dialog has ended
-    else (if final then
-    record { request = Some (accepted None); dialogs = dialogs; outs = notice ∷ []; prack = [] }
+    else (if final && is_some sent_ack
+    then kept client dialogs (option_map_or (λ ack. Direct ack.to ack.bytes ∷ [])
+    (option_and_then (λ ack. ack) sent_ack) [])
+    -- the first 2xx of a dialog, which it makes where it isn't held
+    else (if final && stands then asks_for (Ack client.id number) answer client accepted
+    (option_map_or (success_in initial answer.response) found made) dialogs
+    -- the first 2xx of a dialog that has ended
+    else (if final then kept (accepted None) dialogs (notice_of answer ∷ [])
     -- a provisional response of no dialog (section 12.1)
-    else (if not (stands && not (answer.status == 100) && is_inside response)
-    then kept (notice ∷ [])
-    -- an early dialog; a reliable response is taken if it is the next (RFC 3262, section 4)
+    else (if not (stands && not (answer.status == 100) && is_inside answer.response)
+    then kept client dialogs (notice_of answer ∷ [])
+    -- one of an early dialog: if it is reliable it has to be the next (RFC 3262, section 4)
     else (
-    let held = unwrap_or found (dialog_made_by answer client) in
+    let held = unwrap_or found made in
     let last = if initial then held.heard else client.heard in
     option_map_or (λ rseq.
-    if not (option_map_or (λ last. rseq == last + 1) last true) then kept []
-    else (
-    let heard = if initial then record held { heard = Some rseq } else held in
-    let debt = Prack rseq number in
-    let done = served answer.event answer.call_id answer.name debt content heard
-    (owing debt heard) in
-    record {
-      request = Some (if initial then client else record client { heard = Some rseq });
-      dialogs = with_dialog done.dialog;
-      outs = notice ∷ done.outs;
-      prack = done.prack;
-    })) (if requires_100rel response then response.rseq else None)
-    (record {
-      request = Some client;
-      dialogs = with_dialog held;
-      outs = notice ∷ [];
-      prack = [];
-    }))))))
+    if not (option_map_or (λ last. rseq == last + 1) last true) then kept client dialogs []
+    else asks_for (Prack rseq number) answer client
+    (λ ack. if initial then client else record client { heard = Some rseq })
+    (if initial then record held { heard = Some rseq } else held) dialogs)
+    (if requires_100rel answer.response then answer.response.rseq else None)
+    (kept client (insert_entry is_named dialogs answer.name held)
+    (notice_of answer ∷ [])))))))
 
 -- the status of a response
 abbrev pub status_of : StartLine → Option ℕ
