@@ -152,7 +152,7 @@ fault_of (Ack invite number) dialog = ack_fault dialog
 fault_of (Prack rseq number) dialog = request_fault dialog (codes "PRACK")
 
 debt_refusal : (debt : Debt) (dialog : Dialog)
-    → first_refusal (rule.refusals_in dialog (rule.method_owed debt)) None
+    → first_refusal (rule.refusals_in dialog (rule.method_of debt)) None
     ≡ option_map refusal_for_fault (fault_of debt dialog)
 debt_refusal (Ack invite number) dialog =
     ack_by dialog.state (is_strict dialog.route_set) (nat_le 2147483647 dialog.local_cseq)
@@ -242,7 +242,7 @@ started_by (change.Starts client) = client ∷ []
 
 -- the same of the step
 abbrev pub served_by : Event → List ℕ → DialogName → Debt → List Debt → List Debt → Outcome
-    → rule.Served
+    → rule.Payment
 served_by event call_id name (Ack invite number) paid owing done = record {
   dialog = dialog_by done.1 paid owing done.0;
   ack = (ack_said event call_id done.1).1;
@@ -261,13 +261,13 @@ module _ (event : Event) (call_id : List ℕ) (name : DialogName) (held : HeldDi
   abbrev with_owed : List Debt → HeldDialog
   with_owed debts = record held { owed = debts }
 
-  abbrev unsent : List CallOut → rule.Served
+  abbrev unsent : List CallOut → rule.Payment
   unsent outs = record { dialog = with_owed owing; ack = None; prack = []; outs = outs }
 
-  abbrev sent_or : Debt → Content → Option Refusal → rule.Served
+  abbrev sent_or : Debt → Content → Option Refusal → rule.Payment
   sent_or debt content why =
       option_map_or (λ why. unsent (refused event.id call_id why)) why
-      (rule.sent_for event name debt content (with_owed paid))
+      (rule.payment_with event name debt content (with_owed paid))
 
   ack_by_fault : (invite : Id) (number : ℕ) (content : Content) (why : Option DialogFault)
       → ack_fault held.dialog ≡ why
@@ -302,7 +302,7 @@ module _ (event : Event) (call_id : List ℕ) (name : DialogName) (held : HeldDi
   waits (Prack rseq number) = refl
 
   pub served_same : (debt : Debt) (content : Option Content)
-      → rule.served event call_id name debt content (with_owed paid) (with_owed owing)
+      → rule.payment event call_id name debt content (with_owed paid) (with_owed owing)
       ≡ served_by event call_id name debt paid owing (discharged event debt content held)
   served_same debt None = waits debt
   served_same debt (Some content) =
@@ -316,11 +316,14 @@ same_debt (Ack invite number) (Prack other_rseq other_number) = refl
 same_debt (Prack rseq number) (Ack other_invite other_number) = refl
 same_debt (Prack rseq number) (Prack other_rseq other_number) = refl
 
-is_an_ack : (debt : Debt) → rule.is_ack debt ≡ is_of kind.Ack debt
+abbrev is_for : List ℕ → Debt → Bool
+is_for method debt = bytes_eq (rule.method_of debt) method
+
+is_an_ack : (debt : Debt) → is_for (codes "ACK") debt ≡ is_of kind.Ack debt
 is_an_ack (Ack invite number) = refl
 is_an_ack (Prack rseq number) = refl
 
-is_a_prack : (debt : Debt) → not (rule.is_ack debt) ≡ is_of kind.Prack debt
+is_a_prack : (debt : Debt) → is_for (codes "PRACK") debt ≡ is_of kind.Prack debt
 is_a_prack (Ack invite number) = refl
 is_a_prack (Prack rseq number) = refl
 
@@ -359,12 +362,12 @@ module _ (event : Event) (command : DialogBody) (side : Side) where
 
   -- ---- as the rule says
 
-  abbrev rule_served : HeldDialog → Debt → List Debt → rule.Served
+  abbrev rule_served : HeldDialog → Debt → List Debt → rule.Payment
   rule_served held debt left =
-      rule.served event command.call_id asked_name debt (Some command.content)
+      rule.payment event command.call_id asked_name debt (Some command.content)
       (record held { owed = left }) held
 
-  abbrev rule_after : Debt → rule.Served → ClientTaken
+  abbrev rule_after : Debt → rule.Payment → ClientTaken
   rule_after debt done =
       let sent = fold rule.start (rule.ack_kept debt asked_name done.ack side.clients, done.outs)
       done.prack in (
@@ -380,9 +383,9 @@ module _ (event : Event) (command : DialogBody) (side : Side) where
       rule_after debt
       (rule_served held debt (filter (λ other. not (rule.is_debt debt other)) held.owed))
 
-  abbrev rule_found : (Debt → Bool) → Refusal → HeldDialog → ClientTaken
-  rule_found is_meant nothing held =
-      option_map_or (rule_paid held) (find is_meant held.owed) (refuse_body nothing)
+  abbrev rule_found : List ℕ → Refusal → HeldDialog → ClientTaken
+  rule_found method nothing held =
+      option_map_or (rule_paid held) (find (is_for method) held.owed) (refuse_body nothing)
 
   -- ---- the step
 
@@ -452,7 +455,7 @@ module _ (event : Event) (command : DialogBody) (side : Side) where
       absurd (false≢true (found_passes (is_of kind.Ack) held.owed (Prack rseq number) is))
 
   ack_in : (found : Option HeldDialog) → dialog_at asked_name side.dialogs ≡ found
-      → option_map_or (rule_found rule.is_ack refusal.NothingToAck) found
+      → option_map_or (rule_found (codes "ACK") refusal.NothingToAck) found
       (refuse_body refusal.NoSuchDialog)
       ≡ paid_or_refused event command (ack_paid event command asked_name)
       (option_map_or (oldest_debt kind.Ack) found (Err refusal.NoSuchDialog)) side
@@ -515,7 +518,7 @@ module _ (event : Event) (command : DialogBody) (side : Side) where
       absurd (false≢true (found_passes (is_of kind.Prack) held.owed (Ack invite number) is))
 
   prack_in : (found : Option HeldDialog) → dialog_at asked_name side.dialogs ≡ found
-      → option_map_or (rule_found (λ debt. not (rule.is_ack debt)) refusal.NothingToPrack) found
+      → option_map_or (rule_found (codes "PRACK") refusal.NothingToPrack) found
       (refuse_body refusal.NoSuchDialog)
       ≡ paid_or_refused event command (prack_paid event command asked_name)
       (option_map_or (oldest_debt kind.Prack) found (Err refusal.NoSuchDialog)) side

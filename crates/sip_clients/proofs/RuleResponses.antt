@@ -142,7 +142,7 @@ prack_put event id side cancel client dialogs call_id name told (service.Refused
 
 -- ---- what a response asks for
 
-abbrev seen : Event → List ℕ → DialogName → Debt → HeldDialog × Service → rule.Served
+abbrev seen : Event → List ℕ → DialogName → Debt → HeldDialog × Service → rule.Payment
 seen event call_id name (Ack invite number) done = record {
   dialog = done.0;
   ack = (ack_said event call_id done.1).1;
@@ -184,7 +184,7 @@ owed_seen event call_id name (Prack rseq number) content held =
 
 owed_same : (event : Event) (call_id : List ℕ) (name : DialogName) (debt : Debt)
     (content : Option Content) (held : HeldDialog)
-    → rule.served event call_id name debt content held (record held { owed = held.owed ++ debt ∷ [] })
+    → rule.payment event call_id name debt content held (record held { owed = held.owed ++ debt ∷ [] })
     ≡ seen event call_id name debt (owed event debt content held)
 owed_same event call_id name debt content held =
     served_same event call_id name held held.owed (held.owed ++ debt ∷ []) debt content
@@ -273,11 +273,11 @@ module _ (answer : Answer) (side : Side) (cancel : Option Client) where
       })) (over_same client (ends_dialog answer.status) side.dialogs)
       ∙ over_put answer.event answer.id side cancel client _ _
 
-  abbrev asked_for : Option Content → Debt → HeldDialog → rule.Served
-  asked_for content debt held = rule.served answer.event answer.call_id answer.name debt content held
+  abbrev asked_for : Option Content → Debt → HeldDialog → rule.Payment
+  asked_for content debt held = rule.payment answer.event answer.call_id answer.name debt content held
       (record held { owed = held.owed ++ debt ∷ [] })
 
-  abbrev with_served : (Option SentAck → Client) → rule.Served → Outcome
+  abbrev with_served : (Option SentAck → Client) → rule.Payment → Outcome
   with_served after done = record {
     request = Some (after done.ack);
     dialogs = insert_entry is_named side.dialogs answer.name done.dialog;
@@ -296,7 +296,7 @@ module _ (answer : Answer) (side : Side) (cancel : Option Client) where
       let content = offer_to client answer.response in
       let done = owed answer.event debt content held in
       let said = ack_said answer.event answer.call_id done.1 in
-      ap (λ (done : rule.Served).
+      ap (λ (done : rule.Payment).
       ours (with_served (λ ack. held_after_success answer ack client) done))
       (owed_same answer.event answer.call_id answer.name debt content held)
       ∙ stays (held_after_success answer said.1 client)
@@ -309,7 +309,7 @@ module _ (answer : Answer) (side : Side) (cancel : Option Client) where
       theirs (after, insert_entry is_named side.dialogs answer.name done.0, told.0, told.1))
   prack_asked after content rseq number held =
       let done = owed answer.event (Prack rseq number) content held in
-      ap (λ (done : rule.Served). ours (with_served (λ ack. after) done))
+      ap (λ (done : rule.Payment). ours (with_served (λ ack. after) done))
       (owed_same answer.event answer.call_id answer.name (Prack rseq number) content held)
       ∙ prack_put answer.event answer.id side cancel after
       (insert_entry is_named side.dialogs answer.name done.0) answer.call_id answer.name

@@ -62,13 +62,14 @@ use Rattle.sip_clients.specs.Event.{branch_of, from_tag_of}
 
 -- ---- client requests
 
--- an initial INVITE (`First`) or a re-INVITE (`Again`)
+-- an INVITE: an initial one (`First`) or a re-INVITE (`Again`)
 abbrev pub is_inviting : RequestKind → Bool
 is_inviting First = true
 is_inviting (Again life) = true
 is_inviting _ = false
 
--- the dialog that a re-INVITE, or another request in a dialog (`Inside`), was sent in
+-- the dialog of a re-INVITE or of another request in a dialog (`Inside`); an initial INVITE and a
+-- request outside of dialogs (`Plain`) have none
 abbrev pub life_of : RequestKind → Option DialogLife
 life_of (Again life) = Some life
 life_of (Inside life) = Some life
@@ -199,8 +200,8 @@ request_rule event command side =
 
 -- ---- the ACK of a 2xx, and the PRACK of a reliable provisional response
 
--- what becomes of one in a dialog
-pub record Served : Type 0 where
+-- what becomes of one that is owed in a dialog
+pub record Payment : Type 0 where
   -- the dialog after it
   pub dialog : HeldDialog
   -- the ACK that goes out
@@ -211,8 +212,8 @@ pub record Served : Type 0 where
   pub outs : List CallOut
 
 -- it goes out with this content (RFC 3261, section 13.2.2.4; RFC 3262, section 4)
-abbrev pub sent_for : Event → DialogName → Debt → Content → HeldDialog → Served
-sent_for event name (Ack invite number) content held =
+abbrev pub payment_with : Event → DialogName → Debt → Content → HeldDialog → Payment
+payment_with event name (Ack invite number) content held =
     let message = request_in held.dialog (codes "ACK") number content (branch_of event)
     event.local in
     let to = hop_of held.dialog held.address in
@@ -222,7 +223,7 @@ sent_for event name (Ack invite number) content held =
       prack = [];
       outs = Direct to (written message) ∷ [];
     }
-sent_for event name (Prack rseq number) content held =
+payment_with event name (Prack rseq number) content held =
     let rack = Some record { rseq = rseq; cseq = number; method = codes "INVITE" } in
     record {
       dialog = with_number held;
@@ -231,27 +232,22 @@ sent_for event name (Prack rseq number) content held =
       outs = [];
     }
 
--- the method of what is owed
-abbrev pub method_owed : Debt → List ℕ
-method_owed (Ack invite number) = codes "ACK"
-method_owed (Prack rseq number) = codes "PRACK"
+-- its method
+abbrev pub method_of : Debt → List ℕ
+method_of (Ack invite number) = codes "ACK"
+method_of (Prack rseq number) = codes "PRACK"
 
 -- It goes out, or is refused; without a content it waits for the user. Where it doesn't go out the
 -- dialog is `owing`, and otherwise `paid`.
-abbrev pub served : Event → List ℕ → DialogName → Debt → Option Content → HeldDialog → HeldDialog
-    → Served
-served event call_id name debt content paid owing =
-    let unsent : List CallOut → Served =
+abbrev pub payment : Event → List ℕ → DialogName → Debt → Option Content → HeldDialog → HeldDialog
+    → Payment
+payment event call_id name debt content paid owing =
+    let unsent : List CallOut → Payment =
     λ outs. record { dialog = owing; ack = None; prack = []; outs = outs } in
     option_map_or (λ content.
     option_map_or (λ refusal. unsent (refused event.id call_id refusal))
-    (first_refusal (refusals_in paid.dialog (method_owed debt)) None)
-    (sent_for event name debt content paid)) content (unsent [])
-
--- what is owed is an ACK
-abbrev pub is_ack : Debt → Bool
-is_ack (Ack invite number) = true
-is_ack (Prack rseq number) = false
+    (first_refusal (refusals_in paid.dialog (method_of debt)) None)
+    (payment_with event name debt content paid)) content (unsent [])
 
 -- the same is owed
 abbrev pub is_debt : Debt → Debt → Bool
@@ -270,30 +266,30 @@ ack_kept (Ack invite number) name (Some ack) clients =
 ack_kept _ name ack clients = clients
 
 -- The user's ACK or PRACK is for the oldest response in its dialog that is owed one.
-abbrev pub debt_rule : (Debt → Bool) → Refusal → Event → DialogBody → Side → ClientTaken
-debt_rule is_meant nothing event command side =
+abbrev pub debt_rule : List ℕ → Refusal → Event → DialogBody → Side → ClientTaken
+debt_rule method nothing event command side =
     let name = name_of_tags (tag_text command.local_tag) (tag_text command.remote_tag) in
     let refuse : Refusal → ClientTaken =
     λ refusal. (side, refused event.id command.call_id refusal) in
     option_map_or (λ (held : HeldDialog). option_map_or (λ debt.
     let paid = record held { owed = filter (λ other. not (is_debt debt other)) held.owed } in
-    let done = served event command.call_id name debt (Some command.content) paid held in
+    let done = payment event command.call_id name debt (Some command.content) paid held in
     let sent = fold start (ack_kept debt name done.ack side.clients, done.outs) done.prack in (
       record {
         dialogs = set_value (is_named name) side.dialogs done.dialog;
         clients = sent.0;
       },
       sent.1,
-    )) (find is_meant held.owed) (refuse nothing))
+    )) (find (λ debt. bytes_eq (method_of debt) method) held.owed) (refuse nothing))
     (lookup (is_named name) side.dialogs) (refuse NoSuchDialog)
 
 -- the command Ack
 abbrev pub ack_rule : Event → DialogBody → Side → ClientTaken
-ack_rule = debt_rule is_ack NothingToAck
+ack_rule = debt_rule (codes "ACK") NothingToAck
 
 -- the command Prack
 abbrev pub prack_rule : Event → DialogBody → Side → ClientTaken
-prack_rule = debt_rule (λ debt. not (is_ack debt)) NothingToPrack
+prack_rule = debt_rule (codes "PRACK") NothingToPrack
 
 -- ---- CANCEL
 

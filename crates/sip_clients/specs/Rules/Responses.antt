@@ -31,7 +31,7 @@ use Rattle.sip_clients.specs.declared.event.Event.{Event}
 use Rattle.sip_clients.specs.declared.reply.Reply.{Reply as Answer}
 use Rattle.sip_clients.specs.Client.{ClientTaken, Side}
 use Rattle.sip_clients.specs.Rules.Ends.{request_over}
-use Rattle.sip_clients.specs.Rules.Requests.{cancel_request, is_inviting, life_of, served, start}
+use Rattle.sip_clients.specs.Rules.Requests.{cancel_request, is_inviting, life_of, payment, start}
 
 -- what a response comes to
 pub record Outcome : Type 0 where
@@ -69,7 +69,7 @@ asks_for debt answer client after held dialogs =
     let content = if not (length client.request.body == 0) || (length answer.response.body == 0)
     then Some (content_of_body []) else None in
     let owing = record held { owed = held.owed ++ debt ∷ [] } in
-    let done = served answer.event answer.call_id answer.name debt content held owing in
+    let done = payment answer.event answer.call_id answer.name debt content held owing in
     record {
       request = Some (after done.ack);
       dialogs = insert_entry is_named dialogs answer.name done.dialog;
