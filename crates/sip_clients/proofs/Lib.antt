@@ -44,3 +44,6 @@ pub mod ReplyStories
 pub mod OtherSends
 pub mod Waiting
 pub mod CommandStories
+pub mod RuleEnds
+pub mod RuleRequests
+pub mod RuleResponses

@@ -19,6 +19,7 @@ pub mod Owing
 pub mod Provisionals
 pub mod Replied
 pub mod Reply
+pub mod Rules
 pub mod Service
 pub mod Tick
 pub mod RefusedCommands

@@ -17,6 +17,7 @@ mod outputs;
 mod outside;
 mod replied;
 mod reply;
+mod rules;
 mod service;
 mod tick;
 
@@ -30,3 +31,4 @@ pub use laws::{
     names_differ, no_other_step_sends_a_cancel_or_an_ack, quiet_until_due,
 };
 pub use name::made_name;
+pub use rules::{commands_are_by_the_rules, responses_and_ends_are_by_the_rules};

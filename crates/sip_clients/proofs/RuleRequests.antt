@@ -1,0 +1,617 @@
+-- The rules of the user's commands are the steps.
+use Rattle.std.proofs.Common.{◌≡◌, ℕ, Bool, true, false, cond, ◌&&◌, ◌||◌, List, [], ◌∷◌, ◌++◌, refl, sym, ap, ◌∙◌}
+use Rattle.std.specs.Prelude.{Option, None, Some, Result, Err, codes, filter, find, fold, is_some, nat_le, not, if◌then◌else◌}
+use Rattle.std.specs.Map.{lookup, set_value}
+use Rattle.std.specs.Option.{option_map, option_map_or}
+use Rattle.std.specs.Str.{bytes_eq}
+use Rattle.std.proofs.lemmas.Bool.{false≢true}
+use Rattle.std.proofs.lemmas.Map.Steps.{set_value_same}
+use Rattle.sip_message.specs.Content.{Content, with_content_of}
+use Rattle.sip_message.specs.declared.id.Id.{Id}
+use Rattle.sip_message.specs.declared.message.Message.{Message}
+use Rattle.sip_dialog.specs.declared.dialog.Dialog.{Dialog}
+use Rattle.sip_dialog.specs.declared.dialog.DialogState.{DialogState}
+use Rattle.sip_dialog.specs.declared.dialog.DialogState.TheVariants.{Early, Confirmed, Ended}
+use Rattle.sip_dialog.specs.declared.dialog.Side.{Side as End}
+use Rattle.sip_dialog.specs.declared.dialog.Side.TheVariants.{Caller, Callee}
+use Rattle.sip_dialog.specs.declared.fault.DialogFault.{DialogFault}
+use Rattle.sip_dialog.specs.declared.fault.DialogFault.TheVariants as fault
+use Rattle.sip_dialog.specs.Dialog.{is_early, is_ended}
+use Rattle.sip_dialog.specs.Fault.{ack_fault, request_fault}
+use Rattle.sip_dialog.specs.Route.{is_strict}
+use Rattle.sip_common.specs.declared.command.Cancel.{Cancel}
+use Rattle.sip_common.specs.declared.command.DialogBody.{DialogBody}
+use Rattle.sip_common.specs.declared.command.DialogRequest.{DialogRequest}
+use Rattle.sip_common.specs.declared.command.Invite.{Invite}
+use Rattle.sip_common.specs.declared.command.Plain.{Plain as PlainCommand}
+use Rattle.sip_common.specs.declared.command.ProvisionalSupport.{ProvisionalSupport}
+use Rattle.sip_common.specs.declared.command.ProvisionalSupport.TheVariants as support
+use Rattle.sip_common.specs.declared.debt.Debt.{Debt}
+use Rattle.sip_common.specs.declared.debt.Debt.TheVariants.{Ack, Prack}
+use Rattle.sip_common.specs.declared.held_dialog.DialogName.{DialogName}
+use Rattle.sip_common.specs.declared.held_dialog.HeldDialog.{HeldDialog}
+use Rattle.sip_common.specs.declared.item.CallOut.{CallOut}
+use Rattle.sip_common.specs.declared.refusal.Refusal.{Refusal}
+use Rattle.sip_common.specs.declared.refusal.Refusal.TheVariants as refusal
+use Rattle.sip_common.specs.Dialogs.{dialog_at, is_named, Dialogs}
+use Rattle.sip_common.specs.Ids.{is_id}
+use Rattle.sip_common.specs.Notices.{refused}
+use Rattle.sip_common.specs.Refusal.{first_refusal}
+use Rattle.sip_clients.specs.declared.answers.SentAck.{SentAck}
+use Rattle.sip_clients.specs.declared.client.Cancelling.{Cancelling}
+use Rattle.sip_clients.specs.declared.client.Cancelling.TheVariants.{NotAsked, Sent, Waits}
+use Rattle.sip_clients.specs.declared.client.Client.{Client}
+use Rattle.sip_clients.specs.declared.debts.DebtKind.TheVariants as kind
+use Rattle.sip_clients.specs.declared.event.Event.{Event}
+use Rattle.sip_clients.specs.declared.outputs.ClientChange.{ClientChange}
+use Rattle.sip_clients.specs.declared.outputs.ClientChange.TheVariants as change
+use Rattle.sip_clients.specs.declared.service.Sending.{Sending}
+use Rattle.sip_clients.specs.declared.service.Service.{Service}
+use Rattle.sip_clients.specs.declared.service.Service.TheVariants as service
+use Rattle.sip_clients.specs.declared.cancel.CancelCase.TheVariants as case
+use Rattle.sip_clients.specs.declared.client.RequestKind.{RequestKind}
+use Rattle.sip_clients.specs.declared.client.RequestKind.TheVariants.{First, Again, Inside, Plain}
+use Rattle.sip_clients.specs.Cancel.{asked, asking_case, cancel_by_user, cancelled_as, cancelled_of}
+use Rattle.sip_clients.specs.Client.{Clients, ClientTaken, Side, client_at, client_changed, client_for}
+use Rattle.sip_clients.specs.Clients.{ack_by_user, ack_kept, ack_paid, invite_taken, paid_or_refused, plain_taken, prack_by_user, prack_paid, request_by_user, request_settled, settled}
+use Rattle.sip_clients.specs.Commands.{bye_ended, debt_for, debt_or_refusal, is_callee, is_own_kind, name_in, oldest_debt, request_in_held, request_refusals, requested_at, sent_unless}
+use Rattle.sip_clients.specs.Debts.{dropped_if_sent, is_debt, is_of, kept_unless_sent, owed, paid, without_debt}
+use Rattle.sip_clients.specs.Outputs.{ack_said, request_said, start_command}
+use Rattle.sip_clients.specs.Outside.{bare_request, supporting, through, with_contact}
+use Rattle.sip_clients.specs.Service.{Outcome, discharged, happens_by_sending, refusal_for_fault, requested, sending_in, service_by}
+use Rattle.sip_clients.specs.Reply.{is_inviting}
+use Rattle.sip_clients.specs.Rules.Requests as rule
+use Rattle.sip_clients.proofs.Served.{found_passes}
+
+-- ---- outside of dialogs
+
+abbrev bare_invite : Event → Invite → Message
+bare_invite event invite =
+    bare_request event invite.call_id (codes "INVITE") invite.request_uri invite.from invite.to
+
+supported_so : (event : Event) (invite : Invite) (asked : ProvisionalSupport)
+    → rule.with_100rel asked (with_contact event.local
+    (through invite.routes (bare_invite event invite)))
+    ≡ through invite.routes (supporting asked (with_contact event.local
+    (bare_invite event invite)))
+supported_so event invite support.None = refl
+supported_so event invite support.Supported = refl
+supported_so event invite support.Required = refl
+
+pub invite_same : (event : Event) (invite : Invite) (clients : Clients)
+    → rule.invite_rule event invite clients ≡ invite_taken event invite clients
+unfolding start_command bare_request
+invite_same event invite clients =
+    ap (λ (request : Message). rule.start (clients, []) (client_for event.id First
+    (with_content_of request invite.content) invite.address))
+    (supported_so event invite invite.support)
+
+pub plain_same : (event : Event) (plain : PlainCommand) (clients : Clients)
+    → rule.plain_rule event plain clients ≡ plain_taken event plain clients
+unfolding start_command bare_request
+plain_same event plain clients = refl
+
+-- ---- why a request isn't sent in a dialog
+
+request_by : (ack cancel prack early invite bye ended strict last : Bool)
+    → first_refusal ((ack || cancel || prack, refusal.BadMethod)
+    ∷ (early && (ack || invite || bye), refusal.BadMethod) ∷ (ended, refusal.DialogEnded)
+    ∷ (strict, refusal.StrictRoute) ∷ (not ack && last, refusal.SequenceUsedUp) ∷ []) None
+    ≡ first_refusal ((ack || cancel || prack, refusal.BadMethod)
+    ∷ (early && (invite || bye), refusal.BadMethod) ∷ (ended, refusal.DialogEnded)
+    ∷ (strict, refusal.StrictRoute) ∷ (last, refusal.SequenceUsedUp) ∷ []) None
+request_by true cancel prack early invite bye ended strict last = refl
+request_by false cancel prack early invite bye ended strict last = refl
+
+request_refusal : (dialog : Dialog) (method : List ℕ)
+    → first_refusal ((rule.has_command method, refusal.BadMethod)
+    ∷ rule.refusals_in dialog method) None
+    ≡ first_refusal (request_refusals dialog method) None
+request_refusal dialog method =
+    request_by (bytes_eq method (codes "ACK")) (bytes_eq method (codes "CANCEL"))
+    (bytes_eq method (codes "PRACK")) (is_early dialog.state) (bytes_eq method (codes "INVITE"))
+    (is_callee dialog.side && bytes_eq method (codes "BYE")) (is_ended dialog.state)
+    (is_strict dialog.route_set) (nat_le 2147483647 dialog.local_cseq)
+
+ack_by : (state : DialogState) (strict last : Bool)
+    → first_refusal ((is_early state && true, refusal.BadMethod)
+    ∷ (is_ended state, refusal.DialogEnded) ∷ (strict, refusal.StrictRoute)
+    ∷ (false && last, refusal.SequenceUsedUp) ∷ []) None
+    ≡ option_map refusal_for_fault (if is_ended state then Some fault.Ended
+    else (if is_early state then Some fault.NotConfirmed
+    else (if strict then Some fault.StrictRoute
+    else None)))
+ack_by Early strict last = refl
+ack_by Confirmed true last = refl
+ack_by Confirmed false last = refl
+ack_by Ended strict last = refl
+
+prack_by : (state : DialogState) (side : End) (strict last : Bool)
+    → first_refusal ((is_early state && (is_callee side && false), refusal.BadMethod)
+    ∷ (is_ended state, refusal.DialogEnded) ∷ (strict, refusal.StrictRoute)
+    ∷ (last, refusal.SequenceUsedUp) ∷ []) None
+    ≡ option_map refusal_for_fault (if is_ended state then Some fault.Ended
+    else (if is_early state && false then Some fault.NotConfirmed
+    else (if strict then Some fault.StrictRoute
+    else (if last then Some fault.SequenceUsedUp
+    else None))))
+prack_by Early Caller true last = refl
+prack_by Early Caller false true = refl
+prack_by Early Caller false false = refl
+prack_by Early Callee true last = refl
+prack_by Early Callee false true = refl
+prack_by Early Callee false false = refl
+prack_by Confirmed side true last = refl
+prack_by Confirmed side false true = refl
+prack_by Confirmed side false false = refl
+prack_by Ended side strict last = refl
+
+-- why what is owed isn't sent
+abbrev fault_of : Debt → Dialog → Option DialogFault
+fault_of (Ack invite number) dialog = ack_fault dialog
+fault_of (Prack rseq number) dialog = request_fault dialog (codes "PRACK")
+
+debt_refusal : (debt : Debt) (dialog : Dialog)
+    → first_refusal (rule.refusals_in dialog (rule.method_of debt)) None
+    ≡ option_map refusal_for_fault (fault_of debt dialog)
+debt_refusal (Ack invite number) dialog =
+    ack_by dialog.state (is_strict dialog.route_set) (nat_le 2147483647 dialog.local_cseq)
+debt_refusal (Prack rseq number) dialog =
+    prack_by dialog.state dialog.side (is_strict dialog.route_set)
+    (nat_le 2147483647 dialog.local_cseq)
+
+-- ---- a request in a dialog
+
+module _ (event : Event) (command : DialogRequest) (side : Side) where
+  abbrev own_name : DialogName
+  own_name = name_in command.local_tag command.remote_tag
+
+  abbrev request_done : Dialogs × Service → ClientTaken
+  request_done done =
+      let bye = bye_ended own_name command.method done.1 done.0 in
+      let said = request_said event command.call_id own_name done.1 in
+      let after = request_settled event said.0 said.1 bye.1 side.clients in
+      (record { dialogs = bye.0; clients = after.0 }, after.1)
+
+  abbrev serve : HeldDialog → Outcome
+  serve held = request_in_held event command.method command.content held
+
+  abbrev request_step : Option HeldDialog → ClientTaken
+  request_step found = request_done (option_map_or
+      (λ held. (set_value (is_named own_name) side.dialogs (serve held).0, (serve held).1)) found
+      (side.dialogs, service.Refused refusal.NoSuchDialog))
+
+  abbrev refuse : Refusal → ClientTaken
+  refuse why = (side, refused event.id command.call_id why)
+
+  abbrev sent_in : HeldDialog → ClientTaken
+  sent_in held =
+      let sent = rule.start (side.clients, [])
+      (rule.request_within event own_name command.method None command.content held) in
+      let dialogs = set_value (is_named own_name) side.dialogs (rule.with_number held) in
+      let ended = bye_ended own_name command.method (service.Sent (sending_in event command.method None
+      command.content held)) dialogs in
+      (record { dialogs = ended.0; clients = sent.0 }, sent.1 ++ ended.1)
+
+  by_refusal : (held : HeldDialog) (why : Option Refusal)
+      → set_value (is_named own_name) side.dialogs held ≡ side.dialogs
+      → option_map_or refuse why (sent_in held) ≡ request_done
+      (let done = sent_unless why (sending_in event command.method None command.content held) held
+      in (set_value (is_named own_name) side.dialogs done.0, done.1))
+  unfolding start_command with_content_of
+  by_refusal held None same = refl
+  by_refusal held (Some why) same =
+      ap (λ (dialogs : Dialogs). (
+        record { dialogs = dialogs; clients = side.clients },
+        refused event.id command.call_id why,
+      )) (sym same)
+
+  by_found : (found : Option HeldDialog) → dialog_at own_name side.dialogs ≡ found
+      → option_map_or (λ (held : HeldDialog). option_map_or refuse
+      (first_refusal ((rule.has_command command.method, refusal.BadMethod)
+      ∷ rule.refusals_in held.dialog command.method) None) (sent_in held)) found
+      (refuse refusal.NoSuchDialog)
+      ≡ request_step found
+  unfolding request_in_held
+  by_found None at = refl
+  by_found (Some held) at =
+      ap (λ why. option_map_or refuse why (sent_in held))
+      (request_refusal held.dialog command.method)
+      ∙ by_refusal held (first_refusal (request_refusals held.dialog command.method) None)
+      (set_value_same (is_named own_name) side.dialogs held at)
+
+pub request_same : (event : Event) (command : DialogRequest) (side : Side)
+    → rule.request_rule event command side ≡ request_by_user event command side
+unfolding requested_at
+request_same event command side =
+    by_found event command side
+    (dialog_at (name_in command.local_tag command.remote_tag) side.dialogs) refl
+
+-- ---- an ACK or a PRACK
+
+-- which dialog is held after it
+abbrev pub dialog_by : Service → List Debt → List Debt → HeldDialog → HeldDialog
+dialog_by (service.Sent sending) paid owing after = record after { owed = paid }
+dialog_by service.Waits paid owing after = record after { owed = owing }
+dialog_by (service.Refused why) paid owing after = record after { owed = owing }
+
+abbrev pub started_by : ClientChange → List Client
+started_by change.Stays = []
+started_by change.Over = []
+started_by (change.Starts client) = client ∷ []
+
+-- the same of the step
+abbrev pub served_by : Event → List ℕ → DialogName → Debt → List Debt → List Debt → Outcome
+    → rule.Payment
+served_by event call_id name (Ack invite number) paid owing done = record {
+  dialog = dialog_by done.1 paid owing done.0;
+  ack = (ack_said event call_id done.1).1;
+  prack = [];
+  outs = (ack_said event call_id done.1).0;
+}
+served_by event call_id name (Prack rseq number) paid owing done = record {
+  dialog = dialog_by done.1 paid owing done.0;
+  ack = None;
+  prack = started_by (request_said event call_id name done.1).1;
+  outs = (request_said event call_id name done.1).0;
+}
+
+module _ (event : Event) (call_id : List ℕ) (name : DialogName) (held : HeldDialog)
+    (paid owing : List Debt) where
+  abbrev with_owed : List Debt → HeldDialog
+  with_owed debts = record held { owed = debts }
+
+  abbrev unsent : List CallOut → rule.Payment
+  unsent outs = record { dialog = with_owed owing; ack = None; prack = []; outs = outs }
+
+  abbrev sent_or : Debt → Content → Option Refusal → rule.Payment
+  sent_or debt content why =
+      option_map_or (λ why. unsent (refused event.id call_id why)) why
+      (rule.payment_with event name debt content (with_owed paid))
+
+  ack_by_fault : (invite : Id) (number : ℕ) (content : Content) (why : Option DialogFault)
+      → ack_fault held.dialog ≡ why
+      → sent_or (Ack invite number) content (option_map refusal_for_fault why)
+      ≡ served_by event call_id name (Ack invite number) paid owing
+      (discharged event (Ack invite number) (Some content) held)
+  unfolding discharged
+  ack_by_fault invite number content None is = rw is refl
+  ack_by_fault invite number content (Some why) is = rw is refl
+
+  prack_by_fault : (rseq number : ℕ) (content : Content) (why : Option DialogFault)
+      → request_fault held.dialog (codes "PRACK") ≡ why
+      → sent_or (Prack rseq number) content (option_map refusal_for_fault why)
+      ≡ served_by event call_id name (Prack rseq number) paid owing
+      (discharged event (Prack rseq number) (Some content) held)
+  unfolding discharged with_content_of
+  prack_by_fault rseq number content None is = rw is refl
+  prack_by_fault rseq number content (Some why) is = rw is refl
+
+  by_debt : (debt : Debt) (content : Content)
+      → sent_or debt content (option_map refusal_for_fault (fault_of debt held.dialog))
+      ≡ served_by event call_id name debt paid owing (discharged event debt (Some content) held)
+  by_debt (Ack invite number) content =
+      ack_by_fault invite number content (ack_fault held.dialog) refl
+  by_debt (Prack rseq number) content =
+      prack_by_fault rseq number content (request_fault held.dialog (codes "PRACK")) refl
+
+  waits : (debt : Debt) → unsent [] ≡ served_by event call_id name debt paid owing
+      (discharged event debt None held)
+  unfolding discharged
+  waits (Ack invite number) = refl
+  waits (Prack rseq number) = refl
+
+  pub served_same : (debt : Debt) (content : Option Content)
+      → rule.payment event call_id name debt content (with_owed paid) (with_owed owing)
+      ≡ served_by event call_id name debt paid owing (discharged event debt content held)
+  served_same debt None = waits debt
+  served_same debt (Some content) =
+      ap (sent_or debt content) (debt_refusal debt held.dialog) ∙ by_debt debt content
+
+-- ---- the user's ACK or PRACK
+
+same_debt : (debt other : Debt) → rule.is_debt debt other ≡ is_debt debt other
+same_debt (Ack invite number) (Ack other_invite other_number) = refl
+same_debt (Ack invite number) (Prack other_rseq other_number) = refl
+same_debt (Prack rseq number) (Ack other_invite other_number) = refl
+same_debt (Prack rseq number) (Prack other_rseq other_number) = refl
+
+abbrev is_for : List ℕ → Debt → Bool
+is_for method debt = bytes_eq (rule.method_of debt) method
+
+is_an_ack : (debt : Debt) → is_for (codes "ACK") debt ≡ is_of kind.Ack debt
+is_an_ack (Ack invite number) = refl
+is_an_ack (Prack rseq number) = refl
+
+is_a_prack : (debt : Debt) → is_for (codes "PRACK") debt ≡ is_of kind.Prack debt
+is_a_prack (Ack invite number) = refl
+is_a_prack (Prack rseq number) = refl
+
+pub owed_kept : (event : Event) (debt : Debt) (content : Option Content) (held : HeldDialog)
+    → (discharged event debt content held).0.owed ≡ held.owed
+unfolding discharged
+owed_kept event (Ack invite number) None held = refl
+owed_kept event (Prack rseq number) None held = refl
+owed_kept event (Ack invite number) (Some content) held = refl
+owed_kept event (Prack rseq number) (Some content) held = refl
+
+-- where nothing is sent the dialog is as it was but for what is owed
+dropped : (debt : Debt) (held after : HeldDialog) (o : Service) → after.owed ≡ held.owed
+    → dialog_by o (filter (λ other. not (is_debt debt other)) held.owed) held.owed after
+    ≡ dropped_if_sent debt o after
+dropped debt held after (service.Sent sending) same =
+    ap (λ (debts : List Debt).
+    record after { owed = filter (λ other. not (is_debt debt other)) debts }) (sym same)
+dropped debt held after service.Waits same =
+    ap (λ (debts : List Debt). record after { owed = debts }) (sym same)
+dropped debt held after (service.Refused why) same =
+    ap (λ (debts : List Debt). record after { owed = debts }) (sym same)
+
+kept_same : (debt : Debt) (name : DialogName) (ack : Option SentAck) (clients : Clients)
+    → rule.ack_kept debt name ack clients ≡ ack_kept debt name ack clients
+kept_same (Ack invite number) name None clients = refl
+kept_same (Ack invite number) name (Some ack) clients = refl
+kept_same (Prack rseq number) name ack clients = refl
+
+module _ (event : Event) (command : DialogBody) (side : Side) where
+  abbrev asked_name : DialogName
+  asked_name = name_in command.local_tag command.remote_tag
+
+  abbrev refuse_body : Refusal → ClientTaken
+  refuse_body why = (side, refused event.id command.call_id why)
+
+  -- ---- as the rule says
+
+  abbrev rule_served : HeldDialog → Debt → List Debt → rule.Payment
+  rule_served held debt left =
+      rule.payment event command.call_id asked_name debt (Some command.content)
+      (record held { owed = left }) held
+
+  abbrev rule_after : Debt → rule.Payment → ClientTaken
+  rule_after debt done =
+      let sent = fold rule.start (rule.ack_kept debt asked_name done.ack side.clients, done.outs)
+      done.prack in (
+        record {
+          dialogs = set_value (is_named asked_name) side.dialogs done.dialog;
+          clients = sent.0;
+        },
+        sent.1,
+      )
+
+  abbrev rule_paid : HeldDialog → Debt → ClientTaken
+  rule_paid held debt =
+      rule_after debt
+      (rule_served held debt (filter (λ other. not (rule.is_debt debt other)) held.owed))
+
+  abbrev rule_found : List ℕ → Refusal → HeldDialog → ClientTaken
+  rule_found method nothing held =
+      option_map_or (rule_paid held) (find (is_for method) held.owed) (refuse_body nothing)
+
+  -- ---- the step
+
+  abbrev left : Debt → HeldDialog → List Debt
+  left debt held = filter (λ other. not (is_debt debt other)) held.owed
+
+  abbrev step_served : HeldDialog → Debt → Outcome
+  step_served held debt = discharged event debt (Some command.content) held
+
+  served_as : (held : HeldDialog) (debt : Debt) → rule_paid held debt
+      ≡ rule_after debt (served_by event command.call_id asked_name debt (left debt held) held.owed
+      (step_served held debt))
+  served_as held debt =
+      ap (rule_after debt) (ap (rule_served held debt)
+      (λ i. filter (λ other. not (same_debt debt other i)) held.owed)
+      ∙ served_same event command.call_id asked_name held (left debt held) held.owed debt
+      (Some command.content))
+
+  dropped_in : (held : HeldDialog) (debt : Debt)
+      → dialog_by (step_served held debt).1 (left debt held) held.owed (step_served held debt).0
+      ≡ dropped_if_sent debt (step_served held debt).1 (step_served held debt).0
+  dropped_in held debt =
+      dropped debt held (step_served held debt).0 (step_served held debt).1
+      (owed_kept event debt (Some command.content) held)
+
+  abbrev at_name : (HeldDialog → Outcome) → Option HeldDialog → Dialogs × Service
+  at_name serve found = option_map_or
+      (λ held. (set_value (is_named asked_name) side.dialogs (serve held).0, (serve held).1)) found
+      (side.dialogs, service.Waits)
+
+  -- ---- the command Ack
+
+  abbrev ack_after : Debt → Dialogs × Service → ClientTaken
+  ack_after debt done =
+      let said = ack_said event command.call_id done.1 in (
+        record { dialogs = done.0; clients = ack_kept debt asked_name said.1 side.clients },
+        said.0,
+      )
+
+  ack_paid_same : (held : HeldDialog) (invite : Id) (number : ℕ)
+      → dialog_at asked_name side.dialogs ≡ Some held
+      → rule_paid held (Ack invite number)
+      ≡ ack_paid event command asked_name (Ack invite number) side
+  unfolding paid
+  ack_paid_same held invite number at =
+      let debt = Ack invite number in
+      let said = ack_said event command.call_id (step_served held debt).1 in
+      let after : rule_paid held debt ≡ ack_after debt (at_name (paid event debt command.content)
+      (Some held)) = served_as held debt ∙ (λ i. (
+        record {
+          dialogs = set_value (is_named asked_name) side.dialogs (dropped_in held debt i);
+          clients = kept_same debt asked_name said.1 side.clients i;
+        },
+        said.0,
+      )) in
+      after ∙ ap (λ found. ack_after debt (at_name (paid event debt command.content) found))
+      (sym at)
+
+  ack_owed : (held : HeldDialog) (found : Option Debt)
+      → dialog_at asked_name side.dialogs ≡ Some held → find (is_of kind.Ack) held.owed ≡ found
+      → option_map_or (rule_paid held) found (refuse_body refusal.NothingToAck)
+      ≡ paid_or_refused event command (ack_paid event command asked_name)
+      (debt_or_refusal kind.Ack found) side
+  ack_owed held None at is = refl
+  ack_owed held (Some (Ack invite number)) at is = ack_paid_same held invite number at
+  ack_owed held (Some (Prack rseq number)) at is =
+      absurd (false≢true (found_passes (is_of kind.Ack) held.owed (Prack rseq number) is))
+
+  ack_in : (found : Option HeldDialog) → dialog_at asked_name side.dialogs ≡ found
+      → option_map_or (rule_found (codes "ACK") refusal.NothingToAck) found
+      (refuse_body refusal.NoSuchDialog)
+      ≡ paid_or_refused event command (ack_paid event command asked_name)
+      (option_map_or (oldest_debt kind.Ack) found (Err refusal.NoSuchDialog)) side
+  ack_in None at = refl
+  ack_in (Some held) at =
+      ap (λ found. option_map_or (rule_paid held) found (refuse_body refusal.NothingToAck))
+      (λ i. find (λ debt. is_an_ack debt i) held.owed)
+      ∙ ack_owed held (find (is_of kind.Ack) held.owed) at refl
+
+  -- ---- the command Prack
+
+  prack_by_service : (debt : Debt) (dialogs : Dialogs) (o : Service) → is_of kind.Prack debt ≡ true
+      → (let said = request_said event command.call_id asked_name o in
+      let sent = fold rule.start (rule.ack_kept debt asked_name None side.clients, said.0)
+      (started_by said.1) in
+      let after : ClientTaken = (record { dialogs = dialogs; clients = sent.0 }, sent.1) in after)
+      ≡ (let said = request_said event command.call_id asked_name o in
+      let kept = settled event event.id said.1 side.clients in
+      let after : ClientTaken =
+      (record { dialogs = dialogs; clients = kept.0 }, said.0 ++ kept.1) in after)
+  unfolding start_command
+  prack_by_service (Ack invite number) dialogs o is = absurd (false≢true is)
+  prack_by_service (Prack rseq number) dialogs (service.Sent sending) is = refl
+  prack_by_service (Prack rseq number) dialogs service.Waits is = refl
+  prack_by_service (Prack rseq number) dialogs (service.Refused why) is = refl
+
+  abbrev prack_after : Dialogs × Service → ClientTaken
+  prack_after done =
+      let said = request_said event command.call_id asked_name done.1 in
+      let kept = settled event event.id said.1 side.clients in
+      (record { dialogs = done.0; clients = kept.0 }, said.0 ++ kept.1)
+
+  prack_paid_same : (held : HeldDialog) (rseq number : ℕ)
+      → dialog_at asked_name side.dialogs ≡ Some held
+      → rule_paid held (Prack rseq number)
+      ≡ prack_paid event command asked_name (Prack rseq number) side
+  unfolding paid
+  prack_paid_same held rseq number at =
+      let debt = Prack rseq number in
+      let done = step_served held debt in
+      served_as held debt
+      ∙ ap (λ (after : HeldDialog). rule_after debt (record {
+        dialog = after;
+        ack = None;
+        prack = started_by (request_said event command.call_id asked_name done.1).1;
+        outs = (request_said event command.call_id asked_name done.1).0;
+      })) (dropped_in held debt)
+      ∙ prack_by_service debt (set_value (is_named asked_name) side.dialogs
+      (dropped_if_sent debt done.1 done.0)) done.1 refl
+      ∙ ap (λ found. prack_after (at_name (paid event debt command.content) found)) (sym at)
+
+  prack_owed : (held : HeldDialog) (found : Option Debt)
+      → dialog_at asked_name side.dialogs ≡ Some held → find (is_of kind.Prack) held.owed ≡ found
+      → option_map_or (rule_paid held) found (refuse_body refusal.NothingToPrack)
+      ≡ paid_or_refused event command (prack_paid event command asked_name)
+      (debt_or_refusal kind.Prack found) side
+  prack_owed held None at is = refl
+  prack_owed held (Some (Prack rseq number)) at is = prack_paid_same held rseq number at
+  prack_owed held (Some (Ack invite number)) at is =
+      absurd (false≢true (found_passes (is_of kind.Prack) held.owed (Ack invite number) is))
+
+  prack_in : (found : Option HeldDialog) → dialog_at asked_name side.dialogs ≡ found
+      → option_map_or (rule_found (codes "PRACK") refusal.NothingToPrack) found
+      (refuse_body refusal.NoSuchDialog)
+      ≡ paid_or_refused event command (prack_paid event command asked_name)
+      (option_map_or (oldest_debt kind.Prack) found (Err refusal.NoSuchDialog)) side
+  prack_in None at = refl
+  prack_in (Some held) at =
+      ap (λ found. option_map_or (rule_paid held) found (refuse_body refusal.NothingToPrack))
+      (λ i. find (λ debt. is_a_prack debt i) held.owed)
+      ∙ prack_owed held (find (is_of kind.Prack) held.owed) at refl
+
+pub ack_same : (event : Event) (command : DialogBody) (side : Side)
+    → rule.ack_rule event command side ≡ ack_by_user event command side
+ack_same event command side =
+    ack_in event command side
+    (dialog_at (name_in command.local_tag command.remote_tag) side.dialogs) refl
+
+pub prack_same : (event : Event) (command : DialogBody) (side : Side)
+    → rule.prack_rule event command side ≡ prack_by_user event command side
+prack_same event command side =
+    prack_in event command side
+    (dialog_at (name_in command.local_tag command.remote_tag) side.dialogs) refl
+
+-- ---- CANCEL
+
+module _ (event : Event) (command : Cancel) (side : Side) where
+  abbrev refuse_cancel : Refusal → ClientTaken
+  refuse_cancel why = (side, refused event.id command.call_id why)
+
+  abbrev with_clients : Clients × List CallOut → ClientTaken
+  with_clients after = (record side { clients = after.0 }, after.1)
+
+  abbrev asked_so : Client → Cancelling → Clients
+  asked_so invite cancel =
+      set_value (is_id command.id) side.clients (record invite { cancel = cancel })
+
+  abbrev cancel_asked : Client → Bool → ClientTaken
+  cancel_asked invite provisional =
+      with_clients (if provisional
+      then rule.start (asked_so invite Sent, []) (rule.cancel_request event.id invite)
+      else (asked_so invite (Waits event.id), []))
+
+  changed_so : (invite : Client) (cancel : Cancelling) → client_at command.id side.clients
+      ≡ Some invite
+      → asked_so invite cancel ≡ client_changed command.id (asked cancel) side.clients
+  changed_so invite cancel at =
+      ap (λ found. option_map_or (λ (client : Client). asked_so client cancel) found side.clients)
+      (sym at)
+
+  cancel_by : (invite : Client) (inviting final provisional : Bool) (cancel : Cancelling)
+      → client_at command.id side.clients ≡ Some invite
+      → (if not inviting then refuse_cancel refusal.NoSuchRequest
+      else (if final then refuse_cancel refusal.AlreadyFinal
+      else (if rule.is_asked cancel then (side, [])
+      else cancel_asked invite provisional)))
+      ≡ with_clients (cancelled_as (if not inviting then case.Refused refusal.NoSuchRequest
+      else (if final then case.Refused refusal.AlreadyFinal
+      else asking_case provisional cancel)) event command invite side.clients)
+  unfolding start_command
+  cancel_by invite false final provisional cancel at = refl
+  cancel_by invite true true provisional cancel at = refl
+  cancel_by invite true false true NotAsked at =
+      ap (λ (clients : Clients). with_clients
+      (rule.start (clients, []) (rule.cancel_request event.id invite)))
+      (changed_so invite Sent at)
+  cancel_by invite true false false NotAsked at =
+      ap (λ (clients : Clients). with_clients (clients, []))
+      (changed_so invite (Waits event.id) at)
+  cancel_by invite true false provisional (Waits id) at = refl
+  cancel_by invite true false provisional Sent at = refl
+
+  inviting_same : (kind : RequestKind) → rule.is_inviting kind ≡ is_inviting kind
+  inviting_same First = refl
+  inviting_same (Again life) = refl
+  inviting_same (Inside life) = refl
+  inviting_same Plain = refl
+
+  cancel_in : (found : Option Client) → client_at command.id side.clients ≡ found
+      → option_map_or (λ (invite : Client).
+      if not (rule.is_inviting invite.kind) then refuse_cancel refusal.NoSuchRequest
+      else (if is_some invite.removal then refuse_cancel refusal.AlreadyFinal
+      else (if rule.is_asked invite.cancel then (side, [])
+      else cancel_asked invite invite.provisional))) found (refuse_cancel refusal.NoSuchRequest)
+      ≡ with_clients (cancelled_of found event command side.clients)
+  cancel_in None at = refl
+  cancel_in (Some invite) at =
+      cancel_by invite (rule.is_inviting invite.kind) (is_some invite.removal) invite.provisional
+      invite.cancel at
+      ∙ ap (λ inviting. with_clients (cancelled_as
+      (if not inviting then case.Refused refusal.NoSuchRequest
+      else (if is_some invite.removal then case.Refused refusal.AlreadyFinal
+      else asking_case invite.provisional invite.cancel)) event command invite side.clients))
+      (inviting_same invite.kind)
+
+pub cancel_same : (event : Event) (command : Cancel) (side : Side)
+    → rule.cancel_rule event command side ≡ cancel_by_user event command side
+cancel_same event command side =
+    cancel_in event command side (client_at command.id side.clients) refl

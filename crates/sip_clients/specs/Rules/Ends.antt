@@ -1,0 +1,53 @@
+-- The rules of how a client request ends: by its last response, lost, or at a tick (RFC 3261,
+-- sections 12.2.1.2 and 13.2.2.4; RFC 6026, section 7.2).
+use Rattle.std.specs.Prelude.{ℕ, Bool, false, not, ◌&&◌, nat_le, List, [], ◌++◌, Option, None, filter, fold, if◌then◌else◌}
+use Rattle.std.specs.List.{flat_map, list_any}
+use Rattle.std.specs.Map.{lookup, remove_entry, values_of}
+use Rattle.std.specs.Option.{option_map_or}
+use Rattle.sip_message.specs.declared.id.Id.{Id}
+use Rattle.sip_timers.specs.Earlier.{earlier}
+use Rattle.sip_common.specs.declared.held_dialog.HeldDialog.{HeldDialog}
+use Rattle.sip_common.specs.declared.item.CallOut.{CallOut}
+use Rattle.sip_common.specs.Dialogs.{early_ended, ended_at, is_early_of, lives, Dialogs}
+use Rattle.sip_common.specs.Ids.{is_id}
+use Rattle.sip_clients.specs.declared.client.Client.{Client}
+use Rattle.sip_clients.specs.Client.{Clients, ClientTaken, Side}
+use Rattle.sip_clients.specs.Rules.Requests.{life_of}
+
+-- The early dialogs that a request made end with it, and where the peer is gone also the dialog
+-- that it was sent in, unless that ended before (RFC 3261, section 12.2.1.2).
+abbrev pub request_over : Client → Bool → Dialogs → Dialogs × List CallOut
+request_over client gone dialogs =
+    let early = early_ended client.id dialogs in
+    let own = option_map_or (λ life. if gone && lives early.0 life
+    then ended_at life.name early.0 else (early.0, []))
+    (life_of client.kind) (early.0, []) in
+    (own.0, early.1 ++ own.1)
+
+-- A request is over whose message could not be sent, or whose transaction timed out; then the peer
+-- is gone.
+abbrev pub lost_rule : Id → Bool → Side → ClientTaken
+lost_rule id timed_out side =
+    let ended = option_map_or (λ client. request_over client timed_out side.dialogs)
+    (lookup (is_id id) side.clients) (side.dialogs, []) in
+    (record { dialogs = ended.0; clients = remove_entry (is_id id) side.clients }, ended.1)
+
+-- an INVITE is over 64*T1 after its first 2xx (RFC 3261, section 13.2.2.4)
+abbrev pub is_over : ℕ → Client → Bool
+is_over now client = option_map_or (λ moment. nat_le moment now) client.removal false
+
+-- At a tick such INVITEs are removed, and their dialogs that are early still end.
+abbrev pub tick_rule : Side → ℕ → ClientTaken
+tick_rule side now =
+    let over = filter (is_over now) (values_of side.clients) in
+    let ends = λ (held : HeldDialog). list_any (λ client. is_early_of client.id held) over in (
+      record {
+        dialogs = filter (λ entry. not (ends entry.1)) side.dialogs;
+        clients = filter (λ entry. not (is_over now entry.1)) side.clients;
+      },
+      flat_map (λ client. (early_ended client.id side.dialogs).1) over,
+    )
+
+-- the first moment at which one is due to be removed
+abbrev pub removal_rule : Clients → Option ℕ
+removal_rule clients = fold (λ due client. earlier due client.removal) None (values_of clients)

@@ -1,0 +1,322 @@
+-- The rules of the client requests of one Call-ID, and of the user's commands that send them (RFC
+-- 3261, sections 8.1.1, 9.1, 12.2.1.1, 13.2.1, 13.2.2.4 and 15.1.1; RFC 3262, section 4).
+use Rattle.std.specs.Prelude.{ℕ, ◌+◌, ◌-◌, ◌^◌, Bool, true, false, not, ◌&&◌, ◌||◌, ◌==◌, nat_le, List, [], ◌∷◌, ◌++◌, Option, None, Some, codes, filter, find, fold, is_some, if◌then◌else◌}
+use Rattle.std.specs.Map.{lookup, set_value}
+use Rattle.std.specs.Option.{option_map_or}
+use Rattle.std.specs.Str.{bytes_eq}
+use Rattle.indexmap.specs.IndexMap.{insert_entry}
+use Rattle.sip_message.specs.Content.{Content, with_content_of}
+use Rattle.sip_message.specs.HopByHop.{cancel_of}
+use Rattle.sip_message.specs.Key.{client_key}
+use Rattle.sip_message.specs.Message.{bare}
+use Rattle.sip_message.specs.Party.{party_of}
+use Rattle.sip_message.specs.TopVia.{top_branch}
+use Rattle.sip_message.specs.Written.{written}
+use Rattle.sip_message.specs.declared.addr.Addr.{Addr}
+use Rattle.sip_message.specs.declared.cseq.CSeq.{CSeq}
+use Rattle.sip_message.specs.declared.id.Id.{Id}
+use Rattle.sip_message.specs.declared.message.Message.{Message}
+use Rattle.sip_message.specs.declared.message.TheConstants.{MAX_FORWARDS}
+use Rattle.sip_message.specs.declared.name_addr.NameAddr.{NameAddr}
+use Rattle.sip_message.specs.declared.rack.RAck.{RAck}
+use Rattle.sip_message.specs.declared.start_line.StartLine.TheVariants.{Request}
+use Rattle.sip_transactions.specs.declared.input.Command.TheVariants.{Start}
+use Rattle.sip_dialog.specs.declared.dialog.Dialog.{Dialog}
+use Rattle.sip_dialog.specs.declared.dialog.Side.{Side as End}
+use Rattle.sip_dialog.specs.declared.dialog.Side.TheVariants.{Caller, Callee}
+use Rattle.sip_dialog.specs.Dialog.{is_early, is_ended}
+use Rattle.sip_dialog.specs.Request.{agent_via, contact_of, request_in}
+use Rattle.sip_dialog.specs.Route.{hop_of, is_strict}
+use Rattle.sip_dialog.specs.Step.{with_next_number}
+use Rattle.sip_common.specs.declared.command.Cancel.{Cancel}
+use Rattle.sip_common.specs.declared.command.DialogBody.{DialogBody}
+use Rattle.sip_common.specs.declared.command.DialogRequest.{DialogRequest}
+use Rattle.sip_common.specs.declared.command.Invite.{Invite}
+use Rattle.sip_common.specs.declared.command.Plain.{Plain as PlainCommand}
+use Rattle.sip_common.specs.declared.command.ProvisionalSupport.{ProvisionalSupport}
+use Rattle.sip_common.specs.declared.command.ProvisionalSupport.TheVariants as support
+use Rattle.sip_common.specs.declared.debt.Debt.{Debt}
+use Rattle.sip_common.specs.declared.debt.Debt.TheVariants.{Ack, Prack}
+use Rattle.sip_common.specs.declared.held_dialog.DialogLife.{DialogLife}
+use Rattle.sip_common.specs.declared.held_dialog.DialogName.{DialogName}
+use Rattle.sip_common.specs.declared.held_dialog.HeldDialog.{HeldDialog}
+use Rattle.sip_common.specs.declared.item.CallOut.{CallOut}
+use Rattle.sip_common.specs.declared.item.CallOut.TheVariants.{Command, Direct}
+use Rattle.sip_common.specs.declared.refusal.Refusal.{Refusal}
+use Rattle.sip_common.specs.declared.refusal.Refusal.TheVariants.{AlreadyFinal, BadMethod, DialogEnded, NoSuchDialog, NoSuchRequest, NothingToAck, NothingToPrack, SequenceUsedUp, StrictRoute}
+use Rattle.sip_common.specs.Dialogs.{ended_at, is_named, tag_text}
+use Rattle.sip_common.specs.Ids.{is_id}
+use Rattle.sip_common.specs.Notices.{refused}
+use Rattle.sip_common.specs.Refusal.{first_refusal}
+use Rattle.sip_common.specs.Requests.{name_of_tags}
+use Rattle.sip_clients.specs.declared.answers.SentAck.{SentAck}
+use Rattle.sip_clients.specs.declared.client.Cancelling.{Cancelling}
+use Rattle.sip_clients.specs.declared.client.Cancelling.TheVariants.{NotAsked, Sent, Waits}
+use Rattle.sip_clients.specs.declared.client.Client.{Client}
+use Rattle.sip_clients.specs.declared.client.RequestKind.{RequestKind}
+use Rattle.sip_clients.specs.declared.client.RequestKind.TheVariants.{First, Again, Inside, Plain}
+use Rattle.sip_clients.specs.declared.event.Event.{Event}
+use Rattle.sip_clients.specs.declared.outside.TheConstants.{FIRST_CSEQ}
+use Rattle.sip_clients.specs.Client.{Clients, ClientTaken, Side}
+use Rattle.sip_clients.specs.Event.{branch_of, from_tag_of}
+
+-- ---- client requests
+
+-- an INVITE: an initial one (`First`) or a re-INVITE (`Again`)
+abbrev pub is_inviting : RequestKind → Bool
+is_inviting First = true
+is_inviting (Again life) = true
+is_inviting _ = false
+
+-- the dialog of a re-INVITE or of another request in a dialog (`Inside`); an initial INVITE and a
+-- request outside of dialogs (`Plain`) have none
+abbrev pub life_of : RequestKind → Option DialogLife
+life_of (Again life) = Some life
+life_of (Inside life) = Some life
+life_of _ = None
+
+-- a client request that is just sent, known by the event that sends it
+abbrev pub new_request : Id → RequestKind → Message → Addr → Client
+new_request id kind request to = record {
+  id = id;
+  kind = kind;
+  request = request;
+  to = to;
+  provisional = false;
+  cancel = NotAsked;
+  heard = None;
+  answers = [];
+  removal = None;
+}
+
+-- it is held, and its transaction starts (RFC 3261, section 17.1)
+abbrev pub start : Clients × List CallOut → Client → Clients × List CallOut
+start done client = (
+  insert_entry is_id done.0 client.id client,
+  done.1 ++ Command client.id
+      (Start (client_key (top_branch client.request) client.request.cseq.method)
+      client.request.call_id client.request client.to) ∷ [],
+)
+
+-- ---- outside of dialogs
+
+-- the request of this method (RFC 3261, section 8.1.1), with the routes that are known before
+abbrev pub request_outside : Event → List ℕ → List ℕ → List ℕ → List ℕ → List ℕ → List NameAddr
+    → Message
+request_outside event call_id method uri from to routes =
+    let via = agent_via event.local (branch_of event) in
+    let from = party_of from (Some (from_tag_of event)) in
+    let cseq : CSeq = record { number = FIRST_CSEQ; method = method } in
+    record (bare (Request uri) (via ∷ []) from (party_of to None) call_id cseq) {
+      max_forwards = Some MAX_FORWARDS;
+      routes = routes;
+    }
+
+-- `100rel` in Supported or in Require, as the user asks (RFC 3262, section 4)
+abbrev pub with_100rel : ProvisionalSupport → Message → Message
+with_100rel support.None invite = invite
+with_100rel support.Supported invite = record invite { supported = codes "100rel" ∷ [] }
+with_100rel support.Required invite = record invite { require = codes "100rel" ∷ [] }
+
+-- An initial INVITE goes out, with this agent's address as Contact (RFC 3261, section 13.2.1).
+abbrev pub invite_rule : Event → Invite → Clients → Clients × List CallOut
+invite_rule event invite clients =
+    let request = request_outside event invite.call_id (codes "INVITE") invite.request_uri
+    invite.from invite.to invite.routes in
+    let supporting = with_100rel invite.support
+    (record request { contacts = contact_of event.local ∷ [] }) in
+    start (clients, [])
+    (new_request event.id First (with_content_of supporting invite.content) invite.address)
+
+-- methods that have commands of their own
+abbrev pub has_command : List ℕ → Bool
+has_command method = bytes_eq method (codes "ACK") || bytes_eq method (codes "CANCEL")
+    || bytes_eq method (codes "PRACK")
+
+-- Another request goes out outside of dialogs; INVITE has its command, and a BYE needs a dialog.
+abbrev pub plain_rule : Event → PlainCommand → Clients → Clients × List CallOut
+plain_rule event plain clients =
+    if has_command plain.method || bytes_eq plain.method (codes "INVITE")
+    || bytes_eq plain.method (codes "BYE")
+    then (clients, refused event.id plain.call_id BadMethod)
+    else (let request = request_outside event plain.call_id plain.method plain.request_uri
+    plain.from plain.to plain.routes in
+    start (clients, [])
+    (new_request event.id Plain (with_content_of request plain.content) plain.address))
+
+-- ---- in a dialog
+
+-- this agent was invited
+abbrev pub is_callee : End → Bool
+is_callee Caller = false
+is_callee Callee = true
+
+-- Why a request of this method isn't sent in a dialog, in order (RFC 3261, section 12.2.1.1): in an
+-- early one there is no re-INVITE and no 2xx to acknowledge, and the callee ends it by its answer
+-- (section 15). An ACK takes no number of its own.
+abbrev pub refusals_in : Dialog → List ℕ → List (Bool × Refusal)
+refusals_in dialog method =
+    let bad = bytes_eq method (codes "ACK") || bytes_eq method (codes "INVITE")
+    || (is_callee dialog.side && bytes_eq method (codes "BYE")) in
+    let last = nat_le (2 ^ 31 - 1) dialog.local_cseq in
+    (is_early dialog.state && bad, BadMethod)
+    ∷ (is_ended dialog.state, DialogEnded)
+    ∷ (is_strict dialog.route_set, StrictRoute)
+    ∷ (not (bytes_eq method (codes "ACK")) && last, SequenceUsedUp)
+    ∷ []
+
+-- a request in a dialog with its next number: a re-INVITE or another
+abbrev pub request_within : Event → DialogName → List ℕ → Option RAck → Content → HeldDialog
+    → Client
+request_within event name method rack content held =
+    let life : DialogLife = record { name = name; born = held.born } in
+    let message = request_in held.dialog method (held.dialog.local_cseq + 1) content
+    (branch_of event) event.local in
+    new_request event.id (if bytes_eq method (codes "INVITE") then Again life else Inside life)
+    (record message { rack = rack }) (hop_of held.dialog held.address)
+
+-- that number is taken
+abbrev pub with_number : HeldDialog → HeldDialog
+with_number held = record held { dialog = with_next_number held.dialog }
+
+-- A request in a dialog is refused, or goes out; a BYE ends its dialog at once (RFC 3261, section
+-- 15.1.1).
+abbrev pub request_rule : Event → DialogRequest → Side → ClientTaken
+request_rule event command side =
+    let name = name_of_tags (tag_text command.local_tag) (tag_text command.remote_tag) in
+    let refuse : Refusal → ClientTaken =
+    λ refusal. (side, refused event.id command.call_id refusal) in
+    option_map_or (λ (held : HeldDialog).
+    option_map_or refuse
+    (first_refusal
+    ((has_command command.method, BadMethod) ∷ refusals_in held.dialog command.method) None)
+    (let sent = start (side.clients, [])
+    (request_within event name command.method None command.content held) in
+    let dialogs = set_value (is_named name) side.dialogs (with_number held) in
+    let ended = if bytes_eq command.method (codes "BYE") then ended_at name dialogs
+    else (dialogs, []) in
+    (record { dialogs = ended.0; clients = sent.0 }, sent.1 ++ ended.1)))
+    (lookup (is_named name) side.dialogs) (refuse NoSuchDialog)
+
+-- ---- the ACK of a 2xx, and the PRACK of a reliable provisional response
+
+-- what becomes of one that is owed in a dialog
+pub record Payment : Type 0 where
+  -- the dialog after it
+  pub dialog : HeldDialog
+  -- the ACK that goes out
+  pub ack : Option SentAck
+  -- the PRACK that goes out
+  pub prack : List Client
+  -- the same ACK, which has no transaction, or that it is refused
+  pub outs : List CallOut
+
+-- it goes out with this content (RFC 3261, section 13.2.2.4; RFC 3262, section 4)
+abbrev pub payment_with : Event → DialogName → Debt → Content → HeldDialog → Payment
+payment_with event name (Ack invite number) content held =
+    let message = request_in held.dialog (codes "ACK") number content (branch_of event)
+    event.local in
+    let to = hop_of held.dialog held.address in
+    record {
+      dialog = held;
+      ack = Some record { to = to; bytes = written message };
+      prack = [];
+      outs = Direct to (written message) ∷ [];
+    }
+payment_with event name (Prack rseq number) content held =
+    let rack = Some record { rseq = rseq; cseq = number; method = codes "INVITE" } in
+    record {
+      dialog = with_number held;
+      ack = None;
+      prack = request_within event name (codes "PRACK") rack content held ∷ [];
+      outs = [];
+    }
+
+-- its method
+abbrev pub method_of : Debt → List ℕ
+method_of (Ack invite number) = codes "ACK"
+method_of (Prack rseq number) = codes "PRACK"
+
+-- It goes out, or is refused; without a content it waits for the user. Where it doesn't go out the
+-- dialog is `owing`, and otherwise `paid`.
+abbrev pub payment : Event → List ℕ → DialogName → Debt → Option Content → HeldDialog → HeldDialog
+    → Payment
+payment event call_id name debt content paid owing =
+    let unsent : List CallOut → Payment =
+    λ outs. record { dialog = owing; ack = None; prack = []; outs = outs } in
+    option_map_or (λ content.
+    option_map_or (λ refusal. unsent (refused event.id call_id refusal))
+    (first_refusal (refusals_in paid.dialog (method_of debt)) None)
+    (payment_with event name debt content paid)) content (unsent [])
+
+-- the same is owed
+abbrev pub is_debt : Debt → Debt → Bool
+is_debt (Ack invite number) (Ack other_invite other_number) =
+    is_id invite other_invite && (number == other_number)
+is_debt (Prack rseq number) (Prack other_rseq other_number) =
+    (rseq == other_rseq) && (number == other_number)
+is_debt _ _ = false
+
+-- the ACK is kept with its INVITE, for a 2xx that comes again
+abbrev pub ack_kept : Debt → DialogName → Option SentAck → Clients → Clients
+ack_kept (Ack invite number) name (Some ack) clients =
+    option_map_or (λ client. set_value (is_id invite) clients
+    (record client { answers = insert_entry is_named client.answers name (Some ack) }))
+    (lookup (is_id invite) clients) clients
+ack_kept _ name ack clients = clients
+
+-- The user's ACK or PRACK is for the oldest response in its dialog that is owed one.
+abbrev pub debt_rule : List ℕ → Refusal → Event → DialogBody → Side → ClientTaken
+debt_rule method nothing event command side =
+    let name = name_of_tags (tag_text command.local_tag) (tag_text command.remote_tag) in
+    let refuse : Refusal → ClientTaken =
+    λ refusal. (side, refused event.id command.call_id refusal) in
+    option_map_or (λ (held : HeldDialog). option_map_or (λ debt.
+    let paid = record held { owed = filter (λ other. not (is_debt debt other)) held.owed } in
+    let done = payment event command.call_id name debt (Some command.content) paid held in
+    let sent = fold start (ack_kept debt name done.ack side.clients, done.outs) done.prack in (
+      record {
+        dialogs = set_value (is_named name) side.dialogs done.dialog;
+        clients = sent.0;
+      },
+      sent.1,
+    )) (find (λ debt. bytes_eq (method_of debt) method) held.owed) (refuse nothing))
+    (lookup (is_named name) side.dialogs) (refuse NoSuchDialog)
+
+-- the command Ack
+abbrev pub ack_rule : Event → DialogBody → Side → ClientTaken
+ack_rule = debt_rule (codes "ACK") NothingToAck
+
+-- the command Prack
+abbrev pub prack_rule : Event → DialogBody → Side → ClientTaken
+prack_rule = debt_rule (codes "PRACK") NothingToPrack
+
+-- ---- CANCEL
+
+-- the CANCEL of an INVITE, with its branch and to where it was sent (RFC 3261, section 9.1)
+abbrev pub cancel_request : Id → Client → Client
+cancel_request id invite = new_request id Plain (cancel_of invite.request) invite.to
+
+-- a CANCEL was asked for before
+abbrev pub is_asked : Cancelling → Bool
+is_asked NotAsked = false
+is_asked _ = true
+
+-- An INVITE alone is cancelled, before its first 2xx, and once: at once after a provisional
+-- response, and otherwise when the first one comes (RFC 3261, section 9.1).
+abbrev pub cancel_rule : Event → Cancel → Side → ClientTaken
+cancel_rule event command side =
+    let refuse : Refusal → ClientTaken =
+    λ refusal. (side, refused event.id command.call_id refusal) in
+    option_map_or (λ (invite : Client).
+    if not (is_inviting invite.kind) then refuse NoSuchRequest
+    else (if is_some invite.removal then refuse AlreadyFinal
+    else (if is_asked invite.cancel then (side, [])
+    else (
+    let held : Cancelling → Clients = λ cancel. set_value (is_id command.id) side.clients
+    (record invite { cancel = cancel }) in
+    let done = if invite.provisional
+    then start (held Sent, []) (cancel_request event.id invite)
+    else (held (Waits event.id), []) in
+    (record side { clients = done.0 }, done.1)))))
+    (lookup (is_id command.id) side.clients) (refuse NoSuchRequest)
