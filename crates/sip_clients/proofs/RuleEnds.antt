@@ -12,12 +12,12 @@ use Rattle.sip_common.specs.Ids.{is_id}
 use Rattle.sip_clients.specs.declared.client.RequestKind.{RequestKind}
 use Rattle.sip_clients.specs.declared.client.RequestKind.TheVariants.{First, Again, Inside, Plain}
 use Rattle.sip_clients.specs.declared.client.Client.{Client}
-use Rattle.sip_clients.specs.Client.{Side, ClientTaken, client_at}
+use Rattle.sip_clients.specs.Client.{Clients, Side, ClientTaken, client_at}
 use Rattle.sip_clients.specs.Clients.{lost_of, request_lost}
 use Rattle.sip_clients.specs.Dialogs.{ended_with, own_ended}
-use Rattle.sip_clients.specs.Rules.Ends.{is_over, lost_rule, request_over, tick_rule}
+use Rattle.sip_clients.specs.Rules.Ends.{is_over, lost_rule, removal_rule, request_over, tick_rule}
 use Rattle.sip_clients.specs.Rules.Requests.{life_of}
-use Rattle.sip_clients.specs.Tick.{clients_ticked}
+use Rattle.sip_clients.specs.Tick.{clients_ticked, next_removal}
 
 -- ---- a request that is over
 
@@ -57,6 +57,7 @@ lost_held id timed_out side (Some client) =
 
 pub lost_same : (id : Id) (timed_out : Bool) (side : Side)
     → lost_rule id timed_out side ≡ request_lost id timed_out side
+unfolding lost_rule
 lost_same id timed_out side = lost_held id timed_out side (client_at id side.clients)
 
 -- ---- a tick
@@ -87,6 +88,7 @@ module _ {X : Type 0} (p : X → Bool) where
   map_filtered f (x ∷ xs) = map_step f x xs (p x) (map_filtered f xs)
 
 pub tick_same : (side : Side) (now : ℕ) → tick_rule side now ≡ clients_ticked side now
+unfolding tick_rule
 tick_same side now =
     let clients = values_of side.clients in
     let ends = λ (held : HeldDialog).
@@ -100,3 +102,7 @@ tick_same side now =
       },
       outs i,
     )
+
+pub removal_same : (clients : Clients) → removal_rule clients ≡ next_removal clients
+unfolding removal_rule
+removal_same clients = refl

@@ -61,6 +61,7 @@ use Rattle.sip_clients.specs.Outside.{bare_request, supporting, through, with_co
 use Rattle.sip_clients.specs.Service.{Outcome, discharged, happens_by_sending, refusal_for_fault, requested, sending_in, service_by}
 use Rattle.sip_clients.specs.Reply.{is_inviting}
 use Rattle.sip_clients.specs.Rules.Requests as rule
+use Rattle.sip_clients.specs.Rules.Requests.{ack_rule, cancel_rule, invite_rule, plain_rule, prack_rule, request_rule}
 use Rattle.sip_clients.proofs.Served.{found_passes}
 
 -- ---- outside of dialogs
@@ -80,7 +81,7 @@ supported_so event invite support.Required = refl
 
 pub invite_same : (event : Event) (invite : Invite) (clients : Clients)
     → rule.invite_rule event invite clients ≡ invite_taken event invite clients
-unfolding start_command bare_request
+unfolding invite_rule start_command bare_request
 invite_same event invite clients =
     ap (λ (request : Message). rule.start (clients, []) (client_for event.id First
     (with_content_of request invite.content) invite.address))
@@ -88,7 +89,7 @@ invite_same event invite clients =
 
 pub plain_same : (event : Event) (plain : PlainCommand) (clients : Clients)
     → rule.plain_rule event plain clients ≡ plain_taken event plain clients
-unfolding start_command bare_request
+unfolding plain_rule start_command bare_request
 plain_same event plain clients = refl
 
 -- ---- why a request isn't sent in a dialog
@@ -222,7 +223,7 @@ module _ (event : Event) (command : DialogRequest) (side : Side) where
 
 pub request_same : (event : Event) (command : DialogRequest) (side : Side)
     → rule.request_rule event command side ≡ request_by_user event command side
-unfolding requested_at
+unfolding request_rule requested_at
 request_same event command side =
     by_found event command side
     (dialog_at (name_in command.local_tag command.remote_tag) side.dialogs) refl
@@ -530,12 +531,14 @@ module _ (event : Event) (command : DialogBody) (side : Side) where
 
 pub ack_same : (event : Event) (command : DialogBody) (side : Side)
     → rule.ack_rule event command side ≡ ack_by_user event command side
+unfolding ack_rule
 ack_same event command side =
     ack_in event command side
     (dialog_at (name_in command.local_tag command.remote_tag) side.dialogs) refl
 
 pub prack_same : (event : Event) (command : DialogBody) (side : Side)
     → rule.prack_rule event command side ≡ prack_by_user event command side
+unfolding prack_rule
 prack_same event command side =
     prack_in event command side
     (dialog_at (name_in command.local_tag command.remote_tag) side.dialogs) refl
@@ -613,5 +616,6 @@ module _ (event : Event) (command : Cancel) (side : Side) where
 
 pub cancel_same : (event : Event) (command : Cancel) (side : Side)
     → rule.cancel_rule event command side ≡ cancel_by_user event command side
+unfolding cancel_rule
 cancel_same event command side =
     cancel_in event command side (client_at command.id side.clients) refl

@@ -691,6 +691,7 @@ status_same (start.Response status reason) = refl
 
 pub response_same : (event : Event) (id : Id) (call_id : List ℕ) (message : Message) (side : Side)
     → response_rule event id call_id message side ≡ response_taken event id call_id message side
+unfolding response_rule
 response_same event id call_id message side =
     ap (λ status. rule_by event id call_id message side status (client_at id side.clients))
     (status_same message.start)

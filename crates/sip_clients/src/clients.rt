@@ -1,9 +1,11 @@
 //! The client requests of one Call-ID.
 
 ghost use Rattle.std.specs.Prelude.{◌≡◌, ◌≤◌, ◌==◌, ◌^◌, [], IfOk, OnErr, OnOk, length};
-ghost use Rattle.sip_clients.specs.Cancel.{cancelled};
+ghost use Rattle.sip_common.specs.Dialogs.{Dialogs};
 ghost use Rattle.sip_clients.specs.Clients as spec;
-ghost use Rattle.sip_clients.specs.Tick as ticks;
+ghost use Rattle.sip_clients.specs.Rules.Ends as ends;
+ghost use Rattle.sip_clients.specs.Rules.Requests as requests;
+ghost use Rattle.sip_clients.specs.Rules.Responses.{response_rule};
 
 use crate::cancel::take_cancel;
 use crate::client::{RequestKind, client_for};
@@ -63,8 +65,9 @@ impl Clients {
     }
 
     /// The first moment, in ms, at which a tick does something, if there is one. Takes no memory.
+    #[tactic(auto, using(crate::proofs::RuleEnds::removal_same))]
     pub fn next_due(&self) -> Option<u64>
-        ensures { result ≡ ticks.next_removal self.now }
+        ensures { result ≡ ends.removal_rule self.now }
     {
         next_due(&self.requests)
     }
@@ -82,7 +85,7 @@ impl Clients {
     pub fn tick(&mut self, dialogs: &mut Dialogs, now: u64) -> Result<Vec<CallOut>, AllocError>
         ensures taken { IfOk result (λ outs.
             (record { dialogs = dialogs.new.entries; clients = self.new }, outs.items)
-            ≡ ticks.clients_ticked record { dialogs = dialogs.old.entries; clients = self.old }
+            ≡ ends.tick_rule record { dialogs = dialogs.old.entries; clients = self.old }
             now) }
         ensures err { OnErr result (self.new ≡ []) }
     {
@@ -109,7 +112,7 @@ impl Clients {
         requires { event.moment ≤ 2 ^ 62 }
         ensures taken { IfOk result (λ outs.
             (record { dialogs = dialogs.new.entries; clients = self.new }, outs.items)
-            ≡ spec.response_taken event id call_id response
+            ≡ response_rule event id call_id response
             record { dialogs = dialogs.old.entries; clients = self.old }) }
         ensures err { OnErr result (self.new ≡ []) }
     {
@@ -131,7 +134,7 @@ impl Clients {
     ) -> Result<Vec<CallOut>, AllocError>
         ensures taken { IfOk result (λ outs.
             (record { dialogs = dialogs.new.entries; clients = self.new }, outs.items)
-            ≡ spec.request_lost id timed_out record {
+            ≡ ends.lost_rule id timed_out record {
               dialogs = dialogs.old.entries;
               clients = self.old;
             }) }
@@ -148,7 +151,7 @@ impl Clients {
     /// The user starts the call by an INVITE (RFC 3261, section 13.2.1).
     pub fn invite(&mut self, event: Event, invite: &Invite) -> Result<Vec<CallOut>, AllocError>
         ensures taken { IfOk result (λ outs. (self.new, outs.items)
-            ≡ spec.invite_taken event invite.now self.old) }
+            ≡ requests.invite_rule event invite.now self.old) }
         ensures err { OnErr result (self.new ≡ []) }
     {
         let alloc = self.alloc;
@@ -163,7 +166,7 @@ impl Clients {
     /// The user sends a request outside of dialogs (RFC 3261, section 8.1.1).
     pub fn plain(&mut self, event: Event, plain: &Plain) -> Result<Vec<CallOut>, AllocError>
         ensures taken { IfOk result (λ outs. (self.new, outs.items)
-            ≡ spec.plain_taken event plain.now self.old) }
+            ≡ requests.plain_rule event plain.now self.old) }
         ensures err { OnErr result (self.new ≡ []) }
     {
         let mut requests = self.take();
@@ -181,7 +184,7 @@ impl Clients {
     ) -> Result<Vec<CallOut>, AllocError>
         ensures taken { IfOk result (λ outs.
             (record { dialogs = dialogs.new.entries; clients = self.new }, outs.items)
-            ≡ spec.request_by_user event command.now
+            ≡ requests.request_rule event command.now
             record { dialogs = dialogs.old.entries; clients = self.old }) }
         ensures err { OnErr result (self.new ≡ []) }
     {
@@ -197,8 +200,10 @@ impl Clients {
     /// The user cancels an INVITE: at once where a provisional response to it came, and otherwise
     /// when the first comes (RFC 3261, section 9.1).
     pub fn cancel(&mut self, event: Event, command: &Cancel) -> Result<Vec<CallOut>, AllocError>
-        ensures taken { IfOk result (λ outs. (self.new, outs.items)
-            ≡ cancelled event command.now self.old) }
+        ensures taken { IfOk result (λ outs. (dialogs : Dialogs)
+            → (record { dialogs = dialogs; clients = self.new }, outs.items)
+            ≡ requests.cancel_rule event command.now
+            record { dialogs = dialogs; clients = self.old }) }
         ensures err { OnErr result (self.new ≡ []) }
     {
         let mut requests = self.take();
@@ -217,7 +222,7 @@ impl Clients {
     ) -> Result<Vec<CallOut>, AllocError>
         ensures taken { IfOk result (λ outs.
             (record { dialogs = dialogs.new.entries; clients = self.new }, outs.items)
-            ≡ spec.ack_by_user event command.now
+            ≡ requests.ack_rule event command.now
             record { dialogs = dialogs.old.entries; clients = self.old }) }
         ensures err { OnErr result (self.new ≡ []) }
     {
@@ -237,7 +242,7 @@ impl Clients {
     ) -> Result<Vec<CallOut>, AllocError>
         ensures taken { IfOk result (λ outs.
             (record { dialogs = dialogs.new.entries; clients = self.new }, outs.items)
-            ≡ spec.prack_by_user event command.now
+            ≡ requests.prack_rule event command.now
             record { dialogs = dialogs.old.entries; clients = self.old }) }
         ensures err { OnErr result (self.new ≡ []) }
     {

@@ -26,7 +26,7 @@ request_over client gone dialogs =
 
 -- A request is over whose message could not be sent, or whose transaction timed out; then the peer
 -- is gone.
-abbrev pub lost_rule : Id → Bool → Side → ClientTaken
+unfoldable pub lost_rule : Id → Bool → Side → ClientTaken
 lost_rule id timed_out side =
     let ended = option_map_or (λ client. request_over client timed_out side.dialogs)
     (lookup (is_id id) side.clients) (side.dialogs, []) in
@@ -37,7 +37,7 @@ abbrev pub is_over : ℕ → Client → Bool
 is_over now client = option_map_or (λ moment. nat_le moment now) client.removal false
 
 -- At a tick such INVITEs are removed, and their dialogs that are early still end.
-abbrev pub tick_rule : Side → ℕ → ClientTaken
+unfoldable pub tick_rule : Side → ℕ → ClientTaken
 tick_rule side now =
     let over = filter (is_over now) (values_of side.clients) in
     let ends = λ (held : HeldDialog). list_any (λ client. is_early_of client.id held) over in (
@@ -49,5 +49,5 @@ tick_rule side now =
     )
 
 -- the first moment at which one is due to be removed
-abbrev pub removal_rule : Clients → Option ℕ
+unfoldable pub removal_rule : Clients → Option ℕ
 removal_rule clients = fold (λ due client. earlier due client.removal) None (values_of clients)

@@ -119,7 +119,7 @@ with_100rel support.Supported invite = record invite { supported = codes "100rel
 with_100rel support.Required invite = record invite { require = codes "100rel" ∷ [] }
 
 -- An initial INVITE goes out, with this agent's address as Contact (RFC 3261, section 13.2.1).
-abbrev pub invite_rule : Event → Invite → Clients → Clients × List CallOut
+unfoldable pub invite_rule : Event → Invite → Clients → Clients × List CallOut
 invite_rule event invite clients =
     let request = request_outside event invite.call_id (codes "INVITE") invite.request_uri
     invite.from invite.to invite.routes in
@@ -134,7 +134,7 @@ has_command method = bytes_eq method (codes "ACK") || bytes_eq method (codes "CA
     || bytes_eq method (codes "PRACK")
 
 -- Another request goes out outside of dialogs; INVITE has its command, and a BYE needs a dialog.
-abbrev pub plain_rule : Event → PlainCommand → Clients → Clients × List CallOut
+unfoldable pub plain_rule : Event → PlainCommand → Clients → Clients × List CallOut
 plain_rule event plain clients =
     if has_command plain.method || bytes_eq plain.method (codes "INVITE")
     || bytes_eq plain.method (codes "BYE")
@@ -181,7 +181,7 @@ with_number held = record held { dialog = with_next_number held.dialog }
 
 -- A request in a dialog is refused, or goes out; a BYE ends its dialog at once (RFC 3261, section
 -- 15.1.1).
-abbrev pub request_rule : Event → DialogRequest → Side → ClientTaken
+unfoldable pub request_rule : Event → DialogRequest → Side → ClientTaken
 request_rule event command side =
     let name = name_of_tags (tag_text command.local_tag) (tag_text command.remote_tag) in
     let refuse : Refusal → ClientTaken =
@@ -284,11 +284,11 @@ debt_rule method nothing event command side =
     (lookup (is_named name) side.dialogs) (refuse NoSuchDialog)
 
 -- the command Ack
-abbrev pub ack_rule : Event → DialogBody → Side → ClientTaken
+unfoldable pub ack_rule : Event → DialogBody → Side → ClientTaken
 ack_rule = debt_rule (codes "ACK") NothingToAck
 
 -- the command Prack
-abbrev pub prack_rule : Event → DialogBody → Side → ClientTaken
+unfoldable pub prack_rule : Event → DialogBody → Side → ClientTaken
 prack_rule = debt_rule (codes "PRACK") NothingToPrack
 
 -- ---- CANCEL
@@ -304,7 +304,7 @@ is_asked _ = true
 
 -- An INVITE alone is cancelled, before its first 2xx, and once: at once after a provisional
 -- response, and otherwise when the first one comes (RFC 3261, section 9.1).
-abbrev pub cancel_rule : Event → Cancel → Side → ClientTaken
+unfoldable pub cancel_rule : Event → Cancel → Side → ClientTaken
 cancel_rule event command side =
     let refuse : Refusal → ClientTaken =
     λ refusal. (side, refused event.id command.call_id refusal) in

@@ -147,7 +147,7 @@ waiting_cancel _ = None
 
 -- A response does this to its request, if that is held, and to the dialogs. A CANCEL that waits is
 -- sent after a provisional response, and forgotten after a final one (RFC 3261, section 9.1).
-abbrev pub response_rule : Event → Id → List ℕ → Message → Side → ClientTaken
+unfoldable pub response_rule : Event → Id → List ℕ → Message → Side → ClientTaken
 response_rule event id call_id response side =
     option_map_or (λ status. option_map_or (λ (client : Client).
     let final = is_final status in

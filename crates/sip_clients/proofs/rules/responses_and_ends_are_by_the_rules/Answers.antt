@@ -1,5 +1,5 @@
 use Rattle.std.proofs.Common.{refl}
-use Rattle.sip_clients.proofs.RuleEnds.{lost_same, tick_same}
+use Rattle.sip_clients.proofs.RuleEnds.{lost_same, removal_same, tick_same}
 use Rattle.sip_clients.proofs.RuleResponses.{response_same}
 use Rattle.sip_clients.proofs.rules.responses_and_ends_are_by_the_rules.Goals as goal
 
@@ -13,4 +13,4 @@ pub returns-clause-tick : goal.returns-clause-tick
 returns-clause-tick c = tick_same
 
 pub returns-clause-removal : goal.returns-clause-removal
-returns-clause-removal c clients = refl
+returns-clause-removal c = removal_same
