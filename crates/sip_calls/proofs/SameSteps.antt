@@ -1,6 +1,5 @@
 -- The rules of a call are the steps of its code.
 use Rattle.std.proofs.Common.{◌≡◌, ℕ, Bool, true, false, List, [], ◌∷◌, ◌++◌, Option, Some, None, refl, ap, ◌∙◌}
-use Rattle.std.specs.Prelude.{if◌then◌else◌}
 use Rattle.sip_message.specs.declared.id.Id.{Id}
 use Rattle.sip_transactions.specs.declared.output.Kind.{Kind}
 use Rattle.sip_transactions.specs.declared.output.Kind.TheVariants as kind
@@ -11,25 +10,19 @@ use Rattle.sip_common.specs.declared.item.Item.TheVariants.{Up, User}
 use Rattle.sip_common.specs.declared.item.CallOut.TheVariants.{Notice}
 use Rattle.sip_common.specs.declared.notice.Notice.{Notice as ANotice}
 use Rattle.sip_common.specs.declared.notice.Notice.TheVariants.{Timeout, Failed}
-use Rattle.sip_served.specs.State.{ServedTaken}
-use Rattle.sip_served.specs.Tick.{tick_taken}
 use Rattle.sip_served.proofs.ArrivalRules.{kind_same}
 use Rattle.sip_served.proofs.ResponseRules.{respond_same}
-use Rattle.sip_served.proofs.TickRules as served
-use Rattle.sip_timers.specs.Earlier.{earlier}
 use Rattle.sip_clients.specs.Client.{ClientTaken}
-use Rattle.sip_clients.specs.Tick.{next_removal}
-use Rattle.sip_clients.specs.Rules.Ends as rules
 use Rattle.sip_clients.specs.declared.event.Event.{Event}
-use Rattle.sip_clients.proofs.RuleEnds as clients
 use Rattle.sip_clients.proofs.RuleEnds.{lost_same}
 use Rattle.sip_clients.proofs.RuleRequests.{ack_same, cancel_same, invite_same, plain_same, prack_same, request_same}
 use Rattle.sip_clients.proofs.RuleResponses.{response_same}
 use Rattle.sip_calls.specs.declared.call.Call.{Call}
 use Rattle.sip_calls.specs.declared.calls.Calls.{Calls}
-use Rattle.sip_calls.specs.Call.{CallItem, call_due, call_step, call_tick_rule, event_of, item_rule, kept, loss_rule, made_tag, new_call, up_rule, with_clients}
-use Rattle.sip_calls.specs.Sides.{CallTaken, by_clients, by_server, holds_any, side_of}
-use Rattle.sip_calls.specs.Steps.Call.{command_taken, due_taken, first_command_taken, lost_taken, step_taken, ticked, up_taken}
+use Rattle.sip_calls.specs.Call.{CallItem, call_step, event_of, item_rule, kept, loss_rule, made_tag, new_call, up_rule, with_clients}
+use Rattle.sip_calls.specs.Idle.{same_tick}
+use Rattle.sip_calls.specs.Sides.{by_clients, by_server, side_of}
+use Rattle.sip_calls.specs.Steps.Call.{command_taken, first_command_taken, lost_taken, step_taken, up_taken}
 
 same_loss : (call : Call) (id : Id) (notice : ANotice) (timed_out : Bool)
     → loss_rule call id notice timed_out ≡ lost_taken call id notice timed_out
@@ -75,20 +68,6 @@ same_later call event (Prack prack) =
     ap (by_clients call) (prack_same event prack (side_of call))
 same_later call event (Cancel cancel) =
     ap (by_clients call) (cancel_same event cancel (side_of call))
-
-pub same_tick : (call : Call) (now : ℕ) → call_tick_rule call now ≡ ticked call now
-same_tick call now =
-    let after : CallTaken = by_server call (tick_taken call.served now) in
-    ap (λ (taken : ServedTaken). let first = by_server call taken in
-    let second = by_clients first.0 (rules.tick_rule (side_of first.0) now) in
-    (second.0, first.1 ++ second.1)) (served.tick_same call.served now)
-    ∙ ap (λ (taken : ClientTaken). let second = by_clients after.0 taken in
-    (second.0, after.1 ++ second.1)) (clients.tick_same (side_of after.0) now)
-
-pub same_due : (call : Call) → call_due call ≡ due_taken call
-same_due call =
-    ap (λ due. if holds_any call then earlier due (next_removal call.clients) else Some 0)
-    (served.due_same call.served)
 
 pub same_step : (calls : Calls) (state : Option Call) (input : Option CallItem) (now : ℕ)
     → call_step calls state input now ≡ step_taken calls state input now

@@ -7,16 +7,38 @@ use Rattle.sip_model.specs.Machine.{IsIdle, tick_at}
 use Rattle.sip_model.proofs.Ordered.{by_bool}
 use Rattle.sip_timers.specs.Queue.{is_due}
 use Rattle.sip_served.specs.Tick as served
+use Rattle.sip_served.specs.State.{ServedTaken}
 use Rattle.sip_served.proofs.QuietBeforeDue.{quiet_before}
+use Rattle.sip_served.proofs.TickRules.{due_same, tick_same as server_same}
+use Rattle.sip_timers.specs.Earlier.{earlier}
 use Rattle.sip_common.proofs.Dues.{earlier_due}
 use Rattle.sip_clients.specs.Tick as clients
+use Rattle.sip_clients.specs.Client.{ClientTaken}
+use Rattle.sip_clients.specs.Rules.Ends.{removal_rule, tick_rule as clients_rule}
 use Rattle.sip_clients.proofs.QuietBeforeDue.{clients_quiet_before}
+use Rattle.sip_clients.proofs.RuleEnds.{removal_same, tick_same as client_same}
 use Rattle.sip_calls.specs.declared.call.Call.{Call}
 use Rattle.sip_calls.specs.declared.calls.Calls.{Calls}
-use Rattle.sip_calls.specs.Call.{call_due, call_machine, kept_call}
+use Rattle.sip_calls.specs.Call.{call_due, call_machine, call_tick_rule, kept_call}
 use Rattle.sip_calls.specs.Sides.{CallTaken, by_clients, by_server, holds_any, side_of}
 use Rattle.sip_calls.specs.Steps.Call.{due_taken, next_due, ticked}
-use Rattle.sip_calls.proofs.SameSteps.{same_due, same_tick}
+
+-- the rules of a tick are the steps of the code
+pub same_tick : (call : Call) (now : ℕ) → call_tick_rule call now ≡ ticked call now
+same_tick call now =
+    let after : CallTaken = by_server call (served.tick_taken call.served now) in
+    ap (λ (taken : ServedTaken). let first = by_server call taken in
+    let second = by_clients first.0 (clients_rule (side_of first.0) now) in
+    (second.0, first.1 ++ second.1)) (server_same call.served now)
+    ∙ ap (λ (taken : ClientTaken). let second = by_clients after.0 taken in
+    (second.0, after.1 ++ second.1)) (client_same (side_of after.0) now)
+
+pub same_due : (call : Call) → call_due call ≡ due_taken call
+same_due call =
+    ap (λ due. if holds_any call then earlier due (removal_rule call.clients) else Some 0)
+    (due_same call.served)
+    ∙ ap (λ due. if holds_any call then earlier (served.next_server_due call.served) due else Some 0)
+    (removal_same call.clients)
 
 due_at_once : (now : ℕ) → is_due now (Some 0) ≡ true
 due_at_once now = grind (arith, common_steps)
