@@ -1,6 +1,14 @@
 //! Laws of transactions: what holds over any list of inputs of one transaction.
 
+ghost use Rattle.std.specs.Prelude.{◌≡◌, Option};
+ghost use Rattle.sip_message.specs.declared.key.Key.{Key};
+ghost use Rattle.sip_model.specs.Machine.{Timed};
+ghost use Rattle.sip_transactions.specs.declared.input.Input.{Input};
+ghost use Rattle.sip_transactions.specs.declared.life.Life.{Life};
 ghost use Rattle.sip_transactions.specs.Laws.{AtMostOneRow, CommandsOnlySend, OneRequestUp, RequestsComeUpById, NothingAfterTheEnd, FewSends};
+ghost use Rattle.sip_transactions.specs.Machine as machine;
+ghost use Rattle.sip_transactions.specs.Rules.Step.{step_at};
+ghost use Rattle.sip_transactions.specs.Rules.Timers.{life_due};
 ghost use Rattle.sip_transactions.specs.ServerLaws.{AnsweredAgain, EndsAfterItsAnswer, FailedSendKeeps};
 
 /// Of each table at most one row fits a state and a trigger.
@@ -51,4 +59,14 @@ pub fn failed_send_keeps()
 /// the first tick from then on (RFC 3261, section 17.2.2).
 pub fn ends_after_its_answer()
     ensures { EndsAfterItsAnswer }
+{}
+
+/// The rules of a transaction, which read its row off the table of its key, are the steps of its
+/// machine, and tell when one of its timers fires next (RFC 3261, sections 17.1 and 17.2; RFC 6026,
+/// section 7).
+pub fn rules_of_transactions()
+    ensures step { (key : Key) (held : Option Life) (timed : Timed Input)
+        → step_at key held timed.moment timed.input
+        ≡ machine.transaction_machine.step key held timed }
+    ensures due { (life : Life) → life_due life ≡ machine.life_due life }
 {}
