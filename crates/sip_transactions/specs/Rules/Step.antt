@@ -34,7 +34,7 @@ use Rattle.sip_transactions.specs.declared.trigger.Class.TheVariants.{Trying, Pr
 use Rattle.sip_transactions.specs.declared.trigger.Trigger.{Trigger}
 use Rattle.sip_transactions.specs.declared.trigger.Trigger.TheVariants as on
 use Rattle.sip_transactions.specs.Rules.Tables.{table}
-use Rattle.sip_transactions.specs.Rules.Timers.{no_timers, timers_after}
+use Rattle.sip_transactions.specs.Rules.Timers.{stopped, timers_after}
 
 -- the class of a status code
 abbrev pub class : ℕ → Class
@@ -77,16 +77,13 @@ acted key now held begun trigger message came =
     let state = option_map (λ life. life.state) held in
     let row = table key state trigger in
     let text = text_sent context message row.sent in
+    let last = option_or text context.last in
+    let timers = timers_after row.due now context.timers in
+    let after : Context = record context { last = last; timers = timers } in
     let hand : Kind → Out = λ kind.
-    Up (record { key = key; id = context.id; call_id = context.call_id; kind = kind }) in
-    let enter : State → Life = λ state. record {
-      state = state;
-      context = record context {
-        last = option_or text context.last;
-        timers = timers_after row.due now context.timers;
-      };
-    } in (
-      option_map enter (elim row.next [ Same ↦ state | Ended ↦ None | Become new ↦ Some new ]),
+    Up (record { key = key; id = context.id; call_id = context.call_id; kind = kind }) in (
+      option_map (λ state. record { state = state; context = after })
+          (elim row.next [ Same ↦ state | Ended ↦ None | Become new ↦ Some new ]),
       option_to_list (handed_up hand context came row.handed)
           ++ option_to_list (option_map (Send key context.to) text),
     )
@@ -94,9 +91,9 @@ acted key now held begun trigger message came =
 -- what is held at first: nothing was sent yet, and no timer runs
 abbrev pub begun : Id → List ℕ → Addr → Option Message → Context
 begun id call_id to request =
-    record { id = id; call_id = call_id; to = to; request = request; last = None; timers = no_timers }
+    record { id = id; call_id = call_id; to = to; request = request; last = None; timers = stopped }
 
--- One input of a transaction at a moment, or the moment alone, when the ending timer fires before
+-- One input of a transaction at a moment, or the moment alone: then the ending timer comes before
 -- the repeating one. A message that comes or a start begins a life where none is held; the client
 -- of an INVITE keeps the INVITE for its ACKs.
 unfoldable pub step_at : Key → Option Life → ℕ → Option Input → Option Life × List Out
@@ -115,8 +112,6 @@ step_at key (Some life) now (Some (Answer id message)) = elim message.start [
 step_at key (Some life) now (Some (Failed id)) =
     acted key now (Some life) life.context on.Failed None None
 step_at key (Some life) now None =
-    if is_due now life.context.timers.ending
-    then acted key now (Some life) life.context on.TimeoutDue None None
-    else if is_due now life.context.timers.repeat
-    then acted key now (Some life) life.context on.RetransmitDue None None
-    else (Some life, [])
+    let act = acted key now (Some life) life.context in let timers = life.context.timers in
+    if is_due now timers.ending then act on.TimeoutDue None None
+    else if is_due now timers.repeat then act on.RetransmitDue None None else (Some life, [])

@@ -1,9 +1,9 @@
--- The tables of the four machines (RFC 3261, sections 17.1 and 17.2, and RFC 6026, section 7), a line
--- for each row: the state and what comes; then the state after it, what goes up, what is sent, and
--- what becomes of the timers. The first line that fits counts; in any other case nothing happens.
--- `None` is no transaction. A timer's letter stands beside each row that sets it (+) or in which it
--- fires (!). T1, T2 and T4 are those of RFC 3261, section 17, in ms.
-use Rattle.std.specs.Prelude.{List, ℕ, codes, if◌then◌else◌, Option, None, Some}
+-- The tables of the four machines (RFC 3261, sections 17.1 and 17.2, and RFC 6026, section 7). Each
+-- row has the state and what comes; then the state after it, what goes up, what is sent, and what
+-- becomes of the timers. The first row that fits counts; where none does, nothing happens. `None`
+-- is no transaction. A timer's letter stands beside each row that sets it (+) or in which it fires
+-- (!). T1 and T4 are those of RFC 3261, section 17, in ms.
+use Rattle.std.specs.Prelude.{codes, if◌then◌else◌, Option, None, Some}
 use Rattle.std.specs.Str.{bytes_eq}
 use Rattle.sip_message.specs.declared.key.Key.{Key}
 use Rattle.sip_message.specs.declared.key.Key.TheVariants as key
@@ -35,14 +35,19 @@ row next handed sent due = record { next = next; handed = handed; sent = sent; d
 abbrev pub invite_client : Option State → Trigger → Step
 invite_client None Start = row (To Calling) up.Nothing send.Given Both  -- +A +B
 invite_client None (Response any) = row Ended up.NoTransaction send.Nothing Clear
-invite_client (Some Calling) RetransmitDue = row Same up.Nothing send.Latest (Again Doubled)  -- !A +A
+invite_client (Some Calling) RetransmitDue =
+    row Same up.Nothing send.Latest (Again Doubled)  -- !A +A
 invite_client (Some Calling) TimeoutDue = row Ended up.Timeout send.Nothing Clear  -- !B
 invite_client (Some Calling) Failed = row Ended up.Failed send.Nothing Clear
-invite_client (Some Calling) (Response 2xx) = row (To Accepted) up.Message send.Nothing (Ending 64*T1)  -- +M
-invite_client (Some Calling) (Response 300-699) = row (To Completed) up.Message send.Ack (Ending 64*T1)  -- +D
+invite_client (Some Calling) (Response 2xx) =
+    row (To Accepted) up.Message send.Nothing (Ending 64*T1)  -- +M
+invite_client (Some Calling) (Response 300-699) =
+    row (To Completed) up.Message send.Ack (Ending 64*T1)  -- +D
 invite_client (Some Calling) (Response 1xx) = row (To Proceeding) up.Message send.Nothing Clear
-invite_client (Some Proceeding) (Response 2xx) = row (To Accepted) up.Message send.Nothing (Ending 64*T1)  -- +M
-invite_client (Some Proceeding) (Response 300-699) = row (To Completed) up.Message send.Ack (Ending 64*T1)  -- +D
+invite_client (Some Proceeding) (Response 2xx) =
+    row (To Accepted) up.Message send.Nothing (Ending 64*T1)  -- +M
+invite_client (Some Proceeding) (Response 300-699) =
+    row (To Completed) up.Message send.Ack (Ending 64*T1)  -- +D
 invite_client (Some Proceeding) (Response 1xx) = row (To Proceeding) up.Message send.Nothing Clear
 invite_client (Some Completed) (Response 300-699) = row Same up.Nothing send.Latest Keep
 invite_client (Some Completed) Failed = row Ended up.Failed send.Nothing Clear
@@ -63,10 +68,13 @@ client (Some Proceeding) TimeoutDue = row Ended up.Timeout send.Nothing Clear  -
 client (Some Trying) Failed = row Ended up.Failed send.Nothing Clear
 client (Some Proceeding) Failed = row Ended up.Failed send.Nothing Clear
 client (Some Trying) (Response 2xx) = row (To Completed) up.Message send.Nothing (Ending T4)  -- +K
-client (Some Trying) (Response 300-699) = row (To Completed) up.Message send.Nothing (Ending T4)  -- +K
+client (Some Trying) (Response 300-699) =
+    row (To Completed) up.Message send.Nothing (Ending T4)  -- +K
 client (Some Trying) (Response 1xx) = row (To Proceeding) up.Message send.Nothing Keep
-client (Some Proceeding) (Response 2xx) = row (To Completed) up.Message send.Nothing (Ending T4)  -- +K
-client (Some Proceeding) (Response 300-699) = row (To Completed) up.Message send.Nothing (Ending T4)  -- +K
+client (Some Proceeding) (Response 2xx) =
+    row (To Completed) up.Message send.Nothing (Ending T4)  -- +K
+client (Some Proceeding) (Response 300-699) =
+    row (To Completed) up.Message send.Nothing (Ending T4)  -- +K
 client (Some Proceeding) (Response 1xx) = row (To Proceeding) up.Message send.Nothing Keep
 client (Some Completed) TimeoutDue = row Ended up.Nothing send.Nothing Clear  -- !K
 client state other = row Same up.Nothing send.Nothing Keep
@@ -78,11 +86,14 @@ invite_server None Request = row (To Proceeding) up.Message send.Trying Clear
 invite_server None Ack = row Ended up.Message send.Nothing Clear
 invite_server (Some Proceeding) Request = row Same up.Nothing send.Latest Keep
 invite_server (Some Proceeding) (Answer 101-199) = row Same up.Nothing send.Given Keep
-invite_server (Some Proceeding) (Answer 2xx) = row (To Accepted) up.Nothing send.Given (Ending 64*T1)  -- +L
-invite_server (Some Proceeding) (Answer 300-699) = row (To Completed) up.Nothing send.Given Both  -- +G +H
+invite_server (Some Proceeding) (Answer 2xx) =
+    row (To Accepted) up.Nothing send.Given (Ending 64*T1)  -- +L
+invite_server (Some Proceeding) (Answer 300-699) =
+    row (To Completed) up.Nothing send.Given Both  -- +G +H
 invite_server (Some Proceeding) Failed = row Same up.Failed send.Nothing Keep
 invite_server (Some Completed) Request = row Same up.Nothing send.Latest Keep
-invite_server (Some Completed) RetransmitDue = row Same up.Nothing send.Latest (Again Capped)  -- !G +G
+invite_server (Some Completed) RetransmitDue =
+    row Same up.Nothing send.Latest (Again Capped)  -- !G +G
 invite_server (Some Completed) Ack = row (To Confirmed) up.Nothing send.Nothing (Ending T4)  -- +I
 invite_server (Some Completed) TimeoutDue = row Ended up.Timeout send.Nothing Clear  -- !H
 invite_server (Some Completed) Failed = row Same up.Failed send.Nothing Keep
@@ -100,11 +111,14 @@ abbrev pub server : Option State → Trigger → Step
 server None Request = row (To Trying) up.Message send.Nothing Clear
 server (Some Trying) (Answer 101-199) = row (To Proceeding) up.Nothing send.Given Clear
 server (Some Trying) (Answer 2xx) = row (To Completed) up.Nothing send.Given (Ending 64*T1)  -- +J
-server (Some Trying) (Answer 300-699) = row (To Completed) up.Nothing send.Given (Ending 64*T1)  -- +J
+server (Some Trying) (Answer 300-699) =
+    row (To Completed) up.Nothing send.Given (Ending 64*T1)  -- +J
 server (Some Trying) Failed = row Same up.Failed send.Nothing Keep
 server (Some Proceeding) (Answer 101-199) = row (To Proceeding) up.Nothing send.Given Clear
-server (Some Proceeding) (Answer 2xx) = row (To Completed) up.Nothing send.Given (Ending 64*T1)  -- +J
-server (Some Proceeding) (Answer 300-699) = row (To Completed) up.Nothing send.Given (Ending 64*T1)  -- +J
+server (Some Proceeding) (Answer 2xx) =
+    row (To Completed) up.Nothing send.Given (Ending 64*T1)  -- +J
+server (Some Proceeding) (Answer 300-699) =
+    row (To Completed) up.Nothing send.Given (Ending 64*T1)  -- +J
 server (Some Proceeding) Request = row Same up.Nothing send.Latest Keep
 server (Some Proceeding) Failed = row Same up.Failed send.Nothing Keep
 server (Some Completed) Request = row Same up.Nothing send.Latest Keep

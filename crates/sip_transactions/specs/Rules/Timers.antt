@@ -12,8 +12,8 @@ use Rattle.sip_transactions.specs.declared.timers.TheConstants.{T2}
 use Rattle.sip_transactions.specs.Dues.{Dues}
 
 -- no timer runs
-abbrev pub no_timers : Dues
-no_timers = record { repeat = None; fired = 0; ending = None }
+abbrev pub stopped : Dues
+stopped = record { repeat = None; fired = 0; ending = None }
 
 -- how long A, E or G runs after it fired j times (sections 17.1.1.2, 17.1.2.2 and 17.2.1)
 abbrev pub interval : Pace → ℕ → ℕ
@@ -24,10 +24,10 @@ interval Even j = T2
 -- the timers after a row at a moment
 abbrev pub timers_after : Due → ℕ → Dues → Dues
 timers_after Keep now timers = timers
-timers_after Clear now timers = no_timers
-timers_after (Ending after) now timers = record no_timers { ending = Some (now + after) }
+timers_after Clear now timers = stopped
+timers_after (Ending after) now timers = record stopped { ending = Some (now + after) }
 timers_after Both now timers =
-    record no_timers { repeat = Some (now + T1); ending = Some (now + LIFETIME) }
+    record stopped { repeat = Some (now + T1); ending = Some (now + LIFETIME) }
 timers_after (Again pace) now timers = let fired = timers.fired + 1 in
     record timers { fired = fired; repeat = Some (now + interval pace fired) }
 
