@@ -42,8 +42,9 @@ use Rattle.sip_transactions.specs.declared.trigger.Class.TheVariants as class
 use Rattle.sip_transactions.specs.declared.trigger.Trigger.{Trigger}
 use Rattle.sip_transactions.specs.declared.trigger.Trigger.TheVariants as on
 use Rattle.sip_transactions.specs.Dues.{Dues}
+use Rattle.sip_transactions.specs.Machine.{transaction_machine}
 use Rattle.sip_transactions.specs.Input.{answer_of, arrival_of, arrived_in, class_of, is_same_method, message_in, role_of}
-use Rattle.sip_transactions.specs.Life.{armed, context_by, context_of, entered, keeps_request, last_of, life_after, life_in, state_of, step_for, stepped, stepped_by}
+use Rattle.sip_transactions.specs.Life.{armed, context_by, context_of, entered, keeps_request, last_of, life_after, life_in, state_of, step_for, step_machine, stepped, stepped_by}
 use Rattle.sip_transactions.specs.Life as steps
 use Rattle.sip_transactions.specs.Output.{handed_out, kind_of, made_bytes, made_of, outputs_of, sent_bytes}
 use Rattle.sip_transactions.specs.Rows.{Row, client_rows, invite_client_rows, invite_server_rows, row_of, rows_of, server_rows}
@@ -495,3 +496,7 @@ step_is key (Some life) now None = ticked_is key now life
 step_is key (Some life) now (Some (input.Answer id message)) = answered_is key now life id message
 step_is key (Some life) now (Some (input.Failed id)) =
     acted_is key now (Some (input.Failed id)) (Some life) life.context on.Failed refl
+
+pub machine_is : transaction_machine ≡ step_machine
+machine_is =
+    λ i. record { step = λ key held timed. step_is key held timed.moment timed.input i }

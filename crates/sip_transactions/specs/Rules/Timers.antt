@@ -1,9 +1,7 @@
 -- The timers of a transaction: the repeating one (A, E or G), and the one that ends a state or the
 -- transaction (B, D, F, H to M).
 use Rattle.std.specs.Prelude.{ℕ, ◌+◌, ◌*◌, ◌^◌, min, Option, None, Some}
-use Rattle.sip_timers.specs.Earlier.{earlier}
 use Rattle.sip_timers.specs.declared.estimate.TheConstants.{LIFETIME, T1}
-use Rattle.sip_transactions.specs.declared.life.Life.{Life}
 use Rattle.sip_transactions.specs.declared.step.Due.{Due}
 use Rattle.sip_transactions.specs.declared.step.Due.TheVariants.{Keep, Clear, Ending, Both, Again}
 use Rattle.sip_transactions.specs.declared.step.Pace.{Pace}
@@ -30,7 +28,3 @@ timers_after Both now timers =
     record stopped { repeat = Some (now + T1); ending = Some (now + LIFETIME) }
 timers_after (Again pace) now timers = let fired = timers.fired + 1 in
     record timers { fired = fired; repeat = Some (now + interval pace fired) }
-
--- when a timer of a life fires next: the one that is due first
-abbrev pub life_due : Life → Option ℕ
-life_due life = earlier life.context.timers.ending life.context.timers.repeat
