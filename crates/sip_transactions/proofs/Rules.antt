@@ -14,7 +14,6 @@ use Rattle.sip_message.specs.declared.sent_by.SentBy.{SentBy}
 use Rattle.sip_message.specs.declared.start_line.StartLine.{StartLine}
 use Rattle.sip_message.specs.declared.start_line.StartLine.TheVariants as start
 use Rattle.sip_timers.specs.Queue.{is_due}
-use Rattle.sip_model.specs.Machine.{Timed}
 use Rattle.sip_transactions.specs.declared.input.Input.{Input}
 use Rattle.sip_transactions.specs.declared.input.Input.TheVariants as input
 use Rattle.sip_transactions.specs.declared.life.Context.{Context}
@@ -23,7 +22,6 @@ use Rattle.sip_transactions.specs.declared.output.Kind.{Kind}
 use Rattle.sip_transactions.specs.declared.output.Kind.TheVariants as kind
 use Rattle.sip_transactions.specs.declared.output.Out.{Out}
 use Rattle.sip_transactions.specs.declared.output.Out.TheVariants.{Up, Send}
-use Rattle.sip_transactions.specs.declared.state.Role.{Role}
 use Rattle.sip_transactions.specs.declared.state.Role.TheVariants.{InviteClient, Client, InviteServer, Server}
 use Rattle.sip_transactions.specs.declared.state.State.{State}
 use Rattle.sip_transactions.specs.declared.state.State.TheVariants.{Calling, Trying, Proceeding, Completed, Accepted, Confirmed}
@@ -33,7 +31,6 @@ use Rattle.sip_transactions.specs.declared.step.Handed.{Handed}
 use Rattle.sip_transactions.specs.declared.step.Handed.TheVariants as up
 use Rattle.sip_transactions.specs.declared.step.Next.{Next}
 use Rattle.sip_transactions.specs.declared.step.Next.TheVariants.{Same, Ended, Become}
-use Rattle.sip_transactions.specs.declared.step.Pace.{Pace}
 use Rattle.sip_transactions.specs.declared.step.Pace.TheVariants.{Doubled, Capped, Even}
 use Rattle.sip_transactions.specs.declared.step.Sent.{Sent}
 use Rattle.sip_transactions.specs.declared.step.Sent.TheVariants as send
@@ -48,10 +45,10 @@ use Rattle.sip_transactions.specs.Life.{armed, context_by, context_of, entered, 
 use Rattle.sip_transactions.specs.Life as steps
 use Rattle.sip_transactions.specs.Output.{handed_out, kind_of, made_bytes, made_of, outputs_of, sent_bytes}
 use Rattle.sip_transactions.specs.Rows.{Row, client_rows, invite_client_rows, invite_server_rows, row_of, rows_of, server_rows}
-use Rattle.sip_transactions.specs.Timers.{interval as old_interval, rearmed}
+use Rattle.sip_transactions.specs.Timers.{rearmed}
 use Rattle.sip_transactions.specs.Rules.Step.{acted, begun, came, handed_up, step_at, text_sent}
 use Rattle.sip_transactions.specs.Rules.Tables.{client, invite_client, invite_server, server, table}
-use Rattle.sip_transactions.specs.Rules.Timers.{interval, timers_after}
+use Rattle.sip_transactions.specs.Rules.Timers.{timers_after}
 
 -- ---- the tables
 
@@ -172,12 +169,8 @@ table_is (key.Server branch sent_by method) s trigger =
 
 -- ---- a row
 
-interval_is : (pace : Pace) (fired : ℕ) → interval pace fired ≡ old_interval pace fired
-interval_is Doubled fired = refl
-interval_is Capped fired = refl
-interval_is Even fired = refl
-
-timers_are : (due : Due) (now : ℕ) (timers : Dues) → timers_after due now timers ≡ rearmed due now timers
+timers_are : (due : Due) (now : ℕ) (timers : Dues)
+    → timers_after due now timers ≡ rearmed due now timers
 timers_are Keep now timers = refl
 timers_are Clear now timers = refl
 timers_are (Ending after) now timers = refl
@@ -428,7 +421,9 @@ started_at_server branch sent_by method now None id call_id message to =
     (Some message) (input.Start id call_id message to)
 started_at_server branch sent_by method now (Some life) id call_id message to =
     acted_is (key.Server branch sent_by method) now (Some (input.Start id call_id message to))
-    (Some life) (begun id call_id to (if bytes_eq method (codes "INVITE") then Some message else None)) on.Start refl
+    (Some life)
+    (begun id call_id to (if bytes_eq method (codes "INVITE") then Some message else None))
+    on.Start refl
 
 -- an answer
 answered_is : (key : Key) (now : ℕ) (life : Life) (id : Id) (message : Message)
@@ -442,7 +437,8 @@ answered_is key now life id message = by message.start
         (elim line [
           | start.Request uri ↦ (Some life, [])
           | start.Response status reason ↦
-              acted key now (Some life) life.context (on.Answer (class_of status)) (Some message) None
+              acted key now (Some life) life.context (on.Answer (class_of status)) (Some message)
+              None
         ])
         (stepped_by key (Some life) now (Some (input.Answer id message))
         (option_and_then (row_of (rows_of (role_of key)) (Some life.state)) (answer_of line)))
@@ -461,7 +457,8 @@ unanswered key now input (Some step) none =
 
 -- a tick
 ticked_is : (key : Key) (now : ℕ) (life : Life)
-    → step_at key (Some life) now None ≡ stepped key (Some life) (record { moment = now; input = None })
+    → step_at key (Some life) now None
+    ≡ stepped key (Some life) (record { moment = now; input = None })
 unfolding step_at stepped step_for
 ticked_is key now life =
     by (is_due now life.context.timers.ending) (is_due now life.context.timers.repeat)

@@ -1,5 +1,5 @@
 -- Where nothing is due of a life, a tick does nothing.
-use Rattle.std.proofs.Common.{◌≡◌, ℕ, refl}
+use Rattle.std.proofs.Common.{ℕ, refl}
 use Rattle.std.specs.Prelude.{None, Some}
 use Rattle.sip_model.specs.Machine.{IsIdle, tick_at}
 use Rattle.sip_timers.proofs.DueFirst.{neither_due}

@@ -75,8 +75,8 @@ abbrev pub EndsAfterItsAnswer : Machine Key Life (Timed Input) Out → Type 0
 EndsAfterItsAnswer machine = (key : Key) → role_of key ≡ role.Server → (life : Life)
     → is_open life.state ≡ true → (id : Id) (response : Message) (now : ℕ)
     → is_final_answer (answer_of response.start) ≡ true → (moment : ℕ)
-    → (machine.step key (machine.step key (Some life) (answering id response now)).0 (tick_at moment)).0
-    ≡ (if nat_le (now + LIFETIME) moment then None
+    → (machine.step key (machine.step key (Some life) (answering id response now)).0
+    (tick_at moment)).0 ≡ (if nat_le (now + LIFETIME) moment then None
     else (machine.step key (Some life) (answering id response now)).0)
 
 -- a failed send leaves a life of a server as it is

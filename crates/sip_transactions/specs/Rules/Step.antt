@@ -1,5 +1,5 @@
 -- One input of a transaction.
-use Rattle.std.specs.Prelude.{ℕ, ◌==◌, nat_lt, if◌then◌else◌, List, [], ◌∷◌, ◌++◌, codes, Option, None, Some, option_map, option_and_then, option_to_list}
+use Rattle.std.specs.Prelude.{ℕ, ◌==◌, nat_lt, if◌then◌else◌, List, [], ◌++◌, codes, Option, None, Some, option_map, option_and_then, option_to_list}
 use Rattle.std.specs.Option.{option_map_or, option_or}
 use Rattle.std.specs.Str.{bytes_eq}
 use Rattle.sip_message.specs.declared.addr.Addr.{Addr}
@@ -13,7 +13,6 @@ use Rattle.sip_message.specs.Key.{method_in}
 use Rattle.sip_message.specs.Response.{response_of}
 use Rattle.sip_message.specs.Written.{written}
 use Rattle.sip_timers.specs.Queue.{is_due}
-use Rattle.sip_model.specs.Machine.{Timed}
 use Rattle.sip_transactions.specs.declared.input.Input.{Input}
 use Rattle.sip_transactions.specs.declared.input.Input.TheVariants.{Receive, Start, Answer, Failed}
 use Rattle.sip_transactions.specs.declared.life.Context.{Context}
@@ -23,7 +22,6 @@ use Rattle.sip_transactions.specs.declared.output.Kind.{Kind}
 use Rattle.sip_transactions.specs.declared.output.Kind.TheVariants as kind
 use Rattle.sip_transactions.specs.declared.output.Out.{Out}
 use Rattle.sip_transactions.specs.declared.output.Out.TheVariants.{Up, Send, Dropped}
-use Rattle.sip_transactions.specs.declared.state.State.{State}
 use Rattle.sip_transactions.specs.declared.step.Handed.{Handed}
 use Rattle.sip_transactions.specs.declared.step.Handed.TheVariants as up
 use Rattle.sip_transactions.specs.declared.step.Next.TheVariants.{Same, Ended, Become}
@@ -69,7 +67,7 @@ handed_up hand context came up.Failed = Some (hand kind.Failed)
 handed_up hand context came up.NoTransaction = Some (Dropped context.id.place NoTransaction)
 
 -- The row for a trigger, at a life or at what an input begins one with: the life after it; and what
--- it hands up or drops, and then sends. What goes up has the id and the Call-ID that began the life.
+-- it hands up or drops, and then sends. What goes up has the id and the Call-ID of the first input.
 unfoldable pub acted : Key → ℕ → Option Life → Context → Trigger → Option Message → Option Kind
     → Option Life × List Out
 acted key now held begun trigger message came =
