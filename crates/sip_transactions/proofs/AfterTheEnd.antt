@@ -28,8 +28,8 @@ use Rattle.sip_transactions.specs.Ids.{is_id}
 use Rattle.sip_transactions.specs.Input.{role_of, trigger_of, arrival_of, arrived_in}
 use Rattle.sip_transactions.specs.Output.{outputs_of, handed_out, sent_bytes, send_out}
 use Rattle.sip_transactions.specs.Life.{stepped, acted_if, begun, life_after, life_in, last_of, entered, armed}
-use Rattle.sip_transactions.specs.Machine.{transaction_machine}
 use Rattle.sip_transactions.specs.Laws.{NothingAfterTheEnd, carries, id_of, names_in, naming_id, arrival_id}
+use Rattle.sip_transactions.specs.Life.{step_machine}
 use Rattle.sip_transactions.proofs.RowFacts.{and-left, and-right, row_passes}
 use Rattle.sip_transactions.proofs.LawSteps.{by_step, is_ended, is_message, is_report, response_needs_life, responses_in_tables}
 use Rattle.sip_transactions.proofs.OneRequest.{life_after-ended}
@@ -175,12 +175,12 @@ input_other id key None timed other named =
 later_other : (id : Id) (key : Key) (held : Option Life) (inputs : List (Timed Input))
     → OtherLife id held
     → AllByRecursion (λ timed. OtherName id (naming_id timed.input)) inputs
-    → list_any (carries id) (outputs_from transaction_machine key held inputs) ≡ false
+    → list_any (carries id) (outputs_from step_machine key held inputs) ≡ false
 later_other id key held [] other named = refl
 later_other id key held (timed ∷ inputs) other named =
     let one = input_other id key held timed other named.0 in
     list_any-append (carries id) (stepped key held timed).1
-    (outputs_from transaction_machine key (stepped key held timed).0 inputs)
+    (outputs_from step_machine key (stepped key held timed).0 inputs)
     ∙ or_none _ _ one.said (later_other id key (stepped key held timed).0 inputs one.life named.1)
 
 -- ---- distinct names
@@ -247,7 +247,7 @@ first_names key first =
     (row_passes response_needs_life (rows_of (role_of key))
     (responses_in_tables (role_of key)) None row.trigger step row.row))
 
-pub nothing_after_the_end : NothingAfterTheEnd
+pub nothing_after_the_end : NothingAfterTheEnd step_machine
 nothing_after_the_end key inputs life id ended named distinct =
     let name : naming_id life.first.input ≡ Some id =
     first_names key life.first life.begins ∙ named in

@@ -33,6 +33,7 @@ use Rattle.sip_transactions.specs.Output.{outputs_of, made_of, handed_out}
 use Rattle.sip_transactions.specs.Rows.{row_of, rows_of}
 use Rattle.sip_transactions.specs.ServerLaws.{is_answering, is_open, is_final_answer, answering, AnsweredAgain, EndsAfterItsAnswer, FailedSendKeeps}
 use Rattle.sip_transactions.specs.Shard.{failed_send, receipt}
+use Rattle.sip_transactions.specs.Life.{step_machine}
 use Rattle.sip_transactions.proofs.RowFacts.{by_test}
 
 -- ---- the tables of servers
@@ -91,7 +92,7 @@ unfolding again life_after outputs_of made_of handed_out
 acted_again key life bytes last id message reply_to now =
     ap (λ o. (Some life, option_to_list (option_map (λ b. Send key life.context.to b) o))) last
 
-pub answered_again : AnsweredAgain
+pub answered_again : AnsweredAgain step_machine
 answered_again key server life bytes answering last id message reply_to now request =
     by_row key life (receipt id message reply_to now) on.Request (Some again)
     (ap (λ (t : Trigger). Some t) request)
@@ -136,7 +137,7 @@ by_failed_row key life id now (inl fits) =
 by_failed_row key life id now (inr none) =
     ap (λ p. p.0) (by_row key life (failed_send id now) on.Failed None refl none)
 
-pub failed_send_keeps : FailedSendKeeps
+pub failed_send_keeps : FailedSendKeeps step_machine
 failed_send_keeps key server life id now =
     by_failed_row key life id now (failed_row (role_of key) (server_role key server) life.state)
 
@@ -241,7 +242,7 @@ at_tick key server now moment response life false early =
     ap (λ p. p.0) (by_nothing key (answered now response life) (tick_at moment)
     (due_at now moment response life false early))
 
-pub ends_after_its_answer : EndsAfterItsAnswer
+pub ends_after_its_answer : EndsAfterItsAnswer step_machine
 ends_after_its_answer key server life unanswered id response now final moment =
     let done : (stepped key (Some life) (answering id response now)).0
     ≡ Some (answered now response life) =

@@ -33,10 +33,10 @@ use Rattle.sip_transactions.specs.declared.trigger.Trigger.TheVariants as on
 use Rattle.sip_transactions.specs.Input.{role_of, trigger_of, is_same_method, message_in, arrived_in}
 use Rattle.sip_transactions.specs.Laws.{FewSends, is_send_of, sends_of, most_repeats}
 use Rattle.sip_transactions.specs.Life.{stepped, acted_if, begun, life_after, life_in, entered, last_of, armed, keeps_request, context_by}
-use Rattle.sip_transactions.specs.Machine.{transaction_machine}
 use Rattle.sip_transactions.specs.Output.{outputs_of, made_of}
 use Rattle.sip_transactions.specs.Rows.{row_of, rows_of}
 use Rattle.sip_transactions.specs.Timers.{rearmed}
+use Rattle.sip_transactions.specs.Life.{step_machine}
 use Rattle.sip_transactions.proofs.AckTexts.{Apart, first_of, request_first}
 use Rattle.sip_transactions.proofs.ClientRows.{is_acked, Fit, FitAfter, budget, Few, is_repeat, sends_well, starts_well, client_row, client_tables, sends-outputs, one_send, no_send, none-made, latest-made, none_entered, acked_entered, repeat_due, response_message, ack_made}
 use Rattle.sip_transactions.proofs.Firings.{taken-zero, is_client, Paced, left, paces, Fired, fired_at, least_interval, is_plain, Left, plain_left}
@@ -180,8 +180,8 @@ module _ (role : Role) (client : is_client role ≡ true) (key : Key) (text : Li
       (subst (λ r. row_of (rows_of r) (Some life.state) row.trigger ≡ Some step) own row.row)))
 
   rest_few : (state : Option Life) (inputs : List (Timed Input)) → role_of key ≡ role
-      → IsWithinLife transaction_machine key state inputs → FitAfter role text state
-      → sends_of text (outputs_from transaction_machine key state inputs) ≤ budget role state
+      → IsWithinLife step_machine key state inputs → FitAfter role text state
+      → sends_of text (outputs_from step_machine key state inputs) ≤ budget role state
   unfolding FitAfter
   rest_few state [] own within fit = omega arith
   rest_few None (timed ∷ inputs) own within fit = absurd (false≢true within.0)
@@ -189,7 +189,7 @@ module _ (role : Role) (client : is_client role ≡ true) (key : Key) (text : Li
       let one = input_few life timed own fit in
       let later = rest_few (stepped key (Some life) timed).0 inputs own within.1 one.fit in
       let both = sum_by-append (λ o. cond (is_send_of text o) 1 0) (stepped key (Some life) timed).1
-      (outputs_from transaction_machine key (stepped key (Some life) timed).0 inputs) in
+      (outputs_from step_machine key (stepped key (Some life) timed).0 inputs) in
       let few = one.few in
       omega (arith, later, both, few)
 
@@ -266,9 +266,9 @@ few_from : (branch method : List ℕ) (now : ℕ) (id : Id) (call_id : List ℕ)
     (to : Addr) (rest : List (Timed Input))
     → (method ≡ codes "INVITE"
     → (is_request_message request ≡ true) × (request.cseq.method ≡ method))
-    → IsWithinLife transaction_machine (key.Client branch method)
+    → IsWithinLife step_machine (key.Client branch method)
     (stepped (key.Client branch method) None (given_at now (Start id call_id request to))).0 rest
-    → sends_of (written request) (outputs_from transaction_machine (key.Client branch method) None
+    → sends_of (written request) (outputs_from step_machine (key.Client branch method) None
     (given_at now (Start id call_id request to) ∷ rest))
     ≤ 1 + most_repeats (role_of (key.Client branch method))
 unfolding FitAfter
@@ -289,14 +289,14 @@ few_from branch method now id call_id request to rest own within =
     let later = rest_few role client k text invite
     (stepped k None first).0 rest refl within one.fit in
     let both = sum_by-append (λ o. cond (is_send_of text o) 1 0) (stepped k None first).1
-    (outputs_from transaction_machine k (stepped k None first).0 rest) in
+    (outputs_from step_machine k (stepped k None first).0 rest) in
     let few = one.few in
     omega (arith, later, both, few)
 
-pub few_sends : FewSends
+pub few_sends : FewSends step_machine
 few_sends branch method inputs life now id call_id request to started own =
     let k = key.Client branch method in
-    subst (λ first. IsWithinLife transaction_machine k (stepped k None first).0 life.rest
-    → sends_of (written request) (outputs_from transaction_machine k None (first ∷ life.rest))
+    subst (λ first. IsWithinLife step_machine k (stepped k None first).0 life.rest
+    → sends_of (written request) (outputs_from step_machine k None (first ∷ life.rest))
     ≤ 1 + most_repeats (role_of k)) (sym started)
     (few_from branch method now id call_id request to life.rest own) life.within

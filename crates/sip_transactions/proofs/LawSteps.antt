@@ -35,6 +35,7 @@ use Rattle.sip_transactions.specs.Output.{outputs_of, handed_out, sent_bytes, ma
 use Rattle.sip_transactions.specs.Life.{stepped, step_for, stepped_by, acted_if, context_of, state_of}
 use Rattle.sip_transactions.specs.Laws.{IsSend, CommandsOnlySend, IsServer, is_request_up, requests_in}
 use Rattle.sip_transactions.specs.Shard.{order}
+use Rattle.sip_transactions.specs.Life.{step_machine}
 use Rattle.sip_transactions.proofs.RowFacts.{by_test, table_passes, row_passes}
 
 -- ---- the row of an input
@@ -256,7 +257,7 @@ orders_send key state (Some context) step id command now moment quiet =
     (message_in (order id command now).input)) a)) (sym (arrived-order id command now))
     (order_outputs key context step _ quiet)
 
-pub commands_only_send : CommandsOnlySend
+pub commands_only_send : CommandsOnlySend step_machine
 commands_only_send key held id command now =
     by_step (λ after. AllByRecursion IsSend after.1) key held (order id command now) tt
     (λ step row.

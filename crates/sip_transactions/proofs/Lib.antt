@@ -5,6 +5,7 @@ pub mod OneRequest
 mod RequestsById
 pub mod Pace
 pub mod RowFacts
+pub mod Rules
 pub mod Passing
 pub mod Firings
 pub mod AckTexts

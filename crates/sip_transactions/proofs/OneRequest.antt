@@ -26,8 +26,8 @@ use Rattle.sip_transactions.specs.Rows.{rows_of}
 use Rattle.sip_transactions.specs.Input.{role_of, trigger_of, is_same_method, arrival_of, arrived_in}
 use Rattle.sip_transactions.specs.Output.{handed_out, kind_of, up_out}
 use Rattle.sip_transactions.specs.Life.{stepped, acted_if, begun, life_after, life_in, entered, armed, last_of}
-use Rattle.sip_transactions.specs.Machine.{transaction_machine}
 use Rattle.sip_transactions.specs.Laws.{IsServer, OneRequestUp, is_request_up, requests_in}
+use Rattle.sip_transactions.specs.Life.{step_machine}
 use Rattle.sip_transactions.proofs.RowFacts.{by_test, or_cases, and-left, and-right, row_passes, not_both}
 use Rattle.sip_transactions.proofs.LawSteps.{by_step, is_request, is_ended, is_message, begins_by_request, later_not_handed_up, later_in_tables, server_tables, requests-outputs}
 
@@ -175,18 +175,18 @@ held_silent key life timed =
     (Some life.state) row.trigger step row.row))
 
 rest_silent : (key : Key) (state : Option Life) (inputs : List (Timed Input))
-    → IsWithinLife transaction_machine key state inputs
-    → requests_in (outputs_from transaction_machine key state inputs) ≡ 0
+    → IsWithinLife step_machine key state inputs
+    → requests_in (outputs_from step_machine key state inputs) ≡ 0
 rest_silent key state [] within = refl
 rest_silent key None (timed ∷ inputs) within = absurd (false≢true within.0)
 rest_silent key (Some life) (timed ∷ inputs) within =
     sum_by-append (λ o. cond (is_request_up o) 1 0) (stepped key (Some life) timed).1
-    (outputs_from transaction_machine key (stepped key (Some life) timed).0 inputs)
-    ∙ ap (λ n. n + requests_in (outputs_from transaction_machine key
+    (outputs_from step_machine key (stepped key (Some life) timed).0 inputs)
+    ∙ ap (λ n. n + requests_in (outputs_from step_machine key
     (stepped key (Some life) timed).0 inputs)) (held_silent key life timed) ∙ zero-add _
     ∙ rest_silent key (stepped key (Some life) timed).0 inputs within.1
 
-pub one_request_up : OneRequestUp
+pub one_request_up : OneRequestUp step_machine
 one_request_up key server inputs life = (
   first_once key server life.first life.begins,
   rest_silent key (stepped key None life.first).0 life.rest life.within,

@@ -27,9 +27,9 @@ use Rattle.sip_transactions.specs.Ids.{IdsRise, id_cmp}
 use Rattle.sip_transactions.specs.Input.{role_of, is_same_method}
 use Rattle.sip_transactions.specs.Laws.{RequestsComeUpById, arrival_id, is_request_kind, names_in, naming_id, request_id, request_ids, requests_in}
 use Rattle.sip_transactions.specs.Life.{stepped, acted_if, begun}
-use Rattle.sip_transactions.specs.Machine.{transaction_machine}
 use Rattle.sip_transactions.specs.Output.{handed_out, kind_of, outputs_of, send_out, sent_bytes, up_out}
 use Rattle.sip_transactions.specs.Rows.{rows_of}
+use Rattle.sip_transactions.specs.Life.{step_machine}
 use Rattle.sip_transactions.proofs.LawSteps.{by_step, later_in_tables, later_not_handed_up}
 use Rattle.sip_transactions.proofs.OneRequest.{later_once}
 use Rattle.sip_transactions.proofs.RowFacts.{by_test, row_passes}
@@ -147,11 +147,11 @@ all_on P (Some id) ids later names (inr is) all named =
 
 all_ids : (P : Id → Type 0) (key : Key) (held : Option Life) (inputs : List (Timed Input))
     → AllByRecursion P (names_in inputs)
-    → AllByRecursion P (request_ids (outputs_from transaction_machine key held inputs))
+    → AllByRecursion P (request_ids (outputs_from step_machine key held inputs))
 all_ids P key held [] all = tt
 all_ids P key held (timed ∷ inputs) all =
     let said = (stepped key held timed).1 in
-    let more = outputs_from transaction_machine key (stepped key held timed).0 inputs in
+    let more = outputs_from step_machine key (stepped key held timed).0 inputs in
     let later = all_ids P key (stepped key held timed).0 inputs
     (all_later P (naming_id timed.input) (names_in inputs) all) in
     subst (AllByRecursion P) (sym (filter_map-append request_id said more))
@@ -177,17 +177,17 @@ rise_on (Some id) ids later names (inr is) all rise named =
 
 rise_from : (key : Key) (held : Option Life) (inputs : List (Timed Input))
     → IdsRise (names_in inputs)
-    → IdsRise (request_ids (outputs_from transaction_machine key held inputs))
+    → IdsRise (request_ids (outputs_from step_machine key held inputs))
 rise_from key held [] rise = rise
 rise_from key held (timed ∷ inputs) rise =
     let after = (stepped key held timed).0 in
     let said = (stepped key held timed).1 in
-    let more = outputs_from transaction_machine key after inputs in
+    let more = outputs_from step_machine key after inputs in
     subst IdsRise (sym (filter_map-append request_id said more))
     (rise_on (naming_id timed.input) (request_ids said) (request_ids more) (names_in inputs)
     (input_ids key held timed) (λ P. all_ids P key after inputs)
     (rise_from key after inputs
     (rise_later (naming_id timed.input) (names_in inputs) rise)) rise)
 
-pub requests_come_up_by_id : RequestsComeUpById
+pub requests_come_up_by_id : RequestsComeUpById step_machine
 requests_come_up_by_id key inputs rise = rise_from key None inputs rise

@@ -11,7 +11,7 @@ use Rattle.sip_message.specs.declared.addr.Addr.{Addr}
 use Rattle.sip_message.specs.declared.message.Message.{Message}
 use Rattle.sip_message.specs.Message.{is_request_message}
 use Rattle.sip_message.specs.Written.{written}
-use Rattle.sip_model.specs.Machine.{LifeIn, Timed, adds, given_at, outputs_from, said_after, said_at_first, said_in_rest, state_left}
+use Rattle.sip_model.specs.Machine.{LifeIn, Machine, Timed, adds, given_at, outputs_from, said_after, said_at_first, said_in_rest, state_left}
 use Rattle.sip_transactions.specs.declared.input.Command.{Command}
 use Rattle.sip_transactions.specs.declared.input.Input.{Input}
 use Rattle.sip_transactions.specs.declared.input.Input.TheVariants.{Receive, Start, Answer, Failed}
@@ -26,7 +26,6 @@ use Rattle.sip_transactions.specs.declared.state.State.{State}
 use Rattle.sip_transactions.specs.declared.trigger.Trigger.{Trigger}
 use Rattle.sip_transactions.specs.Ids.{IdsRise, is_id}
 use Rattle.sip_transactions.specs.Input.{role_of}
-use Rattle.sip_transactions.specs.Machine.{transaction_machine}
 use Rattle.sip_transactions.specs.Rows.{fits, rows_of}
 use Rattle.sip_transactions.specs.Shard.{order}
 
@@ -42,9 +41,9 @@ IsSend (out.Up up) = ⊥
 IsSend (out.Dropped place reason) = ⊥
 
 -- a command hands nothing up and drops nothing
-abbrev pub CommandsOnlySend : Type 0
-CommandsOnlySend = (key : Key) (held : Option Life) (id : Id) (command : Command) (now : ℕ)
-    → AllByRecursion IsSend (adds transaction_machine key held (order id command now))
+abbrev pub CommandsOnlySend : Machine Key Life (Timed Input) Out → Type 0
+CommandsOnlySend machine = (key : Key) (held : Option Life) (id : Id) (command : Command) (now : ℕ)
+    → AllByRecursion IsSend (adds machine key held (order id command now))
 
 -- a server transaction
 abbrev pub IsServer : Key → Type 0
@@ -54,25 +53,21 @@ IsServer (key.Server branch sent_by method) = Unit {0}
 -- a request that is handed up, ACKs aside
 abbrev pub is_request_kind : Kind → Bool
 is_request_kind (kind.Request message reply_to) = true
-is_request_kind (kind.Ack message) = false
-is_request_kind (kind.Response message) = false
-is_request_kind kind.Timeout = false
-is_request_kind kind.Failed = false
+is_request_kind other = false
 
 -- a request is handed up
 abbrev pub is_request_up : Out → Bool
 is_request_up (out.Up up) = is_request_kind up.kind
-is_request_up (out.Send key to bytes) = false
-is_request_up (out.Dropped place reason) = false
+is_request_up other = false
 
 -- how many requests are handed up
 abbrev pub requests_in : List Out → ℕ
 requests_in outs = count_by is_request_up outs
 
 -- a life of a server key hands its request up once, by its first input
-abbrev pub OneRequestUp : Type 0
-OneRequestUp = (key : Key) → IsServer key
-    → (inputs : List (Timed Input)) (life : LifeIn transaction_machine key inputs)
+abbrev pub OneRequestUp : Machine Key Life (Timed Input) Out → Type 0
+OneRequestUp machine = (key : Key) → IsServer key
+    → (inputs : List (Timed Input)) (life : LifeIn machine key inputs)
     → (requests_in (said_at_first life) ≡ 1) × (requests_in (said_in_rest life) ≡ 0)
 
 -- the id of an input, where it has one
@@ -111,20 +106,19 @@ abbrev pub request_ids : List Out → List Id
 request_ids outs = filter_map request_id outs
 
 -- where ids rise, requests come up by id: in the order of their ids, under one id one at most
-abbrev pub RequestsComeUpById : Type 0
-RequestsComeUpById = (key : Key) (inputs : List (Timed Input)) → IdsRise (names_in inputs)
-    → IdsRise (request_ids (outputs_from transaction_machine key None inputs))
+abbrev pub RequestsComeUpById : Machine Key Life (Timed Input) Out → Type 0
+RequestsComeUpById machine = (key : Key) (inputs : List (Timed Input)) → IdsRise (names_in inputs)
+    → IdsRise (request_ids (outputs_from machine key None inputs))
 
 -- something handed up under this id
 abbrev pub carries : Id → Out → Bool
 carries id (out.Up up) = is_id id up.id
-carries id (out.Send key to bytes) = false
-carries id (out.Dropped place reason) = false
+carries id other = false
 
 -- where ids differ, nothing is handed up under a life's id after the life has ended
-abbrev pub NothingAfterTheEnd : Type 0
-NothingAfterTheEnd = (key : Key) (inputs : List (Timed Input))
-    (life : LifeIn transaction_machine key inputs) (id : Id)
+abbrev pub NothingAfterTheEnd : Machine Key Life (Timed Input) Out → Type 0
+NothingAfterTheEnd machine = (key : Key) (inputs : List (Timed Input))
+    (life : LifeIn machine key inputs) (id : Id)
     → state_left life ≡ None → id_of life.first.input ≡ Some id
     → IsDistinct is_id (names_in inputs)
     → list_any (carries id) (said_after life) ≡ false
@@ -152,9 +146,9 @@ sends_of bytes outs = count_by (is_send_of bytes) outs
 
 -- a life that is begun by a start sends that request so often at most; a client of an INVITE where
 -- what it is given is one, since an ACK that it makes may have the bytes of another message
-abbrev pub FewSends : Type 0
-FewSends = (branch method : List ℕ) (inputs : List (Timed Input))
-    (life : LifeIn transaction_machine (key.Client branch method) inputs)
+abbrev pub FewSends : Machine Key Life (Timed Input) Out → Type 0
+FewSends machine = (branch method : List ℕ) (inputs : List (Timed Input))
+    (life : LifeIn machine (key.Client branch method) inputs)
     (now : ℕ) (id : Id) (call_id : List ℕ) (request : Message) (to : Addr)
     → life.first ≡ given_at now (Start id call_id request to)
     → (method ≡ codes "INVITE"

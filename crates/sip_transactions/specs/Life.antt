@@ -9,7 +9,7 @@ use Rattle.sip_transactions.specs.declared.state.Role.TheVariants.{InviteClient,
 use Rattle.sip_transactions.specs.declared.state.State.{State}
 use Rattle.sip_transactions.specs.declared.input.Input.{Input}
 use Rattle.sip_transactions.specs.declared.input.Input.TheVariants.{Receive, Start, Answer, Failed}
-use Rattle.sip_model.specs.Machine.{Timed}
+use Rattle.sip_model.specs.Machine.{Machine, Timed}
 use Rattle.sip_transactions.specs.declared.life.Context.{Context}
 use Rattle.sip_transactions.specs.declared.life.Life.{Life}
 use Rattle.sip_transactions.specs.declared.output.Out.{Out}
@@ -119,3 +119,7 @@ stepped_by key held now input (Some step) =
 unfoldable pub stepped : Key → Option Life → Timed Input → Option Life × List Out
 stepped key held timed =
     stepped_by key held timed.moment timed.input (step_for key held timed.moment timed.input)
+
+-- the machine of these steps, which is that of the rules
+abbrev pub step_machine : Machine Key Life (Timed Input) Out
+step_machine = record { step = λ key held timed. stepped key held timed }

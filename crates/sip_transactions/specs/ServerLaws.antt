@@ -5,10 +5,11 @@ use Rattle.sip_message.specs.declared.id.Id.{Id}
 use Rattle.sip_message.specs.declared.key.Key.{Key}
 use Rattle.sip_message.specs.declared.message.Message.{Message}
 use Rattle.sip_transactions.specs.declared.life.Life.{Life}
+use Rattle.sip_transactions.specs.declared.output.Out.{Out}
 use Rattle.sip_transactions.specs.declared.output.Out.TheVariants.{Send}
 use Rattle.sip_transactions.specs.declared.input.Input.TheVariants as input
 use Rattle.sip_transactions.specs.declared.input.Input.{Input}
-use Rattle.sip_model.specs.Machine.{Timed}
+use Rattle.sip_model.specs.Machine.{Machine, Timed}
 use Rattle.sip_transactions.specs.declared.state.Role.TheVariants as role
 use Rattle.sip_transactions.specs.declared.state.State.{State}
 use Rattle.sip_transactions.specs.declared.state.State.TheVariants.{Calling, Trying, Proceeding, Completed, Accepted, Confirmed}
@@ -18,7 +19,6 @@ use Rattle.sip_transactions.specs.declared.trigger.Trigger.{Trigger}
 use Rattle.sip_transactions.specs.declared.trigger.Trigger.TheVariants as on
 use Rattle.sip_transactions.specs.Input.{answer_of, arrival_of, role_of}
 use Rattle.sip_transactions.specs.Laws.{IsServer}
-use Rattle.sip_transactions.specs.Life.{stepped}
 use Rattle.sip_model.specs.Machine.{tick_at}
 use Rattle.sip_transactions.specs.Shard.{failed_send, receipt}
 
@@ -33,12 +33,12 @@ is_answering Confirmed = false
 
 -- A request that was answered and comes again gets the same bytes, and nothing else happens (RFC
 -- 3261, sections 17.2.1 and 17.2.2).
-abbrev pub AnsweredAgain : Type 0
-AnsweredAgain = (key : Key) → IsServer key → (life : Life) (bytes : List ℕ)
+abbrev pub AnsweredAgain : Machine Key Life (Timed Input) Out → Type 0
+AnsweredAgain machine = (key : Key) → IsServer key → (life : Life) (bytes : List ℕ)
     → is_answering life.state ≡ true → life.context.last ≡ Some bytes
     → (id : Id) (message : Message) (reply_to : Addr) (now : ℕ)
     → arrival_of message.start message.cseq.method ≡ on.Request
-    → stepped key (Some life) (receipt id message reply_to now)
+    → machine.step key (Some life) (receipt id message reply_to now)
     ≡ (Some life, Send key life.context.to bytes ∷ [])
 
 -- no final response was sent
@@ -71,15 +71,15 @@ answering id response now = record { moment = now; input = Some (input.Answer id
 
 -- A life of the server of another request than INVITE ends at the first tick from 64*T1 after its
 -- final answer, and no tick before that changes it (RFC 3261, section 17.2.2).
-abbrev pub EndsAfterItsAnswer : Type 0
-EndsAfterItsAnswer = (key : Key) → role_of key ≡ role.Server → (life : Life)
+abbrev pub EndsAfterItsAnswer : Machine Key Life (Timed Input) Out → Type 0
+EndsAfterItsAnswer machine = (key : Key) → role_of key ≡ role.Server → (life : Life)
     → is_open life.state ≡ true → (id : Id) (response : Message) (now : ℕ)
     → is_final_answer (answer_of response.start) ≡ true → (moment : ℕ)
-    → (stepped key (stepped key (Some life) (answering id response now)).0 (tick_at moment)).0
-    ≡ (if nat_le (now + LIFETIME) moment then None
-    else (stepped key (Some life) (answering id response now)).0)
+    → (machine.step key (machine.step key (Some life) (answering id response now)).0
+    (tick_at moment)).0 ≡ (if nat_le (now + LIFETIME) moment then None
+    else (machine.step key (Some life) (answering id response now)).0)
 
 -- a failed send leaves a life of a server as it is
-abbrev pub FailedSendKeeps : Type 0
-FailedSendKeeps = (key : Key) → IsServer key → (life : Life) (id : Id) (now : ℕ)
-    → (stepped key (Some life) (failed_send id now)).0 ≡ Some life
+abbrev pub FailedSendKeeps : Machine Key Life (Timed Input) Out → Type 0
+FailedSendKeeps machine = (key : Key) → IsServer key → (life : Life) (id : Id) (now : ℕ)
+    → (machine.step key (Some life) (failed_send id now)).0 ≡ Some life

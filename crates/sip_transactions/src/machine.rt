@@ -244,11 +244,10 @@ pub struct Transactions;
 
 impl StateMachine for Transactions {
     ghost use Rattle.std.specs.Prelude.{◌^◌};
-    ghost use Rattle.sip_model.specs.Machine.{given_at, tick_at};
     ghost use Rattle.sip_transactions.specs.Keys.{exact_keys};
     ghost use Rattle.sip_transactions.specs.Machine.{transaction_machine, life_due};
     ghost use Rattle.sip_transactions.specs.Idle.{ticks_are_idle};
-    ghost use Rattle.sip_transactions.specs.Life.{stepped};
+    ghost use Rattle.sip_transactions.specs.Rules.Step.{step_at};
 
     type Key = Key;
 
@@ -274,7 +273,7 @@ impl StateMachine for Transactions {
         }
     }
 
-    #[tactic(auto, unfolding(crate::specs::Life::stepped))]
+    #[tactic(auto, unfolding(crate::specs::Life::stepped), using(crate::proofs::Rules::step_is))]
     fn begin(
         &self,
         alloc: Global,
@@ -284,9 +283,9 @@ impl StateMachine for Transactions {
     ) -> Result<(Option<Life>, Vec<Out>), AllocError>
         requires { moment ≤ 2 ^ 62 }
         ensures next { IfOk result (λ after. after.0
-            ≡ (stepped key.now None (given_at moment input)).0) }
+            ≡ (step_at key.now None moment (Some input)).0) }
         ensures adds { IfOk result (λ after. after.1.items
-            ≡ (stepped key.now None (given_at moment input)).1) }
+            ≡ (step_at key.now None moment (Some input)).1) }
     {
         let Some(step) = step_for(key, None, moment, Some(&input)) else {
             return Ok((None, Vec::new(alloc)));
@@ -294,7 +293,7 @@ impl StateMachine for Transactions {
         begin(alloc, key, moment, input, step)
     }
 
-    #[tactic(auto, unfolding(crate::specs::Life::stepped))]
+    #[tactic(auto, unfolding(crate::specs::Life::stepped), using(crate::proofs::Rules::step_is))]
     fn step(
         &self,
         alloc: Global,
@@ -305,9 +304,9 @@ impl StateMachine for Transactions {
     ) -> Result<(bool, Vec<Out>), AllocError>
         requires { moment ≤ 2 ^ 62 }
         ensures next { IfOk result (λ after. (if after.0 then Some state.new else None)
-            ≡ (stepped key.now (Some state.old) (given_at moment input)).0) }
+            ≡ (step_at key.now (Some state.old) moment (Some input)).0) }
         ensures adds { IfOk result (λ after. after.1.items
-            ≡ (stepped key.now (Some state.old) (given_at moment input)).1) }
+            ≡ (step_at key.now (Some state.old) moment (Some input)).1) }
     {
         let Some(step) = step_for(key, Some(state), moment, Some(&input)) else {
             return Ok((true, Vec::new(alloc)));
@@ -315,7 +314,7 @@ impl StateMachine for Transactions {
         go_on(alloc, key, moment, input, state, step)
     }
 
-    #[tactic(auto, unfolding(crate::specs::Life::stepped))]
+    #[tactic(auto, unfolding(crate::specs::Life::stepped), using(crate::proofs::Rules::step_is))]
     fn tick(
         &self,
         alloc: Global,
@@ -325,9 +324,9 @@ impl StateMachine for Transactions {
     ) -> Result<(Option<Life>, Vec<Out>), AllocError>
         requires { moment ≤ 2 ^ 62 }
         ensures next { IfOk result (λ after. after.0
-            ≡ (stepped key.now (Some state) (tick_at moment)).0) }
+            ≡ (step_at key.now (Some state) moment None).0) }
         ensures adds { IfOk result (λ after. after.1.items
-            ≡ (stepped key.now (Some state) (tick_at moment)).1) }
+            ≡ (step_at key.now (Some state) moment None).1) }
     {
         let Some(step) = step_for(key, Some(&state), moment, None) else {
             return Ok((Some(state), Vec::new(alloc)));
