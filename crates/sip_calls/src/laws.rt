@@ -1,6 +1,8 @@
 //! Laws of calls.
 
+ghost use Rattle.std.specs.Prelude.{◌≡◌, ℕ, Option};
 ghost use Rattle.sip_calls.specs.Awaiting.{AwaitsAsTold};
+ghost use Rattle.sip_calls.specs.Call.{CallItem, call_due, call_step};
 ghost use Rattle.sip_calls.specs.ClientHistories.{CancelsOnce, HoldsClientStories, RepeatsItsAck, WaitsAsAsked};
 ghost use Rattle.sip_calls.specs.HeldById.{HeldById};
 ghost use Rattle.sip_calls.specs.HeldDialogs.{EachEndHasItsOpening, EachEndIsToldOnce, HeldUntilItEnds};
@@ -11,6 +13,9 @@ ghost use Rattle.sip_calls.specs.Provisionals.{ShownConsecutive, ShownInOrder, S
 ghost use Rattle.sip_calls.specs.RefusedCommands.{RefusedAlone};
 ghost use Rattle.sip_calls.specs.RequestHistories.{FewUnacknowledged, HoldsItsStories};
 ghost use Rattle.sip_calls.specs.Requests.{EachToldOnce};
+ghost use Rattle.sip_calls.specs.Steps.Call.{due_taken, step_taken};
+ghost use Rattle.sip_calls.specs.declared.call.Call.{Call};
+ghost use Rattle.sip_calls.specs.declared.calls.Calls.{Calls};
 ghost use Rattle.sip_calls.specs.Unacknowledged.{AwaitedAsTold, KeptAsTold, RepeatedAsTold};
 
 /// Whatever comes to a call, by events that differ: of the reliable provisional responses that come
@@ -134,4 +139,12 @@ pub fn a_dialog_is_held_until_it_ends()
 pub fn each_end_is_told_once()
     ensures once { EachEndIsToldOnce }
     ensures opening { EachEndHasItsOpening }
+{}
+
+/// What the rules say of a call is what the steps of the code do, for each call that is held or
+/// isn't, each input and each moment; and it is due when they say.
+pub fn the_rules_say_the_steps()
+    ensures step { (calls : Calls) (call : Option Call) (input : Option CallItem) (now : ℕ)
+        → call_step calls call input now ≡ step_taken calls call input now }
+    ensures due { (call : Call) → call_due call ≡ due_taken call }
 {}

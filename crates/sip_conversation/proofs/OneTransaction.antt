@@ -32,10 +32,10 @@ use Rattle.sip_transactions.specs.declared.step.Sent.TheVariants as send
 use Rattle.sip_transactions.specs.declared.step.Step.{Step}
 use Rattle.sip_transactions.specs.declared.trigger.Trigger.{Trigger}
 use Rattle.sip_transactions.specs.declared.trigger.Trigger.TheVariants as on
-use Rattle.sip_transactions.specs.Input.{answer_of, arrival_of, arrived_in, class_of, is_same_method, message_in, role_of, trigger_of}
-use Rattle.sip_transactions.specs.Life.{acted_if, armed, begun, context_of, entered, keeps_request, last_of, life_after, life_in, state_of, stepped}
+use Rattle.sip_transactions.specs.Steps.Input.{answer_of, arrival_of, arrived_in, class_of, is_same_method, message_in, role_of, trigger_of}
+use Rattle.sip_transactions.specs.Steps.Life.{acted_if, armed, begun, context_of, entered, keeps_request, last_of, life_after, life_in, state_of, stepped}
 use Rattle.sip_transactions.specs.Machine.{transaction_machine}
-use Rattle.sip_transactions.specs.Output.{handed_out, kind_of, made_bytes, made_of, outputs_of, send_out, sent_bytes, trying_of}
+use Rattle.sip_transactions.specs.Steps.Output.{handed_out, kind_of, made_bytes, made_of, outputs_of, send_out, sent_bytes, trying_of}
 use Rattle.sip_transactions.specs.Rows.{rows_of}
 use Rattle.sip_transactions.proofs.LawSteps.{RowFor, by_step}
 use Rattle.sip_transactions.proofs.RowFacts.{row_passes, table_passes}

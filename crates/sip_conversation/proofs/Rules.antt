@@ -16,7 +16,7 @@ use Rattle.sip_message.specs.Rules.{IsMessage, IsParameter, IsVia}
 use Rattle.sip_message.specs.Source.{asks_port, stamped, stamped_parameters, stamped_via, stamped_vias, with_port, with_received, with_value}
 use Rattle.sip_message.specs.Via.{are_vias, has_cookie}
 use Rattle.sip_message.proofs.Stamps.{ip_is_value, port_is_value, stamp_leaves}
-use Rattle.sip_transactions.specs.Output.{trying_of}
+use Rattle.sip_transactions.specs.Steps.Output.{trying_of}
 use Rattle.sip_conversation.proofs.Addresses.{octet}
 use Rattle.sip_message.specs.Addr.{IsAddr}
 

@@ -18,7 +18,7 @@ use Rattle.sip_files.specs.declared.version.Version.TheVariants.{One, Two, Sessi
 use Rattle.sip_files.specs.Word.{spelled_word, spelled_rest}
 use Rattle.sip_files.specs.Field.{id_text, plain_field, number_field, id_field, address_field, word_field, rest_field}
 use Rattle.sip_files.specs.Events.{IsInvite, IsPlain, IsRequest, IsDialogBody, IsRespond, IsCancel, IsCommandLine, has_cancel, reliability_text, support_text, command_text}
-use Rattle.sip_files.specs.ReadLine.{invite_read, invite_at, plain_read, plain_at, request_read, request_at, body_of, body_at, respond_of, respond_at, cancel_of, cancel_at, cancel_in, command_at}
+use Rattle.sip_files.specs.Steps.ReadLine.{invite_read, invite_at, plain_read, plain_at, request_read, request_at, body_of, body_at, respond_of, respond_at, cancel_of, cancel_at, cancel_in, command_at}
 use Rattle.sip_files.proofs.Cuts.{both_front, ended_reads, made_reads}
 use Rattle.sip_files.proofs.NumberLaws.{id_reads}
 use Rattle.sip_files.proofs.FieldLaws.{word_reads, reason_reads, same_text, tag_text, call_id_front, word_front, method_front, address_front, support_front, id_front, status_front, reliability_front, uris_text, uris_front, dialog_text, dialog_front}

@@ -5,7 +5,7 @@ use Rattle.sip_text.proofs.Cuts.{has_no, Reads, field_took, field_again}
 use Rattle.sip_text.proofs.Options.{bind_some, same_some}
 use Rattle.sip_text.specs.Options.{◌>>=◌}
 use Rattle.sip_text.specs.Cut.{field_at}
-use Rattle.sip_files.specs.Reading.{both_at, ended_by}
+use Rattle.sip_files.specs.Steps.Reading.{both_at, ended_by}
 
 -- A reader of what stands before a space: what it reads is spelled so and fits, and what fits is
 -- read from its spelling.

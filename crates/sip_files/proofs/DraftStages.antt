@@ -16,7 +16,7 @@ use Rattle.sip_files.specs.declared.draft.Stage.{Stage}
 use Rattle.sip_files.specs.declared.draft.Stage.TheVariants as stage
 use Rattle.sip_files.specs.declared.draft.Draft.{Draft}
 use Rattle.sip_files.specs.EventFile.{Head, config_of, head_lines, round_lines, file_lines}
-use Rattle.sip_files.specs.Drafting.{nothing_read, local_taken, seed_taken, first_taken, begun_round, round_taken, with_event, taken, all_gone, drafted}
+use Rattle.sip_files.specs.Steps.Drafting.{nothing_read, local_taken, seed_taken, first_taken, begun_round, round_taken, with_event, taken, all_gone, drafted}
 use Rattle.sip_files.proofs.Drafts.{one_more, Begun, draft_of}
 
 abbrev zeros : List ℕ

@@ -14,7 +14,7 @@ use Rattle.sip_files.specs.declared.draft.Stage.{Stage}
 use Rattle.sip_files.specs.declared.draft.Stage.TheVariants as stage
 use Rattle.sip_files.specs.declared.draft.Draft.{Draft}
 use Rattle.sip_files.specs.EventFile.{config_of, round_lines, file_lines}
-use Rattle.sip_files.specs.Drafting.{nothing_read, begun_round, round_taken, with_event, all_gone, drafted}
+use Rattle.sip_files.specs.Steps.Drafting.{nothing_read, begun_round, round_taken, with_event, all_gone, drafted}
 
 abbrev pub one_more : Round → Event → Round
 one_more round event = record round { events = round.events ++ event ∷ [] }

@@ -9,9 +9,9 @@ use Rattle.sip_text.proofs.Options.{bind_some, chosen, passed, not_stopped}
 use Rattle.sip_text.specs.Options.{◌>>=◌}
 use Rattle.sip_files.specs.declared.words.Form.{Form}
 use Rattle.sip_files.specs.declared.words.Form.TheVariants.{Word, Rest}
-use Rattle.sip_files.specs.Form.{itself_in}
+use Rattle.sip_files.specs.Steps.Form.{itself_in}
 use Rattle.sip_files.specs.Word.{is_plain, is_plain_or_space, letter_of, hex_pair, escape_with, spelled_byte}
-use Rattle.sip_files.specs.Reading.{byte_of_letter, hex_byte, hex_at, letter_at, escape_at, byte_at, bytes_from, bytes_at}
+use Rattle.sip_files.specs.Steps.Reading.{byte_of_letter, hex_byte, hex_at, letter_at, escape_at, byte_at, bytes_from, bytes_at}
 use Rattle.sip_files.proofs.Hex.{letter_again, letter_takes, letter_not_x, letter_small, pair_takes, pair_again}
 
 -- a backslash never stands for itself, and what does is a byte

@@ -9,8 +9,8 @@ use Rattle.sip_message.specs.declared.key.Key.{Key}
 use Rattle.sip_files.specs.Word.{are_bytes, spelled_word}
 use Rattle.sip_files.specs.Field.{plain_field, number_field, word_field}
 use Rattle.sip_files.specs.Events.{IsMethod, SpellsClient, SpellsServer}
-use Rattle.sip_files.specs.Reading.{word_at, both_at, ended_by}
-use Rattle.sip_files.specs.ReadLine.{method_at, client_key_of, client_at, server_of, server_at, key_at, failed_at}
+use Rattle.sip_files.specs.Steps.Reading.{word_at, both_at, ended_by}
+use Rattle.sip_files.specs.Steps.ReadLine.{method_at, client_key_of, client_at, server_of, server_at, key_at, failed_at}
 use Rattle.sip_files.proofs.CommandLines.{mapped, two_fields, four_fields}
 use Rattle.sip_files.proofs.Cuts.{both_front, ended_reads}
 use Rattle.sip_files.proofs.FieldLaws.{same_text, word_front, method_reads, port_front}

@@ -26,8 +26,8 @@ use Rattle.sip_files.specs.declared.fields.Uris.{Uris}
 use Rattle.sip_files.specs.Word.{are_bytes, spelled_word, spelled_rest}
 use Rattle.sip_files.specs.Field.{id_text}
 use Rattle.sip_files.specs.Events.{IsId, IsCallIdWord, IsReason, IsUri, IsMethod, IsTag, reliability_text, support_text}
-use Rattle.sip_files.specs.Reading.{word_at, rest_at, id_at, address_at}
-use Rattle.sip_files.specs.ReadLine.{call_id_at, reason_at, reliability_at, uri_at, method_at, tag_of, tag_at, support_at, uris_of, uris_at, dialog_read, dialog_at}
+use Rattle.sip_files.specs.Steps.Reading.{word_at, rest_at, id_at, address_at}
+use Rattle.sip_files.specs.Steps.ReadLine.{call_id_at, reason_at, reliability_at, uri_at, method_at, tag_of, tag_at, support_at, uris_of, uris_at, dialog_read, dialog_at}
 use Rattle.sip_files.proofs.WordLaws.{word_took, word_again, rest_took, rest_again}
 use Rattle.sip_files.proofs.Cuts.{ReadsFront, field_front, both_front, made_front}
 use Rattle.sip_files.proofs.Shown.{word_no}

@@ -38,8 +38,8 @@ use Rattle.sip_files.specs.Field.{address_field}
 use Rattle.sip_files.specs.Events.{IsPlain, SpellsLine, command_text}
 use Rattle.sip_files.specs.EventFile.{Head, config_of, HeadedLine, SaysHeaded, headed_lines, with_ends, version_line, file_text, is_of_kind, SpellsFile, SpellsIn, IsFile, IsBegun, IsBadLine, HasVersion, TellsFault}
 use Rattle.sip_files.specs.Given.{gathered, plain_with}
-use Rattle.sip_files.specs.Drafting.{is_begun, nothing_read, no_lines, with_event, went, all_gone, drafted, gone}
-use Rattle.sip_files.specs.Lines.{version_at, version_in, FollowsVersion, TellsVersion, TellsLine, Drafts, Stuck}
+use Rattle.sip_files.specs.Steps.Drafting.{is_begun, nothing_read, no_lines, with_event, went, all_gone, drafted, gone}
+use Rattle.sip_files.specs.Steps.Lines.{version_at, version_in, FollowsVersion, TellsVersion, TellsLine, Drafts, Stuck}
 use Rattle.sip_files.proofs.FieldLaws.{same_text}
 use Rattle.sip_files.proofs.FileLines.{SayAll, no_line, same_line, with_end, same_front, longer, each_one, no_text, version_no, first_line, in_version}
 use Rattle.sip_files.proofs.LineEnds.{line_no}

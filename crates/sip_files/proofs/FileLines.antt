@@ -15,7 +15,7 @@ use Rattle.sip_files.specs.declared.version.Version.TheVariants.{One, Two, Sessi
 use Rattle.sip_files.specs.declared.event_line.EventLine.{EventLine}
 use Rattle.sip_files.specs.Events.{SpellsLine}
 use Rattle.sip_files.specs.EventFile.{with_ends, version_line, file_text, SpellsIn, SpellsFile, IsOneLine}
-use Rattle.sip_files.specs.Lines.{version_at, FollowsVersion}
+use Rattle.sip_files.specs.Steps.Lines.{version_at, FollowsVersion}
 use Rattle.sip_files.proofs.LineEnds.{line_no}
 use Rattle.sip_files.proofs.LineLaws.{one_meaning}
 

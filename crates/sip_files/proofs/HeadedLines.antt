@@ -18,7 +18,7 @@ use Rattle.sip_files.specs.declared.given_header.GivenHeader.{GivenHeader}
 use Rattle.sip_files.specs.declared.progress.Progress.{Progress}
 use Rattle.sip_files.specs.EventFile.{HeadedLine, SaysHeaded, headed_lines}
 use Rattle.sip_files.specs.Given.{with_given, with_headers}
-use Rattle.sip_files.specs.Drafting.{nothing_read, no_lines, with_event, taken, header_in_round, line_went, went, all_gone, drafted, gone}
+use Rattle.sip_files.specs.Steps.Drafting.{nothing_read, no_lines, with_event, taken, header_in_round, line_went, went, all_gone, drafted, gone}
 use Rattle.sip_files.proofs.CommandLines.{mapped}
 use Rattle.sip_files.proofs.Drafts.{gone-append, gone-one, gone-push}
 use Rattle.sip_files.proofs.DraftStages.{event_none}

@@ -5,7 +5,7 @@ use Rattle.sip_text.proofs.Options.{bind_some, same_some}
 use Rattle.sip_text.specs.Number.{hex_digit}
 use Rattle.sip_text.specs.Options.{◌>>=◌}
 use Rattle.sip_files.specs.Word.{letter_of, hex_pair}
-use Rattle.sip_files.specs.Reading.{byte_of_letter, hex_value, hex_byte}
+use Rattle.sip_files.specs.Steps.Reading.{byte_of_letter, hex_value, hex_byte}
 
 pub digit_again : (v : ℕ) → v < 16 → hex_value (hex_digit v) ≡ Some v
 digit_again v lt = grind (arith, nat_tests)

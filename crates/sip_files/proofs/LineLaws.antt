@@ -27,8 +27,8 @@ use Rattle.sip_files.specs.Word.{hex_pair, are_bytes, spelled_rest}
 use Rattle.sip_files.specs.Field.{plain_field, number_field, address_field, rest_field}
 use Rattle.sip_files.specs.Events.{IsCommandLine, command_text, SpellsClient, SpellsServer, SpellsEvent, SpellsHeaderIn, SpellsLine}
 use Rattle.sip_files.specs.Given.{given_at}
-use Rattle.sip_files.specs.Reading.{rest_at, address_at, seed_at}
-use Rattle.sip_files.specs.ReadLine.{command_at, datagram_at, client_key_of, client_at, server_of, server_at, failed_at, event_at, header_at, header_in, keyword_line, parts_line, line_at}
+use Rattle.sip_files.specs.Steps.Reading.{rest_at, address_at, seed_at}
+use Rattle.sip_files.specs.Steps.ReadLine.{command_at, datagram_at, client_key_of, client_at, server_of, server_at, failed_at, event_at, header_at, header_in, keyword_line, parts_line, line_at}
 use Rattle.sip_files.proofs.CommandLines.{mapped, invite_reads, plain_reads, request_reads, body_reads, respond_reads, cancel_reads_in, invite_text, plain_text, request_text, respond_text, ack_text, prack_text, cancel_text, command_took}
 use Rattle.sip_files.proofs.FailedLines.{client_fields, client_words, client_text, server_fields, server_words, server_text, failed_took}
 use Rattle.sip_files.proofs.WordLaws.{rest_took, rest_again}

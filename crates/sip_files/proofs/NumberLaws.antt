@@ -15,7 +15,7 @@ use Rattle.sip_message.specs.Ip.{IsIp, ip_text, ip_at}
 use Rattle.sip_message.proofs.Ips.{ip_reads, ip_no}
 use Rattle.sip_files.specs.Field.{id_text}
 use Rattle.sip_files.specs.Events.{IsId, IsSeed}
-use Rattle.sip_files.specs.Reading.{id_at, address_at, pairs_at, seed_at}
+use Rattle.sip_files.specs.Steps.Reading.{id_at, address_at, pairs_at, seed_at}
 use Rattle.sip_files.proofs.Pairs.{spelled_pairs, pairs_took, pairs_again}
 
 -- ---- ids

@@ -15,8 +15,8 @@ use Rattle.sip_files.specs.declared.draft.Stage.{Stage}
 use Rattle.sip_files.specs.declared.draft.Stage.TheVariants as stage
 use Rattle.sip_files.specs.declared.progress.Progress.{Progress}
 use Rattle.sip_files.specs.EventFile.{config_of, file_lines, headed_lines, with_ends, version_line, SpellsIn, SpellsFile, HasVersion}
-use Rattle.sip_files.specs.Drafting.{nothing_read, no_lines, is_begun, is_whole, went, gone}
-use Rattle.sip_files.specs.Lines.{FollowsVersion, Drafts, Stuck}
+use Rattle.sip_files.specs.Steps.Drafting.{nothing_read, no_lines, is_begun, is_whole, went, gone}
+use Rattle.sip_files.specs.Steps.Lines.{FollowsVersion, Drafts, Stuck}
 use Rattle.sip_files.proofs.Drafts.{next_gone, Begun, Gives, file_gives}
 use Rattle.sip_files.proofs.HeadedLines.{waiting, headed_gone}
 use Rattle.sip_files.proofs.FileLines.{SayAll, AllOne, same_front, same_lines, each_one, Says, says_on, one_list, version_no, first_line, in_version}

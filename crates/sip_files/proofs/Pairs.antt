@@ -7,7 +7,7 @@ use Rattle.std.proofs.lemmas.List.{append-nil, take_more_set, take_all}
 use Rattle.sip_text.proofs.Options.{bind_some, same_some}
 use Rattle.sip_text.specs.Options.{◌>>=◌}
 use Rattle.sip_files.specs.Word.{hex_pair, are_bytes}
-use Rattle.sip_files.specs.Reading.{hex_byte, pair_at, pairs_at}
+use Rattle.sip_files.specs.Steps.Reading.{hex_byte, pair_at, pairs_at}
 use Rattle.sip_files.proofs.Hex.{pair_takes, pair_again}
 use Rattle.sip_files.proofs.Escapes.{onto}
 

@@ -13,9 +13,9 @@ use Rattle.sip_files.specs.declared.given_header.GivenHeader.{GivenHeader}
 use Rattle.sip_files.specs.declared.progress.Progress.{Progress}
 use Rattle.sip_files.specs.Events.{SpellsLine}
 use Rattle.sip_files.specs.EventFile.{with_ends}
-use Rattle.sip_files.specs.ReadLine.{line_at}
-use Rattle.sip_files.specs.Drafting.{no_lines, is_begun, is_whole, went, all_gone, gone}
-use Rattle.sip_files.specs.Lines.{Drafts, Stuck}
+use Rattle.sip_files.specs.Steps.ReadLine.{line_at}
+use Rattle.sip_files.specs.Steps.Drafting.{no_lines, is_begun, is_whole, went, all_gone, gone}
+use Rattle.sip_files.specs.Steps.Lines.{Drafts, Stuck}
 use Rattle.sip_files.proofs.FileLines.{no_line, longer}
 use Rattle.sip_files.proofs.LineEnds.{line_no}
 use Rattle.sip_files.proofs.LineLaws.{line_took, line_again}

@@ -7,7 +7,7 @@ use Rattle.std.proofs.lemmas.Slice.Eq.{bytes_eq-Decides}
 use Rattle.sip_text.proofs.Options.{bind_some, chosen, same_some}
 use Rattle.sip_text.specs.Options.{◌>>=◌}
 use Rattle.sip_files.specs.Word.{is_plain, is_plain_or_space, spelled_byte, spelled_bytes, spelled_word, spelled_rest, are_bytes}
-use Rattle.sip_files.specs.Reading.{hex_byte, hex_at, escape_at, byte_at, bytes_from, bytes_at, word_at, rest_at}
+use Rattle.sip_files.specs.Steps.Reading.{hex_byte, hex_at, escape_at, byte_at, bytes_from, bytes_at, word_at, rest_at}
 use Rattle.sip_files.proofs.Escapes.{IsSound, plain_sound, plain_or_space_sound, byte_took, byte_again, spelled_longer, after_byte, onto, bytes_at-step}
 
 -- ---- bytes

@@ -19,7 +19,7 @@ use Rattle.sip_files.specs.declared.event_line.EventLine.TheVariants as line
 use Rattle.sip_files.specs.declared.given_header.GivenHeader.{GivenHeader}
 use Rattle.sip_files.specs.Events.{SpellsEvent, SpellsHeader, SpellsLine}
 use Rattle.sip_files.specs.EventFile.{Head, HeadedLine, SaysHeaded, headed_lines, SpellsEvents, file_lines, head_lines, round_lines, with_ends, version_line}
-use Rattle.sip_files.specs.ReadLine.{line_at}
+use Rattle.sip_files.specs.Steps.ReadLine.{line_at}
 use Rattle.sip_files.specs.Written.{IsConfig, IsEvent, IsKey, IsRound, SpellsCommand, SpellsEventLine, user_command_of, ended_text, event_lines, event_of_line, events_text, failed_text, head_in, header_of_line, line_text, round_in, round_text}
 use Rattle.sip_files.proofs.LineLaws.{line_took, line_again}
 

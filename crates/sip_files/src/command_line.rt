@@ -1,7 +1,7 @@
 //! The lines of the user's commands.
 
 ghost use Rattle.std.specs.Prelude.{◌≡◌, IfOk};
-ghost use Rattle.sip_files.specs.ReadLine as reading;
+ghost use Rattle.sip_files.specs.Steps.ReadLine as reading;
 
 use crate::fields::{
     address_of_call, call_id_field, dialog_fields, id_field, method_field, read_reason,
@@ -50,7 +50,7 @@ pub(crate) fn read_command(
 }
 
 // The Call-ID as a word, the address, three URIs as words, the support, and the body as a word.
-#[tactic(auto, unfolding(crate::specs::ReadLine::invite_at))]
+#[tactic(auto, unfolding(crate::specs::Steps::ReadLine::invite_at))]
 fn read_invite(alloc: Global, fields: &[u8]) -> Result<Option<Invite>, AllocError>
     ensures { IfOk result (λ invite. invite ≡ reading.invite_at fields.now) }
 {
@@ -80,7 +80,7 @@ fn read_invite(alloc: Global, fields: &[u8]) -> Result<Option<Invite>, AllocErro
 }
 
 // The Call-ID as a word, the address, the method, three URIs as words, and the body as a word.
-#[tactic(auto, unfolding(crate::specs::ReadLine::plain_at))]
+#[tactic(auto, unfolding(crate::specs::Steps::ReadLine::plain_at))]
 fn read_plain(alloc: Global, fields: &[u8]) -> Result<Option<Plain>, AllocError>
     ensures { IfOk result (λ plain. plain ≡ reading.plain_at fields.now) }
 {
@@ -110,7 +110,7 @@ fn read_plain(alloc: Global, fields: &[u8]) -> Result<Option<Plain>, AllocError>
 }
 
 // The Call-ID and both tags as words, the method, and the body as a word.
-#[tactic(auto, unfolding(crate::specs::ReadLine::request_at))]
+#[tactic(auto, unfolding(crate::specs::Steps::ReadLine::request_at))]
 fn read_request(alloc: Global, fields: &[u8]) -> Result<Option<DialogRequest>, AllocError>
     ensures { IfOk result (λ request. request ≡ reading.request_at fields.now) }
 {
@@ -134,7 +134,7 @@ fn read_request(alloc: Global, fields: &[u8]) -> Result<Option<DialogRequest>, A
 }
 
 // The Call-ID and both tags as words, and the body as a word.
-#[tactic(auto, unfolding(crate::specs::ReadLine::body_at))]
+#[tactic(auto, unfolding(crate::specs::Steps::ReadLine::body_at))]
 fn read_body(alloc: Global, fields: &[u8]) -> Result<Option<DialogBody>, AllocError>
     ensures { IfOk result (λ body. body ≡ reading.body_at fields.now) }
 {
@@ -155,7 +155,7 @@ fn read_body(alloc: Global, fields: &[u8]) -> Result<Option<DialogBody>, AllocEr
 
 // The Call-ID as a word, the request's id, the status, `plain` or `reliable`, the body as a word,
 // and the reason as a rest.
-#[tactic(auto, unfolding(crate::specs::ReadLine::respond_at))]
+#[tactic(auto, unfolding(crate::specs::Steps::ReadLine::respond_at))]
 fn read_respond(alloc: Global, fields: &[u8]) -> Result<Option<Respond>, AllocError>
     ensures { IfOk result (λ respond. respond ≡ reading.respond_at fields.now) }
 {
@@ -198,7 +198,7 @@ fn cancel_in(alloc: Global, version: Version, fields: &[u8]) -> Result<Option<Ca
 }
 
 // The Call-ID as a word, and the id of the INVITE.
-#[tactic(auto, unfolding(crate::specs::ReadLine::cancel_at))]
+#[tactic(auto, unfolding(crate::specs::Steps::ReadLine::cancel_at))]
 fn read_cancel(alloc: Global, fields: &[u8]) -> Result<Option<Cancel>, AllocError>
     ensures { IfOk result (λ cancel. cancel ≡ reading.cancel_at fields.now) }
 {

@@ -1,7 +1,7 @@
 //! What the lines of an event file say, read one after the other.
 
 ghost use Rattle.std.specs.Prelude.{◌≡◌, IfOk};
-ghost use Rattle.sip_files.specs.Drafting as drafting;
+ghost use Rattle.sip_files.specs.Steps.Drafting as drafting;
 
 use crate::event_line::EventLine;
 use sip_message::Addr;

@@ -3,7 +3,7 @@
 ghost use Rattle.std.specs.Prelude.{◌≡◌, IfNone, IfOk, IfSome};
 ghost use Rattle.sip_common.specs.declared.command.UserCommand as command;
 ghost use Rattle.sip_files.specs.Events.{SpellsHeader};
-ghost use Rattle.sip_files.specs.ReadLine as reading;
+ghost use Rattle.sip_files.specs.Steps.ReadLine as reading;
 ghost use Rattle.sip_files.specs.Written as written;
 ghost use Rattle.sip_files.specs.Written.{SpellsCommand, SpellsEventLine};
 ghost use Rattle.sip_files.specs.declared.given_header.GivenHeader as header;
@@ -42,7 +42,7 @@ pub enum EventLine {
 }
 
 /// What a line says, where a file of this version may have it.
-#[tactic(auto, unfolding(crate::specs::ReadLine::line_at))]
+#[tactic(auto, unfolding(crate::specs::Steps::ReadLine::line_at))]
 pub(crate) fn read_line(
     alloc: Global,
     version: Version,
@@ -142,7 +142,7 @@ fn command_of(event: Event) -> Option<UserCommand>
     }
 }
 
-#[tactic(auto, unfolding(crate::specs::ReadLine::keyword_line))]
+#[tactic(auto, unfolding(crate::specs::Steps::ReadLine::keyword_line))]
 fn read_keyword(
     alloc: Global,
     version: Version,
@@ -167,7 +167,7 @@ fn read_keyword(
     Ok(read_event(alloc, version, keyword, fields)?.map(EventLine::Event))
 }
 
-#[tactic(auto, unfolding(crate::specs::ReadLine::event_at))]
+#[tactic(auto, unfolding(crate::specs::Steps::ReadLine::event_at))]
 fn read_event(
     alloc: Global,
     version: Version,
@@ -186,7 +186,7 @@ fn read_event(
 }
 
 // `ADDR` and the datagram's bytes as a rest.
-#[tactic(auto, unfolding(crate::specs::ReadLine::datagram_at))]
+#[tactic(auto, unfolding(crate::specs::Steps::ReadLine::datagram_at))]
 fn read_datagram(alloc: Global, fields: &[u8]) -> Result<Option<Event>, AllocError>
     ensures { IfOk result (λ event. event ≡ reading.datagram_at fields.now) }
 {

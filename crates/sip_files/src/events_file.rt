@@ -9,7 +9,7 @@ ghost use Rattle.std.specs.Prelude.{◌≡◌, ℕ, List, ◌≤◌, ◌^◌, If
 ghost use Rattle.sip_round.specs.declared.config.Config as config;
 ghost use Rattle.sip_round.specs.declared.round.Round as round;
 ghost use Rattle.sip_files.specs.EventFile as spelling;
-ghost use Rattle.sip_files.specs.Lines as lines;
+ghost use Rattle.sip_files.specs.Steps.Lines as lines;
 
 use crate::draft::Draft;
 use crate::event_line::read_line;

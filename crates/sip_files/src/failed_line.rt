@@ -1,7 +1,7 @@
 //! The lines of sends that failed.
 
 ghost use Rattle.std.specs.Prelude.{◌≡◌, IfOk};
-ghost use Rattle.sip_files.specs.ReadLine as reading;
+ghost use Rattle.sip_files.specs.Steps.ReadLine as reading;
 
 use crate::fields::{port_field, read_method, word_field};
 use sip_message::Key;
@@ -10,7 +10,7 @@ use std::alloc::{AllocError, Global};
 
 /// The key of the transaction whose send failed, where the line names one: a client's or a
 /// server's, by its second word.
-#[tactic(auto, unfolding(crate::specs::ReadLine::failed_at))]
+#[tactic(auto, unfolding(crate::specs::Steps::ReadLine::failed_at))]
 pub(crate) fn read_failed(alloc: Global, fields: &[u8]) -> Result<Option<Key>, AllocError>
     ensures { IfOk result (λ key. key ≡ reading.failed_at fields.now) }
 {
@@ -27,7 +27,7 @@ pub(crate) fn read_failed(alloc: Global, fields: &[u8]) -> Result<Option<Key>, A
 }
 
 // The branch as a word, and the method.
-#[tactic(auto, unfolding(crate::specs::ReadLine::client_at))]
+#[tactic(auto, unfolding(crate::specs::Steps::ReadLine::client_at))]
 fn read_client(alloc: Global, fields: &[u8]) -> Result<Option<Key>, AllocError>
     ensures { IfOk result (λ key. key ≡ reading.client_at fields.now) }
 {
@@ -41,7 +41,7 @@ fn read_client(alloc: Global, fields: &[u8]) -> Result<Option<Key>, AllocError>
 }
 
 // The branch and the host as words, the port, and the method.
-#[tactic(auto, unfolding(crate::specs::ReadLine::server_at))]
+#[tactic(auto, unfolding(crate::specs::Steps::ReadLine::server_at))]
 fn read_server(alloc: Global, fields: &[u8]) -> Result<Option<Key>, AllocError>
     ensures { IfOk result (λ key. key ≡ reading.server_at fields.now) }
 {

@@ -3,8 +3,8 @@
 ghost use Rattle.std.specs.Prelude.{◌≡◌, IfOk};
 ghost use Rattle.sip_text.specs.Number.{number_at};
 ghost use Rattle.sip_text.specs.Cut.{field_at};
-ghost use Rattle.sip_files.specs.Reading.{address_at, id_at, read_now, word_at};
-ghost use Rattle.sip_files.specs.ReadLine as reading;
+ghost use Rattle.sip_files.specs.Steps.Reading.{address_at, id_at, read_now, word_at};
+ghost use Rattle.sip_files.specs.Steps.ReadLine as reading;
 
 use crate::numbers::{read_address, read_id};
 use crate::words::{read_rest, read_word};
@@ -92,7 +92,7 @@ pub(crate) fn address_of_call(
     Ok(Some(((call_id, address), fields)))
 }
 
-#[tactic(auto, unfolding(crate::specs::ReadLine::uris_at))]
+#[tactic(auto, unfolding(crate::specs::Steps::ReadLine::uris_at))]
 pub(crate) fn uri_fields(alloc: Global, fields: &[u8]) -> Result<Option<(Uris, &[u8])>, AllocError>
     ensures { IfOk result (λ read. read_now read ≡ reading.uris_at fields.now) }
 {
@@ -113,7 +113,7 @@ pub(crate) fn uri_fields(alloc: Global, fields: &[u8]) -> Result<Option<(Uris, &
     Ok(Some((uris, fields)))
 }
 
-#[tactic(auto, unfolding(crate::specs::ReadLine::dialog_at))]
+#[tactic(auto, unfolding(crate::specs::Steps::ReadLine::dialog_at))]
 pub(crate) fn dialog_fields(
     alloc: Global,
     fields: &[u8],
@@ -192,7 +192,7 @@ pub(crate) fn reliability_field(fields: &[u8]) -> Option<(Reliability, &[u8])>
     Some((read_reliability(reliability)?, fields))
 }
 
-#[tactic(auto, unfolding(crate::specs::ReadLine::call_id_at))]
+#[tactic(auto, unfolding(crate::specs::Steps::ReadLine::call_id_at))]
 fn read_call_id(alloc: Global, field: &[u8]) -> Result<Option<CallId>, AllocError>
     ensures { IfOk result (λ call_id. call_id ≡ reading.call_id_at field.now) }
 {
@@ -202,7 +202,7 @@ fn read_call_id(alloc: Global, field: &[u8]) -> Result<Option<CallId>, AllocErro
     Ok(CallId::new(text))
 }
 
-#[tactic(auto, unfolding(crate::specs::ReadLine::reason_at))]
+#[tactic(auto, unfolding(crate::specs::Steps::ReadLine::reason_at))]
 pub(crate) fn read_reason(alloc: Global, field: &[u8]) -> Result<Option<Reason>, AllocError>
     ensures { IfOk result (λ reason. reason ≡ reading.reason_at field.now) }
 {
@@ -212,7 +212,7 @@ pub(crate) fn read_reason(alloc: Global, field: &[u8]) -> Result<Option<Reason>,
     Ok(Reason::new(text))
 }
 
-#[tactic(auto, unfolding(crate::specs::ReadLine::reliability_at))]
+#[tactic(auto, unfolding(crate::specs::Steps::ReadLine::reliability_at))]
 fn read_reliability(field: &[u8]) -> Option<Reliability>
     ensures { result ≡ reading.reliability_at field.now }
 {
@@ -278,7 +278,7 @@ pub(crate) fn support_field(fields: &[u8]) -> Option<(ProvisionalSupport, &[u8])
     Some((read_support(support)?, fields))
 }
 
-#[tactic(auto, unfolding(crate::specs::ReadLine::uri_at))]
+#[tactic(auto, unfolding(crate::specs::Steps::ReadLine::uri_at))]
 fn read_uri(alloc: Global, field: &[u8]) -> Result<Option<Uri>, AllocError>
     ensures { IfOk result (λ uri. uri ≡ reading.uri_at field.now) }
 {
@@ -289,7 +289,7 @@ fn read_uri(alloc: Global, field: &[u8]) -> Result<Option<Uri>, AllocError>
 }
 
 // A method stands for itself.
-#[tactic(auto, unfolding(crate::specs::ReadLine::method_at))]
+#[tactic(auto, unfolding(crate::specs::Steps::ReadLine::method_at))]
 pub(crate) fn read_method(alloc: Global, field: &[u8]) -> Result<Option<Token>, AllocError>
     ensures { IfOk result (λ method. method ≡ reading.method_at field.now) }
 {
@@ -297,7 +297,7 @@ pub(crate) fn read_method(alloc: Global, field: &[u8]) -> Result<Option<Token>, 
 }
 
 // A token, or nothing for the empty tag.
-#[tactic(auto, unfolding(crate::specs::ReadLine::tag_at))]
+#[tactic(auto, unfolding(crate::specs::Steps::ReadLine::tag_at))]
 fn read_tag(alloc: Global, field: &[u8]) -> Result<Option<Option<Token>>, AllocError>
     ensures { IfOk result (λ tag. tag ≡ reading.tag_at field.now) }
 {
@@ -310,7 +310,7 @@ fn read_tag(alloc: Global, field: &[u8]) -> Result<Option<Option<Token>>, AllocE
     Ok(Token::new(text).map(Some))
 }
 
-#[tactic(auto, unfolding(crate::specs::ReadLine::support_at))]
+#[tactic(auto, unfolding(crate::specs::Steps::ReadLine::support_at))]
 fn read_support(field: &[u8]) -> Option<ProvisionalSupport>
     ensures { result ≡ reading.support_at field.now }
 {

@@ -3,7 +3,7 @@
 
 ghost use Rattle.std.specs.Prelude.{◌≡◌, IfOk};
 ghost use Rattle.sip_files.specs.Given as given;
-ghost use Rattle.sip_files.specs.ReadLine as reading;
+ghost use Rattle.sip_files.specs.Steps.ReadLine as reading;
 ghost use Rattle.sip_headers.specs.Draft.{no_draft, with_line};
 
 use crate::version::Version;
@@ -41,7 +41,7 @@ pub(crate) fn header_in(
 }
 
 // A header line of a message, as a rest.
-#[tactic(auto, unfolding(crate::specs::ReadLine::header_at))]
+#[tactic(auto, unfolding(crate::specs::Steps::ReadLine::header_at))]
 fn read_header(alloc: Global, fields: &[u8]) -> Result<Option<GivenHeader>, AllocError>
     ensures { IfOk result (λ header. header ≡ reading.header_at fields.now) }
 {

@@ -1,14 +1,14 @@
 //! Ids, addresses and the seed, as the files have them.
 
 ghost use Rattle.std.specs.Prelude.{◌≡◌};
-ghost use Rattle.sip_files.specs.Reading as reading;
+ghost use Rattle.sip_files.specs.Steps.Reading as reading;
 
 use crate::words::hex_byte;
 use sip_message::{Addr, Id, ip_in};
 use sip_text::{cut, number_up_to};
 
 /// The id `round.place`.
-#[tactic(auto, unfolding(crate::specs::Reading::id_at))]
+#[tactic(auto, unfolding(crate::specs::Steps::Reading::id_at))]
 pub(crate) fn read_id(field: &[u8]) -> Option<Id>
     ensures { result ≡ reading.id_at field.now }
 {
@@ -19,7 +19,7 @@ pub(crate) fn read_id(field: &[u8]) -> Option<Id>
 }
 
 /// The address `a.b.c.d:port`.
-#[tactic(auto, unfolding(crate::specs::Reading::address_at))]
+#[tactic(auto, unfolding(crate::specs::Steps::Reading::address_at))]
 pub(crate) fn read_address(field: &[u8]) -> Option<Addr>
     ensures { result ≡ reading.address_at field.now }
 {
@@ -30,7 +30,7 @@ pub(crate) fn read_address(field: &[u8]) -> Option<Addr>
 }
 
 /// The seed: 64 lower-case hexadecimal digits.
-#[tactic(auto, unfolding(crate::specs::Reading::seed_at))]
+#[tactic(auto, unfolding(crate::specs::Steps::Reading::seed_at))]
 pub(crate) fn read_seed(field: &[u8]) -> Option<[u8; 32]>
     ensures { result ≡ reading.seed_at field.now }
 {
@@ -45,7 +45,7 @@ pub(crate) fn read_seed(field: &[u8]) -> Option<[u8; 32]>
 }
 
 // The byte of the first two digits, and what follows them.
-#[tactic(auto, unfolding(crate::specs::Reading::pair_at))]
+#[tactic(auto, unfolding(crate::specs::Steps::Reading::pair_at))]
 fn read_pair(text: &[u8]) -> Option<(u8, &[u8])>
     ensures { reading.read_now result ≡ reading.pair_at text.now }
 {

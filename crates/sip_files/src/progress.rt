@@ -2,7 +2,7 @@
 //! command.
 
 ghost use Rattle.std.specs.Prelude.{◌≡◌, IfOk};
-ghost use Rattle.sip_files.specs.Drafting as drafting;
+ghost use Rattle.sip_files.specs.Steps.Drafting as drafting;
 
 use crate::draft::{Draft, with_line};
 use crate::event_line::EventLine;

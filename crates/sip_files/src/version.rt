@@ -2,7 +2,7 @@
 
 ghost use Rattle.std.specs.Prelude.{◌≡◌};
 ghost use Rattle.sip_files.specs.EventFile as spelling;
-ghost use Rattle.sip_files.specs.Lines as lines;
+ghost use Rattle.sip_files.specs.Steps.Lines as lines;
 ghost use Rattle.sip_files.specs.Written.{written_version};
 
 /// The version of a file: which lines it may have.

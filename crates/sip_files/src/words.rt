@@ -8,8 +8,8 @@
 
 ghost use Rattle.std.specs.Prelude.{◌≡◌, ◌<◌, ◌++◌, length, IfOk, IfSome, OnOk};
 ghost use Rattle.sip_files.specs.Word as word;
-ghost use Rattle.sip_files.specs.Form.{itself_in};
-ghost use Rattle.sip_files.specs.Reading as reading;
+ghost use Rattle.sip_files.specs.Steps.Form.{itself_in};
+ghost use Rattle.sip_files.specs.Steps.Reading as reading;
 
 use sip_text::{Text, hex_digit};
 use std::alloc::{AllocError, Global};
@@ -140,7 +140,7 @@ fn hex_value(digit: u8) -> Option<u8>
 }
 
 /// The byte of two hexadecimal digits.
-#[tactic(auto, unfolding(crate::specs::Reading::hex_byte))]
+#[tactic(auto, unfolding(crate::specs::Steps::Reading::hex_byte))]
 pub(crate) fn hex_byte(high: u8, low: u8) -> Option<u8>
     ensures { result ≡ reading.hex_byte high low }
 {
@@ -150,7 +150,7 @@ pub(crate) fn hex_byte(high: u8, low: u8) -> Option<u8>
 }
 
 /// The text that a word spells.
-#[tactic(auto, unfolding(crate::specs::Reading::word_at))]
+#[tactic(auto, unfolding(crate::specs::Steps::Reading::word_at))]
 pub(crate) fn read_word(alloc: Global, field: &[u8]) -> Result<Option<Text>, AllocError>
     ensures { IfOk result (λ text. text ≡ reading.word_at field.now) }
 {
@@ -167,7 +167,7 @@ pub(crate) fn read_word(alloc: Global, field: &[u8]) -> Result<Option<Text>, All
 }
 
 /// The text that a rest spells.
-#[tactic(auto, unfolding(crate::specs::Reading::rest_at))]
+#[tactic(auto, unfolding(crate::specs::Steps::Reading::rest_at))]
 pub(crate) fn read_rest(alloc: Global, field: &[u8]) -> Result<Option<Text>, AllocError>
     ensures { IfOk result (λ text. text ≡ reading.rest_at field.now) }
 {
@@ -190,7 +190,7 @@ fn read_escaped(alloc: Global, field: &[u8], form: Form) -> Result<Option<Text>,
 }
 
 // The first byte that a text in this form spells, and what follows it.
-#[tactic(auto, unfolding(crate::specs::Reading::byte_at))]
+#[tactic(auto, unfolding(crate::specs::Steps::Reading::byte_at))]
 fn read_byte(text: &[u8], form: Form) -> Option<(u8, &[u8])>
     ensures read { reading.read_now result ≡ reading.byte_at (itself_in form) text.now }
     ensures shorter { IfSome result (λ read. length read.1.now < length text.now) }
@@ -209,7 +209,7 @@ fn read_byte(text: &[u8], form: Form) -> Option<(u8, &[u8])>
 }
 
 // The byte of what follows a backslash.
-#[tactic(auto, unfolding(crate::specs::Reading::escape_at))]
+#[tactic(auto, unfolding(crate::specs::Steps::Reading::escape_at))]
 fn read_escape(text: &[u8], form: Form) -> Option<(u8, &[u8])>
     ensures read { reading.read_now result ≡ reading.escape_at (itself_in form) text.now }
     ensures shorter { IfSome result (λ read. length read.1.now < length text.now) }
@@ -222,7 +222,7 @@ fn read_escape(text: &[u8], form: Form) -> Option<(u8, &[u8])>
 }
 
 // The byte of two hexadecimal digits, where it has no shorter spelling.
-#[tactic(auto, unfolding(crate::specs::Reading::hex_at))]
+#[tactic(auto, unfolding(crate::specs::Steps::Reading::hex_at))]
 fn read_hex(text: &[u8], form: Form) -> Option<(u8, &[u8])>
     ensures read { reading.read_now result ≡ reading.hex_at (itself_in form) text.now }
     ensures shorter { IfSome result (λ read. length read.1.now < length text.now) }
@@ -240,7 +240,7 @@ fn read_hex(text: &[u8], form: Form) -> Option<(u8, &[u8])>
 }
 
 // The byte of an escape's letter, where it doesn't stand for itself.
-#[tactic(auto, unfolding(crate::specs::Reading::letter_at))]
+#[tactic(auto, unfolding(crate::specs::Steps::Reading::letter_at))]
 fn read_letter(letter: u8, after: &[u8], form: Form) -> Option<(u8, &[u8])>
     ensures read { reading.read_now result ≡ reading.letter_at (itself_in form) letter after.now }
     ensures same { IfSome result (λ read. read.1.now ≡ after.now) }

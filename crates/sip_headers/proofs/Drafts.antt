@@ -8,7 +8,7 @@ use Rattle.sip_parts.specs.declared.header_name.HeaderName.{HeaderName}
 use Rattle.sip_parts.specs.declared.header_name.HeaderName.TheVariants as name
 use Rattle.sip_text.proofs.ReadForms.{Reads, not_read}
 use Rattle.sip_values.proofs.Rows.{numeral_reads, party_reads, name_addrs_reads, vias_reads, tokens_reads, call_id_reads, cseq_reads, rack_reads}
-use Rattle.sip_headers.specs.Columns.{continued}
+use Rattle.sip_headers.specs.Steps.Columns.{continued}
 use Rattle.sip_headers.specs.Draft.{with_value, with_class, with_line, no_draft, draft_of}
 use Rattle.sip_headers.specs.HeaderLine.{Class, bad, known, other, class_from}
 use Rattle.sip_headers.specs.Section.{IsDraftOf, before_values, values, before_others, others_of, is_bad_class, has_bad_line}

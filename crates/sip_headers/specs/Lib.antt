@@ -3,7 +3,6 @@ pub mod HeaderLine
 pub mod Named
 pub mod Draft
 pub mod Section
-pub mod Columns
 pub mod Folding
 pub mod Whole
 pub mod Presence

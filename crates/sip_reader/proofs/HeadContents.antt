@@ -14,7 +14,7 @@ use Rattle.sip_headers.specs.Numbers.{headers_with}
 use Rattle.sip_values.specs.Address.{AreNameAddrs, IsPartyText}
 use Rattle.sip_values.specs.Sequence.{AreTokens, IsCallId, IsCSeqText}
 use Rattle.sip_reader.specs.Head.{HasValues}
-use Rattle.sip_reader.specs.ReadHead.{head_at, values_at}
+use Rattle.sip_reader.specs.Steps.ReadHead.{head_at, values_at}
 use Rattle.sip_reader.specs.Spells.{Spells}
 use Rattle.sip_reader.specs.WrittenContent.{IsWrittenWith}
 use Rattle.sip_reader.proofs.HeadMessages.{known_said, others_said, values_like}

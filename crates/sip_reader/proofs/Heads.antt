@@ -12,7 +12,7 @@ use Rattle.sip_headers.specs.Steps.Drafted.{lines_at, onto_lines}
 use Rattle.sip_headers.proofs.Folds.{line_onto, none_onto}
 use Rattle.sip_reader.specs.Head.{BeginsWith, OrNone, IsFirst, IsHead, from_full, is_full}
 use Rattle.sip_reader.specs.Layout.{Lays}
-use Rattle.sip_reader.specs.ReadHead.{first_at, head_at}
+use Rattle.sip_reader.specs.Steps.ReadHead.{first_at, head_at}
 use Rattle.sip_reader.specs.ReadStart.{start_at}
 use Rattle.sip_reader.specs.SkippedEnds.{without_line_ends}
 use Rattle.sip_reader.specs.declared.first_line.FirstLine.{FirstLine}

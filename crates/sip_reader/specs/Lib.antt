@@ -1,10 +1,10 @@
-pub mod Layout
-pub mod StartLine
-pub mod Spells
 pub mod Faults
 pub mod Head
-pub mod SkippedEnds
-pub mod ReadStart
+pub mod Layout
 pub mod ReadMessage
-pub mod ReadHead
+pub mod ReadStart
+pub mod SkippedEnds
+pub mod Spells
+pub mod StartLine
+pub mod Steps
 pub mod WrittenContent

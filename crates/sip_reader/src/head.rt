@@ -4,7 +4,7 @@ ghost use Rattle.std.specs.Option.{option_copied};
 ghost use Rattle.sip_parts.specs.HeaderEntry.{header_named};
 ghost use Rattle.sip_headers.specs.HeaderLine.{line_from};
 ghost use Rattle.sip_reader.specs.Head as head;
-ghost use Rattle.sip_reader.specs.ReadHead as reading;
+ghost use Rattle.sip_reader.specs.Steps.ReadHead as reading;
 
 use crate::first_line::FirstLine;
 use crate::header_line::HeaderLine;

@@ -27,7 +27,7 @@ use Rattle.sip_common.specs.declared.item.Item.{Item}
 use Rattle.sip_common.proofs.Each.{both}
 use Rattle.sip_calls.specs.Call.{call_machine, CallItem}
 use Rattle.sip_calls.specs.CallShard.{call_cmp, item_input}
-use Rattle.sip_transactions.specs.Output.{up_out}
+use Rattle.sip_transactions.specs.Steps.Output.{up_out}
 use Rattle.sip_round.specs.Arrivals.{Arrival}
 use Rattle.sip_round.specs.Arrivals as arrival
 use Rattle.sip_round.specs.declared.config.Config.{Config}

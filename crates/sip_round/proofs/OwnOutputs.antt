@@ -25,11 +25,11 @@ use Rattle.sip_transactions.specs.declared.state.State.{State}
 use Rattle.sip_transactions.specs.declared.step.Handed.{Handed}
 use Rattle.sip_transactions.specs.declared.step.Handed.TheVariants as handed
 use Rattle.sip_transactions.specs.declared.step.Step.{Step}
-use Rattle.sip_transactions.specs.Input.{arrived_in, message_in, role_of}
+use Rattle.sip_transactions.specs.Steps.Input.{arrived_in, message_in, role_of}
 use Rattle.sip_transactions.specs.Keys.{exact_keys}
-use Rattle.sip_transactions.specs.Life.{acted_if, context_of, state_of, step_for, stepped, stepped_by}
+use Rattle.sip_transactions.specs.Steps.Life.{acted_if, context_of, state_of, step_for, stepped, stepped_by}
 use Rattle.sip_transactions.specs.Machine.{transaction_machine}
-use Rattle.sip_transactions.specs.Output.{handed_out, kind_of, made_bytes, outputs_of, send_out, sent_bytes, up_out}
+use Rattle.sip_transactions.specs.Steps.Output.{handed_out, kind_of, made_bytes, outputs_of, send_out, sent_bytes, up_out}
 use Rattle.sip_round.specs.Answers.{said_by_transactions}
 use Rattle.sip_round.specs.Outputs.{all_said}
 

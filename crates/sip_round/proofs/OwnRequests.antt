@@ -25,11 +25,11 @@ use Rattle.sip_transactions.specs.declared.output.Out.TheVariants as out
 use Rattle.sip_transactions.specs.declared.step.Handed.{Handed}
 use Rattle.sip_transactions.specs.declared.step.Handed.TheVariants as handed
 use Rattle.sip_transactions.specs.declared.step.Step.{Step}
-use Rattle.sip_transactions.specs.Input.{is_same_method, message_in, role_of}
+use Rattle.sip_transactions.specs.Steps.Input.{is_same_method, message_in, role_of}
 use Rattle.sip_transactions.specs.Laws.{arrival_id, is_request_kind, is_request_up, naming_id, requests_in}
-use Rattle.sip_transactions.specs.Life.{acted_if, begun, context_by, keeps_request, step_for, stepped, stepped_by}
+use Rattle.sip_transactions.specs.Steps.Life.{acted_if, begun, context_by, keeps_request, step_for, stepped, stepped_by}
 use Rattle.sip_transactions.specs.Machine.{transaction_machine}
-use Rattle.sip_transactions.specs.Output.{handed_out, kind_of, made_bytes, outputs_of, send_out, sent_bytes}
+use Rattle.sip_transactions.specs.Steps.Output.{handed_out, kind_of, made_bytes, outputs_of, send_out, sent_bytes}
 use Rattle.sip_transactions.proofs.OneRequest.{held_silent}
 use Rattle.sip_common.specs.OwnCall.{IsKindOf}
 use Rattle.sip_common.proofs.Each.{both}

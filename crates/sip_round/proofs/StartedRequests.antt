@@ -33,10 +33,10 @@ use Rattle.sip_transactions.specs.declared.step.Sent.TheVariants as send
 use Rattle.sip_transactions.specs.declared.step.Step.{Step}
 use Rattle.sip_transactions.specs.declared.trigger.Trigger.{Trigger}
 use Rattle.sip_transactions.specs.declared.trigger.Trigger.TheVariants as on
-use Rattle.sip_transactions.specs.Input.{arrival_of, is_same_method, role_of}
-use Rattle.sip_transactions.specs.Life.{begun, context_by, entered, keeps_request, life_after, stepped}
+use Rattle.sip_transactions.specs.Steps.Input.{arrival_of, is_same_method, role_of}
+use Rattle.sip_transactions.specs.Steps.Life.{begun, context_by, entered, keeps_request, life_after, stepped}
 use Rattle.sip_transactions.specs.Machine.{transaction_machine}
-use Rattle.sip_transactions.specs.Output.{handed_out, made_bytes, made_of, outputs_of}
+use Rattle.sip_transactions.specs.Steps.Output.{handed_out, made_bytes, made_of, outputs_of}
 use Rattle.sip_transactions.specs.Rows.{rows_of}
 use Rattle.sip_transactions.proofs.LawSteps.{RowFor, by_step, is_ended}
 use Rattle.sip_transactions.proofs.RowFacts.{and-left, and-right, row_passes, table_passes}

@@ -25,11 +25,11 @@ use Rattle.sip_transactions.specs.declared.step.Handed.TheVariants as up
 use Rattle.sip_transactions.specs.declared.trigger.Trigger.{Trigger}
 use Rattle.sip_transactions.specs.Rows.{rows_of}
 use Rattle.sip_transactions.specs.Ids.{is_id}
-use Rattle.sip_transactions.specs.Input.{role_of, trigger_of, arrival_of, arrived_in}
-use Rattle.sip_transactions.specs.Output.{outputs_of, handed_out, sent_bytes, send_out}
-use Rattle.sip_transactions.specs.Life.{stepped, acted_if, begun, life_after, life_in, last_of, entered, armed}
+use Rattle.sip_transactions.specs.Steps.Input.{role_of, trigger_of, arrival_of, arrived_in}
+use Rattle.sip_transactions.specs.Steps.Output.{outputs_of, handed_out, sent_bytes, send_out}
+use Rattle.sip_transactions.specs.Steps.Life.{stepped, acted_if, begun, life_after, life_in, last_of, entered, armed}
 use Rattle.sip_transactions.specs.Laws.{NothingAfterTheEnd, carries, id_of, names_in, naming_id, arrival_id}
-use Rattle.sip_transactions.specs.Life.{step_machine}
+use Rattle.sip_transactions.specs.Steps.Life.{step_machine}
 use Rattle.sip_transactions.proofs.RowFacts.{and-left, and-right, row_passes}
 use Rattle.sip_transactions.proofs.LawSteps.{by_step, is_ended, is_message, is_report, response_needs_life, responses_in_tables}
 use Rattle.sip_transactions.proofs.OneRequest.{life_after-ended}

@@ -26,14 +26,14 @@ use Rattle.sip_timers.specs.declared.estimate.TheConstants.{LIFETIME}
 use Rattle.sip_transactions.specs.declared.trigger.Class.TheVariants as class
 use Rattle.sip_transactions.specs.declared.trigger.Trigger.{Trigger}
 use Rattle.sip_transactions.specs.declared.trigger.Trigger.TheVariants as on
-use Rattle.sip_transactions.specs.Input.{answer_of, is_same_method, role_of, trigger_of}
+use Rattle.sip_transactions.specs.Steps.Input.{answer_of, is_same_method, role_of, trigger_of}
 use Rattle.sip_transactions.specs.Laws.{IsServer}
-use Rattle.sip_transactions.specs.Life.{stepped, stepped_by, step_for, acted, life_after}
-use Rattle.sip_transactions.specs.Output.{outputs_of, made_of, handed_out}
+use Rattle.sip_transactions.specs.Steps.Life.{stepped, stepped_by, step_for, acted, life_after}
+use Rattle.sip_transactions.specs.Steps.Output.{outputs_of, made_of, handed_out}
 use Rattle.sip_transactions.specs.Rows.{row_of, rows_of}
 use Rattle.sip_transactions.specs.ServerLaws.{is_answering, is_open, is_final_answer, answering, AnsweredAgain, EndsAfterItsAnswer, FailedSendKeeps}
 use Rattle.sip_transactions.specs.Shard.{failed_send, receipt}
-use Rattle.sip_transactions.specs.Life.{step_machine}
+use Rattle.sip_transactions.specs.Steps.Life.{step_machine}
 use Rattle.sip_transactions.proofs.RowFacts.{by_test}
 
 -- ---- the tables of servers

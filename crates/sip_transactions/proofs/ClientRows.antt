@@ -32,10 +32,10 @@ use Rattle.sip_transactions.specs.declared.step.Sent.TheVariants as send
 use Rattle.sip_transactions.specs.declared.step.Step.{Step}
 use Rattle.sip_transactions.specs.declared.trigger.Trigger.{Trigger}
 use Rattle.sip_transactions.specs.declared.trigger.Trigger.TheVariants as on
-use Rattle.sip_transactions.specs.Input.{trigger_of, is_same_method, arrival_of, answer_of, class_of, message_in}
+use Rattle.sip_transactions.specs.Steps.Input.{trigger_of, is_same_method, arrival_of, answer_of, class_of, message_in}
 use Rattle.sip_transactions.specs.Laws.{is_send_of, sends_of}
-use Rattle.sip_transactions.specs.Life.{life_in, entered, keeps_request}
-use Rattle.sip_transactions.specs.Output.{outputs_of, handed_out, made_of, made_bytes, sent_bytes, send_out}
+use Rattle.sip_transactions.specs.Steps.Life.{life_in, entered, keeps_request}
+use Rattle.sip_transactions.specs.Steps.Output.{outputs_of, handed_out, made_of, made_bytes, sent_bytes, send_out}
 use Rattle.sip_transactions.specs.Rows.{rows_of}
 use Rattle.sip_transactions.proofs.AckTexts.{Apart, first_of, ack_apart}
 use Rattle.sip_transactions.proofs.Firings.{is_client, Paced, left, paces, is_plain}

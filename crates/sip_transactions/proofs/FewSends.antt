@@ -30,13 +30,13 @@ use Rattle.sip_transactions.specs.declared.step.Sent.TheVariants as send
 use Rattle.sip_transactions.specs.declared.step.Step.{Step}
 use Rattle.sip_transactions.specs.declared.trigger.Trigger.{Trigger}
 use Rattle.sip_transactions.specs.declared.trigger.Trigger.TheVariants as on
-use Rattle.sip_transactions.specs.Input.{role_of, trigger_of, is_same_method, message_in, arrived_in}
+use Rattle.sip_transactions.specs.Steps.Input.{role_of, trigger_of, is_same_method, message_in, arrived_in}
 use Rattle.sip_transactions.specs.Laws.{FewSends, is_send_of, sends_of, most_repeats}
-use Rattle.sip_transactions.specs.Life.{stepped, acted_if, begun, life_after, life_in, entered, last_of, armed, keeps_request, context_by}
-use Rattle.sip_transactions.specs.Output.{outputs_of, made_of}
+use Rattle.sip_transactions.specs.Steps.Life.{stepped, acted_if, begun, life_after, life_in, entered, last_of, armed, keeps_request, context_by}
+use Rattle.sip_transactions.specs.Steps.Output.{outputs_of, made_of}
 use Rattle.sip_transactions.specs.Rows.{row_of, rows_of}
 use Rattle.sip_transactions.specs.Timers.{rearmed}
-use Rattle.sip_transactions.specs.Life.{step_machine}
+use Rattle.sip_transactions.specs.Steps.Life.{step_machine}
 use Rattle.sip_transactions.proofs.AckTexts.{Apart, first_of, request_first}
 use Rattle.sip_transactions.proofs.ClientRows.{is_acked, Fit, FitAfter, budget, Few, is_repeat, sends_well, starts_well, client_row, client_tables, sends-outputs, one_send, no_send, none-made, latest-made, none_entered, acked_entered, repeat_due, response_message, ack_made}
 use Rattle.sip_transactions.proofs.Firings.{taken-zero, is_client, Paced, left, paces, Fired, fired_at, least_interval, is_plain, Left, plain_left}

@@ -30,12 +30,12 @@ use Rattle.sip_transactions.specs.declared.step.Handed.TheVariants as up
 use Rattle.sip_transactions.specs.declared.trigger.Trigger.{Trigger}
 use Rattle.sip_transactions.specs.declared.trigger.Trigger.TheVariants as on
 use Rattle.sip_transactions.specs.Rows.{row_of, rows_of}
-use Rattle.sip_transactions.specs.Input.{role_of, trigger_of, is_same_method, answer_of, class_of, arrived_in, message_in}
-use Rattle.sip_transactions.specs.Output.{outputs_of, handed_out, sent_bytes, made_bytes, send_out}
-use Rattle.sip_transactions.specs.Life.{stepped, step_for, stepped_by, acted_if, context_of, state_of}
+use Rattle.sip_transactions.specs.Steps.Input.{role_of, trigger_of, is_same_method, answer_of, class_of, arrived_in, message_in}
+use Rattle.sip_transactions.specs.Steps.Output.{outputs_of, handed_out, sent_bytes, made_bytes, send_out}
+use Rattle.sip_transactions.specs.Steps.Life.{stepped, step_for, stepped_by, acted_if, context_of, state_of}
 use Rattle.sip_transactions.specs.Laws.{IsSend, CommandsOnlySend, IsServer, is_request_up, requests_in}
 use Rattle.sip_transactions.specs.Shard.{order}
-use Rattle.sip_transactions.specs.Life.{step_machine}
+use Rattle.sip_transactions.specs.Steps.Life.{step_machine}
 use Rattle.sip_transactions.proofs.RowFacts.{by_test, table_passes, row_passes}
 
 -- ---- the row of an input

@@ -23,11 +23,11 @@ use Rattle.sip_transactions.specs.declared.step.Handed.TheVariants as up
 use Rattle.sip_transactions.specs.declared.trigger.Trigger.{Trigger}
 use Rattle.sip_transactions.specs.declared.trigger.Trigger.TheVariants as on
 use Rattle.sip_transactions.specs.Rows.{rows_of}
-use Rattle.sip_transactions.specs.Input.{role_of, trigger_of, is_same_method, arrival_of, arrived_in}
-use Rattle.sip_transactions.specs.Output.{handed_out, kind_of, up_out}
-use Rattle.sip_transactions.specs.Life.{stepped, acted_if, begun, life_after, life_in, entered, armed, last_of}
+use Rattle.sip_transactions.specs.Steps.Input.{role_of, trigger_of, is_same_method, arrival_of, arrived_in}
+use Rattle.sip_transactions.specs.Steps.Output.{handed_out, kind_of, up_out}
+use Rattle.sip_transactions.specs.Steps.Life.{stepped, acted_if, begun, life_after, life_in, entered, armed, last_of}
 use Rattle.sip_transactions.specs.Laws.{IsServer, OneRequestUp, is_request_up, requests_in}
-use Rattle.sip_transactions.specs.Life.{step_machine}
+use Rattle.sip_transactions.specs.Steps.Life.{step_machine}
 use Rattle.sip_transactions.proofs.RowFacts.{by_test, or_cases, and-left, and-right, row_passes, not_both}
 use Rattle.sip_transactions.proofs.LawSteps.{by_step, is_request, is_ended, is_message, begins_by_request, later_not_handed_up, later_in_tables, server_tables, requests-outputs}
 

@@ -9,8 +9,8 @@ use Rattle.sip_transactions.specs.declared.life.Context.{Context}
 use Rattle.sip_transactions.specs.declared.step.Step.{Step}
 use Rattle.sip_transactions.specs.declared.step.Next.TheVariants as next
 use Rattle.sip_transactions.specs.declared.step.Sent.TheVariants as send
-use Rattle.sip_transactions.specs.Life.{life_after, life_in, entered, armed, last_of}
-use Rattle.sip_transactions.specs.Output.{made_bytes, made_of, outputs_of, handed_out}
+use Rattle.sip_transactions.specs.Steps.Life.{life_after, life_in, entered, armed, last_of}
+use Rattle.sip_transactions.specs.Steps.Output.{made_bytes, made_of, outputs_of, handed_out}
 
 pub passed_next : (context : Context) (step : Step) (now : ℕ) (made : Option (List ℕ))
     → step.next ≡ next.Ended → life_after None context step now made ≡ None

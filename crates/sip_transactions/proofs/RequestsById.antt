@@ -24,12 +24,12 @@ use Rattle.sip_transactions.specs.declared.step.Handed.{Handed}
 use Rattle.sip_transactions.specs.declared.step.Handed.TheVariants as up
 use Rattle.sip_transactions.specs.declared.step.Step.{Step}
 use Rattle.sip_transactions.specs.Ids.{IdsRise, id_cmp}
-use Rattle.sip_transactions.specs.Input.{role_of, is_same_method}
+use Rattle.sip_transactions.specs.Steps.Input.{role_of, is_same_method}
 use Rattle.sip_transactions.specs.Laws.{RequestsComeUpById, arrival_id, is_request_kind, names_in, naming_id, request_id, request_ids, requests_in}
-use Rattle.sip_transactions.specs.Life.{stepped, acted_if, begun}
-use Rattle.sip_transactions.specs.Output.{handed_out, kind_of, outputs_of, send_out, sent_bytes, up_out}
+use Rattle.sip_transactions.specs.Steps.Life.{stepped, acted_if, begun}
+use Rattle.sip_transactions.specs.Steps.Output.{handed_out, kind_of, outputs_of, send_out, sent_bytes, up_out}
 use Rattle.sip_transactions.specs.Rows.{rows_of}
-use Rattle.sip_transactions.specs.Life.{step_machine}
+use Rattle.sip_transactions.specs.Steps.Life.{step_machine}
 use Rattle.sip_transactions.proofs.LawSteps.{by_step, later_in_tables, later_not_handed_up}
 use Rattle.sip_transactions.proofs.OneRequest.{later_once}
 use Rattle.sip_transactions.proofs.RowFacts.{by_test, row_passes}

@@ -40,10 +40,10 @@ use Rattle.sip_transactions.specs.declared.trigger.Trigger.{Trigger}
 use Rattle.sip_transactions.specs.declared.trigger.Trigger.TheVariants as on
 use Rattle.sip_transactions.specs.Dues.{Dues}
 use Rattle.sip_transactions.specs.Machine.{transaction_machine}
-use Rattle.sip_transactions.specs.Input.{answer_of, arrival_of, arrived_in, class_of, is_same_method, message_in, role_of}
-use Rattle.sip_transactions.specs.Life.{armed, context_by, context_of, entered, keeps_request, last_of, life_after, life_in, state_of, step_for, step_machine, stepped, stepped_by}
-use Rattle.sip_transactions.specs.Life as steps
-use Rattle.sip_transactions.specs.Output.{handed_out, kind_of, made_bytes, made_of, outputs_of, sent_bytes}
+use Rattle.sip_transactions.specs.Steps.Input.{answer_of, arrival_of, arrived_in, class_of, is_same_method, message_in, role_of}
+use Rattle.sip_transactions.specs.Steps.Life.{armed, context_by, context_of, entered, keeps_request, last_of, life_after, life_in, state_of, step_for, step_machine, stepped, stepped_by}
+use Rattle.sip_transactions.specs.Steps.Life as steps
+use Rattle.sip_transactions.specs.Steps.Output.{handed_out, kind_of, made_bytes, made_of, outputs_of, sent_bytes}
 use Rattle.sip_transactions.specs.Rows.{Row, client_rows, invite_client_rows, invite_server_rows, row_of, rows_of, server_rows}
 use Rattle.sip_transactions.specs.Timers.{rearmed}
 use Rattle.sip_transactions.specs.Rules.Step.{acted, begun, came, handed_up, step_at, text_sent}

@@ -25,7 +25,7 @@ use Rattle.sip_transactions.specs.declared.state.Role.TheVariants.{InviteClient,
 use Rattle.sip_transactions.specs.declared.state.State.{State}
 use Rattle.sip_transactions.specs.declared.trigger.Trigger.{Trigger}
 use Rattle.sip_transactions.specs.Ids.{IdsRise, is_id}
-use Rattle.sip_transactions.specs.Input.{role_of}
+use Rattle.sip_transactions.specs.Steps.Input.{role_of}
 use Rattle.sip_transactions.specs.Rows.{fits, rows_of}
 use Rattle.sip_transactions.specs.Shard.{order}
 

@@ -17,7 +17,7 @@ use Rattle.sip_timers.specs.declared.estimate.TheConstants.{LIFETIME}
 use Rattle.sip_transactions.specs.declared.trigger.Class.TheVariants as class
 use Rattle.sip_transactions.specs.declared.trigger.Trigger.{Trigger}
 use Rattle.sip_transactions.specs.declared.trigger.Trigger.TheVariants as on
-use Rattle.sip_transactions.specs.Input.{answer_of, arrival_of, role_of}
+use Rattle.sip_transactions.specs.Steps.Input.{answer_of, arrival_of, role_of}
 use Rattle.sip_transactions.specs.Laws.{IsServer}
 use Rattle.sip_model.specs.Machine.{tick_at}
 use Rattle.sip_transactions.specs.Shard.{failed_send, receipt}

@@ -91,7 +91,7 @@ pub enum Input {
 
 impl Input {
     ghost use Rattle.std.specs.Option.{option_copied};
-    ghost use Rattle.sip_transactions.specs.Input.{message_in, arrived_in};
+    ghost use Rattle.sip_transactions.specs.Steps.Input.{message_in, arrived_in};
 
     /// The message that came or that the user gave, if there is one.
     pub(crate) fn message(&self) -> Option<&Message>

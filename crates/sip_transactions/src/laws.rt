@@ -6,7 +6,7 @@ ghost use Rattle.sip_model.specs.Machine.{Timed};
 ghost use Rattle.sip_transactions.specs.declared.input.Input.{Input};
 ghost use Rattle.sip_transactions.specs.declared.life.Life.{Life};
 ghost use Rattle.sip_transactions.specs.Laws.{AtMostOneRow, CommandsOnlySend, OneRequestUp, RequestsComeUpById, NothingAfterTheEnd, FewSends};
-ghost use Rattle.sip_transactions.specs.Life.{stepped};
+ghost use Rattle.sip_transactions.specs.Steps.Life.{stepped};
 ghost use Rattle.sip_transactions.specs.Machine.{life_due, transaction_machine};
 ghost use Rattle.sip_transactions.specs.ServerLaws.{AnsweredAgain, EndsAfterItsAnswer, FailedSendKeeps};
 ghost use Rattle.sip_transactions.specs.Timers.{first_due};
@@ -63,7 +63,7 @@ pub fn ends_after_its_answer()
 
 /// The machine of transactions, which goes by the rules, takes the steps that the code takes, and
 /// tells when one of its timers fires next.
-pub fn rules_are_the_steps()
+pub fn the_rules_say_the_steps()
     ensures step { (key : Key) (held : Option Life) (timed : Timed Input)
         → transaction_machine.step key held timed ≡ stepped key held timed }
     ensures due { (life : Life) → life_due life ≡ first_due life.context.timers }

@@ -2,7 +2,7 @@
 
 ghost use Rattle.std.specs.Prelude.{◌≡◌, ◌≤◌, ◌^◌, None, Some, if◌then◌else◌};
 ghost use Rattle.std.specs.Option.{option_copied};
-ghost use Rattle.sip_transactions.specs.Life.{armed, context_by, last_of, life_after};
+ghost use Rattle.sip_transactions.specs.Steps.Life.{armed, context_by, last_of, life_after};
 ghost use Rattle.sip_transactions.specs.Timers.{IsTimely};
 
 use crate::state::State;
@@ -62,7 +62,7 @@ impl Context {
     }
 
     /// Begins a life by a row that made a message of these bytes, if there is a state after it.
-    #[tactic(auto, unfolding(crate::specs::Life::life_after))]
+    #[tactic(auto, unfolding(crate::specs::Steps::Life::life_after))]
     pub(crate) fn begin(mut self, step: Step, now: u64, made: Option<Text>) -> Option<Life>
         requires bound { now ≤ 2 ^ 62 }
         requires timely { IsTimely step.due now self.timers }
@@ -93,7 +93,7 @@ impl Context {
 
 impl Life {
     /// Goes on by a row that made a message of these bytes. Says whether the life goes on.
-    #[tactic(auto, unfolding(crate::specs::Life::life_after))]
+    #[tactic(auto, unfolding(crate::specs::Steps::Life::life_after))]
     pub(crate) fn go_on(&mut self, step: Step, now: u64, made: Option<Text>) -> bool
         requires bound { now ≤ 2 ^ 62 }
         requires timely { IsTimely step.due now self.old.context.timers }

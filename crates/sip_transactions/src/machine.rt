@@ -2,11 +2,11 @@
 
 ghost use Rattle.std.specs.Prelude.{◌≡◌, ℕ, ◌≤◌, ◌^◌, IfOk, IfSome, Some, None, if◌then◌else◌};
 ghost use Rattle.std.specs.Option.{option_copied};
-ghost use Rattle.sip_transactions.specs.Input.{role_of};
-ghost use Rattle.sip_transactions.specs.Life.{step_for, begun, keeps_request, life_after, acted, acted_if, acted_at_arrival};
+ghost use Rattle.sip_transactions.specs.Steps.Input.{role_of};
+ghost use Rattle.sip_transactions.specs.Steps.Life.{step_for, begun, keeps_request, life_after, acted, acted_if, acted_at_arrival};
 ghost use Rattle.sip_transactions.specs.Timers.{IsTimely};
 ghost use Rattle.sip_transactions.specs.Repeats.{RepeatsInTime};
-ghost use Rattle.sip_transactions.specs.Output.{outputs_of};
+ghost use Rattle.sip_transactions.specs.Steps.Output.{outputs_of};
 
 use crate::input::Input;
 use crate::life::{Context, Life};
@@ -39,7 +39,7 @@ fn role_of(key: &Key) -> Role
 }
 
 // What the row for an input, or for a tick, does, if there is one.
-#[tactic(auto, unfolding(crate::specs::Life::step_for))]
+#[tactic(auto, unfolding(crate::specs::Steps::Life::step_for))]
 fn step_for(key: &Key, held: Option<&Life>, now: u64, input: Option<&Input>) -> Option<Step>
     ensures value { result ≡ step_for key.now (option_copied held.entry) now
         (option_copied input.entry) }
@@ -115,7 +115,7 @@ fn go_on(
 }
 
 // A row where no life is held.
-#[tactic(auto, unfolding(crate::specs::Life::begun))]
+#[tactic(auto, unfolding(crate::specs::Steps::Life::begun))]
 fn begin(alloc: Global, key: &Key, now: u64, input: Input, step: Step) -> Result<After, AllocError>
     requires bound { now ≤ 2 ^ 62 }
     requires timely { RepeatsInTime step.due now None }
@@ -273,7 +273,7 @@ impl StateMachine for Transactions {
         }
     }
 
-    #[tactic(auto, unfolding(crate::specs::Life::stepped), using(crate::proofs::Rules::step_is))]
+    #[tactic(auto, unfolding(crate::specs::Steps::Life::stepped), using(crate::proofs::Rules::step_is))]
     fn begin(
         &self,
         alloc: Global,
@@ -293,7 +293,7 @@ impl StateMachine for Transactions {
         begin(alloc, key, moment, input, step)
     }
 
-    #[tactic(auto, unfolding(crate::specs::Life::stepped), using(crate::proofs::Rules::step_is))]
+    #[tactic(auto, unfolding(crate::specs::Steps::Life::stepped), using(crate::proofs::Rules::step_is))]
     fn step(
         &self,
         alloc: Global,
@@ -314,7 +314,7 @@ impl StateMachine for Transactions {
         go_on(alloc, key, moment, input, state, step)
     }
 
-    #[tactic(auto, unfolding(crate::specs::Life::stepped), using(crate::proofs::Rules::step_is))]
+    #[tactic(auto, unfolding(crate::specs::Steps::Life::stepped), using(crate::proofs::Rules::step_is))]
     fn tick(
         &self,
         alloc: Global,

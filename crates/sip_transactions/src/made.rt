@@ -3,7 +3,7 @@
 ghost use Rattle.std.specs.Prelude.{◌≡◌, IfOk, codes};
 ghost use Rattle.std.specs.Option.{option_copied};
 ghost use Rattle.sip_message.specs.Written.{written};
-ghost use Rattle.sip_transactions.specs.Output.{made_bytes, trying_of};
+ghost use Rattle.sip_transactions.specs.Steps.Output.{made_bytes, trying_of};
 
 use crate::step::Sent;
 use sip_message::{Message, Reason, StatusCode, ack_for, response_to, write};
@@ -15,7 +15,7 @@ const TRYING: u16 = 100;
 
 /// The bytes of the message that a row makes, if it makes one: of a message that came or that the
 /// user gave, and for an ACK of the request that the life keeps.
-#[tactic(auto, unfolding(crate::specs::Output::made_of))]
+#[tactic(auto, unfolding(crate::specs::Steps::Output::made_of))]
 pub(crate) fn made_bytes(
     alloc: Global,
     request: Option<&Message>,

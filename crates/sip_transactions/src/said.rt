@@ -2,8 +2,8 @@
 
 ghost use Rattle.std.specs.Prelude.{◌≡◌, ◌++◌, IfOk, Some, option_to_list, option_map};
 ghost use Rattle.std.specs.Option.{option_copied};
-ghost use Rattle.sip_transactions.specs.Life.{context_by};
-ghost use Rattle.sip_transactions.specs.Output.{handed_out, sent_bytes, outputs_of, up_out, send_out, kind_of};
+ghost use Rattle.sip_transactions.specs.Steps.Life.{context_by};
+ghost use Rattle.sip_transactions.specs.Steps.Output.{handed_out, sent_bytes, outputs_of, up_out, send_out, kind_of};
 
 use crate::life::Context;
 use crate::output::{DropReason, Kind, Out, Up};
@@ -14,7 +14,7 @@ use sip_text::{Boxed, Text};
 use std::alloc::{AllocError, Global};
 
 /// What a row says of a message that came, if one did, where it made a message of these bytes.
-#[tactic(auto, unfolding(crate::specs::Output::outputs_of))]
+#[tactic(auto, unfolding(crate::specs::Steps::Output::outputs_of))]
 pub(crate) fn said(
     alloc: Global,
     key: &Key,
@@ -60,7 +60,7 @@ pub(crate) fn passed_on(
     Ok(outputs)
 }
 
-#[tactic(auto, unfolding(crate::specs::Output::handed_out))]
+#[tactic(auto, unfolding(crate::specs::Steps::Output::handed_out))]
 fn pass_on(
     key: &Key,
     id: Id,
@@ -89,7 +89,7 @@ fn pass_on(
 }
 
 // What a row hands up, or that it drops what came.
-#[tactic(auto, unfolding(crate::specs::Output::handed_out))]
+#[tactic(auto, unfolding(crate::specs::Steps::Output::handed_out))]
 fn hand_up(
     key: &Key,
     context: &Context,

@@ -40,7 +40,7 @@ impl Model for Shard {
 }
 
 impl Shard {
-    ghost use Rattle.sip_transactions.specs.Life.{state_of};
+    ghost use Rattle.sip_transactions.specs.Steps.Life.{state_of};
     ghost use Rattle.sip_transactions.specs.Shard.{Lives, life_at, is_stray, receipt, failed_send, command_key, order};
 
     /// A shard without transactions, of the agent at the address `local`.

@@ -3,7 +3,7 @@
 ghost use Rattle.std.specs.Prelude.{◌≡◌, codes, IfSome};
 ghost use Rattle.std.specs.Option.{option_copied};
 ghost use Rattle.sip_transactions.specs.Repeats.{RepeatIsDue};
-ghost use Rattle.sip_transactions.specs.Input.{class_of, trigger_of, arrival_of, answer_of, tick_of, is_same_method};
+ghost use Rattle.sip_transactions.specs.Steps.Input.{class_of, trigger_of, arrival_of, answer_of, tick_of, is_same_method};
 
 use crate::input::Input;
 use crate::life::Life;

@@ -6,7 +6,7 @@ use Rattle.sip_text.specs.Quoted.{is_quoted}
 use Rattle.sip_text.specs.Token.{is_token}
 use Rattle.sip_text.specs.declared.separator.Separator.TheVariants.{Byte}
 use Rattle.std.proofs.lemmas.Bool.{or_right}
-use Rattle.sip_values.specs.First.{behind, first}
+use Rattle.sip_values.specs.Steps.First.{behind, first}
 use Rattle.sip_values.proofs.Characters.{no_equals}
 use Rattle.sip_values.proofs.Firsts.{first_ends, first_goes_on, follows}
 use Rattle.sip_values.proofs.Passing.{Passes, both_pass, cut_here, none_here, semicolon_marks, token_passes, value_passes}

@@ -12,7 +12,7 @@ use Rattle.sip_parts.specs.Uri.{is_uri, is_uri_byte}
 use Rattle.sip_parts.specs.Word.{is_word, is_word_byte}
 use Rattle.sip_parts.proofs.Bytes.{none_of}
 use Rattle.sip_values.specs.Address.{uri_before_bracket}
-use Rattle.sip_values.specs.First.{behind, first}
+use Rattle.sip_values.specs.Steps.First.{behind, first}
 use Rattle.sip_values.specs.Numeral.{numeral}
 use Rattle.sip_values.specs.ViaValue.{SentBy, host_from, port_from, sent_by_from, transport_from}
 use Rattle.sip_values.proofs.Characters.{full_at, token_bytes}

@@ -1,6 +1,6 @@
-pub mod First
+pub mod Address
 pub mod Numeral
 pub mod ParameterValues
-pub mod Address
-pub mod ViaValue
 pub mod Sequence
+pub mod Steps
+pub mod ViaValue

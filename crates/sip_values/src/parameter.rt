@@ -5,7 +5,7 @@ ghost use Rattle.sip_text.specs.Parameter.{is_parameter_value, parameter_from};
 ghost use Rattle.sip_text.specs.Pieces.{parameter_now};
 ghost use Rattle.sip_text.specs.Token.{is_token};
 ghost use Rattle.sip_text.specs.declared.separator.Separator.TheVariants as separator;
-ghost use Rattle.sip_values.specs.First.{behind, first, first_now};
+ghost use Rattle.sip_values.specs.Steps.First.{behind, first, first_now};
 ghost use Rattle.sip_values.specs.ParameterValues as values;
 
 use crate::row::Row;

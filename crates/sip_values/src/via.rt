@@ -5,7 +5,7 @@ ghost use Rattle.sip_text.specs.Cut.{both_now};
 ghost use Rattle.sip_text.specs.Token.{is_run, is_token};
 ghost use Rattle.sip_text.specs.declared.separator.Separator.TheVariants as separator;
 ghost use Rattle.sip_parts.specs.Host.{is_host, is_host_byte};
-ghost use Rattle.sip_values.specs.First.{first, first_now};
+ghost use Rattle.sip_values.specs.Steps.First.{first, first_now};
 ghost use Rattle.sip_values.specs.ViaValue as values;
 
 use crate::numeral::{Numeral, numeral_in, numeral_of};

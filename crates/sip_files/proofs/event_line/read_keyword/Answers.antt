@@ -1,7 +1,7 @@
 use Rattle.std.proofs.Common.{◌≡◌, Option, Some, None, ap, sym, ◌∙◌, MatchOption, IsSomeAnd}
 use Rattle.std.specs.Option.{option_map}
 use Rattle.sip_files.specs.declared.event_line.EventLine.TheVariants as line
-use Rattle.sip_files.specs.ReadLine.{keyword_line}
+use Rattle.sip_files.specs.Steps.ReadLine.{keyword_line}
 use Rattle.sip_files.proofs.event_line.read_keyword.Goals as goal
 
 -- what `map` gives by a function that gives `f`

@@ -1,5 +1,5 @@
 use Rattle.std.proofs.Common.{sym, ◌∙◌, arith, rules}
-use Rattle.sip_files.specs.Reading.{seed_at}
+use Rattle.sip_files.specs.Steps.Reading.{seed_at}
 use Rattle.sip_files.proofs.Pairs.{seed_goes_on, seed_stops, seed_ends}
 use Rattle.sip_files.proofs.numbers.read_seed.Goals as goal
 

@@ -1,5 +1,5 @@
 use Rattle.std.proofs.Common.{◌≡◌, ◌-◌, length, take}
-use Rattle.sip_files.specs.Reading.{pairs_at}
+use Rattle.sip_files.specs.Steps.Reading.{pairs_at}
 use Rattle.sip_files.proofs.Escapes.{onto}
 use Rattle.sip_files.proofs.numbers.read_seed.Given as goal
 

@@ -1,5 +1,5 @@
 use Rattle.std.proofs.lemmas.List.{take_more, take_all}
-use Rattle.sip_files.specs.Form.{itself_in}
+use Rattle.sip_files.specs.Steps.Form.{itself_in}
 use Rattle.sip_files.specs.Word.{spelled_byte}
 use Rattle.sip_files.proofs.Pushed.{one_more}
 use Rattle.sip_files.proofs.words.push_escaped.Goals as goal

@@ -1,6 +1,6 @@
 use Rattle.std.proofs.Common.{◌≡◌, ◌++◌, take}
 use Rattle.sip_files.specs.Word as word
-use Rattle.sip_files.specs.Form.{itself_in}
+use Rattle.sip_files.specs.Steps.Form.{itself_in}
 use Rattle.sip_files.proofs.words.push_escaped.Given as goal
 
 -- the bytes so far are spelled

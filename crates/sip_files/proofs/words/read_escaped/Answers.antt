@@ -1,6 +1,6 @@
 use Rattle.std.proofs.Common.{◌≡◌, ◌<◌, length, arith}
 use Rattle.std.proofs.lemmas.Bool.Decides.{nat_tests}
-use Rattle.sip_files.specs.Form.{itself_in}
+use Rattle.sip_files.specs.Steps.Form.{itself_in}
 use Rattle.sip_files.proofs.Escapes.{form_sound, stops, goes_on, ends}
 use Rattle.sip_files.proofs.words.read_escaped.Goals as goal
 

@@ -1,6 +1,6 @@
 use Rattle.std.proofs.Common.{◌≡◌, length}
-use Rattle.sip_files.specs.Form.{itself_in}
-use Rattle.sip_files.specs.Reading.{bytes_at}
+use Rattle.sip_files.specs.Steps.Form.{itself_in}
+use Rattle.sip_files.specs.Steps.Reading.{bytes_at}
 use Rattle.sip_files.proofs.Escapes.{onto}
 use Rattle.sip_files.proofs.words.read_escaped.Given as goal
 

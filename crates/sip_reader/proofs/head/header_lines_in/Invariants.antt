@@ -1,7 +1,7 @@
 use Rattle.std.proofs.Common.{length}
 use Rattle.std.specs.Option.{option_map}
 use Rattle.sip_reader.specs.Head.{header_line}
-use Rattle.sip_reader.specs.ReadHead.{header_lines_at, whole_lines_at}
+use Rattle.sip_reader.specs.Steps.ReadHead.{header_lines_at, whole_lines_at}
 use Rattle.sip_reader.proofs.HeadValues.{AreWith}
 use Rattle.sip_reader.proofs.head.header_lines_in.Given as goal
 

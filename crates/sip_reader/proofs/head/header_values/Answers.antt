@@ -1,6 +1,6 @@
 use Rattle.std.proofs.Common.{◌≡◌, ℕ, List, drop, Result, Ok, Err, IfOk, sym, ap, ◌∙◌}
 use Rattle.sip_reader.specs.Head.{HasValues}
-use Rattle.sip_reader.specs.ReadHead.{head_at, lines_found, values_at}
+use Rattle.sip_reader.specs.Steps.ReadHead.{head_at, lines_found, values_at}
 use Rattle.sip_reader.proofs.HeadValues.{has_values}
 use Rattle.sip_reader.proofs.head.header_values.Goals as goal
 

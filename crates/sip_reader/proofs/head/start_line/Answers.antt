@@ -1,5 +1,5 @@
 use Rattle.std.proofs.Common.{Some, None, sym, ap, ◌∙◌}
-use Rattle.sip_reader.specs.ReadHead.{first_at, lines_found}
+use Rattle.sip_reader.specs.Steps.ReadHead.{first_at, lines_found}
 use Rattle.sip_reader.specs.ReadStart.{start_at}
 use Rattle.sip_reader.proofs.Heads.{begins_with}
 use Rattle.sip_reader.proofs.head.start_line.Goals as goal

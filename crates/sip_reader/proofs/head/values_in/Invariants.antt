@@ -1,6 +1,6 @@
 use Rattle.std.proofs.Common.{length}
 use Rattle.sip_reader.specs.Head.{value_under}
-use Rattle.sip_reader.specs.ReadHead.{values_at, whole_lines_at}
+use Rattle.sip_reader.specs.Steps.ReadHead.{values_at, whole_lines_at}
 use Rattle.sip_reader.proofs.HeadValues.{AreWith}
 use Rattle.sip_reader.proofs.head.values_in.Given as goal
 

@@ -1,6 +1,6 @@
 use Rattle.std.proofs.Common.{◌≡◌, ◌∙◌, ap, None, Some}
-use Rattle.sip_transactions.specs.Life.{context_by}
-use Rattle.sip_transactions.specs.Output.{made_bytes}
+use Rattle.sip_transactions.specs.Steps.Life.{context_by}
+use Rattle.sip_transactions.specs.Steps.Output.{made_bytes}
 use Rattle.sip_transactions.proofs.machine.begin_by_message.Goals as goal
 
 pub returns-clause-adds : goal.returns-clause-adds

@@ -1,5 +1,5 @@
 use Rattle.std.proofs.Common.{refl}
-use Rattle.sip_transactions.specs.Output.{handed_out}
+use Rattle.sip_transactions.specs.Steps.Output.{handed_out}
 use Rattle.sip_transactions.proofs.said.pass_on.Goals as goal
 
 pub returns-in_ok-up_out-in-Message : goal.returns-in_ok-up_out-in-Message

@@ -1,5 +1,5 @@
 use Rattle.sip_transactions.proofs.Rules.{step_is}
-use Rattle.sip_transactions.proofs.laws.rules_are_the_steps.Goals as goal
+use Rattle.sip_transactions.proofs.laws.the_rules_say_the_steps.Goals as goal
 
 pub returns-clause-step : goal.returns-clause-step
 returns-clause-step c = λ key held timed. step_is key held timed.moment timed.input

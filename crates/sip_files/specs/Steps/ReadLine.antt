@@ -37,7 +37,7 @@ use Rattle.sip_files.specs.declared.fields.Dialog.{Dialog}
 use Rattle.sip_files.specs.declared.fields.Uris.{Uris}
 use Rattle.sip_files.specs.declared.event_line.EventLine.TheVariants as line
 use Rattle.sip_files.specs.Given.{given_at}
-use Rattle.sip_files.specs.Reading.{word_at, rest_at, id_at, address_at, seed_at, both_at, ended_by}
+use Rattle.sip_files.specs.Steps.Reading.{word_at, rest_at, id_at, address_at, seed_at, both_at, ended_by}
 
 unfoldable pub call_id_at : List ℕ → Option (List ℕ)
 call_id_at field = word_at field >>= λ text. if is_word text then Some text else None

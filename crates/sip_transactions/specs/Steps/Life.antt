@@ -19,8 +19,8 @@ use Rattle.sip_transactions.specs.declared.step.Next.TheVariants.{Same, Ended, B
 use Rattle.sip_transactions.specs.declared.step.Due.{Due}
 use Rattle.sip_transactions.specs.Timers.{rearmed, no_dues}
 use Rattle.sip_transactions.specs.Rows.{row_of, rows_of}
-use Rattle.sip_transactions.specs.Input.{role_of, trigger_of, message_in, arrived_in}
-use Rattle.sip_transactions.specs.Output.{outputs_of, made_bytes}
+use Rattle.sip_transactions.specs.Steps.Input.{role_of, trigger_of, message_in, arrived_in}
+use Rattle.sip_transactions.specs.Steps.Output.{outputs_of, made_bytes}
 
 -- the state of the life that is held, if one is
 abbrev pub state_of : Option Life → Option State

@@ -13,7 +13,7 @@ use Rattle.sip_files.specs.declared.events_fault.EventsFault.{EventsFault}
 use Rattle.sip_files.specs.declared.events_fault.EventsFault.TheVariants.{TooLong, BadVersion, BadLine, NoMemory}
 use Rattle.sip_files.specs.Events.{SpellsLine}
 use Rattle.sip_files.specs.EventFile.{with_ends, version_line, is_of_kind, HasVersion}
-use Rattle.sip_files.specs.Drafting.{no_lines, is_begun, is_whole, went, gone}
+use Rattle.sip_files.specs.Steps.Drafting.{no_lines, is_begun, is_whole, went, gone}
 
 -- the version that the line names
 abbrev pub version_at : List ℕ → Option Version

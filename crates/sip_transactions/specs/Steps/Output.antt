@@ -19,7 +19,7 @@ use Rattle.sip_transactions.specs.declared.step.Handed.{Handed}
 use Rattle.sip_transactions.specs.declared.step.Handed.TheVariants as up
 use Rattle.sip_transactions.specs.declared.step.Sent.{Sent}
 use Rattle.sip_transactions.specs.declared.step.Sent.TheVariants as send
-use Rattle.sip_transactions.specs.Input.{is_same_method}
+use Rattle.sip_transactions.specs.Steps.Input.{is_same_method}
 
 -- ---- what a row hands up
 

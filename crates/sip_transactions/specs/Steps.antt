@@ -1,0 +1,4 @@
+-- Steps that only the code's proofs need: nothing of them has to be believed.
+pub mod Input
+pub mod Life
+pub mod Output
