@@ -41,12 +41,12 @@ own_answer arrival status reason =
     let response = response_of arrival.request status reason arrival.tag in
     Command arrival.id (Answer arrival.key response) ∷ []
 
--- by a 481
+-- it answers 481
 abbrev pub no_such_call : Arrival → List CallOut
 no_such_call arrival = own_answer arrival 481 (codes "Call/Transaction Does Not Exist")
 
--- A request for the user: he is told, and it is held until he answers. A BYE in a dialog ends the
--- dialog (RFC 3261, section 15.1.2).
+-- A request for the user, who is told of it: it is held, and no answer to it was sent. A BYE in a
+-- dialog ends the dialog (RFC 3261, section 15.1.2).
 abbrev pub request_for_user : State → List ℕ → DialogName → Arrival → ServedTaken
 request_for_user state call_id name arrival =
     let request = arrival.request in
@@ -98,8 +98,8 @@ is_same_branch (Server branch sent_by method) (Server other other_sent_by other_
 is_same_branch _ _ = false
 
 -- A CANCEL gets a 200 where its branch is that of a held request, of several the last that came up,
--- and otherwise a 481. An INVITE that has no final response gets a 487, and its early dialogs end
--- (RFC 3261, section 9.2).
+-- and otherwise a 481. An INVITE that it names, and that has no final response, gets a 487, and its
+-- early dialogs end (RFC 3261, section 9.2).
 abbrev pub cancel_rule : State → List ℕ → Arrival → ℕ → ServedTaken
 cancel_rule state call_id arrival now =
     let over = λ (held : HeldRequest).
@@ -116,10 +116,10 @@ cancel_rule state call_id arrival now =
     )) (find (λ held. is_same_branch arrival.key held.key) (reverse state.requests))
     (state, no_such_call arrival)
 
--- A request that comes up, by the first case that fits (RFC 3261, section 8.2). It gets a 482 where
--- it was merged: one with its From tag and CSeq is held. It gets a 420 where it requires an option
--- that the agent doesn't know, a 481 in no dialog that is held, and a 500 where its number isn't
--- above those that came before it in its dialog (section 12.2.2).
+-- A request that comes up, by the first case that fits (RFC 3261, section 8.2): a CANCEL; 482 where
+-- it was merged, one with its From tag and CSeq is held; 420 where it requires an option that the
+-- agent doesn't know; 481 for a dialog that isn't held; 500 where its number isn't above those that
+-- came before it in its dialog (section 12.2.2). A request in a dialog is noted there.
 abbrev pub request_rule : State → List ℕ → Arrival → ℕ → ServedTaken
 request_rule state call_id arrival now =
     let request = arrival.request in
