@@ -1,5 +1,5 @@
 -- What comes up is taken by the rules as by its steps.
-use Rattle.std.proofs.Common.{◌≡◌, ℕ, ◌+◌, not, ◌&&◌, ◌||◌, Bool, true, false, cond, List, [], ◌∷◌, ◌++◌, refl, sym, ap, ◌∙◌}
+use Rattle.std.proofs.Common.{◌≡◌, ℕ, ◌+◌, not, ◌&&◌, ◌||◌, Bool, true, false, cond, List, [], ◌++◌, refl, sym, ap, ◌∙◌}
 use Rattle.std.specs.Prelude.{◌==◌, Option, None, Some, find, option_map, if◌then◌else◌}
 use Rattle.std.specs.List.{list_any}
 use Rattle.std.specs.Option.{option_map_or}
@@ -22,8 +22,7 @@ use Rattle.sip_common.specs.declared.item.Item.TheVariants as item
 use Rattle.sip_common.specs.Dialogs.{Dialogs, dialog_at, dialog_changed, early_ended, ended_at, takes, visited}
 use Rattle.sip_common.specs.Requests.{dialog_name, is_bye, is_cancel, is_inside, is_invite, is_prack, is_unknown_option}
 use Rattle.sip_served.specs.declared.arrival.Arrival.{Arrival}
-use Rattle.sip_served.specs.declared.arrival.ArrivalCase.{ArrivalCase}
-use Rattle.sip_served.specs.declared.arrival.ArrivalCase.TheVariants.{Merged, BadExtension, NoDialog, OutOfOrder, Acknowledges, AcknowledgesNothing, ForUser}
+use Rattle.sip_served.specs.declared.arrival.ArrivalCase.TheVariants.{Merged, BadExtension, Acknowledges, AcknowledgesNothing, ForUser}
 use Rattle.sip_served.specs.declared.held_request.HeldRequest.{HeldRequest}
 use Rattle.sip_served.specs.Acknowledgment.{ack_noted, ack_taken, awaits_ack, is_ack_of}
 use Rattle.sip_served.specs.Arrival.{arrival_of, by_case, case_inside, case_outside, for_user, is_in_dialog, is_merged, is_named_by, no_such_dialog, noted, prack_case, prack_taken, request_held}

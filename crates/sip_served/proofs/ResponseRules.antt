@@ -1,6 +1,6 @@
 -- The user's answer is taken by the rules as by its steps.
-use Rattle.std.proofs.Common.{◌≡◌, ℕ, not, ◌&&◌, ◌||◌, nat_le, nat_lt, Bool, true, false, cond, List, [], ◌∷◌, ◌++◌, Result, Ok, refl, sym, ap, ◌∙◌, arith}
-use Rattle.std.specs.Prelude.{Option, None, Some, find, option_map, is_some, is_none, if◌then◌else◌}
+use Rattle.std.proofs.Common.{◌≡◌, ℕ, not, ◌&&◌, ◌||◌, nat_le, nat_lt, Bool, true, false, cond, List, [], ◌∷◌, Ok, refl, sym, ap, ◌∙◌, arith}
+use Rattle.std.specs.Prelude.{Option, None, Some, find, option_map, is_some, is_none}
 use Rattle.std.specs.List.{list_any}
 use Rattle.std.specs.Option.{option_map_or}
 use Rattle.std.specs.Result.{result_ok}
@@ -14,9 +14,8 @@ use Rattle.sip_message.specs.Content.{with_content_of}
 use Rattle.sip_message.specs.Response.{response_of}
 use Rattle.sip_reliable.specs.declared.send_fault.SendFault.{SendFault}
 use Rattle.sip_reliable.specs.declared.send_fault.SendFault.TheVariants as send
-use Rattle.sip_reliable.specs.Ledger.{Ledger, must_wait, ok_unless, send_answer, send_fault}
+use Rattle.sip_reliable.specs.Ledger.{must_wait, ok_unless, send_answer, send_fault}
 use Rattle.sip_transactions.specs.declared.input.Command.TheVariants.{Answer}
-use Rattle.sip_common.specs.declared.command.Reliability.{Reliability}
 use Rattle.sip_common.specs.declared.command.Respond.{Respond}
 use Rattle.sip_common.specs.declared.held_dialog.DialogLife.{DialogLife}
 use Rattle.sip_common.specs.declared.item.CallOut.{CallOut}
@@ -26,13 +25,13 @@ use Rattle.sip_common.specs.declared.refusal.Refusal.TheVariants.{AlreadyFinal, 
 use Rattle.sip_common.specs.Dialogs.{Dialogs, confirmed, dialog_changed, early_ended, is_named}
 use Rattle.sip_common.specs.Notices.{refused}
 use Rattle.sip_common.specs.Refusal.{first_refusal}
-use Rattle.sip_common.specs.Requests.{dialog_name, is_final, is_inside, is_invite, is_provisional, is_success, requires_100rel, supports_100rel}
+use Rattle.sip_common.specs.Requests.{dialog_name, is_final, is_inside, is_invite, is_provisional, is_success, supports_100rel}
 use Rattle.sip_served.specs.declared.held_request.HeldRequest.{HeldRequest}
-use Rattle.sip_served.specs.RequestLife.{RequestHappening, Finishes, MakesDialog, went_on}
-use Rattle.sip_served.specs.Respond.{after_answer, answer_given, answer_to, answered, answers, by_refusal, by_request, confirms_dialog, dialogs_answered, has_ended, if_so, is_of_dialog, is_reliable, is_sent_reliably, is_user_status, makes_dialog, made_dialog, makes, may_be_reliable, refusal_for, refusal_of_fault, refusals, rejects, reliable_refusal, respond_taken, sends_as, with_dialog, with_routes, with_rseq}
+use Rattle.sip_served.specs.RequestLife.{MakesDialog, went_on}
+use Rattle.sip_served.specs.Respond.{after_answer, answer_given, answer_to, answered, by_refusal, by_request, dialogs_answered, has_ended, if_so, is_of_dialog, is_reliable, is_sent_reliably, is_user_status, makes_dialog, made_dialog, may_be_reliable, refusal_for, refusal_of_fault, rejects, reliable_refusal, respond_taken, sends_as, with_routes, with_rseq}
 use Rattle.sip_served.specs.Rules.Responses as rule
 use Rattle.sip_served.specs.Rules.Responses.{answer_refusal, answer_sent, dialogs_after, held_after, respond_rule}
-use Rattle.sip_served.specs.State.{State, ServedTaken, changed_at, changed_first, has_id}
+use Rattle.sip_served.specs.State.{State, ServedTaken, changed_at, has_id}
 
 -- ---- statuses
 

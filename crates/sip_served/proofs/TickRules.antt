@@ -4,7 +4,7 @@ use Rattle.std.specs.Prelude.{Option, None, Some, filter, fold}
 use Rattle.std.specs.List.{flat_map, list_any}
 use Rattle.std.specs.Option.{option_and_then}
 use Rattle.sip_reliable.specs.declared.tick.Tick.TheVariants as tick
-use Rattle.sip_reliable.specs.Ledger.{Ledger, due_numbers, first_moment, next_moment}
+use Rattle.sip_reliable.specs.Ledger.{Ledger, due_numbers, first_moment}
 use Rattle.sip_reliable.specs.Provisional.{Provisional, after_repeat, due_moment, is_late, is_repeated, sent_again}
 use Rattle.sip_timers.specs.Earlier.{earlier}
 use Rattle.sip_transactions.specs.declared.input.Command.TheVariants.{Answer}
@@ -17,7 +17,7 @@ use Rattle.sip_served.specs.declared.tick.SuccessDue.TheVariants as repeat
 use Rattle.sip_served.specs.RequestLife.{went_on}
 use Rattle.sip_served.specs.Rules.Ticks.{due_rule, provisionals_tick, success_tick, tick_rule}
 use Rattle.sip_served.specs.State.{State}
-use Rattle.sip_served.specs.Tick.{Ticked, is_kept_at, next_server_due, provisionals_by, provisionals_ticked, request_due, request_ticked, success_at_tick, success_goes, success_moment, success_ticked, success_told, tick_taken}
+use Rattle.sip_served.specs.Tick.{Ticked, is_kept_at, next_server_due, provisionals_by, provisionals_ticked, request_due, request_ticked, success_at_tick, success_goes, success_moment, success_told, tick_taken}
 
 -- ---- the first moment
 

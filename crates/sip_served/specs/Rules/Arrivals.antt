@@ -1,6 +1,6 @@
 -- The rules of what comes up to the server side of a Call-ID: requests (RFC 3261, sections 8.2 and
 -- 12.2.2), CANCELs (section 9.2), PRACKs (RFC 3262, section 3) and ACKs (section 13.3.1.4).
-use Rattle.std.specs.Prelude.{ℕ, Bool, true, false, not, ◌+◌, ◌&&◌, ◌||◌, ◌==◌, List, [], ◌∷◌, ◌++◌, Option, None, Some, codes, find, filter, is_none, reverse, if◌then◌else◌}
+use Rattle.std.specs.Prelude.{ℕ, Bool, false, not, ◌+◌, ◌&&◌, ◌||◌, ◌==◌, List, [], ◌∷◌, ◌++◌, Option, None, Some, codes, find, filter, is_none, reverse, if◌then◌else◌}
 use Rattle.std.specs.List.{list_any, join_by}
 use Rattle.std.specs.Option.{option_map, option_map_or}
 use Rattle.std.specs.Str.{bytes_eq, str_eq_ignore_ascii_case}
@@ -20,13 +20,12 @@ use Rattle.sip_transactions.specs.declared.output.Kind.TheVariants as kind
 use Rattle.sip_transactions.specs.declared.output.Up.{Up}
 use Rattle.sip_common.specs.declared.command.UserCommand.TheVariants.{Respond}
 use Rattle.sip_common.specs.declared.held_dialog.DialogName.{DialogName}
-use Rattle.sip_common.specs.declared.held_dialog.HeldDialog.{HeldDialog}
 use Rattle.sip_common.specs.declared.item.CallOut.{CallOut}
 use Rattle.sip_common.specs.declared.item.CallOut.TheVariants.{Notice, Command}
 use Rattle.sip_common.specs.declared.item.Item.{Item}
 use Rattle.sip_common.specs.declared.item.Item.TheVariants as item
 use Rattle.sip_common.specs.declared.notice.Notice.TheVariants.{Ack, Cancel, Prack, Request}
-use Rattle.sip_common.specs.Dialogs.{Dialogs, dialog_at, dialog_changed, early_ended, ended_at, is_named, own_dialog, takes, visited}
+use Rattle.sip_common.specs.Dialogs.{dialog_at, dialog_changed, early_ended, ended_at, is_named, own_dialog, takes, visited}
 use Rattle.sip_common.specs.Ids.{is_id}
 use Rattle.sip_common.specs.Requests.{dialog_name, is_bye, is_cancel, is_inside, is_invite, is_prack, is_unknown_option, local_tag_of, supports_100rel}
 use Rattle.sip_served.specs.declared.arrival.Arrival.{Arrival}
@@ -42,12 +41,12 @@ own_answer arrival status reason =
     let response = response_of arrival.request status reason arrival.tag in
     Command arrival.id (Answer arrival.key response) ∷ []
 
--- by a 481
+-- it answers 481
 abbrev pub no_such_call : Arrival → List CallOut
 no_such_call arrival = own_answer arrival 481 (codes "Call/Transaction Does Not Exist")
 
--- A request for the user: he is told, and it is held until he answers. A BYE in a dialog ends the
--- dialog (RFC 3261, section 15.1.2).
+-- A request for the user, who is told of it: it is held, and no answer to it was sent. A BYE in a
+-- dialog ends the dialog (RFC 3261, section 15.1.2).
 abbrev pub request_for_user : State → List ℕ → DialogName → Arrival → ServedTaken
 request_for_user state call_id name arrival =
     let request = arrival.request in
@@ -99,8 +98,8 @@ is_same_branch (Server branch sent_by method) (Server other other_sent_by other_
 is_same_branch _ _ = false
 
 -- A CANCEL gets a 200 where its branch is that of a held request, of several the last that came up,
--- and otherwise a 481. An INVITE that has no final response gets a 487, and its early dialogs end
--- (RFC 3261, section 9.2).
+-- and otherwise a 481. An INVITE that it names, and that has no final response, gets a 487, and its
+-- early dialogs end (RFC 3261, section 9.2).
 abbrev pub cancel_rule : State → List ℕ → Arrival → ℕ → ServedTaken
 cancel_rule state call_id arrival now =
     let over = λ (held : HeldRequest).
@@ -117,10 +116,10 @@ cancel_rule state call_id arrival now =
     )) (find (λ held. is_same_branch arrival.key held.key) (reverse state.requests))
     (state, no_such_call arrival)
 
--- A request that comes up, by the first case that fits (RFC 3261, section 8.2). It gets a 482 where
--- it was merged: one with its From tag and CSeq is held. It gets a 420 where it requires an option
--- that the agent doesn't know, a 481 in no dialog that is held, and a 500 where its number isn't
--- above those that came before it in its dialog (section 12.2.2).
+-- A request that comes up, by the first case that fits (RFC 3261, section 8.2): a CANCEL; 482 where
+-- it was merged, one with its From tag and CSeq is held; 420 where it requires an option that the
+-- agent doesn't know; 481 for a dialog that isn't held; 500 where its number isn't above those that
+-- came before it in its dialog (section 12.2.2). A request in a dialog is noted there.
 unfoldable pub request_rule : State → List ℕ → Arrival → ℕ → ServedTaken
 request_rule state call_id arrival now =
     let request = arrival.request in

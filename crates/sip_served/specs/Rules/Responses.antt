@@ -1,6 +1,6 @@
 -- The rules of the user's answer to a held request: when it is refused, the response that goes out,
 -- and what is held then (RFC 3261, sections 8.2.6, 12.1.1 and 13.3.1; RFC 3262, section 3).
-use Rattle.std.specs.Prelude.{ℕ, ◌+◌, Bool, true, false, not, ◌&&◌, ◌||◌, ◌==◌, nat_le, nat_lt, List, [], ◌∷◌, ◌++◌, length, Option, None, Some, codes, find, is_some, is_none, if◌then◌else◌}
+use Rattle.std.specs.Prelude.{ℕ, ◌+◌, Bool, true, false, not, ◌&&◌, ◌||◌, nat_le, nat_lt, List, [], ◌∷◌, ◌++◌, length, Option, None, Some, codes, find, is_some, is_none, if◌then◌else◌}
 use Rattle.std.specs.List.{list_any}
 use Rattle.std.specs.Option.{option_map_or}
 use Rattle.indexmap.specs.IndexMap.{insert_entry}
@@ -11,7 +11,7 @@ use Rattle.sip_message.specs.Content.{with_content_of}
 use Rattle.sip_message.specs.Response.{response_of}
 use Rattle.sip_dialog.specs.Opening.{opened_by_request}
 use Rattle.sip_dialog.specs.Request.{contact_of}
-use Rattle.sip_reliable.specs.Ledger.{Ledger, closed_now, must_wait}
+use Rattle.sip_reliable.specs.Ledger.{closed_now, must_wait}
 use Rattle.sip_reliable.specs.Provisional.{Provisional}
 use Rattle.sip_timers.specs.declared.estimate.TheConstants.{LIFETIME, T1}
 use Rattle.sip_transactions.specs.declared.input.Command.TheVariants.{Answer}

@@ -1,8 +1,8 @@
 -- The rules of a tick: what is sent again, given up and removed, and when something of it is due
 -- (RFC 3261, section 13.3.1.4; RFC 3262, section 3). Moments are in ms.
-use Rattle.std.specs.Prelude.{ℕ, Bool, true, false, ◌+◌, ◌*◌, ◌&&◌, ◌==◌, nat_le, nat_lt, min, List, [], ◌∷◌, ◌++◌, map, filter, fold, Option, None, Some, if◌then◌else◌}
+use Rattle.std.specs.Prelude.{ℕ, true, ◌+◌, ◌*◌, ◌&&◌, ◌==◌, nat_le, nat_lt, min, List, [], ◌∷◌, ◌++◌, map, filter, fold, Option, None, Some, if◌then◌else◌}
 use Rattle.std.specs.List.{flat_map, list_any}
-use Rattle.std.specs.Option.{is_none, is_some, option_and_then, option_map, option_map_or}
+use Rattle.std.specs.Option.{is_none, is_some, option_and_then, option_map_or}
 use Rattle.sip_reliable.specs.Ledger.{Ledger}
 use Rattle.sip_reliable.specs.Provisional.{after_repeat, due_moment, given_up, is_late, is_repeated}
 use Rattle.sip_timers.specs.Earlier.{earlier}
