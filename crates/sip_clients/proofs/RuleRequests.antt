@@ -1,7 +1,7 @@
 -- The rules of the user's commands are the steps.
-use Rattle.std.proofs.Common.{◌≡◌, ℕ, Bool, true, false, cond, ◌&&◌, ◌||◌, List, [], ◌∷◌, ◌++◌, refl, sym, ap, ◌∙◌}
-use Rattle.std.specs.Prelude.{Option, None, Some, Result, Err, codes, filter, find, fold, is_some, nat_le, not, if◌then◌else◌}
-use Rattle.std.specs.Map.{lookup, set_value}
+use Rattle.std.proofs.Common.{◌≡◌, ℕ, Bool, true, false, ◌&&◌, ◌||◌, List, [], ◌∷◌, ◌++◌, refl, sym, ap, ◌∙◌}
+use Rattle.std.specs.Prelude.{Option, None, Some, Err, codes, filter, find, fold, is_some, nat_le, not, if◌then◌else◌}
+use Rattle.std.specs.Map.{set_value}
 use Rattle.std.specs.Option.{option_map, option_map_or}
 use Rattle.std.specs.Str.{bytes_eq}
 use Rattle.std.proofs.lemmas.Bool.{false≢true}
@@ -45,7 +45,6 @@ use Rattle.sip_clients.specs.declared.debts.DebtKind.TheVariants as kind
 use Rattle.sip_clients.specs.declared.event.Event.{Event}
 use Rattle.sip_clients.specs.declared.outputs.ClientChange.{ClientChange}
 use Rattle.sip_clients.specs.declared.outputs.ClientChange.TheVariants as change
-use Rattle.sip_clients.specs.declared.service.Sending.{Sending}
 use Rattle.sip_clients.specs.declared.service.Service.{Service}
 use Rattle.sip_clients.specs.declared.service.Service.TheVariants as service
 use Rattle.sip_clients.specs.declared.cancel.CancelCase.TheVariants as case
@@ -54,11 +53,11 @@ use Rattle.sip_clients.specs.declared.client.RequestKind.TheVariants.{First, Aga
 use Rattle.sip_clients.specs.Cancel.{asked, asking_case, cancel_by_user, cancelled_as, cancelled_of}
 use Rattle.sip_clients.specs.Client.{Clients, ClientTaken, Side, client_at, client_changed, client_for}
 use Rattle.sip_clients.specs.Clients.{ack_by_user, ack_kept, ack_paid, invite_taken, paid_or_refused, plain_taken, prack_by_user, prack_paid, request_by_user, request_settled, settled}
-use Rattle.sip_clients.specs.Commands.{bye_ended, debt_for, debt_or_refusal, is_callee, is_own_kind, name_in, oldest_debt, request_in_held, request_refusals, requested_at, sent_unless}
-use Rattle.sip_clients.specs.Debts.{dropped_if_sent, is_debt, is_of, kept_unless_sent, owed, paid, without_debt}
+use Rattle.sip_clients.specs.Commands.{bye_ended, debt_or_refusal, is_callee, name_in, oldest_debt, request_in_held, request_refusals, requested_at, sent_unless}
+use Rattle.sip_clients.specs.Debts.{dropped_if_sent, is_debt, is_of, paid}
 use Rattle.sip_clients.specs.Outputs.{ack_said, request_said, start_command}
 use Rattle.sip_clients.specs.Outside.{bare_request, supporting, through, with_contact}
-use Rattle.sip_clients.specs.Service.{Outcome, discharged, happens_by_sending, refusal_for_fault, requested, sending_in, service_by}
+use Rattle.sip_clients.specs.Service.{Outcome, discharged, refusal_for_fault, sending_in}
 use Rattle.sip_clients.specs.Reply.{is_inviting}
 use Rattle.sip_clients.specs.Rules.Requests as rule
 use Rattle.sip_clients.specs.Rules.Requests.{ack_rule, cancel_rule, invite_rule, plain_rule, prack_rule, request_rule}

@@ -1,7 +1,7 @@
 -- The rule of a response is the step.
 use Rattle.std.proofs.Common.{◌≡◌, ℕ, ◌+◌, Bool, true, false, cond, ◌&&◌, ◌||◌, List, [], ◌∷◌, ◌++◌, refl, sym, ap, ◌∙◌, append-nil}
-use Rattle.std.specs.Prelude.{Option, None, Some, ◌==◌, fold, nat_le, nat_lt, not, option_and_then, option_map, option_to_list, unwrap_or, if◌then◌else◌}
-use Rattle.std.specs.Map.{lookup, remove_entry, set_value}
+use Rattle.std.specs.Prelude.{Option, None, Some, ◌==◌, fold, nat_le, nat_lt, not, option_map, option_to_list, if◌then◌else◌}
+use Rattle.std.specs.Map.{remove_entry, set_value}
 use Rattle.std.specs.Option.{option_map_or}
 use Rattle.indexmap.specs.IndexMap.{insert_entry}
 use Rattle.sip_model.proofs.Ordered.{by_bool}
@@ -21,7 +21,7 @@ use Rattle.sip_common.specs.declared.held_dialog.DialogLife.{DialogLife}
 use Rattle.sip_common.specs.declared.held_dialog.DialogName.{DialogName}
 use Rattle.sip_common.specs.declared.held_dialog.HeldDialog.{HeldDialog}
 use Rattle.sip_common.specs.declared.item.CallOut.{CallOut}
-use Rattle.sip_common.specs.Dialogs.{confirmed, dialog_at, is_named, lives, retargeted, Dialogs}
+use Rattle.sip_common.specs.Dialogs.{confirmed, dialog_at, is_named, retargeted, Dialogs}
 use Rattle.sip_common.specs.Ids.{is_id}
 use Rattle.sip_common.specs.Requests.{is_final, name_of_tags}
 use Rattle.sip_clients.specs.declared.answers.SentAck.{SentAck}
@@ -39,7 +39,7 @@ use Rattle.sip_clients.specs.declared.service.Service.{Service}
 use Rattle.sip_clients.specs.declared.service.Service.TheVariants as service
 use Rattle.sip_clients.specs.Answers.{has_answer}
 use Rattle.sip_clients.specs.Cancel.{after_response, cancel_client, cancel_freed, cancelling_after, freed_by}
-use Rattle.sip_clients.specs.Client.{Clients, ClientTaken, Side, client_at}
+use Rattle.sip_clients.specs.Client.{ClientTaken, Side, client_at}
 use Rattle.sip_clients.specs.Clients.{found_taken, reply_name, reply_of, reply_settled, response_taken, side_after, status_of}
 use Rattle.sip_clients.specs.Debts.{kept_unless_sent, owed}
 use Rattle.sip_clients.specs.Dialogs.{accepted, hearing}
@@ -49,7 +49,7 @@ use Rattle.sip_clients.specs.Reply.{is_dialog_response, offer_case, rseq_of}
 use Rattle.sip_clients.specs.Service.{discharged}
 use Rattle.sip_clients.specs.Rules.Ends as ends
 use Rattle.sip_clients.specs.Rules.Requests as rule
-use Rattle.sip_clients.specs.Rules.Responses.{Outcome, dialog_made_by, asks_for, outcome_of, response_rule, success_in, waiting_cancel}
+use Rattle.sip_clients.specs.Rules.Responses.{Outcome, dialog_made_by, outcome_of, response_rule, success_in, waiting_cancel}
 use Rattle.sip_clients.specs.Rules.Responses as response
 use Rattle.sip_clients.proofs.RuleEnds.{over_same}
 use Rattle.sip_clients.proofs.RuleRequests.{dialog_by, owed_kept, served_by, served_same, started_by}
