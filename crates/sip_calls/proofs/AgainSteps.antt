@@ -9,7 +9,7 @@ use Rattle.sip_transactions.specs.declared.output.Kind.TheVariants as kind
 use Rattle.sip_transactions.specs.declared.output.Up.{Up as AnUp}
 use Rattle.sip_common.specs.declared.command.UserCommand.{UserCommand}
 use Rattle.sip_common.specs.declared.command.UserCommand.TheVariants.{Invite, Plain as PlainCommand, Request, Respond, Ack, Prack, Cancel}
-use Rattle.sip_common.specs.declared.held_dialog.DialogLife.{DialogLife}
+use Rattle.sip_common.specs.declared.held_dialog.DialogReference.{DialogReference}
 use Rattle.sip_common.specs.declared.item.CallOut.{CallOut}
 use Rattle.sip_common.specs.declared.item.Item.TheVariants.{Up, User}
 use Rattle.sip_common.specs.declared.notice.Notice.{Notice}
@@ -30,7 +30,7 @@ use Rattle.sip_calls.specs.Steps.Call.{step_taken, command_taken, first_command_
 use Rattle.sip_calls.proofs.SameSteps.{same_step}
 use Rattle.sip_calls.proofs.KeptSides.{kept_side}
 
-module _ (life : DialogLife) (invite : Id) where
+module _ (life : DialogReference) (invite : Id) where
   abbrev Result : Option Id → Option ℕ → Clients → Side → List CallOut → Type 0
   Result event number before after outs =
       AgainResult life invite event before after.dialogs after.clients number outs

@@ -9,7 +9,7 @@ use Rattle.sip_transactions.specs.declared.output.Kind.TheVariants as kind
 use Rattle.sip_transactions.specs.declared.output.Up.{Up as AnUp}
 use Rattle.sip_common.specs.declared.command.UserCommand.{UserCommand}
 use Rattle.sip_common.specs.declared.command.UserCommand.TheVariants.{Invite, Plain as PlainCommand, Request, Respond, Ack, Prack, Cancel}
-use Rattle.sip_common.specs.declared.held_dialog.DialogName.{DialogName}
+use Rattle.sip_common.specs.declared.held_dialog.DialogId.{DialogId}
 use Rattle.sip_common.specs.declared.item.CallOut.{CallOut}
 use Rattle.sip_common.specs.declared.item.Item.TheVariants.{Up, User}
 use Rattle.sip_served.specs.Tick as served
@@ -228,7 +228,7 @@ cancels_once calls inputs =
 
 pub repeats_its_ack : RepeatsItsAck
 repeats_its_ack calls inputs =
-    each_story (λ story. (before later : List ClientHappening) (name : DialogName) (ack : SentAck)
+    each_story (λ story. (before later : List ClientHappening) (name : DialogId) (ack : SentAck)
     → story.life ≡ before ++ SendsAckAgain name ack ∷ later
     → ack_of name (answers_of before) ≡ Some ack)
     (λ story fits before later name ack is.

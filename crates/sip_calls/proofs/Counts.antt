@@ -14,12 +14,12 @@ use Rattle.sip_transactions.specs.declared.output.Kind.{Kind}
 use Rattle.sip_transactions.specs.declared.output.Kind.TheVariants as kind
 use Rattle.sip_common.specs.declared.command.UserCommand.{UserCommand}
 use Rattle.sip_common.specs.declared.command.UserCommand.TheVariants.{Invite, Plain, Request, Respond, Ack, Prack, Cancel}
-use Rattle.sip_common.specs.declared.held_dialog.DialogName.{DialogName}
+use Rattle.sip_common.specs.declared.held_dialog.DialogId.{DialogId}
 use Rattle.sip_common.specs.declared.held_dialog.HeldDialog.{HeldDialog}
 use Rattle.sip_common.specs.declared.item.CallOut.{CallOut}
 use Rattle.sip_common.specs.declared.item.Item.{Item}
 use Rattle.sip_common.specs.declared.item.Item.TheVariants.{Up, User}
-use Rattle.sip_common.specs.Dialogs.{confirms, numbers, refreshes, retargets, takes, visits}
+use Rattle.sip_common.specs.Dialogs.{confirms, numbers, refreshes, retargets, takes, happenings_by_request}
 use Rattle.sip_common.specs.Requests.{is_invite}
 use Rattle.sip_common.specs.Sent.{cseqs_in, requests_made, responses_out, sent_in}
 use Rattle.sip_served.specs.declared.held_request.HeldRequest.{HeldRequest}
@@ -82,7 +82,7 @@ retargets_none (Some uri) held = by_end (is_some (ended_fault held.dialog))
     by_end true = refl
     by_end false = refl
 
-visits_none : (request : Message) (held : HeldDialog) → how_many (visits request held) ≡ 0
+visits_none : (request : Message) (held : HeldDialog) → how_many (happenings_by_request request held) ≡ 0
 visits_none request held =
     let number = request.cseq.number in
     none_of_both (numbers number held) (refreshes request held) (by_order (takes held number))
@@ -95,10 +95,10 @@ visits_none request held =
 
 success_none : (kind : RequestKind) (response : Message) (held : HeldDialog)
     → how_many (success_brings kind response held) ≡ 0
-success_none asked.First response held = confirms_none response held
-success_none (asked.Again life) response held = retargets_none (contact_uri response) held
-success_none (asked.Inside life) response held = refl
-success_none asked.Plain response held = refl
+success_none asked.InitialInvite response held = confirms_none response held
+success_none (asked.ReInvite life) response held = retargets_none (contact_uri response) held
+success_none (asked.InDialog life) response held = refl
+success_none asked.OutOfDialog response held = refl
 
 all_confirm_none : (responses : List Message) (held : HeldDialog)
     → how_many (flat_map (λ response. confirms response held) responses) ≡ 0
@@ -108,7 +108,7 @@ all_confirm_none (response ∷ responses) held =
     (flat_map (λ response. confirms response held) responses)
     (confirms_none response held) (all_confirm_none responses held)
 
-answer_none : (status : ℕ) (outs : List CallOut) (name : DialogName) (held : HeldDialog)
+answer_none : (status : ℕ) (outs : List CallOut) (name : DialogId) (held : HeldDialog)
     (o : Option HeldRequest)
     → how_many (option_map_or
     (λ request. success_confirms request status (responses_out outs) name held) o []) ≡ 0
@@ -117,7 +117,7 @@ answer_none status outs name held (Some request) =
     none_if _ (flat_map (λ response. confirms response held) (responses_out outs))
     (all_confirm_none (responses_out outs) held)
 
-reply_none : (response : Message) (name : DialogName) (held : HeldDialog) (status : Option ℕ)
+reply_none : (response : Message) (name : DialogId) (held : HeldDialog) (status : Option ℕ)
     (o : Option Client)
     → how_many (option_map_or (λ client. option_map_or
     (λ status. reply_brings status client response name held) status []) o []) ≡ 0
@@ -127,17 +127,17 @@ reply_none response name held None (Some client) = refl
 reply_none response name held (Some status) (Some client) =
     none_if _ (success_brings client.kind response held) (success_none client.kind response held)
 
-kind_none : (call : Call) (id : Id) (k : Kind) (name : DialogName) (held : HeldDialog)
+kind_none : (call : Call) (id : Id) (k : Kind) (name : DialogId) (held : HeldDialog)
     → how_many (brought_by_kind call id k name held) ≡ 0
 kind_none call id (kind.Request request reply_to) name held =
-    none_if _ (visits request held) (visits_none request held)
+    none_if _ (happenings_by_request request held) (visits_none request held)
 kind_none call id (kind.Ack ack) name held = refl
 kind_none call id (kind.Response response) name held =
     reply_none response name held (status_of response.start) (client_at id call.clients)
 kind_none call id kind.Timeout name held = refl
 kind_none call id kind.Failed name held = refl
 
-command_none : (call : Call) (command : UserCommand) (outs : List CallOut) (name : DialogName)
+command_none : (call : Call) (command : UserCommand) (outs : List CallOut) (name : DialogId)
     (held : HeldDialog) → how_many (brought_by_command call command outs name held) ≡ 0
 command_none call (Invite invite) outs name held = refl
 command_none call (Plain plain) outs name held = refl
@@ -149,13 +149,13 @@ command_none call (Ack ack) outs name held = refl
 command_none call (Prack prack) outs name held = refl
 command_none call (Cancel cancel) outs name held = refl
 
-item_none : (call : Call) (item : Item) (outs : List CallOut) (name : DialogName)
+item_none : (call : Call) (item : Item) (outs : List CallOut) (name : DialogId)
     (held : HeldDialog) → how_many (brought_by call item outs name held) ≡ 0
 item_none call (Up up) outs name held = kind_none call up.id up.kind name held
 item_none call (User command) outs name held = command_none call command outs name held
 
 pub life_counts : (state : Option Call) (input : Option CallItem) (outs : List CallOut)
-    (name : DialogName) (held : HeldDialog)
+    (name : DialogId) (held : HeldDialog)
     → how_many (happens_in state input outs name held) ≡ length (cseqs_in name outs)
 life_counts None None outs name held = made_count (cseqs_in name outs)
 life_counts None (Some (id, item)) outs name held = made_count (cseqs_in name outs)

@@ -9,7 +9,7 @@ use Rattle.sip_transactions.specs.declared.output.Kind.TheVariants as kind
 use Rattle.sip_transactions.specs.declared.output.Up.{Up as AnUp}
 use Rattle.sip_common.specs.declared.command.UserCommand.{UserCommand}
 use Rattle.sip_common.specs.declared.command.UserCommand.TheVariants.{Invite, Plain as PlainCommand, Request, Respond, Ack, Prack, Cancel}
-use Rattle.sip_common.specs.declared.held_dialog.DialogLife.{DialogLife}
+use Rattle.sip_common.specs.declared.held_dialog.DialogReference.{DialogReference}
 use Rattle.sip_common.specs.declared.item.CallOut.{CallOut}
 use Rattle.sip_common.specs.declared.item.Item.TheVariants.{Up, User}
 use Rattle.sip_common.specs.declared.notice.Notice.{Notice}
@@ -33,7 +33,7 @@ use Rattle.sip_calls.specs.Steps.Call.{step_taken, command_taken, first_command_
 use Rattle.sip_calls.proofs.SameSteps.{same_step}
 use Rattle.sip_calls.proofs.KeptSides.{kept_side}
 
-module _ (life : DialogLife) where
+module _ (life : DialogReference) where
   -- ---- all that happens
 
   abbrev dialogs_of : Call → Dialogs
@@ -176,6 +176,6 @@ module _ (life : DialogLife) where
       (λ timed. event_in timed.input) (number_in_life calls OfTheCall life)
       (λ state input. told_of (number_in_life calls OfTheCall life state input)
       (done calls OfTheCall life state input).1) (λ state. ear life (side_held state).dialogs)
-      (λ state. AreApart (side_held state).dialogs) life.born
+      (λ state. AreApart (side_held state).dialogs) life.created_by
       (λ state timed apart _. by_input calls state timed.input timed.moment apart) inputs None
       (none_apart is_named) differ refl

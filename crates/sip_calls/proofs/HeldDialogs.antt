@@ -10,7 +10,7 @@ use Rattle.sip_transactions.specs.declared.output.Kind.TheVariants as kind
 use Rattle.sip_transactions.specs.declared.output.Up.{Up as AnUp}
 use Rattle.sip_common.specs.declared.command.UserCommand.{UserCommand}
 use Rattle.sip_common.specs.declared.command.UserCommand.TheVariants.{Invite, Plain as PlainCommand, Request, Respond, Ack, Prack, Cancel}
-use Rattle.sip_common.specs.declared.held_dialog.DialogName.{DialogName}
+use Rattle.sip_common.specs.declared.held_dialog.DialogId.{DialogId}
 use Rattle.sip_common.specs.declared.held_dialog.HeldDialog.{HeldDialog}
 use Rattle.sip_common.specs.declared.item.CallOut.{CallOut}
 use Rattle.sip_common.specs.declared.item.CallOut.TheVariants.{Notice as Tells}
@@ -44,7 +44,7 @@ use Rattle.sip_calls.proofs.SameSteps.{same_step}
 use Rattle.sip_calls.proofs.KeptSides.{kept_side}
 use Rattle.sip_calls.proofs.LifeSteps.{by_input as moves_by, dialogs_of, first_none}
 
-abbrev Step : (DialogName → Bool) → Which → Call → CallTaken → Type 0
+abbrev Step : (DialogId → Bool) → Which → Call → CallTaken → Type 0
 Step opening ending call taken =
     Goes opening ending (dialogs_of call) (dialogs_of taken.0) taken.1
 
@@ -154,7 +154,7 @@ first_sound calls id now (Ack ack) sound = sound
 first_sound calls id now (Prack prack) sound = sound
 first_sound calls id now (Cancel cancel) sound = sound
 
-no_opening : (local : Calls) (id : Id) (k : Kind) (name : DialogName)
+no_opening : (local : Calls) (id : Id) (k : Kind) (name : DialogId)
     → opened_by_kind (new_call local.local) id k name ≡ false
 no_opening local id (kind.Request request reply_to) name = refl
 no_opening local id (kind.Ack ack) name = refl
@@ -180,7 +180,7 @@ InputGoes state input now taken =
     Goes (opens state input taken.1) (ended_by state input now taken.1)
     (side_held state).dialogs (side_held taken.0).dialogs taken.1
 
-kept_step : (opening : DialogName → Bool) (ending : Which) (before : Dialogs) (taken : CallTaken)
+kept_step : (opening : DialogId → Bool) (ending : Which) (before : Dialogs) (taken : CallTaken)
     → Goes opening ending before (dialogs_of taken.0) taken.1
     → Goes opening ending before (side_held (kept taken).0).dialogs taken.1
 kept_step opening ending before taken step =
@@ -263,7 +263,7 @@ input_sound calls state input now sound =
 
 -- a dialog that stays or begins has the name of its tags
 still_named : (event : Option Id) (start : Option Opening) (came : Option ℕ) (life : Life)
-    (begun : List Happening) (name : DialogName) (before : Option HeldDialog) (held : HeldDialog)
+    (begun : List Happening) (name : DialogId) (before : Option HeldDialog) (held : HeldDialog)
     → ((was : HeldDialog) → before ≡ Some was
     → is_named name (name_of_dialog was.dialog) ≡ true)
     → Went event (OpensBy start name) came life begun before (Some held)
@@ -321,7 +321,7 @@ left_so : (end : HeldDialog → Bool) (o : Option HeldDialog)
 left_so end None = refl
 left_so end (Some held) = refl
 
-held_so : (calls : Calls) (name : DialogName) (inputs : List (Timed CallItem))
+held_so : (calls : Calls) (name : DialogId) (inputs : List (Timed CallItem))
     (state : Option Call) (held : Bool) → Orderly state
     → is_some (dialog_at name (side_held state).dialogs) ≡ held
     → is_some (dialog_at name (side_held (call_from calls state inputs)).dialogs)
@@ -370,7 +370,7 @@ add_bound : (now told held opened later_told last before later_opened : ℕ)
     → told ≡ now → (told + later_told) + last ≤ before + (opened + later_opened)
 add_bound now told held opened later_told last before later_opened step later same = omega arith
 
-ends_bound : (calls : Calls) (name : DialogName) (inputs : List (Timed CallItem))
+ends_bound : (calls : Calls) (name : DialogId) (inputs : List (Timed CallItem))
     (state : Option Call) → Orderly state
     → told_from calls name state inputs + held_now name (call_from calls state inputs)
     ≤ held_now name state + opened_from calls name state inputs

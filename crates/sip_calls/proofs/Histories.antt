@@ -11,7 +11,7 @@ use Rattle.sip_message.specs.declared.id.Id.{Id}
 use Rattle.sip_dialog.specs.declared.dialog.Dialog.{Dialog}
 use Rattle.sip_dialog.specs.Life.{Happening, dialog_after}
 use Rattle.sip_dialog.specs.Opening.{Opening, opened}
-use Rattle.sip_common.specs.declared.held_dialog.DialogName.{DialogName}
+use Rattle.sip_common.specs.declared.held_dialog.DialogId.{DialogId}
 use Rattle.sip_common.specs.declared.held_dialog.HeldDialog.{HeldDialog}
 use Rattle.sip_common.specs.Dialogs.{dialog_at, happened, is_named}
 use Rattle.sip_common.specs.Ids.{is_id}
@@ -39,36 +39,36 @@ nothing_yet opening =
 -- ---- one dialog
 
 -- what is held under a name, with its history; no later event made it
-abbrev pub Stands : DialogName → Option HeldDialog → Option History → List Id → Type 0
+abbrev pub Stands : DialogId → Option HeldDialog → Option History → List Id → Type 0
 Stands name None history ids = Unit {0}
 Stands name (Some held) None ids = ⊥
 Stands name (Some held) (Some history) ids =
     (held.dialog ≡ dialog_after history.opening history.life)
     × (is_named name (name_of_dialog (opened history.opening)) ≡ true)
-    × NoneOf held.born ids
+    × NoneOf held.created_by ids
     × (how_many history.life ≡ length history.sent)
     × NumberedAfter (opened history.opening).local_cseq history.sent
 
 -- it was made by this event
 abbrev pub born_of : Option Id → Option HeldDialog → Bool
 born_of event after = option_map_or
-    (λ id. option_map_or (λ (held : HeldDialog). is_id held.born id) after false) event false
+    (λ id. option_map_or (λ (held : HeldDialog). is_id held.created_by id) after false) event false
 
 abbrev next_history : Bool → Option Opening → List CSeq → List Happening → Option History
     → Option History
-next_history born start cseqs more history =
-    if born then option_map (begun_with cseqs) start else option_map (with_more more cseqs) history
+next_history created_by start cseqs more history =
+    if created_by then option_map (begun_with cseqs) start else option_map (with_more more cseqs) history
 
 pub not_born : (event : Option Id) (ids : List Id) (held after : HeldDialog)
-    → after.born ≡ held.born → NoneOf held.born (cons_option event ids)
+    → after.created_by ≡ held.created_by → NoneOf held.created_by (cons_option event ids)
     → born_of event (Some after) ≡ false
 not_born None ids held after same others = refl
-not_born (Some id) ids held after same others = ap (λ born. is_id born id) same ∙ others.0
+not_born (Some id) ids held after same others = ap (λ created_by. is_id created_by id) same ∙ others.0
 
-others_left : (born : Id) (event : Option Id) (ids : List Id)
-    → NoneOf born (cons_option event ids) → NoneOf born ids
-others_left born None ids others = others
-others_left born (Some id) ids others = others.1
+others_left : (created_by : Id) (event : Option Id) (ids : List Id)
+    → NoneOf created_by (cons_option event ids) → NoneOf created_by ids
+others_left created_by None ids others = others
+others_left created_by (Some id) ids others = others.1
 
 -- ---- numbers
 
@@ -96,9 +96,9 @@ none_made (cseq ∷ cseqs) none = absurd cc
 
 -- ---- one input
 
-module _ (name : DialogName) (event : Option Id) (ids : List Id) (start : Option Opening)
+module _ (name : DialogId) (event : Option Id) (ids : List Id) (start : Option Opening)
     (came : Option ℕ) (cseqs : List CSeq)
-    (later : (born : Id) → event ≡ Some born → NoneOf born ids) where
+    (later : (created_by : Id) → event ≡ Some created_by → NoneOf created_by ids) where
   abbrev Next : Option HeldDialog → List Happening → Option History → Type 0
   Next after more history =
       Stands name after (next_history (born_of event after) start cseqs more history) ids
@@ -126,8 +126,8 @@ module _ (name : DialogName) (event : Option Id) (ids : List Id) (start : Option
       (sym (not_born event ids held after stays.0 stands.2)) (
         same,
         stands.1,
-        subst (λ (born : Id). NoneOf born ids) (sym stays.0)
-            (others_left held.born event ids stands.2),
+        subst (λ (created_by : Id). NoneOf created_by ids) (sym stays.0)
+            (others_left held.created_by event ids stands.2),
         counted,
         numbered_on first history.sent cseqs stands.4
             (subst (λ n. NumberedAfter n cseqs) last numbers),
@@ -153,21 +153,21 @@ module _ (name : DialogName) (event : Option Id) (ids : List Id) (start : Option
       let opens = begins.2.1 in
       let grows = begins.2.2 in
       let life = requests_made cseqs in
-      let born : born_of event (Some after) ≡ true =
-      ap (λ event. born_of event (Some after)) begins.0 ∙ id_laws.refl after.born in
+      let created_by : born_of event (Some after) ≡ true =
+      ap (λ event. born_of event (Some after)) begins.0 ∙ id_laws.refl after.created_by in
       let fits : AllFit (dialog_after opening []) life =
       subst (λ (dialog : Dialog). AllFit dialog life) (nothing_yet opening) grows.0 in
       let same : after.dialog ≡ dialog_after opening life =
       grows.1 ∙ ap (λ dialog. fold happened dialog life) (nothing_yet opening)
       ∙ all_on opening [] life fits in
       subst (λ (b : Bool). Stands name (Some after) (next_history b start cseqs more history) ids)
-      (sym born)
+      (sym created_by)
       (subst (λ (o : Option Opening). Stands name (Some after) (option_map (begun_with cseqs) o)
       ids)
       (sym opens.0) (
         same,
         opens.1,
-        later after.born begins.0,
+        later after.created_by begins.0,
         made_count cseqs,
         begun_numbers before opening opens.0 numbers begins.3,
       ))
@@ -187,7 +187,7 @@ module _ (name : DialogName) (event : Option Id) (ids : List Id) (start : Option
 
 -- ---- all inputs
 
-named_so : (name : DialogName) (o : Option HeldDialog) (history : Option History) (ids : List Id)
+named_so : (name : DialogId) (o : Option HeldDialog) (history : Option History) (ids : List Id)
     → Stands name o history ids → (held : HeldDialog) → o ≡ Some held
     → is_named name (name_of_dialog held.dialog) ≡ true
 named_so name None history ids stands held at = absurd cc
@@ -205,17 +205,17 @@ rest_differ (Some id) ids differ = IsDistinct-tail is_id id ids differ
 abbrev pub ids_of : List (Timed CallItem) → List Id
 ids_of inputs = filter_map (λ timed. event_in timed.input) inputs
 
-abbrev pub AllStand : Option Call → (DialogName → Option History) → List Id → Type 0
-AllStand state histories ids = (name : DialogName)
+abbrev pub AllStand : Option Call → (DialogId → Option History) → List Id → Type 0
+AllStand state histories ids = (name : DialogId)
     → Stands name (dialog_at name (side_held state).dialogs) (histories name) ids
 
 -- the names of what is held differ, and each dialog stands
-pub record Sound (state : Option Call) (histories : DialogName → Option History)
+pub record Sound (state : Option Call) (histories : DialogId → Option History)
     (ids : List Id) : Type 0 where
   pub apart : AreApart (side_held state).dialogs
   pub stand : AllStand state histories ids
 
-pub are_named : (state : Option Call) (histories : DialogName → Option History) (ids : List Id)
+pub are_named : (state : Option Call) (histories : DialogId → Option History) (ids : List Id)
     → AllStand state histories ids → AreNamed (side_held state).dialogs
 are_named state histories ids stand name held at =
     named_so name (dialog_at name (side_held state).dialogs) (histories name) ids (stand name) held
@@ -223,7 +223,7 @@ are_named state histories ids stand name held at =
 
 -- after one input
 pub next_sound : (calls : Calls) (input : Timed CallItem) (inputs : List (Timed CallItem))
-    (state : Option Call) (histories : DialogName → Option History)
+    (state : Option Call) (histories : DialogId → Option History)
     → IsDistinct is_id (ids_of (input ∷ inputs)) → Sound state histories (ids_of (input ∷ inputs))
     → Sound (call_step calls state input.input input.moment).0
     (λ name. history_after calls name state (histories name) input) (ids_of inputs)
@@ -237,7 +237,7 @@ next_sound calls input inputs state histories differ sound =
       apart = moves.apart;
       stand = λ name. next_stands name event (ids_of inputs) (opening_in state input.input)
           (step.0 name) (cseqs_in name done.1)
-          (λ born is. (apart_now born event (ids_of inputs) differ).1 is)
+          (λ created_by is. (apart_now created_by event (ids_of inputs) differ).1 is)
           (happens_in state input.input done.1 name)
           (dialog_at name (side_held state).dialogs)
           (dialog_at name (side_held done.0).dialogs)
@@ -246,7 +246,7 @@ next_sound calls input inputs state histories differ sound =
     }
 
 from : (calls : Calls) (inputs : List (Timed CallItem)) (state : Option Call)
-    (histories : DialogName → Option History) → IsDistinct is_id (ids_of inputs)
+    (histories : DialogId → Option History) → IsDistinct is_id (ids_of inputs)
     → Sound state histories (ids_of inputs)
     → Sound (call_from calls state inputs)
     (λ name. history_from calls name state (histories name) inputs) []
@@ -267,7 +267,7 @@ sound_after : (calls : Calls) (inputs : List (Timed CallItem)) → EventsDiffer 
 sound_after calls inputs differ =
     from calls inputs None (λ name. None) differ none_yet
 
-told_so : (name : DialogName) (o : Option HeldDialog) (told : Option History)
+told_so : (name : DialogId) (o : Option HeldDialog) (told : Option History)
     → Stands name o told [] → (held : HeldDialog) → o ≡ Some held
     → (history : History) × (told ≡ Some history)
     × (held.dialog ≡ dialog_after history.opening history.life)
@@ -285,7 +285,7 @@ told_so name (Some there) (Some history) stands held at =
     )
 
 told_at : (calls : Calls) (inputs : List (Timed CallItem)) → EventsDiffer inputs
-    → (name : DialogName) (held : HeldDialog)
+    → (name : DialogId) (held : HeldDialog)
     → dialog_at name (side_held (call_from calls None inputs)).dialogs ≡ Some held
     → (history : History) × (history_of calls name inputs ≡ Some history)
     × (held.dialog ≡ dialog_after history.opening history.life)

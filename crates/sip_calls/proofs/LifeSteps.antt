@@ -9,7 +9,7 @@ use Rattle.sip_transactions.specs.declared.output.Kind.TheVariants as kind
 use Rattle.sip_transactions.specs.declared.output.Up.{Up as AnUp}
 use Rattle.sip_common.specs.declared.command.UserCommand.{UserCommand}
 use Rattle.sip_common.specs.declared.command.UserCommand.TheVariants.{Invite, Plain as PlainCommand, Request, Respond, Ack, Prack, Cancel}
-use Rattle.sip_common.specs.declared.held_dialog.DialogName.{DialogName}
+use Rattle.sip_common.specs.declared.held_dialog.DialogId.{DialogId}
 use Rattle.sip_common.specs.declared.held_dialog.HeldDialog.{HeldDialog}
 use Rattle.sip_common.specs.declared.item.CallOut.{CallOut}
 use Rattle.sip_common.specs.declared.item.Item.TheVariants.{Up, User}
@@ -47,7 +47,7 @@ with_outs brought outs name held = brought name held ++ sent_in name outs
 
 -- after this is given, whatever was heard; the requests that go out have the next numbers
 abbrev pub MovesTo : Option Id → Option Opening → Lives → List CallOut → Dialogs → Dialogs → Type 0
-MovesTo event start lives outs before after = (came : DialogName → Option ℕ)
+MovesTo event start lives outs before after = (came : DialogId → Option ℕ)
     × Moves event start came lives (λ name. sent_in name outs) before after
     × AreNumbered start before outs
 
@@ -125,7 +125,7 @@ command_sends id call taken sends =
 
 -- a command that is refused, since the call is held
 command_refused : (id : Id) (call : Call) (outs : List CallOut)
-    → ((name : DialogName) → [] ≡ cseqs_in name outs) → AreApart (dialogs_of call)
+    → ((name : DialogId) → [] ≡ cseqs_in name outs) → AreApart (dialogs_of call)
     → Step (Some id) None quiet call (call, outs)
 command_refused id call outs none apart =
     command_sends id call (call, outs)

@@ -9,8 +9,8 @@ use Rattle.sip_transactions.specs.declared.output.Kind.TheVariants as kind
 use Rattle.sip_transactions.specs.declared.output.Up.{Up as AnUp}
 use Rattle.sip_common.specs.declared.command.UserCommand.{UserCommand}
 use Rattle.sip_common.specs.declared.command.UserCommand.TheVariants.{Invite, Plain as PlainCommand, Request, Respond, Ack, Prack, Cancel}
-use Rattle.sip_common.specs.declared.debt.Debt.{Debt}
-use Rattle.sip_common.specs.declared.held_dialog.DialogName.{DialogName}
+use Rattle.sip_common.specs.declared.pending_request.PendingRequest.{PendingRequest}
+use Rattle.sip_common.specs.declared.held_dialog.DialogId.{DialogId}
 use Rattle.sip_common.specs.declared.held_dialog.HeldDialog.{HeldDialog}
 use Rattle.sip_common.specs.declared.item.CallOut.{CallOut}
 use Rattle.sip_common.specs.declared.item.Item.TheVariants.{Up, User}
@@ -41,9 +41,9 @@ use Rattle.sip_calls.proofs.LifeSteps.{dialogs_of, first_none}
 -- ---- one input
 
 -- of each name what is owed changes so
-abbrev OwesTo : Option Id → (DialogName → List Debt → List Debt) → Dialogs → Dialogs → Type 0
+abbrev OwesTo : Option Id → (DialogId → List PendingRequest → List PendingRequest) → Dialogs → Dialogs → Type 0
 OwesTo event change before after =
-    (name : DialogName) → Owes event (change name) (dialog_at name before) (dialog_at name after)
+    (name : DialogId) → Owes event (change name) (dialog_at name before) (dialog_at name after)
 
 same_to : (event : Option Id) (before after : Dialogs) → OweSame before after
     → OwesTo event (λ name. unchanged) before after
@@ -97,19 +97,19 @@ command_owes call calls id now (Cancel cancel) apart named name =
     same_to (Some id) (dialogs_of call) (dialogs_of call) (same_owed (dialogs_of call)) name
 
 -- where nothing was held, nothing is told of a response
-none_owed : (local : Calls) (id : Id) (k : Kind) (name : DialogName) (outs : List CallOut)
-    (debts : List Debt) → owed_by_kind (new_call local.local) id k name outs debts ≡ debts
-none_owed local id (kind.Request request reply_to) name outs debts = refl
-none_owed local id (kind.Ack ack) name outs debts = refl
-none_owed local id (kind.Response response) name outs debts = append-nil debts
-none_owed local id kind.Timeout name outs debts = refl
-none_owed local id kind.Failed name outs debts = refl
+none_owed : (local : Calls) (id : Id) (k : Kind) (name : DialogId) (outs : List CallOut)
+    (pending_requests : List PendingRequest) → owed_by_kind (new_call local.local) id k name outs pending_requests ≡ pending_requests
+none_owed local id (kind.Request request reply_to) name outs pending_requests = refl
+none_owed local id (kind.Ack ack) name outs pending_requests = refl
+none_owed local id (kind.Response response) name outs pending_requests = append-nil pending_requests
+none_owed local id kind.Timeout name outs pending_requests = refl
+none_owed local id kind.Failed name outs pending_requests = refl
 
-none_held : (event : Option Id) (change : DialogName → List Debt → List Debt)
+none_held : (event : Option Id) (change : DialogId → List PendingRequest → List PendingRequest)
     → OwesTo event change [] []
 none_held event change name = inl tt
 
-kept_to : (event : Option Id) (change : DialogName → List Debt → List Debt) (before : Dialogs)
+kept_to : (event : Option Id) (change : DialogId → List PendingRequest → List PendingRequest) (before : Dialogs)
     (taken : CallTaken) → OwesTo event change before (dialogs_of taken.0)
     → OwesTo event change before (side_held (kept taken).0).dialogs
 kept_to event change before taken owes =
@@ -162,54 +162,54 @@ input_owes calls state input now apart named =
 -- ---- one dialog
 
 -- these are owed in it, where it is held
-abbrev Owing : Option HeldDialog → List Debt → Type 0
-Owing o debts = IfSome o (λ held. held.owed ≡ debts)
+abbrev Owing : Option HeldDialog → List PendingRequest → Type 0
+Owing o pending_requests = IfSome o (λ held. held.pending_requests ≡ pending_requests)
 
-next_owing : (name : DialogName) (event : Option Id) (ids : List Id)
-    (change : List Debt → List Debt) (before after : Option HeldDialog)
-    (history : Option History) (debts : List Debt)
+next_owing : (name : DialogId) (event : Option Id) (ids : List Id)
+    (change : List PendingRequest → List PendingRequest) (before after : Option HeldDialog)
+    (history : Option History) (pending_requests : List PendingRequest)
     → Stands name before history (cons_option event ids) → Owes event change before after
-    → Owing before debts → Owing after (change (if born_of event after then [] else debts))
-next_owing name event ids change before None history debts stands owes owing = tt
-next_owing name event ids change None (Some after) history debts stands (inl still) owing =
+    → Owing before pending_requests → Owing after (change (if born_of event after then [] else pending_requests))
+next_owing name event ids change before None history pending_requests stands owes owing = tt
+next_owing name event ids change None (Some after) history pending_requests stands (inl still) owing =
     absurd still
-next_owing name event ids change (Some held) (Some after) None debts stands (inl still) owing =
+next_owing name event ids change (Some held) (Some after) None pending_requests stands (inl still) owing =
     absurd stands
-next_owing name event ids change (Some held) (Some after) (Some history) debts stands (inl still)
+next_owing name event ids change (Some held) (Some after) (Some history) pending_requests stands (inl still)
     owing =
     still.1 ∙ ap change owing
-    ∙ ap (λ (b : Bool). change (if b then [] else debts))
+    ∙ ap (λ (b : Bool). change (if b then [] else pending_requests))
     (sym (not_born event ids held after still.0 stands.2))
-next_owing name event ids change before (Some after) history debts stands (inr begins) owing =
-    begins.1 ∙ ap (λ (b : Bool). change (if b then [] else debts))
-    (sym (ap (λ event. born_of event (Some after)) begins.0 ∙ id_laws.refl after.born))
+next_owing name event ids change before (Some after) history pending_requests stands (inr begins) owing =
+    begins.1 ∙ ap (λ (b : Bool). change (if b then [] else pending_requests))
+    (sym (ap (λ event. born_of event (Some after)) begins.0 ∙ id_laws.refl after.created_by))
 
 -- ---- all inputs
 
-abbrev AllOwing : Option Call → (DialogName → List Debt) → Type 0
-AllOwing state owed =
-    (name : DialogName) → Owing (dialog_at name (side_held state).dialogs) (owed name)
+abbrev AllOwing : Option Call → (DialogId → List PendingRequest) → Type 0
+AllOwing state pending_requests =
+    (name : DialogId) → Owing (dialog_at name (side_held state).dialogs) (pending_requests name)
 
 owing_from : (calls : Calls) (inputs : List (Timed CallItem)) (state : Option Call)
-    (histories : DialogName → Option History) (owed : DialogName → List Debt)
+    (histories : DialogId → Option History) (pending_requests : DialogId → List PendingRequest)
     → IsDistinct is_id (ids_of inputs) → Sound state histories (ids_of inputs)
-    → AllOwing state owed
+    → AllOwing state pending_requests
     → AllOwing (call_from calls state inputs)
-    (λ name. owed_from calls name state (owed name) inputs)
-owing_from calls [] state histories owed differ sound owing = owing
-owing_from calls (input ∷ inputs) state histories owed differ sound owing =
+    (λ name. owed_from calls name state (pending_requests name) inputs)
+owing_from calls [] state histories pending_requests differ sound owing = owing
+owing_from calls (input ∷ inputs) state histories pending_requests differ sound owing =
     let done = call_step calls state input.input input.moment in
     let event = event_in input.input in
     let named = are_named state histories (ids_of (input ∷ inputs)) sound.stand in
     let owes = input_owes calls state input.input input.moment sound.apart named in
     owing_from calls inputs done.0
     (λ name. history_after calls name state (histories name) input)
-    (λ name. owed_next calls name state (owed name) input)
+    (λ name. owed_next calls name state (pending_requests name) input)
     (rest_differ event (ids_of inputs) differ)
     (next_sound calls input inputs state histories differ sound)
     (λ name. next_owing name event (ids_of inputs) (owed_in state input.input name done.1)
     (dialog_at name (side_held state).dialogs) (dialog_at name (side_held done.0).dialogs)
-    (histories name) (owed name) (sound.stand name) (owes name) (owing name))
+    (histories name) (pending_requests name) (sound.stand name) (owes name) (owing name))
 
 pub owes_as_told : OwesAsTold
 owes_as_told calls inputs differ name held at =
@@ -218,8 +218,8 @@ owes_as_told calls inputs differ name held at =
   where
     by_found : (o : Option HeldDialog) → o ≡ Some held
         → Owing o (owed_from calls name None [] inputs)
-        → held.owed ≡ owed_from calls name None [] inputs
+        → held.pending_requests ≡ owed_from calls name None [] inputs
     by_found None at owing = absurd cc
     by_found (Some there) at owing =
         let same : there ≡ held = cc in
-        ap (λ (held : HeldDialog). held.owed) (sym same) ∙ owing
+        ap (λ (held : HeldDialog). held.pending_requests) (sym same) ∙ owing

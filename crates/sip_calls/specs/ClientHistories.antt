@@ -9,7 +9,7 @@ use Rattle.sip_transactions.specs.declared.output.Kind.TheVariants as kind
 use Rattle.sip_transactions.specs.declared.output.Up.{Up as AnUp}
 use Rattle.sip_common.specs.declared.command.UserCommand.{UserCommand}
 use Rattle.sip_common.specs.declared.command.UserCommand.TheVariants.{Invite, Plain, Request, Respond, Ack, Prack, Cancel}
-use Rattle.sip_common.specs.declared.held_dialog.DialogName.{DialogName}
+use Rattle.sip_common.specs.declared.held_dialog.DialogId.{DialogId}
 use Rattle.sip_common.specs.declared.item.CallOut.{CallOut}
 use Rattle.sip_common.specs.declared.item.Item.{Item}
 use Rattle.sip_common.specs.declared.item.Item.TheVariants.{Up, User}
@@ -107,7 +107,7 @@ CancelsOnce = (calls : Calls) (inputs : List (Timed CallItem))
 abbrev pub RepeatsItsAck : Type 0
 RepeatsItsAck = (calls : Calls) (inputs : List (Timed CallItem))
     → AllByRecursion (λ (entry : Id × ClientStory).
-    (before later : List ClientHappening) (name : DialogName) (ack : SentAck)
+    (before later : List ClientHappening) (name : DialogId) (ack : SentAck)
     → entry.1.life ≡ before ++ SendsAckAgain name ack ∷ later
     → ack_of name (answers_of before) ≡ Some ack) (client_stories calls inputs)
 

@@ -12,7 +12,7 @@ use Rattle.sip_transactions.specs.declared.output.Kind.{Kind}
 use Rattle.sip_transactions.specs.declared.output.Kind.TheVariants as kind
 use Rattle.sip_common.specs.declared.command.UserCommand.{UserCommand}
 use Rattle.sip_common.specs.declared.command.UserCommand.TheVariants.{Request, Respond}
-use Rattle.sip_common.specs.declared.held_dialog.DialogName.{DialogName}
+use Rattle.sip_common.specs.declared.held_dialog.DialogId.{DialogId}
 use Rattle.sip_common.specs.declared.held_dialog.HeldDialog.{HeldDialog}
 use Rattle.sip_common.specs.declared.item.CallOut.{CallOut}
 use Rattle.sip_common.specs.declared.item.CallOut.TheVariants.{Notice}
@@ -21,17 +21,17 @@ use Rattle.sip_common.specs.declared.item.Item.TheVariants.{Up, User}
 use Rattle.sip_common.specs.declared.notice.Notice.TheVariants.{Ended}
 use Rattle.sip_common.specs.Dialogs.{dialog_at, is_early_of, is_named}
 use Rattle.sip_common.specs.Ids.{is_id}
-use Rattle.sip_common.specs.Requests.{is_final, is_inside, name_of_tags}
+use Rattle.sip_common.specs.Requests.{is_final, has_to_tag, name_of_tags}
 use Rattle.sip_common.specs.Sent.{cseqs_in}
 use Rattle.sip_served.specs.Endings.{ended_by_answer, ended_by_request, opened_by_answer}
 use Rattle.sip_clients.specs.declared.client.Client.{Client}
 use Rattle.sip_clients.specs.declared.client.RequestKind.{RequestKind}
-use Rattle.sip_clients.specs.declared.client.RequestKind.TheVariants.{First, Again, Inside, Plain}
+use Rattle.sip_clients.specs.declared.client.RequestKind.TheVariants.{InitialInvite, ReInvite, InDialog, OutOfDialog}
 use Rattle.sip_clients.specs.Client.{Clients, client_at}
 use Rattle.sip_clients.specs.Clients.{reply_name, status_of}
 use Rattle.sip_clients.specs.Happenings.{is_first_success}
 use Rattle.sip_clients.specs.Replied.{ends_dialog}
-use Rattle.sip_clients.specs.Reply.{is_last}
+use Rattle.sip_clients.specs.ReceivedResponse.{is_last}
 use Rattle.sip_clients.specs.Tick.{ends_early_at}
 use Rattle.sip_calls.specs.declared.call.Call.{Call}
 use Rattle.sip_calls.specs.declared.calls.Calls.{Calls}
@@ -43,26 +43,26 @@ use Rattle.sip_calls.specs.Provisionals.{side_held}
 
 -- an INVITE outside of dialogs may open some
 abbrev pub opens_dialogs : RequestKind → Bool
-opens_dialogs First = true
-opens_dialogs (Again life) = false
-opens_dialogs (Inside life) = false
-opens_dialogs Plain = false
+opens_dialogs InitialInvite = true
+opens_dialogs (ReInvite life) = false
+opens_dialogs (InDialog life) = false
+opens_dialogs OutOfDialog = false
 
 -- a response of 101 to 199 with a To tag (RFC 3261, section 12.1)
 abbrev pub is_early_response : ℕ → Message → Bool
 is_early_response status response =
-    not (is_final status) && (not (status == 100) && is_inside response)
+    not (is_final status) && (not (status == 100) && has_to_tag response)
 
 -- the dialog of its tags opens by each such response to that INVITE, and by the first 2xx (RFC 3261,
 -- sections 12.1.2 and 13.2.2.4)
-abbrev pub opened_by_reply : ℕ → Client → Message → DialogName → Bool
+abbrev pub opened_by_reply : ℕ → Client → Message → DialogId → Bool
 opened_by_reply status client response name =
     let own = reply_name client.kind client response in
     opens_dialogs client.kind && is_named own name
     && (is_first_success status client own || is_early_response status response)
 
 -- the response to the request of this id
-abbrev pub opened_by_response : Id → Message → Clients → DialogName → Bool
+abbrev pub opened_by_response : Id → Message → Clients → DialogId → Bool
 opened_by_response id response clients name =
     option_map_or (λ client. option_map_or
     (λ status. opened_by_reply status client response name) (status_of response.start) false)
@@ -71,66 +71,66 @@ opened_by_response id response clients name =
 -- ---- what ends one there
 
 -- the dialog that a request was sent in, as it was then
-abbrev pub was_sent_in : RequestKind → DialogName → HeldDialog → Bool
-was_sent_in First name held = false
-was_sent_in (Again life) name held = is_named life.name name && is_id held.born life.born
-was_sent_in (Inside life) name held = is_named life.name name && is_id held.born life.born
-was_sent_in Plain name held = false
+abbrev pub was_sent_in : RequestKind → DialogId → HeldDialog → Bool
+was_sent_in InitialInvite name held = false
+was_sent_in (ReInvite life) name held = is_named life.name name && is_id held.created_by life.created_by
+was_sent_in (InDialog life) name held = is_named life.name name && is_id held.created_by life.created_by
+was_sent_in OutOfDialog name held = false
 
 -- With a request that is over end the early dialogs that it made and, where the peer has the dialog
 -- no longer, the one that it was sent in (RFC 3261, sections 12.2.1.2 and 12.3).
-abbrev pub ends_with : Client → Bool → DialogName → HeldDialog → Bool
+abbrev pub ends_with : Client → Bool → DialogId → HeldDialog → Bool
 ends_with client gone name held =
     is_early_of client.id held || (gone && was_sent_in client.kind name held)
 
 -- so it is after its final response, other than the 2xx to an INVITE; a 481 or 408 says that the
 -- peer has the dialog no longer
-abbrev pub ended_by_reply : ℕ → Client → DialogName → HeldDialog → Bool
+abbrev pub ended_by_reply : ℕ → Client → DialogId → HeldDialog → Bool
 ended_by_reply status client name held =
     is_last client.kind status && ends_with client (ends_dialog status) name held
 
 -- the response to the request of this id
-abbrev pub ended_by_response : Id → Message → Clients → DialogName → HeldDialog → Bool
+abbrev pub ended_by_response : Id → Message → Clients → DialogId → HeldDialog → Bool
 ended_by_response id response clients name held =
     option_map_or (λ client. option_map_or
     (λ status. ended_by_reply status client name held) (status_of response.start) false)
     (client_at id clients) false
 
 -- and where the request of this id is lost; a timeout is as a 408 (RFC 3261, section 8.1.3.1)
-abbrev pub ended_by_loss : Id → Bool → Clients → DialogName → HeldDialog → Bool
+abbrev pub ended_by_loss : Id → Bool → Clients → DialogId → HeldDialog → Bool
 ended_by_loss id timed_out clients name held =
     option_map_or (λ client. ends_with client timed_out name held) (client_at id clients) false
 
 -- a BYE goes out in the dialog of the name
-abbrev pub gives_bye : DialogName → List CallOut → Bool
+abbrev pub gives_bye : DialogId → List CallOut → Bool
 gives_bye name outs = list_any (λ cseq. bytes_eq cseq.method (codes "BYE")) (cseqs_in name outs)
 
 -- ---- one input
 
 -- of what comes up a response may open a dialog
-abbrev pub opened_by_kind : Call → Id → Kind → DialogName → Bool
+abbrev pub opened_by_kind : Call → Id → Kind → DialogId → Bool
 opened_by_kind call id (kind.Response response) name =
     opened_by_response id response call.clients name
 opened_by_kind call id _ name = false
 
 -- of the user's commands an answer may
-abbrev pub opened_by_command : Call → UserCommand → List CallOut → DialogName → Bool
+abbrev pub opened_by_command : Call → UserCommand → List CallOut → DialogId → Bool
 opened_by_command call (Respond respond) outs name =
     opened_by_answer call.served respond outs name
 opened_by_command call _ outs name = false
 
-abbrev pub opened_by_item : Call → Item → List CallOut → DialogName → Bool
+abbrev pub opened_by_item : Call → Item → List CallOut → DialogId → Bool
 opened_by_item call (Up up) outs name = opened_by_kind call up.id up.kind name
 opened_by_item call (User command) outs name = opened_by_command call command outs name
 
 -- an input that gives this opens the dialog of the name; where nothing is held none is opened
-abbrev pub opens : Option Call → Option CallItem → List CallOut → DialogName → Bool
+abbrev pub opens : Option Call → Option CallItem → List CallOut → DialogId → Bool
 opens (Some call) (Some (id, item)) outs name = opened_by_item call item outs name
 opens _ _ outs name = false
 
 -- what comes up ends the dialog that is held so under the name: a BYE or a CANCEL, a response, or
 -- that a transaction is lost
-abbrev pub ended_by_kind : Call → Id → Key → Kind → DialogName → HeldDialog → Bool
+abbrev pub ended_by_kind : Call → Id → Key → Kind → DialogId → HeldDialog → Bool
 ended_by_kind call id key (kind.Request request reply_to) name held =
     ended_by_request call.served key request name held
 ended_by_kind call id key (kind.Ack ack) name held = false
@@ -141,26 +141,26 @@ ended_by_kind call id key kind.Failed name held = ended_by_loss id false call.cl
 
 -- so does a command of the user: a BYE that goes out at once (RFC 3261, section 15.1.1), or an
 -- answer
-abbrev pub ended_by_command : Call → UserCommand → List CallOut → DialogName → HeldDialog → Bool
+abbrev pub ended_by_command : Call → UserCommand → List CallOut → DialogId → HeldDialog → Bool
 ended_by_command call (Request request) outs name held = gives_bye name outs
 ended_by_command call (Respond respond) outs name held =
     ended_by_answer call.served respond outs held
 ended_by_command call _ outs name held = false
 
-abbrev pub ended_by_item : Call → Item → List CallOut → DialogName → HeldDialog → Bool
+abbrev pub ended_by_item : Call → Item → List CallOut → DialogId → HeldDialog → Bool
 ended_by_item call (Up up) outs name held = ended_by_kind call up.id up.key up.kind name held
 ended_by_item call (User command) outs name held = ended_by_command call command outs name held
 
 -- an input ends it; at a tick those end that are early 64*T1 after the first 2xx to their INVITE
 -- (RFC 3261, section 13.2.2.4)
-abbrev pub ended_by : Option Call → Option CallItem → ℕ → List CallOut → DialogName → HeldDialog
+abbrev pub ended_by : Option Call → Option CallItem → ℕ → List CallOut → DialogId → HeldDialog
     → Bool
 ended_by (Some call) (Some (id, item)) now outs name held = ended_by_item call item outs name held
 ended_by (Some call) None now outs name held = ends_early_at now call.clients held
 ended_by None input now outs name held = false
 
 -- a dialog is held under the name, and the input ends it
-abbrev pub ends : Option Call → Timed CallItem → List CallOut → DialogName → Bool
+abbrev pub ends : Option Call → Timed CallItem → List CallOut → DialogId → Bool
 ends call timed outs name =
     option_map_or (ended_by call timed.input timed.moment outs name)
     (dialog_at name (side_held call).dialogs) false
@@ -168,18 +168,18 @@ ends call timed outs name =
 -- ---- what is told
 
 -- the dialog of whose end an output tells the user
-abbrev pub name_ended_by : CallOut → Option DialogName
+abbrev pub name_ended_by : CallOut → Option DialogId
 name_ended_by (Notice (Ended call_id local_tag remote_tag)) =
     Some (name_of_tags local_tag remote_tag)
 name_ended_by _ = None
 
 -- how often outputs tell of the end of the dialog of the name
-abbrev pub ends_told : DialogName → List CallOut → ℕ
+abbrev pub ends_told : DialogId → List CallOut → ℕ
 ends_told name outs = count_by (is_named name) (filter_map name_ended_by outs)
 
 -- ---- a list of inputs
 
-module _ (calls : Calls) (name : DialogName) where
+module _ (calls : Calls) (name : DialogId) where
   -- whether the dialog of the name is held after an input
   abbrev pub held_next : Option Call → Bool → Timed CallItem → Bool
   held_next call held timed =
@@ -208,7 +208,7 @@ module _ (calls : Calls) (name : DialogName) where
       ends_told name done.1 + told_from done.0 inputs
 
 -- the dialog of a name is held, as a number
-abbrev pub held_now : DialogName → Option Call → ℕ
+abbrev pub held_now : DialogId → Option Call → ℕ
 held_now name call = cond (is_some (dialog_at name (side_held call).dialogs)) 1 0
 
 -- ---- the laws
@@ -216,7 +216,7 @@ held_now name call = cond (is_some (dialog_at name (side_held call).dialogs)) 1 
 -- Whatever comes to a call: a dialog of a name is held where an input opened it, and none ended it
 -- since.
 abbrev pub HeldUntilItEnds : Type 0
-HeldUntilItEnds = (calls : Calls) (inputs : List (Timed CallItem)) (name : DialogName)
+HeldUntilItEnds = (calls : Calls) (inputs : List (Timed CallItem)) (name : DialogId)
     → is_some (dialog_at name (side_held (call_from calls None inputs)).dialogs)
     ≡ held_from calls name None false inputs
 
@@ -224,14 +224,14 @@ HeldUntilItEnds = (calls : Calls) (inputs : List (Timed CallItem)) (name : Dialo
 -- once, and by no other.
 abbrev pub EachEndIsToldOnce : Type 0
 EachEndIsToldOnce = (calls : Calls) (inputs : List (Timed CallItem)) (input : Timed CallItem)
-    (name : DialogName) → let call = call_from calls None inputs in
+    (name : DialogId) → let call = call_from calls None inputs in
     let outs = (call_step calls call input.input input.moment).1 in
     ends_told name outs ≡ cond (ends call input outs name) 1 0
 
 -- Whatever came to a call before: of inputs that come then, no more tell of an end than opened the
 -- dialog, or found it held. So between two such ends one opened it.
 abbrev pub EachEndHasItsOpening : Type 0
-EachEndHasItsOpening = (calls : Calls) (earlier inputs : List (Timed CallItem)) (name : DialogName)
+EachEndHasItsOpening = (calls : Calls) (earlier inputs : List (Timed CallItem)) (name : DialogId)
     → let call = call_from calls None earlier in
     told_from calls name call inputs + held_now name (call_from calls call inputs)
     ≤ held_now name call + opened_from calls name call inputs

@@ -12,7 +12,7 @@ use Rattle.sip_transactions.specs.declared.output.Kind.{Kind}
 use Rattle.sip_transactions.specs.declared.output.Kind.TheVariants as kind
 use Rattle.sip_common.specs.declared.command.UserCommand.{UserCommand}
 use Rattle.sip_common.specs.declared.command.UserCommand.TheVariants.{Respond}
-use Rattle.sip_common.specs.declared.held_dialog.DialogName.{DialogName}
+use Rattle.sip_common.specs.declared.held_dialog.DialogId.{DialogId}
 use Rattle.sip_common.specs.declared.held_dialog.HeldDialog.{HeldDialog}
 use Rattle.sip_common.specs.declared.item.CallOut.{CallOut}
 use Rattle.sip_common.specs.declared.item.Item.{Item}
@@ -29,7 +29,7 @@ use Rattle.sip_calls.specs.Provisionals.{EventsDiffer, event_in, side_held}
 -- ---- one input
 
 -- what a message that comes up does in the dialog that is held
-abbrev pub brought_by_kind : Call → Id → Kind → DialogName → HeldDialog → List Happening
+abbrev pub brought_by_kind : Call → Id → Kind → DialogId → HeldDialog → List Happening
 brought_by_kind call id (kind.Request request reply_to) name held = accepts request name held
 brought_by_kind call id (kind.Ack ack) name held = []
 brought_by_kind call id (kind.Response response) name held =
@@ -38,19 +38,19 @@ brought_by_kind call id kind.Timeout name held = []
 brought_by_kind call id kind.Failed name held = []
 
 -- of the user's commands an answer may do something by itself
-abbrev pub brought_by_command : Call → UserCommand → List CallOut → DialogName → HeldDialog
+abbrev pub brought_by_command : Call → UserCommand → List CallOut → DialogId → HeldDialog
     → List Happening
 brought_by_command call (Respond respond) outs name held =
     answer_confirms call.served respond outs name held
 brought_by_command call _ outs name held = []
 
 -- what an item does so
-abbrev pub brought_by : Call → Item → List CallOut → DialogName → HeldDialog → List Happening
+abbrev pub brought_by : Call → Item → List CallOut → DialogId → HeldDialog → List Happening
 brought_by call (Up up) outs name held = brought_by_kind call up.id up.kind name held
 brought_by call (User command) outs name held = brought_by_command call command outs name held
 
 -- all that an input makes happen in it: that, and the requests that go out in it
-abbrev pub happens_in : Option Call → Option CallItem → List CallOut → DialogName → HeldDialog
+abbrev pub happens_in : Option Call → Option CallItem → List CallOut → DialogId → HeldDialog
     → List Happening
 happens_in (Some call) (Some (id, item)) outs name held =
     brought_by call item outs name held ++ sent_in name outs
@@ -77,9 +77,9 @@ opening_in (Some call) (Some (id, item)) = opening_by call item
 opening_in _ _ = None
 
 -- the dialog of the name is held, and was made by this event
-abbrev pub is_born_of : DialogName → Option Id → Dialogs → Bool
+abbrev pub is_born_of : DialogId → Option Id → Dialogs → Bool
 is_born_of name event dialogs =
-    option_map_or (λ id. lives dialogs record { name = name; born = id }) event false
+    option_map_or (λ id. lives dialogs record { name = name; created_by = id }) event false
 
 -- ---- a list of inputs
 
@@ -105,7 +105,7 @@ call_from calls call [] = call
 call_from calls call (input ∷ inputs) =
     call_from calls (call_step calls call input.input input.moment).0 inputs
 
-module _ (calls : Calls) (name : DialogName) where
+module _ (calls : Calls) (name : DialogId) where
   -- it begins anew where the input makes the dialog
   abbrev pub history_after : Option Call → Option History → Timed CallItem → Option History
   history_after call history timed =
@@ -132,7 +132,7 @@ module _ (calls : Calls) (name : DialogName) where
 -- A law of each dialog that is held after a list of inputs, and its history.
 abbrev pub OfEachDialog : (History → Dialog → Type 0) → Type 0
 OfEachDialog Law = (calls : Calls) (inputs : List (Timed CallItem)) → EventsDiffer inputs
-    → (name : DialogName) (held : HeldDialog)
+    → (name : DialogId) (held : HeldDialog)
     → dialog_at name (side_held (call_from calls None inputs)).dialogs ≡ Some held
     → (history : History) × (history_of calls name inputs ≡ Some history)
     × Law history held.dialog
@@ -146,7 +146,7 @@ HoldsItsHistory =
 -- it is held under the name of its tags
 abbrev pub HasItsName : Type 0
 HasItsName = (calls : Calls) (inputs : List (Timed CallItem)) → EventsDiffer inputs
-    → (name : DialogName) (held : HeldDialog)
+    → (name : DialogId) (held : HeldDialog)
     → dialog_at name (side_held (call_from calls None inputs)).dialogs ≡ Some held
     → is_named name (name_of_dialog held.dialog) ≡ true
 
@@ -164,7 +164,7 @@ NumbersItsRequests = OfEachDialog (λ history dialog.
 -- that it opens, have the numbers after its local CSeq; so has the BYE that ends it.
 abbrev pub HasTheNextNumber : Type 0
 HasTheNextNumber = (calls : Calls) (inputs : List (Timed CallItem)) (input : Timed CallItem)
-    → EventsDiffer inputs → (name : DialogName) → let call = call_from calls None inputs in
+    → EventsDiffer inputs → (name : DialogId) → let call = call_from calls None inputs in
     NumberedFrom
     (number_before (opening_in call input.input) (dialog_at name (side_held call).dialogs))
     (cseqs_in name (call_step calls call input.input input.moment).1)

@@ -7,8 +7,8 @@ use Rattle.sip_transactions.specs.declared.output.Kind.{Kind}
 use Rattle.sip_transactions.specs.declared.output.Kind.TheVariants as kind
 use Rattle.sip_common.specs.declared.command.UserCommand.{UserCommand}
 use Rattle.sip_common.specs.declared.command.UserCommand.TheVariants.{Ack, Prack}
-use Rattle.sip_common.specs.declared.debt.Debt.{Debt}
-use Rattle.sip_common.specs.declared.held_dialog.DialogName.{DialogName}
+use Rattle.sip_common.specs.declared.pending_request.PendingRequest.{PendingRequest}
+use Rattle.sip_common.specs.declared.held_dialog.DialogId.{DialogId}
 use Rattle.sip_common.specs.declared.held_dialog.HeldDialog.{HeldDialog}
 use Rattle.sip_common.specs.declared.item.CallOut.{CallOut}
 use Rattle.sip_common.specs.declared.item.Item.{Item}
@@ -26,44 +26,44 @@ use Rattle.sip_calls.specs.Sides.{side_of}
 
 -- what is owed after a message that comes up, by what was owed before it and what is given: a
 -- response may leave more owed
-abbrev pub owed_by_kind : Call → Id → Kind → DialogName → List CallOut → List Debt → List Debt
-owed_by_kind call id (kind.Response response) name outs debts =
-    debts ++ response_owes id response call.clients name
+abbrev pub owed_by_kind : Call → Id → Kind → DialogId → List CallOut → List PendingRequest → List PendingRequest
+owed_by_kind call id (kind.Response response) name outs pending_requests =
+    pending_requests ++ response_owes id response call.clients name
     (dialog_at name (side_of call).dialogs) outs
-owed_by_kind call id _ name outs debts = debts
+owed_by_kind call id _ name outs pending_requests = pending_requests
 
 -- after a command of the user: its ACKs and PRACKs leave less
-abbrev pub owed_by_command : UserCommand → DialogName → List CallOut → List Debt → List Debt
-owed_by_command (Ack command) name outs debts = owed_after_ack command name outs debts
-owed_by_command (Prack command) name outs debts = owed_after_prack command name outs debts
-owed_by_command _ name outs debts = debts
+abbrev pub owed_by_command : UserCommand → DialogId → List CallOut → List PendingRequest → List PendingRequest
+owed_by_command (Ack command) name outs pending_requests = owed_after_ack command name outs pending_requests
+owed_by_command (Prack command) name outs pending_requests = owed_after_prack command name outs pending_requests
+owed_by_command _ name outs pending_requests = pending_requests
 
 -- after an item
-abbrev pub owed_by : Call → Item → DialogName → List CallOut → List Debt → List Debt
-owed_by call (Up up) name outs debts = owed_by_kind call up.id up.kind name outs debts
-owed_by call (User command) name outs debts = owed_by_command command name outs debts
+abbrev pub owed_by : Call → Item → DialogId → List CallOut → List PendingRequest → List PendingRequest
+owed_by call (Up up) name outs pending_requests = owed_by_kind call up.id up.kind name outs pending_requests
+owed_by call (User command) name outs pending_requests = owed_by_command command name outs pending_requests
 
 -- after an input
-abbrev pub owed_in : Option Call → Option CallItem → DialogName → List CallOut → List Debt
-    → List Debt
-owed_in (Some call) (Some (id, item)) name outs debts = owed_by call item name outs debts
-owed_in _ _ name outs debts = debts
+abbrev pub owed_in : Option Call → Option CallItem → DialogId → List CallOut → List PendingRequest
+    → List PendingRequest
+owed_in (Some call) (Some (id, item)) name outs pending_requests = owed_by call item name outs pending_requests
+owed_in _ _ name outs pending_requests = pending_requests
 
 -- ---- a list of inputs
 
-module _ (calls : Calls) (name : DialogName) where
+module _ (calls : Calls) (name : DialogId) where
   -- nothing was owed before in a dialog that the input makes
-  abbrev pub owed_next : Option Call → List Debt → Timed CallItem → List Debt
-  owed_next call debts timed =
+  abbrev pub owed_next : Option Call → List PendingRequest → Timed CallItem → List PendingRequest
+  owed_next call pending_requests timed =
       let done = call_step calls call timed.input timed.moment in
       owed_in call timed.input name done.1
-      (if is_born_of name (event_in timed.input) (side_held done.0).dialogs then [] else debts)
+      (if is_born_of name (event_in timed.input) (side_held done.0).dialogs then [] else pending_requests)
 
   -- after a list of inputs, by what was held and owed
-  abbrev pub owed_from : Option Call → List Debt → List (Timed CallItem) → List Debt
-  owed_from call debts [] = debts
-  owed_from call debts (input ∷ inputs) =
-      owed_from (call_step calls call input.input input.moment).0 (owed_next call debts input)
+  abbrev pub owed_from : Option Call → List PendingRequest → List (Timed CallItem) → List PendingRequest
+  owed_from call pending_requests [] = pending_requests
+  owed_from call pending_requests (input ∷ inputs) =
+      owed_from (call_step calls call input.input input.moment).0 (owed_next call pending_requests input)
       inputs
 
 -- Whatever comes to a call: in a held dialog are owed, the oldest first, the ACK of each 2xx and
@@ -72,6 +72,6 @@ module _ (calls : Calls) (name : DialogName) where
 -- its kind.
 abbrev pub OwesAsTold : Type 0
 OwesAsTold = (calls : Calls) (inputs : List (Timed CallItem)) → EventsDiffer inputs
-    → (name : DialogName) (held : HeldDialog)
+    → (name : DialogId) (held : HeldDialog)
     → dialog_at name (side_held (call_from calls None inputs)).dialogs ≡ Some held
-    → held.owed ≡ owed_from calls name None [] inputs
+    → held.pending_requests ≡ owed_from calls name None [] inputs

@@ -8,7 +8,7 @@ use Rattle.sip_message.specs.declared.id.Id.{Id}
 pub use Rattle.sip_reliable.specs.Inbound.{IsConsecutive, in_order}
 use Rattle.sip_transactions.specs.declared.output.Kind.{Kind}
 use Rattle.sip_transactions.specs.declared.output.Kind.TheVariants as kind
-use Rattle.sip_common.specs.declared.held_dialog.DialogLife.{DialogLife}
+use Rattle.sip_common.specs.declared.held_dialog.DialogReference.{DialogReference}
 use Rattle.sip_common.specs.declared.item.CallOut.{CallOut}
 use Rattle.sip_common.specs.declared.item.Item.TheVariants.{Up, User}
 use Rattle.sip_common.specs.Dialogs.{lives}
@@ -22,13 +22,13 @@ use Rattle.sip_calls.specs.Sides.{side_of}
 
 -- the RSeq of the reliable provisional response that comes up to that INVITE in that life of a
 -- dialog, where one does
-abbrev pub number_up : AnInvite → DialogLife → Id → Kind → Side → Option ℕ
+abbrev pub number_up : AnInvite → DialogReference → Id → Kind → Side → Option ℕ
 number_up invite life id (kind.Response response) side =
     option_and_then (number_for invite life id response) (client_at id side.clients)
 number_up invite life id _ side = None
 
 -- the RSeq of the response that an input brings, where it is one of them
-abbrev pub number_in : AnInvite → DialogLife → Option CallItem → Side → Option ℕ
+abbrev pub number_in : AnInvite → DialogReference → Option CallItem → Side → Option ℕ
 number_in invite life (Some (event, Up up)) side = number_up invite life up.id up.kind side
 number_in invite life _ side = None
 
@@ -39,7 +39,7 @@ abbrev pub side_held : Option Call → Side
 side_held None = record { dialogs = []; clients = [] }
 side_held (Some call) = side_of call
 
-module _ (calls : Calls) (invite : AnInvite) (life : DialogLife) where
+module _ (calls : Calls) (invite : AnInvite) (life : DialogReference) where
   -- the call after an input, and what it gives
   abbrev pub done : Option Call → Timed CallItem → Option Call × List CallOut
   done call timed = call_step calls call timed.input timed.moment
@@ -95,7 +95,7 @@ EventsDiffer inputs = IsDistinct is_id (filter_map (λ timed. event_in timed.inp
 -- A law of the numbers that came, and of those shown, to an INVITE in a life of a dialog.
 abbrev pub OfEachLife : (List ℕ → List ℕ → Type 0) → Type 0
 OfEachLife Law = (calls : Calls) (inputs : List (Timed CallItem)) → EventsDiffer inputs
-    → (invite : AnInvite) (life : DialogLife)
+    → (invite : AnInvite) (life : DialogReference)
     → Law (came calls invite life inputs) (shown calls invite life inputs)
 
 -- Whatever comes to a call: of the reliable provisional responses that came to an INVITE in a life

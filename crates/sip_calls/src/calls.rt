@@ -11,7 +11,7 @@ ghost use Rattle.std.proofs.lemmas.Map.Lookups.{exact_bytes};
 use crate::call::Call;
 use sip_clients::{Clients, Event, made_name};
 use sip_common::outputs::refused;
-use sip_common::request::{is_inside, own_tag};
+use sip_common::request::{has_to_tag, own_tag};
 use sip_message::{Addr, CallId, Id, Message, Token};
 use sip_model::StateMachine;
 use sip_served::{Arrival, CallOut, Item, Notice, Refusal, ServerSide, UserCommand};
@@ -61,7 +61,7 @@ impl StateMachine for Calls {
     fn may_begin(&self, input: &(Id, Item)) -> bool {
         match &input.1 {
             Item::Up(up) => match &up.kind {
-                Kind::Request(request, _) => !is_inside(request.get()),
+                Kind::Request(request, _) => !has_to_tag(request.get()),
                 _ => false,
             },
             Item::User(command) => {

@@ -5,35 +5,35 @@ use Rattle.std.specs.Cmp.{first_so, second_so}
 use Rattle.std.specs.Option.{option_map_or}
 use Rattle.indexmap.specs.IndexMap.{insert_entry}
 use Rattle.sip_model.proofs.Ordered.{by_bool}
-use Rattle.sip_common.specs.declared.debt.Debt.TheVariants.{Prack}
-use Rattle.sip_common.specs.declared.held_dialog.DialogLife.{DialogLife}
-use Rattle.sip_common.specs.declared.held_dialog.DialogName.{DialogName}
+use Rattle.sip_common.specs.declared.pending_request.PendingRequest.TheVariants.{Prack}
+use Rattle.sip_common.specs.declared.held_dialog.DialogReference.{DialogReference}
+use Rattle.sip_common.specs.declared.held_dialog.DialogId.{DialogId}
 use Rattle.sip_common.specs.declared.held_dialog.HeldDialog.{HeldDialog}
 use Rattle.sip_common.specs.Dialogs.{dialog_at, is_named, lives, Dialogs}
 use Rattle.sip_common.specs.Ids.{is_id}
 use Rattle.sip_common.proofs.Entries as entries
 use Rattle.sip_common.proofs.Heard.{name_laws}
-use Rattle.sip_clients.specs.declared.client.RequestKind.TheVariants.{Again}
+use Rattle.sip_clients.specs.declared.client.RequestKind.TheVariants.{ReInvite}
 use Rattle.sip_clients.specs.declared.client.Client.{Client}
-use Rattle.sip_clients.specs.declared.reply.Reply.{Reply as Answer}
+use Rattle.sip_clients.specs.declared.reply.ReceivedResponse.{ReceivedResponse}
 use Rattle.sip_clients.specs.declared.reply.ReplyCase.{ReplyCase}
 use Rattle.sip_clients.specs.declared.reply.ReplyCase.TheVariants as reply
 use Rattle.sip_clients.specs.Answers.{has_answer}
-use Rattle.sip_clients.specs.Debts.{owed}
+use Rattle.sip_clients.specs.Pending.{pending_requests}
 use Rattle.sip_clients.specs.Dialogs.{dialog_for_provisional}
-use Rattle.sip_clients.specs.Replied.{by_reply_case, offer_to, prack_owed}
-use Rattle.sip_clients.specs.Reply.{is_there, reliable_case, success_case}
+use Rattle.sip_clients.specs.Replied.{by_reply_case, automatic_body, prack_owed}
+use Rattle.sip_clients.specs.ReceivedResponse.{has_dialog, reliable_case, success_case}
 use Rattle.sip_clients.proofs.CommandDialogs.{owed_keeps}
 use Rattle.sip_clients.proofs.FirstInvite.{id_exact}
 use Rattle.sip_clients.proofs.FirstReply.{Unheard, number_by}
 
-abbrev pub again : DialogLife → Client → Client
-again own client = record client { kind = Again own }
+abbrev pub again : DialogReference → Client → Client
+again own client = record client { kind = ReInvite own }
 
 -- ---- the request after a response
 
-pub heard_kept : (case : ReplyCase) (client : Client) (found : Option HeldDialog) (answer : Answer)
-    → Unheard case → ((by_reply_case case client found answer).0).heard ≡ client.heard
+pub heard_kept : (case : ReplyCase) (client : Client) (found : Option HeldDialog) (answer : ReceivedResponse)
+    → Unheard case → ((by_reply_case case client found answer).0).last_rseq ≡ client.last_rseq
 heard_kept reply.Repeated client found answer none = refl
 heard_kept reply.Accepted client found answer none = refl
 heard_kept reply.Late client found answer none = refl
@@ -45,63 +45,63 @@ heard_kept reply.Told client found answer none = refl
 -- ---- which case it is
 
 abbrev pub case_by : Bool → Bool → Bool → ReplyCase → Option ℕ → Option ℕ → ReplyCase
-case_by final inside alive winning heard rseq =
+case_by final inside alive winning last_rseq rseq =
     if final then winning else (if inside
-    && alive then reliable_case heard rseq else reply.Told)
+    && alive then reliable_case last_rseq rseq else reply.Told)
 
 -- the dialog isn't there: there is no number, or the response is told as any other
 abbrev pub Gone : Option ℕ → ReplyCase → Type 0
 Gone None case = Unheard case
 Gone (Some number) case = case ≡ reply.Told
 
-pub gone : (final inside : Bool) (winning : ReplyCase) (heard rseq : Option ℕ) → Unheard winning
-    → Gone (number_by final inside rseq) (case_by final inside false winning heard rseq)
-gone true inside winning heard rseq none = none
-gone false true winning heard None none = refl
-gone false true winning heard (Some number) none = refl
-gone false false winning heard rseq none = refl
+pub gone : (final inside : Bool) (winning : ReplyCase) (last_rseq rseq : Option ℕ) → Unheard winning
+    → Gone (number_by final inside rseq) (case_by final inside false winning last_rseq rseq)
+gone true inside winning last_rseq rseq none = none
+gone false true winning last_rseq None none = refl
+gone false true winning last_rseq (Some number) none = refl
+gone false false winning last_rseq rseq none = refl
 
-pub success_unheard : (own : DialogLife) (client : Client) (answer : Answer)
+pub success_unheard : (own : DialogReference) (client : Client) (answer : ReceivedResponse)
     (found : Option HeldDialog) → Unheard (success_case (again own client) found answer.name)
 success_unheard own client answer found =
     elim (has_answer answer.name client.answers) as (λ b.
     Unheard (if b then reply.Repeated
-    else (if is_there (Again own) found then reply.Accepted else reply.Late))) [
+    else (if has_dialog (ReInvite own) found then reply.Accepted else reply.Late))) [
       | true ↦ refl
-      | false ↦ elim (is_there (Again own) found) as (λ b.
+      | false ↦ elim (has_dialog (ReInvite own) found) as (λ b.
           Unheard (if b then reply.Accepted else reply.Late)) [ true ↦ refl | false ↦ refl ]
     ]
 
 -- ---- lives
 
-pub lives_same : (life own : DialogLife) (dialogs : Dialogs)
-    → (is_named life.name own.name && is_id own.born life.born) ≡ true
+pub lives_same : (life own : DialogReference) (dialogs : Dialogs)
+    → (is_named life.name own.name && is_id own.created_by life.created_by) ≡ true
     → lives dialogs own ≡ lives dialogs life
 lives_same life own dialogs same =
-    let named = first_so (is_named life.name own.name) (is_id own.born life.born) same in
-    let born = id_exact own.born life.born
-    (second_so (is_named life.name own.name) (is_id own.born life.born) same) in
-    λ i. option_map_or (λ (held : HeldDialog). is_id held.born (born i))
+    let named = first_so (is_named life.name own.name) (is_id own.created_by life.created_by) same in
+    let created_by = id_exact own.created_by life.created_by
+    (second_so (is_named life.name own.name) (is_id own.created_by life.created_by) same) in
+    λ i. option_map_or (λ (held : HeldDialog). is_id held.created_by (created_by i))
     (entries.same_key name_laws life.name own.name dialogs named i) false
 
 -- the dialog of a name is another of the same life
-lives_put : (life : DialogLife) (name : DialogName) (held after : HeldDialog) (dialogs : Dialogs)
-    → dialog_at name dialogs ≡ Some held → after.born ≡ held.born
+lives_put : (life : DialogReference) (name : DialogId) (held after : HeldDialog) (dialogs : Dialogs)
+    → dialog_at name dialogs ≡ Some held → after.created_by ≡ held.created_by
     → lives (insert_entry is_named dialogs name after) life ≡ lives dialogs life
-lives_put life name held after dialogs is born =
+lives_put life name held after dialogs is created_by =
     ap is_own (entries.found_inserted name_laws name life.name after dialogs)
     ∙ by_bool (is_named name life.name)
     (λ same. ap (λ b. is_own (cond b (Some after) (dialog_at life.name dialogs))) same
-    ∙ ap (λ id. is_id id life.born) born
+    ∙ ap (λ id. is_id id life.created_by) created_by
     ∙ ap is_own (sym (entries.same_key name_laws name life.name dialogs same ∙ is)))
     (λ other. ap (λ b. is_own (cond b (Some after) (dialog_at life.name dialogs))) other)
   where
     is_own : Option HeldDialog → Bool
-    is_own o = option_map_or (λ (held : HeldDialog). is_id held.born life.born) o false
+    is_own o = option_map_or (λ (held : HeldDialog). is_id held.created_by life.created_by) o false
 
-pub lives_owed : (life own : DialogLife) (number : ℕ) (client : Client) (dialogs : Dialogs)
-    (answer : Answer) (found : Option HeldDialog) → dialog_at answer.name dialogs ≡ found
-    → is_there (Again own) found ≡ true
+pub lives_owed : (life own : DialogReference) (number : ℕ) (client : Client) (dialogs : Dialogs)
+    (answer : ReceivedResponse) (found : Option HeldDialog) → dialog_at answer.name dialogs ≡ found
+    → has_dialog (ReInvite own) found ≡ true
     → lives (insert_entry is_named dialogs answer.name
     (prack_owed number (again own client) (dialog_for_provisional (again own client) answer found)
     answer).0) life
@@ -109,7 +109,7 @@ pub lives_owed : (life own : DialogLife) (number : ℕ) (client : Client) (dialo
 unfolding prack_owed
 lives_owed life own number client dialogs answer None is there = absurd cc
 lives_owed life own number client dialogs answer (Some held) is there =
-    let debt = Prack number ((client.request).cseq).number in
-    let offer = offer_to client answer.response in
-    lives_put life answer.name held (owed answer.event debt offer held).0 dialogs is
-    (owed_keeps answer.event debt offer held).0
+    let pending = Prack number ((client.request).cseq).number in
+    let offer = automatic_body client answer.response in
+    lives_put life answer.name held (pending_requests answer.event pending offer held).0 dialogs is
+    (owed_keeps answer.event pending offer held).0

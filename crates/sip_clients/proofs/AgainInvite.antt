@@ -4,15 +4,15 @@ use Rattle.std.specs.Prelude.{Option, None, Some, if◌then◌else◌}
 use Rattle.std.specs.Option.{option_map}
 use Rattle.sip_message.specs.declared.id.Id.{Id}
 use Rattle.sip_reliable.specs.Inbound.{latest_after, offered}
-use Rattle.sip_common.specs.declared.debt.Debt.{Debt}
-use Rattle.sip_common.specs.declared.debt.Debt.TheVariants.{Ack, Prack}
+use Rattle.sip_common.specs.declared.pending_request.PendingRequest.{PendingRequest}
+use Rattle.sip_common.specs.declared.pending_request.PendingRequest.TheVariants.{Ack, Prack}
 use Rattle.sip_common.specs.declared.command.Cancel.{Cancel}
 use Rattle.sip_common.specs.declared.command.DialogBody.{DialogBody}
 use Rattle.sip_common.specs.declared.command.DialogRequest.{DialogRequest}
 use Rattle.sip_common.specs.declared.command.Invite.{Invite}
 use Rattle.sip_common.specs.declared.command.Plain.{Plain as PlainCommand}
-use Rattle.sip_common.specs.declared.held_dialog.DialogLife.{DialogLife}
-use Rattle.sip_common.specs.declared.held_dialog.DialogName.{DialogName}
+use Rattle.sip_common.specs.declared.held_dialog.DialogReference.{DialogReference}
+use Rattle.sip_common.specs.declared.held_dialog.DialogId.{DialogId}
 use Rattle.sip_common.specs.declared.item.CallOut.{CallOut}
 use Rattle.sip_common.specs.declared.refusal.Refusal.TheVariants.{BadMethod}
 use Rattle.sip_common.specs.Dialogs.{is_named, lives, Dialogs}
@@ -21,20 +21,20 @@ use Rattle.sip_common.proofs.Entries as entries
 use Rattle.sip_common.proofs.Heard.{id_laws}
 use Rattle.sip_clients.specs.declared.answers.SentAck.{SentAck}
 use Rattle.sip_clients.specs.declared.client.RequestKind.{RequestKind}
-use Rattle.sip_clients.specs.declared.client.RequestKind.TheVariants.{First, Again, Inside, Plain}
+use Rattle.sip_clients.specs.declared.client.RequestKind.TheVariants.{InitialInvite, ReInvite, InDialog, OutOfDialog}
 use Rattle.sip_clients.specs.declared.cancel.CancelCase.{CancelCase}
 use Rattle.sip_clients.specs.declared.cancel.CancelCase.TheVariants as cancel
 use Rattle.sip_clients.specs.declared.client.Cancelling.{Cancelling}
 use Rattle.sip_clients.specs.declared.client.Cancelling.TheVariants as state
 use Rattle.sip_clients.specs.declared.client.Client.{Client}
-use Rattle.sip_clients.specs.declared.debts.DebtKind.TheVariants as kind
+use Rattle.sip_clients.specs.declared.pending.PendingKind.TheVariants as kind
 use Rattle.sip_clients.specs.declared.event.Event.{Event}
 use Rattle.sip_clients.specs.declared.outputs.ClientChange.{ClientChange}
 use Rattle.sip_clients.specs.declared.outputs.ClientChange.TheVariants.{Stays, Over, Starts}
 use Rattle.sip_clients.specs.Cancel.{asked, cancel_case, cancel_client, cancel_by_user, cancelled_as, cancelled_of, sent_beside}
 use Rattle.sip_clients.specs.Client.{Clients, Side, client_at, client_changed, client_for, with_client, without_client}
 use Rattle.sip_clients.specs.Clients.{ack_kept, ack_paid, ack_by_user, acked_with, invite_taken, lost_of, plain_taken, prack_paid, prack_by_user, request_by_user, settled}
-use Rattle.sip_clients.specs.Commands.{ack_asked, debt_for, is_bad_outside, name_in, requested_at}
+use Rattle.sip_clients.specs.Commands.{ack_asked, pending_for, is_bad_outside, name_in, requested_at}
 use Rattle.sip_clients.specs.Dialogs.{paid_at}
 use Rattle.sip_common.specs.Notices.{refused}
 use Rattle.sip_clients.specs.Outputs.{request_said, start_command}
@@ -52,29 +52,29 @@ AreApart clients = entries.Apart id_laws clients
 -- ---- the ear of an INVITE
 
 -- what was heard last for a request, where it is an INVITE in the life
-abbrev pub asks_ear : DialogLife → RequestKind → Option ℕ → Option (Option ℕ)
-asks_ear life First heard = None
-asks_ear life (Again own) heard =
-    if is_named life.name own.name && is_id own.born life.born then Some heard else None
-asks_ear life (Inside own) heard = None
-asks_ear life Plain heard = None
+abbrev pub asks_ear : DialogReference → RequestKind → Option ℕ → Option (Option ℕ)
+asks_ear life InitialInvite last_rseq = None
+asks_ear life (ReInvite own) last_rseq =
+    if is_named life.name own.name && is_id own.created_by life.created_by then Some last_rseq else None
+asks_ear life (InDialog own) last_rseq = None
+asks_ear life OutOfDialog last_rseq = None
 
-abbrev pub client_ear : DialogLife → Option Client → Option (Option ℕ)
+abbrev pub client_ear : DialogReference → Option Client → Option (Option ℕ)
 client_ear life None = None
-client_ear life (Some client) = asks_ear life client.kind client.heard
+client_ear life (Some client) = asks_ear life client.kind client.last_rseq
 
-asks_fresh : (life : DialogLife) (kind : RequestKind) (heard : Option ℕ) → heard ≡ None
-    → (asks_ear life kind heard ≡ None) ⊎ (asks_ear life kind heard ≡ Some None)
-asks_fresh life First heard none = inl refl
-asks_fresh life (Again own) heard none =
+asks_fresh : (life : DialogReference) (kind : RequestKind) (last_rseq : Option ℕ) → last_rseq ≡ None
+    → (asks_ear life kind last_rseq ≡ None) ⊎ (asks_ear life kind last_rseq ≡ Some None)
+asks_fresh life InitialInvite last_rseq none = inl refl
+asks_fresh life (ReInvite own) last_rseq none =
     elim (is_named life.name own.name
-    && is_id own.born life.born) as (λ b. ((if b then Some heard else None) ≡ None)
-    ⊎ ((if b then Some heard else None) ≡ Some None)) [
+    && is_id own.created_by life.created_by) as (λ b. ((if b then Some last_rseq else None) ≡ None)
+    ⊎ ((if b then Some last_rseq else None) ≡ Some None)) [
       | true ↦ inr (ap (λ h. Some h) none)
       | false ↦ inl refl
     ]
-asks_fresh life (Inside own) heard none = inl refl
-asks_fresh life Plain heard none = inl refl
+asks_fresh life (InDialog own) last_rseq none = inl refl
+asks_fresh life OutOfDialog last_rseq none = inl refl
 
 pub silent_then : (Begins : Type 0) (x y z : Option (Option ℕ)) → Silent Begins x y
     → Silent Begins y z → Silent Begins x z
@@ -110,11 +110,11 @@ listens_then Begins before middle after (Some number) shown hears (inr same) = r
     by_now (inl gone) = inl (same ∙ gone)
     by_now (inr is) = inr (same ∙ is)
 
-abbrev pub ear_of : DialogLife → Id → Clients → Option (Option ℕ)
+abbrev pub ear_of : DialogReference → Id → Clients → Option (Option ℕ)
 ear_of life invite clients = client_ear life (client_at invite clients)
 
 -- a CANCEL that may be sent is no INVITE, whatever its id
-module _ (life : DialogLife) (invite : Id) where
+module _ (life : DialogReference) (invite : Id) where
   abbrev EarStays : Option Client → Option Client → Type 0
   EarStays before after = EndsOrStays (client_ear life before) (client_ear life after)
 
@@ -141,14 +141,14 @@ module _ (life : DialogLife) (invite : Id) where
 
 -- what was heard is so, after what makes such requests of those before, beside these dialogs, where
 -- this number may have come and this is given
-abbrev pub AgainResult : DialogLife → Id → Option Id → Clients → Dialogs → Clients → Option ℕ
+abbrev pub AgainResult : DialogReference → Id → Option Id → Clients → Dialogs → Clients → Option ℕ
     → List CallOut → Type 0
 AgainResult life invite event before dialogs after number outs =
     AreApart after
     × Listens (event ≡ Some invite) (ear_of life invite before) (ear_of life invite after)
     (in_life (lives dialogs life) number) (told_of (in_life (lives dialogs life) number) outs)
 
-module _ (life : DialogLife) (invite : Id) (event : Option Id) where
+module _ (life : DialogReference) (invite : Id) (event : Option Id) where
   abbrev ear : Clients → Option (Option ℕ)
   ear clients = ear_of life invite clients
 
@@ -206,16 +206,16 @@ module _ (life : DialogLife) (invite : Id) (event : Option Id) where
     silent = entries.by_removal id_laws Found found_same found_none id invite clients apart;
   }
 
-  put_found : (before : Option Client) (client : Client) → Begins → client.heard ≡ None
+  put_found : (before : Option Client) (client : Client) → Begins → client.last_rseq ≡ None
       → Found before (Some client)
-  put_found before client begins none = by_fresh (asks_fresh life client.kind client.heard none)
+  put_found before client begins none = by_fresh (asks_fresh life client.kind client.last_rseq none)
     where
       by_fresh : ((client_ear life (Some client) ≡ None)
           ⊎ (client_ear life (Some client) ≡ Some None)) → Found before (Some client)
       by_fresh (inl gone) = inl gone
       by_fresh (inr fresh) = inr (inr (begins, fresh))
 
-  pub keeps_started : (id : Id) (client : Client) → event ≡ Some id → client.heard ≡ None
+  pub keeps_started : (id : Id) (client : Client) → event ≡ Some id → client.last_rseq ≡ None
       → (clients : Clients) → AreApart clients → Keeps clients (with_client id client clients)
   keeps_started id client made none clients apart = record {
     apart = entries.apart_inserted id_laws id client clients apart;
@@ -242,7 +242,7 @@ module _ (life : DialogLife) (invite : Id) (event : Option Id) where
   pub keeps_invite : (of : Event) (command : Invite) → event ≡ Some of.id → (clients : Clients)
       → AreApart clients → Keeps clients (invite_taken of command clients).0
   keeps_invite of command made clients apart =
-      keeps_started of.id (client_for of.id First (invite_of of command) command.address) made refl
+      keeps_started of.id (client_for of.id InitialInvite (invite_of of command) command.address) made refl
       clients apart
 
   keeps_either : (b : Bool) (refused sent : List CallOut) (clients after : Clients)
@@ -254,7 +254,7 @@ module _ (life : DialogLife) (invite : Id) (event : Option Id) where
   pub keeps_plain : (of : Event) (command : PlainCommand) → event ≡ Some of.id → (clients : Clients)
       → AreApart clients → Keeps clients (plain_taken of command clients).0
   keeps_plain of command made clients apart =
-      let client = client_for of.id Plain (plain_of of command) command.address in
+      let client = client_for of.id OutOfDialog (plain_of of command) command.address in
       keeps_either (is_bad_outside command.method)
       (refused of.id command.call_id BadMethod) (start_command of.id client ∷ []) clients
       (with_client of.id client clients)
@@ -268,8 +268,8 @@ module _ (life : DialogLife) (invite : Id) (event : Option Id) where
       keeps_settled of of.id (request_said of command.call_id name service).1 made
       (said_fresh of command.call_id name service) side.clients apart
 
-  keeps_noted : (debt : Debt) (name : DialogName) (ack : Option SentAck) (clients : Clients)
-      → AreApart clients → Keeps clients (ack_kept debt name ack clients)
+  keeps_noted : (pending : PendingRequest) (name : DialogId) (ack : Option SentAck) (clients : Clients)
+      → AreApart clients → Keeps clients (ack_kept pending name ack clients)
   keeps_noted (Ack of number) name None clients apart = keeps_same clients apart
   keeps_noted (Ack of number) name (Some ack) clients apart =
       keeps_changed of (acked_with name ack) (λ client. refl) clients apart
@@ -280,9 +280,9 @@ module _ (life : DialogLife) (invite : Id) (event : Option Id) where
   keeps_ack of command side apart =
       let name = name_in command.local_tag command.remote_tag in
       paid_either (λ taken. Keeps side.clients (taken.0).clients) of command
-      (ack_paid of command name) side (debt_for kind.Ack name side.dialogs)
+      (ack_paid of command name) side (pending_for kind.Ack name side.dialogs)
       (λ refusal. keeps_same side.clients apart)
-      (λ debt. keeps_noted debt name (ack_asked of name debt command side.dialogs).2 side.clients
+      (λ pending. keeps_noted pending name (ack_asked of name pending command side.dialogs).2 side.clients
       apart)
 
   pub keeps_prack : (of : Event) (command : DialogBody) → event ≡ Some of.id → (side : Side)
@@ -290,9 +290,9 @@ module _ (life : DialogLife) (invite : Id) (event : Option Id) where
   keeps_prack of command made side apart =
       let name = name_in command.local_tag command.remote_tag in
       paid_either (λ taken. Keeps side.clients (taken.0).clients) of command
-      (prack_paid of command name) side (debt_for kind.Prack name side.dialogs)
+      (prack_paid of command name) side (pending_for kind.Prack name side.dialogs)
       (λ refusal. keeps_same side.clients apart)
-      (λ debt. let service = (paid_at name of debt command.content side.dialogs).1 in
+      (λ pending. let service = (paid_at name of pending command.content side.dialogs).1 in
       keeps_settled of of.id (request_said of command.call_id name service).1 made
       (said_fresh of command.call_id name service) side.clients apart)
 

@@ -8,19 +8,19 @@ use Rattle.sip_model.proofs.Ordered.{by_bool}
 use Rattle.sip_reliable.specs.declared.offer.Offer.{Offer}
 use Rattle.sip_reliable.specs.declared.offer.Offer.TheVariants.{Taken, Repeat, Gap}
 use Rattle.sip_reliable.specs.Inbound.{latest_after, offered, taken}
-use Rattle.sip_common.specs.declared.held_dialog.DialogLife.{DialogLife}
+use Rattle.sip_common.specs.declared.held_dialog.DialogReference.{DialogReference}
 use Rattle.sip_common.specs.declared.held_dialog.HeldDialog.{HeldDialog}
 use Rattle.sip_common.specs.declared.item.CallOut.{CallOut}
 use Rattle.sip_common.specs.Dialogs.{dialog_at, is_named, lives, Dialogs}
-use Rattle.sip_common.specs.Requests.{is_final, is_inside, is_success}
+use Rattle.sip_common.specs.Requests.{is_final, has_to_tag, is_success}
 use Rattle.sip_common.specs.Ids.{is_id}
 use Rattle.sip_common.proofs.Entries as entries
 use Rattle.sip_common.proofs.Heard.{id_laws}
-use Rattle.sip_clients.specs.declared.client.RequestKind.TheVariants.{Again}
+use Rattle.sip_clients.specs.declared.client.RequestKind.TheVariants.{ReInvite}
 use Rattle.sip_clients.specs.declared.client.Client.{Client}
 use Rattle.sip_clients.specs.declared.outputs.ClientChange.{ClientChange}
 use Rattle.sip_clients.specs.declared.outputs.ClientChange.TheVariants.{Stays}
-use Rattle.sip_clients.specs.declared.reply.Reply.{Reply as Answer}
+use Rattle.sip_clients.specs.declared.reply.ReceivedResponse.{ReceivedResponse}
 use Rattle.sip_clients.specs.declared.reply.ReplyCase.{ReplyCase}
 use Rattle.sip_clients.specs.declared.reply.ReplyCase.TheVariants as reply
 use Rattle.sip_clients.specs.Cancel.{after_response}
@@ -29,7 +29,7 @@ use Rattle.sip_clients.specs.Clients.{settled}
 use Rattle.sip_clients.specs.Dialogs.{dialog_for_provisional}
 use Rattle.sip_clients.specs.Provisionals.{in_life, is_response, provisional_number, told_of}
 use Rattle.sip_clients.specs.Replied.{Replied, after_dialog, by_reply_case, request_over, notice, prack_owed, reply_taken}
-use Rattle.sip_clients.specs.Reply.{is_there, offer_case, rseq_of, success_case}
+use Rattle.sip_clients.specs.ReceivedResponse.{has_dialog, offer_case, rseq_of, success_case}
 use Rattle.sip_clients.proofs.AgainCases.{again, heard_kept, case_by, Gone, gone, success_unheard, lives_same, lives_owed}
 use Rattle.sip_clients.proofs.AgainInvite.{AgainResult, AreApart, Keeps, asks_ear, client_ear, ear_of, keeps_settled, silent_then}
 use Rattle.sip_clients.proofs.ReplyStarts.{case_fresh, replies, rest_kept}
@@ -38,7 +38,7 @@ use Rattle.sip_clients.proofs.FirstInvite.{no_number}
 use Rattle.sip_clients.proofs.FirstReply.{Decided, Unheard, decided, number_by, told_once}
 use Rattle.sip_clients.proofs.Hearing.{Listens, Silent}
 
-module _ (life : DialogLife) (invite : Id) (event : Option Id) (answer : Answer)
+module _ (life : DialogReference) (invite : Id) (event : Option Id) (answer : ReceivedResponse)
     (made : event ≡ Some (answer.event).id) (side : Side) (apart : AreApart side.clients)
     (once : event ≡ Some invite → ear_of life invite side.clients ≡ None) where
   abbrev ear : Clients → Option (Option ℕ)
@@ -79,30 +79,30 @@ module _ (life : DialogLife) (invite : Id) (event : Option Id) (answer : Answer)
               ),
         )
 
-    now_heard : (heard now : Option ℕ) (after : Option (Option ℕ)) → ear side.clients ≡ Some heard
+    now_heard : (last_rseq now : Option ℕ) (after : Option (Option ℕ)) → ear side.clients ≡ Some last_rseq
         → ear clients ≡ Some now → Silent (event ≡ Some invite) (ear clients) after
         → (after ≡ None) ⊎ (after ≡ Some now)
-    now_heard heard now after was is (inl none) = inl none
-    now_heard heard now after was is (inr (inl same)) = inr (same ∙ is)
-    now_heard heard now after was is (inr (inr begins)) = absurd (never (sym (once begins.0) ∙ was))
+    now_heard last_rseq now after was is (inl none) = inl none
+    now_heard last_rseq now after was is (inr (inl same)) = inr (same ∙ is)
+    now_heard last_rseq now after was is (inr (inr begins)) = absurd (never (sym (once begins.0) ∙ was))
       where
-        never : None ≡ Some heard → ⊥
+        never : None ≡ Some last_rseq → ⊥
         never e = absurd cc
 
-    finish_heard : (number : ℕ) (heard : Option ℕ) → lives dialogs life ≡ true
-        → ear side.clients ≡ Some heard
-        → ear clients ≡ Some (latest_after (offered heard number) heard number)
-        → map (λ out. number) (filter is_response outs) ≡ taken (offered heard number) number
+    finish_heard : (number : ℕ) (last_rseq : Option ℕ) → lives dialogs life ≡ true
+        → ear side.clients ≡ Some last_rseq
+        → ear clients ≡ Some (latest_after (offered last_rseq number) last_rseq number)
+        → map (λ out. number) (filter is_response outs) ≡ taken (offered last_rseq number) number
         → ResultOf dialogs (settled answer.event answer.id change clients).0 (Some number) outs
-    finish_heard number heard alive was is told =
+    finish_heard number last_rseq alive was is told =
         let after = (settled answer.event answer.id change clients).0 in (
           settles.apart,
           subst (λ b. Listens (event ≡ Some invite) (ear side.clients) (ear after)
               (in_life b (Some number)) (told_of (in_life b (Some number)) outs)) (sym alive)
               (record {
-                last = heard;
+                last = last_rseq;
                 was = inl was;
-                now = now_heard heard (latest_after (offered heard number) heard number)
+                now = now_heard last_rseq (latest_after (offered last_rseq number) last_rseq number)
                     (ear after) was is settles.silent;
                 shows = told;
               }),
@@ -151,12 +151,12 @@ module _ (life : DialogLife) (invite : Id) (event : Option Id) (answer : Answer)
         ap (client_ear life) (found_now ∙ ap found_by same ∙ ap (option_map change) (there same))
 
     -- a request that is no INVITE of the life
-    no_ear : ((heard : Option ℕ) → asks_ear life client.kind heard ≡ None)
+    no_ear : ((last_rseq : Option ℕ) → asks_ear life client.kind last_rseq ≡ None)
         → is_id answer.id invite ≡ true → ear changed ≡ None
     no_ear none same =
         let after = change client in
-        ear_own same ∙ ap (λ kind. asks_ear life kind after.heard)
-        (replies (noting client) side.dialogs answer).kept.0 ∙ none after.heard
+        ear_own same ∙ ap (λ kind. asks_ear life kind after.last_rseq)
+        (replies (noting client) side.dialogs answer).kept.0 ∙ none after.last_rseq
 
     other_silent : is_id answer.id invite ≡ false
         → Silent (event ≡ Some invite) (ear side.clients) (ear changed)
@@ -169,7 +169,7 @@ module _ (life : DialogLife) (invite : Id) (event : Option Id) (answer : Answer)
         finish_silent changed left done.1 done.3 (replies (noting client) side.dialogs answer).fresh
         (done.2 ++ (settled answer.event answer.id done.3 changed).1) silent
 
-    pub no_invite : ((heard : Option ℕ) → asks_ear life client.kind heard ≡ None)
+    pub no_invite : ((last_rseq : Option ℕ) → asks_ear life client.kind last_rseq ≡ None)
         → Done None (reply_taken (noting client) side.dialogs answer)
     no_invite none =
         finish (by_bool (is_id answer.id invite) (λ same. inl (no_ear none same)) other_silent)
@@ -179,10 +179,10 @@ module _ (life : DialogLife) (invite : Id) (event : Option Id) (answer : Answer)
     another other = finish (other_silent other)
 
   -- an INVITE of the life, in its dialog
-  module _ (own : DialogLife) (client : Client) (named : answer.name ≡ own.name)
+  module _ (own : DialogReference) (client : Client) (named : answer.name ≡ own.name)
       (is : client_at answer.id side.clients ≡ Some (again own client))
       (same : is_id answer.id invite ≡ true)
-      (ours : (is_named life.name own.name && is_id own.born life.born) ≡ true) where
+      (ours : (is_named life.name own.name && is_id own.created_by life.created_by) ≡ true) where
     abbrev found : Client
     found = again own client
 
@@ -201,9 +201,9 @@ module _ (life : DialogLife) (invite : Id) (event : Option Id) (answer : Answer)
     abbrev pub DoneSo : Option ℕ → Replied → Type 0
     DoneSo number done = Done found is number done
 
-    was : ear side.clients ≡ Some client.heard
+    was : ear side.clients ≡ Some client.last_rseq
     was = ap (client_ear life) (there found is same)
-        ∙ (λ i. if ours i then Some client.heard else None)
+        ∙ (λ i. if ours i then Some client.last_rseq else None)
 
     -- it has heard this since
     abbrev Heard : Replied → Type 0
@@ -211,115 +211,115 @@ module _ (life : DialogLife) (invite : Id) (event : Option Id) (answer : Answer)
 
     now_is : (case : ReplyCase) → Heard (taken_as case) → Unheard case
         → Silent (event ≡ Some invite) (ear side.clients) (ear after)
-    now_is case heard none =
-        inr (inl (heard ∙ (λ i. asks_ear life ((rest_kept case now held answer).0 i)
+    now_is case last_rseq none =
+        inr (inl (last_rseq ∙ (λ i. asks_ear life ((rest_kept case now held answer).0 i)
         (heard_kept case now held answer none i))
-        ∙ (λ i. if ours i then Some client.heard else None) ∙ sym was))
+        ∙ (λ i. if ours i then Some client.last_rseq else None) ∙ sym was))
 
     over : Heard (request_over now side.dialogs answer)
         → DoneSo None (request_over now side.dialogs answer)
-    over heard =
+    over last_rseq =
         let done = request_over now side.dialogs answer in
         finish_silent after (left found is) done.1 done.3 tt
         (done.2 ++ (settled answer.event answer.id done.3 after).1)
-        (inr (inl (heard ∙ (λ i. if ours i then Some client.heard else None) ∙ sym was)))
+        (inr (inl (last_rseq ∙ (λ i. if ours i then Some client.last_rseq else None) ∙ sym was)))
 
     unheard : (case : ReplyCase) → Heard (taken_as case) → Unheard case
         → DoneSo None (taken_as case)
-    unheard case heard none =
+    unheard case last_rseq none =
         let done = taken_as case in
         finish_silent after (left found is) done.1 done.3 (case_fresh case now held answer)
-        (done.2 ++ (settled answer.event answer.id done.3 after).1) (now_is case heard none)
+        (done.2 ++ (settled answer.event answer.id done.3 after).1) (now_is case last_rseq none)
 
-    passed : (number : ℕ) (offer : Offer) → offered client.heard number ≡ offer
+    passed : (number : ℕ) (offer : Offer) → offered client.last_rseq number ≡ offer
         → taken offer number ≡ [] → ((last : Option ℕ) → latest_after offer last number ≡ last)
         → lives side.dialogs life ≡ true → Heard (taken_as reply.Passed)
         → DoneSo (Some number) (taken_as reply.Passed)
-    passed number offer is_offered none kept alive heard =
-        finish_heard after (left found is) side.dialogs Stays tt [] number client.heard alive was
-        (heard ∙ (λ i. if ours i then Some client.heard else None)
-        ∙ ap (λ h. Some h) (sym (ap (λ o. latest_after o client.heard number) is_offered
-        ∙ kept client.heard)))
+    passed number offer is_offered none kept alive last_rseq =
+        finish_heard after (left found is) side.dialogs Stays tt [] number client.last_rseq alive was
+        (last_rseq ∙ (λ i. if ours i then Some client.last_rseq else None)
+        ∙ ap (λ h. Some h) (sym (ap (λ o. latest_after o client.last_rseq number) is_offered
+        ∙ kept client.last_rseq)))
         (sym (ap (λ o. taken o number) is_offered ∙ none))
 
-    by_offer : (number : ℕ) (offer : Offer) → offered client.heard number ≡ offer
-        → is_there (Again own) held ≡ true → lives side.dialogs life ≡ true
+    by_offer : (number : ℕ) (offer : Offer) → offered client.last_rseq number ≡ offer
+        → has_dialog (ReInvite own) held ≡ true → lives side.dialogs life ≡ true
         → Heard (taken_as (offer_case offer number))
         → DoneSo (Some number) (taken_as (offer_case offer number))
     unfolding prack_owed
-    by_offer number Taken is_offered there alive heard =
+    by_offer number Taken is_offered there alive last_rseq =
         let done = taken_as (reply.Reliable number) in
         finish_heard after (left found is) done.1 done.3
         (case_fresh (reply.Reliable number) now held answer)
-        (done.2 ++ (settled answer.event answer.id done.3 after).1) number client.heard
+        (done.2 ++ (settled answer.event answer.id done.3 after).1) number client.last_rseq
         (lives_owed life own number (noting found is client) side.dialogs answer held refl there
         ∙ alive) was
-        (heard ∙ (λ i. if ours i then Some
-        (latest_after (offered client.heard number) client.heard number) else None))
+        (last_rseq ∙ (λ i. if ours i then Some
+        (latest_after (offered client.last_rseq number) client.last_rseq number) else None))
         (told_once number answer answer.id
         (prack_owed number now (dialog_for_provisional now answer held) answer).1 after
         ∙ ap (λ o. taken o number) (sym is_offered))
-    by_offer number Repeat is_offered there alive heard =
-        passed number Repeat is_offered refl (λ last. refl) alive heard
-    by_offer number Gap is_offered there alive heard =
-        passed number Gap is_offered refl (λ last. refl) alive heard
+    by_offer number Repeat is_offered there alive last_rseq =
+        passed number Repeat is_offered refl (λ last. refl) alive last_rseq
+    by_offer number Gap is_offered there alive last_rseq =
+        passed number Gap is_offered refl (λ last. refl) alive last_rseq
 
-    by_number : (number : Option ℕ) (case : ReplyCase) → is_there (Again own) held ≡ true
+    by_number : (number : Option ℕ) (case : ReplyCase) → has_dialog (ReInvite own) held ≡ true
         → lives side.dialogs life ≡ true → Heard (taken_as case)
-        → Decided Unheard client.heard number case → DoneSo number (taken_as case)
-    by_number None case there alive heard none = unheard case heard none
-    by_number (Some number) case there alive heard case_is =
+        → Decided Unheard client.last_rseq number case → DoneSo number (taken_as case)
+    by_number None case there alive last_rseq none = unheard case last_rseq none
+    by_number (Some number) case there alive last_rseq case_is =
         subst (λ c. DoneSo (Some number) (taken_as c)) (sym case_is)
-        (by_offer number (offered client.heard number) refl there alive
-        (subst (λ c. Heard (taken_as c)) case_is heard))
+        (by_offer number (offered client.last_rseq number) refl there alive
+        (subst (λ c. Heard (taken_as c)) case_is last_rseq))
 
     by_gone : (number : Option ℕ) (case : ReplyCase) → lives side.dialogs life ≡ false
         → Heard (taken_as case) → Gone number case → DoneSo number (taken_as case)
-    by_gone None case dead heard none = unheard case heard none
-    by_gone (Some number) case dead heard case_is =
-        let told = subst (λ c. Heard (taken_as c)) case_is heard in
+    by_gone None case dead last_rseq none = unheard case last_rseq none
+    by_gone (Some number) case dead last_rseq case_is =
+        let told = subst (λ c. Heard (taken_as c)) case_is last_rseq in
         subst (λ c. DoneSo (Some number) (taken_as c)) (sym case_is)
         (finish_gone after (left found is) side.dialogs Stays tt (notice answer ++ [])
         (Some number) dead (now_is reply.Told told refl))
 
     abbrev inside : Bool
-    inside = not (answer.status == 100) && is_inside answer.response
+    inside = not (answer.status == 100) && has_to_tag answer.response
 
     abbrev rseq : Option ℕ
     rseq = rseq_of answer.response
 
     abbrev decides : Bool → Bool → ReplyCase
     decides final alive = case_by final inside alive (success_case now held answer.name)
-        client.heard rseq
+        client.last_rseq rseq
 
-    in_dialog : (final : Bool) → Heard (taken_as (decides final (is_there (Again own) held)))
+    in_dialog : (final : Bool) → Heard (taken_as (decides final (has_dialog (ReInvite own) held)))
         → DoneSo (number_by final inside rseq)
-        (taken_as (decides final (is_there (Again own) held)))
-    in_dialog final heard =
-        let case = decides final (is_there (Again own) held) in
+        (taken_as (decides final (has_dialog (ReInvite own) held)))
+    in_dialog final last_rseq =
+        let case = decides final (has_dialog (ReInvite own) held) in
         let number = number_by final inside rseq in
         let winning = success_case now held answer.name in
         let none = success_unheard own (noting found is client) answer held in
-        let lives_is : is_there (Again own) held ≡ lives side.dialogs life =
-        ap (λ name. is_there (Again own) (dialog_at name side.dialogs)) named
+        let lives_is : has_dialog (ReInvite own) held ≡ lives side.dialogs life =
+        ap (λ name. has_dialog (ReInvite own) (dialog_at name side.dialogs)) named
         ∙ lives_same life own side.dialogs ours in
-        by_bool (is_there (Again own) held)
-        (λ there. by_number number case there (sym lives_is ∙ there) heard
-        (subst (λ b. Decided Unheard client.heard number (decides final b)) (sym there)
-        (decided final inside winning client.heard rseq none)))
-        (λ dead. by_gone number case (sym lives_is ∙ dead) heard
+        by_bool (has_dialog (ReInvite own) held)
+        (λ there. by_number number case there (sym lives_is ∙ there) last_rseq
+        (subst (λ b. Decided Unheard client.last_rseq number (decides final b)) (sym there)
+        (decided final inside winning client.last_rseq rseq none)))
+        (λ dead. by_gone number case (sym lives_is ∙ dead) last_rseq
         (subst (λ b. Gone number (decides final b)) (sym dead)
-        (gone final inside winning client.heard rseq none)))
+        (gone final inside winning client.last_rseq rseq none)))
 
     by_last : (final success : Bool)
         → Heard (cond {A = Replied} (final && not success) (request_over now side.dialogs answer)
-        (taken_as (decides final (is_there (Again own) held))))
+        (taken_as (decides final (has_dialog (ReInvite own) held))))
         → DoneSo (number_by final inside rseq)
         (cond {A = Replied} (final && not success) (request_over now side.dialogs answer)
-        (taken_as (decides final (is_there (Again own) held))))
-    by_last true false heard = over heard
-    by_last true true heard = in_dialog true heard
-    by_last false success heard = in_dialog false heard
+        (taken_as (decides final (has_dialog (ReInvite own) held))))
+    by_last true false last_rseq = over last_rseq
+    by_last true true last_rseq = in_dialog true last_rseq
+    by_last false success last_rseq = in_dialog false last_rseq
 
     pub invite_replied : DoneSo (provisional_number (Some answer.status) answer.response)
         (reply_taken now side.dialogs answer)

@@ -5,16 +5,16 @@ use Rattle.std.specs.Map.{set_value}
 use Rattle.std.specs.Option.{option_and_then, option_map}
 use Rattle.sip_message.specs.declared.id.Id.{Id}
 use Rattle.sip_message.specs.declared.message.Message.{Message}
-use Rattle.sip_common.specs.declared.held_dialog.DialogLife.{DialogLife}
+use Rattle.sip_common.specs.declared.held_dialog.DialogReference.{DialogReference}
 use Rattle.sip_common.specs.declared.item.CallOut.{CallOut}
 use Rattle.sip_common.specs.Dialogs.{is_named, lives}
 use Rattle.sip_common.specs.Requests.{is_final}
 use Rattle.sip_common.specs.Ids.{is_id}
 use Rattle.sip_clients.specs.declared.client.RequestKind.{RequestKind}
-use Rattle.sip_clients.specs.declared.client.RequestKind.TheVariants.{First, Again, Inside, Plain}
+use Rattle.sip_clients.specs.declared.client.RequestKind.TheVariants.{InitialInvite, ReInvite, InDialog, OutOfDialog}
 use Rattle.sip_clients.specs.declared.client.Client.{Client}
 use Rattle.sip_clients.specs.declared.event.Event.{Event}
-use Rattle.sip_clients.specs.declared.reply.Reply.{Reply as Answer}
+use Rattle.sip_clients.specs.declared.reply.ReceivedResponse.{ReceivedResponse}
 use Rattle.sip_clients.specs.Cancel.{cancel_client, freed_by, after_response, sent_beside}
 use Rattle.sip_clients.specs.Client.{Clients, Side, ClientTaken, client_at}
 use Rattle.sip_clients.specs.Clients.{found_taken, settled, side_after, reply_name, reply_of, reply_settled, response_taken, status_of}
@@ -28,11 +28,11 @@ use Rattle.sip_clients.proofs.Hearing.{Listens}
 abbrev with_asks : RequestKind → Client → Client
 with_asks kind client = record client { kind = kind }
 
-module _ (life : DialogLife) (invite : Id) (event : Option Id) (of : Event)
+module _ (life : DialogReference) (invite : Id) (event : Option Id) (of : Event)
     (made : event ≡ Some of.id) (id : Id) (call_id : List ℕ) (response : Message) (side : Side)
     (apart : AreApart side.clients)
     (once : event ≡ Some invite → ear_of life invite side.clients ≡ None) where
-  abbrev answer_for : ℕ → Client → Answer
+  abbrev answer_for : ℕ → Client → ReceivedResponse
   answer_for status client =
       reply_of of id call_id (reply_name client.kind client response) status response
 
@@ -74,21 +74,21 @@ module _ (life : DialogLife) (invite : Id) (event : Option Id) (of : Event)
   done_of status client =
       reply_taken (noting status client) side.dialogs (answer_for status client)
 
-  by_life : (status : ℕ) (client : Client) (own : DialogLife)
-      → client_at id side.clients ≡ Some (with_asks (Again own) client)
+  by_life : (status : ℕ) (client : Client) (own : DialogReference)
+      → client_at id side.clients ≡ Some (with_asks (ReInvite own) client)
       → (b ours : Bool) → is_id id invite ≡ b
-      → (is_named life.name own.name && is_id own.born life.born) ≡ ours
+      → (is_named life.name own.name && is_id own.created_by life.created_by) ≡ ours
       → SideResult (if b && ours then provisional_number (Some status) response else None)
-      (side_after of id side None (done_of status (with_asks (Again own) client)))
+      (side_after of id side None (done_of status (with_asks (ReInvite own) client)))
   by_life status client own is false ours same is_ours =
-      let found = with_asks (Again own) client in
+      let found = with_asks (ReInvite own) client in
       another life invite event (answer_for status found) made side apart once found is same
   by_life status client own is true false same is_ours =
-      let found = with_asks (Again own) client in
+      let found = with_asks (ReInvite own) client in
       no_invite life invite event (answer_for status found) made side apart once found is
-      (λ heard i. if is_ours i then Some heard else None)
+      (λ last_rseq i. if is_ours i then Some last_rseq else None)
   by_life status client own is true true same is_ours =
-      let found = with_asks (Again own) client in
+      let found = with_asks (ReInvite own) client in
       invite_replied life invite event
       (answer_for status found) made side apart once own client refl is same is_ours
 
@@ -96,21 +96,21 @@ module _ (life : DialogLife) (invite : Id) (event : Option Id) (of : Event)
       → client_at id side.clients ≡ Some (with_asks kind client)
       → SideResult (number_at (Some status) (with_asks kind client))
       (side_after of id side None (done_of status (with_asks kind client)))
-  settles status client First is =
-      let found = with_asks First client in
+  settles status client InitialInvite is =
+      let found = with_asks InitialInvite client in
       no_invite life invite event (answer_for status found) made side apart once found is
-      (λ heard. refl)
-  settles status client (Again own) is =
+      (λ last_rseq. refl)
+  settles status client (ReInvite own) is =
       by_life status client own is (is_id id invite)
-      (is_named life.name own.name && is_id own.born life.born) refl refl
-  settles status client (Inside own) is =
-      let found = with_asks (Inside own) client in
+      (is_named life.name own.name && is_id own.created_by life.created_by) refl refl
+  settles status client (InDialog own) is =
+      let found = with_asks (InDialog own) client in
       no_invite life invite event (answer_for status found) made side apart once found is
-      (λ heard. refl)
-  settles status client Plain is =
-      let found = with_asks Plain client in
+      (λ last_rseq. refl)
+  settles status client OutOfDialog is =
+      let found = with_asks OutOfDialog client in
       no_invite life invite event (answer_for status found) made side apart once found is
-      (λ heard. refl)
+      (λ last_rseq. refl)
 
   by_asks : (status : ℕ) (client : Client) → client_at id side.clients ≡ Some client
       → SideResult (number_at (Some status) client)

@@ -9,7 +9,7 @@ use Rattle.sip_reliable.specs.declared.offer.Offer.{Offer}
 use Rattle.sip_reliable.specs.declared.offer.Offer.TheVariants.{Taken, Repeat, Gap}
 use Rattle.sip_reliable.specs.Inbound.{offered}
 use Rattle.sip_transactions.specs.declared.input.Command.{Command as Order}
-use Rattle.sip_common.specs.declared.debt.Debt.{Debt}
+use Rattle.sip_common.specs.declared.pending_request.PendingRequest.{PendingRequest}
 use Rattle.sip_common.specs.declared.held_dialog.HeldDialog.{HeldDialog}
 use Rattle.sip_common.specs.declared.item.CallOut.{CallOut}
 use Rattle.sip_common.specs.declared.item.CallOut.TheVariants as out
@@ -17,11 +17,11 @@ use Rattle.sip_common.proofs.Heard.{none_either}
 use Rattle.sip_clients.specs.declared.answers.SentAck.{SentAck}
 use Rattle.sip_clients.specs.declared.client.Client.{Client}
 use Rattle.sip_clients.specs.declared.client.RequestKind.{RequestKind}
-use Rattle.sip_clients.specs.declared.client.RequestKind.TheVariants.{First, Again, Inside, Plain}
+use Rattle.sip_clients.specs.declared.client.RequestKind.TheVariants.{InitialInvite, ReInvite, InDialog, OutOfDialog}
 use Rattle.sip_clients.specs.declared.event.Event.{Event}
 use Rattle.sip_clients.specs.declared.outputs.ClientChange.{ClientChange}
 use Rattle.sip_clients.specs.declared.outputs.ClientChange.TheVariants.{Stays, Over, Starts}
-use Rattle.sip_clients.specs.declared.reply.Reply.{Reply as Answer}
+use Rattle.sip_clients.specs.declared.reply.ReceivedResponse.{ReceivedResponse}
 use Rattle.sip_clients.specs.declared.reply.ReplyCase.{ReplyCase}
 use Rattle.sip_clients.specs.declared.reply.ReplyCase.TheVariants as reply
 use Rattle.sip_clients.specs.Answers.{ack_of}
@@ -31,7 +31,7 @@ use Rattle.sip_clients.specs.Clients.{settled}
 use Rattle.sip_clients.specs.Outputs.{direct, start_command}
 use Rattle.sip_clients.specs.Provisionals.{is_response}
 use Rattle.sip_clients.specs.Replied.{by_reply_case}
-use Rattle.sip_clients.specs.Reply.{is_inviting, is_there, offer_case, reliable_case}
+use Rattle.sip_clients.specs.ReceivedResponse.{is_inviting, has_dialog, offer_case, reliable_case}
 use Rattle.sip_clients.proofs.DialogDebts.{neither_way, unless_out}
 
 -- ---- a response: what is given
@@ -87,7 +87,7 @@ again_untold : (o : Option SentAck)
 again_untold None = refl
 again_untold (Some ack) = refl
 
-pub case_told : (case : ReplyCase) (client : Client) (found : Option HeldDialog) (answer : Answer)
+pub case_told : (case : ReplyCase) (client : Client) (found : Option HeldDialog) (answer : ReceivedResponse)
     → list_any is_response (by_reply_case case client found answer).2 ≡ told_as case
 case_told reply.Repeated client found answer = again_untold (ack_of answer.name client.answers)
 case_told reply.Accepted client found answer = refl
@@ -98,12 +98,12 @@ case_told reply.Early client found answer = refl
 case_told reply.Told client found answer = refl
 
 -- what is left of what is asked for
-abbrev pub left_by : Bool → (Debt → Bool) → Option Debt → List Debt
+abbrev pub left_by : Bool → (PendingRequest → Bool) → Option PendingRequest → List PendingRequest
 left_by told goes o =
-    option_map_or (λ debt. if told && not (goes debt) then debt ∷ [] else []) o []
+    option_map_or (λ pending. if told && not (goes pending) then pending ∷ [] else []) o []
 
-module _ (goes : Debt → Bool) (ack : Debt) (prack : ℕ → Debt) where
-  abbrev pub case_owes : ReplyCase → List Debt
+module _ (goes : PendingRequest → Bool) (ack : PendingRequest) (prack : ℕ → PendingRequest) where
+  abbrev pub case_owes : ReplyCase → List PendingRequest
   case_owes reply.Repeated = []
   case_owes reply.Accepted = unless_out (goes ack) ack
   case_owes reply.Late = []
@@ -113,21 +113,21 @@ module _ (goes : Debt → Bool) (ack : Debt) (prack : ℕ → Debt) where
   case_owes reply.Told = []
 
   abbrev case_by : Bool → Bool → Bool → Bool → Option ℕ → Option ℕ → ReplyCase
-  case_by final again there inside heard rseq =
+  case_by final again there inside last_rseq rseq =
       if final then (if again then reply.Repeated
       else (if there then reply.Accepted else reply.Late))
-      else (if inside && there then reliable_case heard rseq else reply.Told)
+      else (if inside && there then reliable_case last_rseq rseq else reply.Told)
 
-  abbrev asked_by : Bool → Bool → Bool → Option ℕ → Option Debt
+  abbrev asked_by : Bool → Bool → Bool → Option ℕ → Option PendingRequest
   asked_by success final inside rseq =
       if success then Some ack
       else option_map prack (if final then None else (if inside then rseq else None))
 
-  by_rseq : (heard rseq : Option ℕ)
-      → left_by (told_as (reliable_case heard rseq)) goes (option_map prack rseq)
-      ≡ case_owes (reliable_case heard rseq)
-  by_rseq heard None = refl
-  by_rseq heard (Some rseq) = by_offer (offered heard rseq)
+  by_rseq : (last_rseq rseq : Option ℕ)
+      → left_by (told_as (reliable_case last_rseq rseq)) goes (option_map prack rseq)
+      ≡ case_owes (reliable_case last_rseq rseq)
+  by_rseq last_rseq None = refl
+  by_rseq last_rseq (Some rseq) = by_offer (offered last_rseq rseq)
     where
       by_offer : (offer : Offer)
           → left_by (told_as (offer_case offer rseq)) goes (Some (prack rseq))
@@ -136,37 +136,37 @@ module _ (goes : Debt → Bool) (ack : Debt) (prack : ℕ → Debt) where
       by_offer Repeat = refl
       by_offer Gap = refl
 
-  pub asks_so : (final success again there inside : Bool) (heard rseq : Option ℕ)
+  pub asks_so : (final success again there inside : Bool) (last_rseq rseq : Option ℕ)
       → (success ≡ true → final ≡ true) → (final ≡ true → success ≡ true)
-      → (if there then left_by (told_as (case_by final again there inside heard rseq)) goes
+      → (if there then left_by (told_as (case_by final again there inside last_rseq rseq)) goes
       (asked_by success final inside rseq) else [])
-      ≡ case_owes (case_by final again there inside heard rseq)
-  asks_so true true true true inside heard rseq so last = refl
-  asks_so true true true false inside heard rseq so last = refl
-  asks_so true true false true inside heard rseq so last = refl
-  asks_so true true false false inside heard rseq so last = refl
-  asks_so true false again there inside heard rseq so last =
+      ≡ case_owes (case_by final again there inside last_rseq rseq)
+  asks_so true true true true inside last_rseq rseq so last = refl
+  asks_so true true true false inside last_rseq rseq so last = refl
+  asks_so true true false true inside last_rseq rseq so last = refl
+  asks_so true true false false inside last_rseq rseq so last = refl
+  asks_so true false again there inside last_rseq rseq so last =
       let wrong : false ≡ true = last refl in absurd cc
-  asks_so false true again there inside heard rseq so last =
+  asks_so false true again there inside last_rseq rseq so last =
       let wrong : false ≡ true = so refl in absurd cc
-  asks_so false false again true true heard rseq so last = by_rseq heard rseq
-  asks_so false false again false true heard rseq so last = refl
-  asks_so false false again true false heard rseq so last = refl
-  asks_so false false again false false heard rseq so last = refl
+  asks_so false false again true true last_rseq rseq so last = by_rseq last_rseq rseq
+  asks_so false false again false true last_rseq rseq so last = refl
+  asks_so false false again true false last_rseq rseq so last = refl
+  asks_so false false again false false last_rseq rseq so last = refl
 
   -- the last response asks for nothing
   pub last_asks : (kind : RequestKind) (found : Option HeldDialog)
       (named final success inside told : Bool) (rseq : Option ℕ)
       → (final && not (is_inviting kind && success)) ≡ true
-      → (if named && is_there kind found then left_by told goes
+      → (if named && has_dialog kind found then left_by told goes
       (asked_by success final inside rseq) else []) ≡ []
   last_asks kind found named false success inside told rseq last =
       let wrong : false ≡ true = last in absurd cc
   last_asks kind found named true false inside told rseq last =
-      none_either (named && is_there kind found)
-  last_asks First found named true true inside told rseq last =
+      none_either (named && has_dialog kind found)
+  last_asks InitialInvite found named true true inside told rseq last =
       let wrong : false ≡ true = last in absurd cc
-  last_asks (Again life) found named true true inside told rseq last =
+  last_asks (ReInvite life) found named true true inside told rseq last =
       let wrong : false ≡ true = last in absurd cc
-  last_asks (Inside life) found named true true inside told rseq last = neither_way named _ _
-  last_asks Plain found named true true inside told rseq last = neither_way named _ _
+  last_asks (InDialog life) found named true true inside told rseq last = neither_way named _ _
+  last_asks OutOfDialog found named true true inside told rseq last = neither_way named _ _

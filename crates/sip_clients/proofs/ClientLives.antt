@@ -10,9 +10,9 @@ use Rattle.sip_dialog.specs.Opening.{ByResponse, Opening}
 use Rattle.sip_common.specs.declared.command.Cancel.{Cancel}
 use Rattle.sip_common.specs.declared.command.DialogBody.{DialogBody}
 use Rattle.sip_common.specs.declared.command.DialogRequest.{DialogRequest}
-use Rattle.sip_common.specs.declared.debt.Debt.{Debt}
-use Rattle.sip_common.specs.declared.debt.Debt.TheVariants.{Ack, Prack}
-use Rattle.sip_common.specs.declared.held_dialog.DialogName.{DialogName}
+use Rattle.sip_common.specs.declared.pending_request.PendingRequest.{PendingRequest}
+use Rattle.sip_common.specs.declared.pending_request.PendingRequest.TheVariants.{Ack, Prack}
+use Rattle.sip_common.specs.declared.held_dialog.DialogId.{DialogId}
 use Rattle.sip_common.specs.declared.held_dialog.HeldDialog.{HeldDialog}
 use Rattle.sip_common.specs.declared.refusal.Refusal.{Refusal}
 use Rattle.sip_common.specs.declared.refusal.Refusal.TheVariants.{NoSuchDialog}
@@ -26,14 +26,14 @@ use Rattle.sip_common.proofs.Starts.{numbered_none}
 use Rattle.sip_clients.specs.declared.cancel.CancelCase.{CancelCase}
 use Rattle.sip_clients.specs.declared.cancel.CancelCase.TheVariants as asked
 use Rattle.sip_clients.specs.declared.client.Client.{Client}
-use Rattle.sip_clients.specs.declared.debts.DebtKind.TheVariants as kind
+use Rattle.sip_clients.specs.declared.pending.PendingKind.TheVariants as kind
 use Rattle.sip_clients.specs.declared.event.Event.{Event}
-use Rattle.sip_clients.specs.declared.service.Service.TheVariants.{Waits, Refused}
+use Rattle.sip_clients.specs.declared.send_outcome.SendOutcome.TheVariants.{Waits, Refused}
 use Rattle.sip_clients.specs.Cancel.{cancel_case, cancel_by_user, cancelled_as, cancelled_of, freed_by, after_response}
 use Rattle.sip_clients.specs.Client.{Side, ClientTaken, client_at}
 use Rattle.sip_clients.specs.Clients.{ack_by_user, found_taken, lost_of, paid_or_refused, prack_paid, prack_by_user, reply_name, reply_of, reply_settled, request_by_user, response_taken, settled, status_of}
-use Rattle.sip_clients.specs.Commands.{bye_ended, debt_for, debt_or_refusal, name_in, oldest_debt, request_in_held, requested_at}
-use Rattle.sip_clients.specs.Debts.{is_of, paid}
+use Rattle.sip_clients.specs.Commands.{bye_ended, pending_for, debt_or_refusal, name_in, oldest_pending, request_in_held, requested_at}
+use Rattle.sip_clients.specs.Pending.{is_of, paid}
 use Rattle.sip_clients.specs.Dialogs.{paid_at, served_at}
 use Rattle.sip_clients.specs.Happenings.{reply_brings}
 use Rattle.sip_clients.specs.Outputs.{request_said}
@@ -86,62 +86,62 @@ module _ (event : Event) (side : Side) (apart : AreApart side.dialogs)
       (request_leads event command side apart)
 
   -- an ACK takes no number
-  ack_takes_none : (command : DialogBody) (found : Option HeldDialog) (other : DialogName)
+  ack_takes_none : (command : DialogBody) (found : Option HeldDialog) (other : DialogId)
       (held : HeldDialog)
-      → paid_in command (option_map_or (oldest_debt kind.Ack) found (Err NoSuchDialog)) other held
+      → paid_in command (option_map_or (oldest_pending kind.Ack) found (Err NoSuchDialog)) other held
       ≡ []
   ack_takes_none command None other held = refl
   ack_takes_none command (Some there) other held =
-      by_debt (find (is_of kind.Ack) there.owed) refl
+      by_debt (find (is_of kind.Ack) there.pending_requests) refl
     where
-      by_debt : (o : Option Debt) → find (is_of kind.Ack) there.owed ≡ o
+      by_debt : (o : Option PendingRequest) → find (is_of kind.Ack) there.pending_requests ≡ o
           → paid_in command (debt_or_refusal kind.Ack o) other held ≡ []
       by_debt None is = refl
       by_debt (Some (Ack invite number)) is =
           none_either (is_named (name_in command.local_tag command.remote_tag) other)
       by_debt (Some (Prack rseq number)) is =
           let wrong : false ≡ true =
-          found_passes (is_of kind.Ack) there.owed (Prack rseq number) is in absurd cc
+          found_passes (is_of kind.Ack) there.pending_requests (Prack rseq number) is in absurd cc
 
   pub ack_lives : (command : DialogBody) → ByOuts (ack_by_user event command side)
   ack_lives command =
       let name = name_in command.local_tag command.remote_tag in
-      let debt = debt_for kind.Ack name side.dialogs in
+      let pending = pending_for kind.Ack name side.dialogs in
       let taken = ack_by_user event command side in
       silent_outs taken.1 (none_started taken.1 (ack_quiet event command side)) side.dialogs (taken.0).dialogs
-      (leads_as (paid_in command debt) quiet side.dialogs (taken.0).dialogs
+      (leads_as (paid_in command pending) quiet side.dialogs (taken.0).dialogs
       (λ other held at. ack_takes_none command (dialog_at name side.dialogs) other held)
       (ack_leads event command side apart))
 
-  by_prack : (command : DialogBody) (o : Result Debt Refusal)
+  by_prack : (command : DialogBody) (o : Result PendingRequest Refusal)
       → ByOuts (paid_or_refused event command
       (prack_paid event command (name_in command.local_tag command.remote_tag)) o side)
   by_prack command (Err refusal) =
       silent_outs (refused event.id command.call_id refusal) refl side.dialogs side.dialogs
       (leads_same side.dialogs apart)
-  by_prack command (Ok debt) =
+  by_prack command (Ok pending) =
       let name = name_in command.local_tag command.remote_tag in
-      let done = paid_at name event debt command.content side.dialogs in
+      let done = paid_at name event pending command.content side.dialogs in
       let said = request_said event command.call_id name done.1 in
       let after = settled event event.id said.1 side.clients in
-      sends_one name (λ held. discharge_cseqs debt (Some command.content) held.dialog)
+      sends_one name (λ held. discharge_cseqs pending (Some command.content) held.dialog)
       (said.0 ++ after.1) side.dialogs done.0
-      (λ held. discharge_numbered debt (Some command.content) held.dialog)
-      (λ other held at. served_sent name (paid event debt command.content) Waits
-      (λ held. discharge_cseqs debt (Some command.content) held.dialog) side.dialogs other
-      (λ there is. paid_sent other name event there (named name there is) debt command.content) refl
+      (λ held. discharge_numbered pending (Some command.content) held.dialog)
+      (λ other held at. served_sent name (paid event pending command.content) Waits
+      (λ held. discharge_cseqs pending (Some command.content) held.dialog) side.dialogs other
+      (λ there is. paid_sent other name event there (named name there is) pending command.content) refl
       held at
       ∙ sym (said_sent other event event.id command.call_id name done.1 side.clients)
       ∙ sym (after_silent other said.0 after.1
       (none_started said.0 (request_said_quiet event command.call_id name done.1))))
-      (pay_leads event command debt side.dialogs apart)
+      (pay_leads event command pending side.dialogs apart)
 
   pub prack_lives : (command : DialogBody) → ByOuts (prack_by_user event command side)
   prack_lives command =
-      by_prack command (debt_for kind.Prack
+      by_prack command (pending_for kind.Prack
       (name_in command.local_tag command.remote_tag) side.dialogs)
 
-  cancel_by : (as_case : CancelCase) (command : Cancel) (invite : Client) (name : DialogName)
+  cancel_by : (as_case : CancelCase) (command : Cancel) (invite : Client) (name : DialogId)
       → [] ≡ cseqs_in name (cancelled_as as_case event command invite side.clients).1
   cancel_by (asked.Refused refusal) command invite name = refl
   cancel_by asked.Repeated command invite name = refl
@@ -149,7 +149,7 @@ module _ (event : Event) (side : Side) (apart : AreApart side.dialogs)
   cancel_by asked.Starts command invite name =
       sym (beside_sent name (Some event.id) invite (side.clients, []))
 
-  cancel_found : (o : Option Client) (command : Cancel) (name : DialogName)
+  cancel_found : (o : Option Client) (command : Cancel) (name : DialogId)
       → [] ≡ cseqs_in name (cancelled_of o event command side.clients).1
   cancel_found None command name = refl
   cancel_found (Some invite) command name = cancel_by (cancel_case invite) command invite name
@@ -169,14 +169,14 @@ module _ (event : Event) (id : Id) (call_id : List ℕ) (response : Message) (si
       (λ status. reply_brings status client response name held) status []) o []
 
   abbrev pub Responded : Option ℕ → Option Client → ClientTaken → Type 0
-  Responded status o taken = (came : DialogName → Option ℕ)
+  Responded status o taken = (came : DialogId → Option ℕ)
       × Moves (Some event.id) (option_map (λ client. ByResponse client.request response) o) came
       (λ name held. brings_by status o name held ++ sent_in name taken.1)
       (λ name. sent_in name taken.1) side.dialogs (taken.0).dialogs
       × AreNumbered (option_map (λ client. ByResponse client.request response) o) side.dialogs
       taken.1
 
-  unchanged : (start : Option Opening) → (came : DialogName → Option ℕ)
+  unchanged : (start : Option Opening) → (came : DialogId → Option ℕ)
       × Moves (Some event.id) start came quiet (λ name. []) side.dialogs side.dialogs
       × AreNumbered start side.dialogs []
   unchanged start = (
@@ -200,7 +200,7 @@ module _ (event : Event) (id : Id) (call_id : List ℕ) (response : Message) (si
       let after = settled event id done.3 clients in
       let taken = reply_settled answer client side in
       let so = replied_so event id call_id response status client side.dialogs apart named in
-      let same : (name : DialogName) → change_cseqs name done.3 ≡ cseqs_in name taken.1 =
+      let same : (name : DialogId) → change_cseqs name done.3 ≡ cseqs_in name taken.1 =
       λ name. sym (beside_sent name (freed_by final client.cancel) client
       (after.0, done.2 ++ after.1)
       ∙ after_silent name done.2 after.1

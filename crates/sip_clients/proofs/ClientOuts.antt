@@ -13,8 +13,8 @@ use Rattle.sip_common.specs.declared.command.DialogBody.{DialogBody}
 use Rattle.sip_common.specs.declared.command.DialogRequest.{DialogRequest}
 use Rattle.sip_common.specs.declared.command.Invite.{Invite as InviteCommand}
 use Rattle.sip_common.specs.declared.command.Plain.{Plain as PlainCommand}
-use Rattle.sip_common.specs.declared.debt.Debt.{Debt}
-use Rattle.sip_common.specs.declared.held_dialog.DialogName.{DialogName}
+use Rattle.sip_common.specs.declared.pending_request.PendingRequest.{PendingRequest}
+use Rattle.sip_common.specs.declared.held_dialog.DialogId.{DialogId}
 use Rattle.sip_common.specs.declared.held_dialog.HeldDialog.{HeldDialog}
 use Rattle.sip_common.specs.declared.item.CallOut.{CallOut}
 use Rattle.sip_common.specs.declared.item.CallOut.TheVariants as out
@@ -34,25 +34,25 @@ use Rattle.sip_clients.specs.declared.client.Cancelling.TheVariants as cancel
 use Rattle.sip_clients.specs.declared.client.Client.{Client}
 use Rattle.sip_clients.specs.declared.client.RequestKind.{RequestKind}
 use Rattle.sip_clients.specs.declared.client.RequestKind.TheVariants as asks
-use Rattle.sip_clients.specs.declared.debts.DebtKind.TheVariants as debt
+use Rattle.sip_clients.specs.declared.pending.PendingKind.TheVariants as pending
 use Rattle.sip_clients.specs.declared.event.Event.{Event}
 use Rattle.sip_clients.specs.declared.outputs.ClientChange.{ClientChange}
 use Rattle.sip_clients.specs.declared.outputs.ClientChange.TheVariants as change
-use Rattle.sip_clients.specs.declared.reply.Reply.{Reply as Answer}
+use Rattle.sip_clients.specs.declared.reply.ReceivedResponse.{ReceivedResponse}
 use Rattle.sip_clients.specs.declared.reply.ReplyCase.{ReplyCase}
 use Rattle.sip_clients.specs.declared.reply.ReplyCase.TheVariants as reply
-use Rattle.sip_clients.specs.declared.service.Service.{Service}
-use Rattle.sip_clients.specs.declared.service.Service.TheVariants.{Sent, Waits, Refused}
+use Rattle.sip_clients.specs.declared.send_outcome.SendOutcome.{SendOutcome}
+use Rattle.sip_clients.specs.declared.send_outcome.SendOutcome.TheVariants.{Sent, Waits, Refused}
 use Rattle.sip_clients.specs.Answers.{ack_of}
 use Rattle.sip_clients.specs.Cancel.{after_response, asked, cancel_by_user, cancel_case, cancel_client, cancelled_as, cancelled_of, freed_by, sent_beside}
 use Rattle.sip_clients.specs.Client.{Clients, Side, client_at, client_changed, client_for}
 use Rattle.sip_clients.specs.Clients.{ack_by_user, ack_paid, found_taken, invite_taken, lost_of, plain_taken, prack_by_user, prack_paid, reply_name, reply_of, reply_settled, request_by_user, request_lost, response_taken, settled, started, status_of}
-use Rattle.sip_clients.specs.Commands.{bye_ended, debt_for, is_bad_outside, name_in, requested_at}
+use Rattle.sip_clients.specs.Commands.{bye_ended, pending_for, is_bad_outside, name_in, requested_at}
 use Rattle.sip_clients.specs.Dialogs.{accepted, dialog_for_provisional, ended_with, own_ended, paid_at}
 use Rattle.sip_clients.specs.Outputs.{ack_said, direct, request_said, response_notice, sent_ack, start_command}
 use Rattle.sip_clients.specs.Outside.{invite_of, plain_of}
 use Rattle.sip_clients.specs.Replied.{Replied, ack_owed, after_dialog, by_reply_case, ends_dialog, prack_owed, replied_in, reply_taken, request_over}
-use Rattle.sip_clients.specs.Reply.{is_last, reply_case}
+use Rattle.sip_clients.specs.ReceivedResponse.{is_last, reply_case}
 use Rattle.sip_clients.specs.Tick.{clients_ticked, early_ends_told, is_over}
 use Rattle.sip_clients.proofs.Served.{paid_either}
 
@@ -82,31 +82,31 @@ module _ (P : CallOut → Type 0) (allows : Allows P) where
   by_dialog None = tt
   by_dialog (Some held) = (allows.ended held, tt)
 
-  pub end_told : (name : DialogName) (dialogs : Dialogs) → All (ended_at name dialogs).1
+  pub end_told : (name : DialogId) (dialogs : Dialogs) → All (ended_at name dialogs).1
   end_told name dialogs = by_dialog (dialog_at name dialogs)
 
-  at_or : (b : Bool) (name : DialogName) (dialogs : Dialogs)
+  at_or : (b : Bool) (name : DialogId) (dialogs : Dialogs)
       → All (cond {A = Dialogs × List CallOut} b (ended_at name dialogs) (dialogs, [])).1
   at_or false name dialogs = tt
   at_or true name dialogs = end_told name dialogs
 
   -- ---- the client side
 
-  request_told : (event : Event) (call_id : List ℕ) (name : DialogName) (service : Service)
+  request_told : (event : Event) (call_id : List ℕ) (name : DialogId) (service : SendOutcome)
       → All (request_said event call_id name service).0
   request_told event call_id name (Sent sending) = tt
   request_told event call_id name Waits = tt
   request_told event call_id name (Refused refusal) =
       (allows.refusal call_id event.id.place refusal, tt)
 
-  ack_told : (event : Event) (call_id : List ℕ) (service : Service)
+  ack_told : (event : Event) (call_id : List ℕ) (service : SendOutcome)
       → All (ack_said event call_id service).0
   ack_told event call_id (Sent sending) = (allows.sent (sent_ack sending), tt)
   ack_told event call_id Waits = tt
   ack_told event call_id (Refused refusal) =
       (allows.refusal call_id event.id.place refusal, tt)
 
-  bye_told : (name : DialogName) (method : List ℕ) (service : Service) (dialogs : Dialogs)
+  bye_told : (name : DialogId) (method : List ℕ) (service : SendOutcome) (dialogs : Dialogs)
       → All (bye_ended name method service dialogs).1
   bye_told name method (Sent sending) dialogs =
       at_or (bytes_eq method (codes "BYE")) name dialogs
@@ -115,12 +115,12 @@ module _ (P : CallOut → Type 0) (allows : Allows P) where
 
   own_told : (k : RequestKind) (over : Bool) (dialogs : Dialogs)
       → All (own_ended k over dialogs).1
-  own_told asks.First over dialogs = tt
-  own_told (asks.Again life) true dialogs = at_or (lives dialogs life) life.name dialogs
-  own_told (asks.Again life) false dialogs = tt
-  own_told (asks.Inside life) true dialogs = at_or (lives dialogs life) life.name dialogs
-  own_told (asks.Inside life) false dialogs = tt
-  own_told asks.Plain over dialogs = tt
+  own_told asks.InitialInvite over dialogs = tt
+  own_told (asks.ReInvite life) true dialogs = at_or (lives dialogs life) life.name dialogs
+  own_told (asks.ReInvite life) false dialogs = tt
+  own_told (asks.InDialog life) true dialogs = at_or (lives dialogs life) life.name dialogs
+  own_told (asks.InDialog life) false dialogs = tt
+  own_told asks.OutOfDialog over dialogs = tt
 
   ended_told : (client : Client) (over : Bool) (dialogs : Dialogs)
       → All (ended_with client over dialogs).1
@@ -133,7 +133,7 @@ module _ (P : CallOut → Type 0) (allows : Allows P) where
   again_told None = tt
   again_told (Some ack) = (allows.sent ack, tt)
 
-  case_told : (case : ReplyCase) (client : Client) (found : Option HeldDialog) (answer : Answer)
+  case_told : (case : ReplyCase) (client : Client) (found : Option HeldDialog) (answer : ReceivedResponse)
       → P (response_notice answer) → All (by_reply_case case client found answer).2
   unfolding ack_owed prack_owed
   case_told reply.Repeated client found answer tells = again_told (ack_of answer.name client.answers)
@@ -152,7 +152,7 @@ module _ (P : CallOut → Type 0) (allows : Allows P) where
   case_told reply.Early client found answer tells = (tells, tt)
   case_told reply.Told client found answer tells = (tells, tt)
 
-  last_told : (last : Bool) (client : Client) (dialogs : Dialogs) (answer : Answer)
+  last_told : (last : Bool) (client : Client) (dialogs : Dialogs) (answer : ReceivedResponse)
       → P (response_notice answer)
       → All (cond {A = Replied} last (request_over client dialogs answer)
       (after_dialog answer.name dialogs
@@ -181,7 +181,7 @@ module _ (P : CallOut → Type 0) (allows : Allows P) where
       both P done.1 (start_command id (cancel_client id invite) ∷ []) told
       (allows.started id (cancel_client id invite), tt)
 
-  replied_told : (answer : Answer) (client : Client) (side : Side) → P (response_notice answer)
+  replied_told : (answer : ReceivedResponse) (client : Client) (side : Side) → P (response_notice answer)
       → All (reply_settled answer client side).1
   replied_told answer client side tells =
       let final = is_final answer.status in
@@ -196,7 +196,7 @@ module _ (P : CallOut → Type 0) (allows : Allows P) where
 
   -- a notice of the response is such a thing
   abbrev pub ResponseAllowed : Message → Type 0
-  ResponseAllowed response = (event : Event) (id : Id) (call_id : List ℕ) (name : DialogName)
+  ResponseAllowed response = (event : Event) (id : Id) (call_id : List ℕ) (name : DialogId)
       (status : ℕ) → status_of response.start ≡ Some status
       → P (response_notice (reply_of event id call_id name status response))
 
@@ -241,18 +241,18 @@ module _ (P : CallOut → Type 0) (allows : Allows P) where
   pub invite_told : (event : Event) (invite : InviteCommand) (clients : Clients)
       → All (invite_taken event invite clients).1
   invite_told event invite clients =
-      start_told event (client_for event.id asks.First (invite_of event invite) invite.address)
+      start_told event (client_for event.id asks.InitialInvite (invite_of event invite) invite.address)
       clients
 
   plain_by : (b : Bool) (event : Event) (plain : PlainCommand) (clients : Clients)
       → All (cond {A = Clients × List CallOut} b
       (clients, refused event.id plain.call_id BadMethod)
-      (started event (client_for event.id asks.Plain (plain_of event plain) plain.address)
+      (started event (client_for event.id asks.OutOfDialog (plain_of event plain) plain.address)
       clients)).1
   plain_by true event plain clients =
       (allows.refusal plain.call_id event.id.place BadMethod, tt)
   plain_by false event plain clients =
-      start_told event (client_for event.id asks.Plain (plain_of event plain) plain.address)
+      start_told event (client_for event.id asks.OutOfDialog (plain_of event plain) plain.address)
       clients
 
   pub plain_told : (event : Event) (plain : PlainCommand) (clients : Clients)
@@ -277,14 +277,14 @@ module _ (P : CallOut → Type 0) (allows : Allows P) where
   ack_command_told event command side =
       let name = name_in command.local_tag command.remote_tag in
       paid_either (λ taken. All taken.1) event command (ack_paid event command name) side
-      (debt_for debt.Ack name side.dialogs) (λ refusal. (allows.refusal command.call_id event.id.place refusal, tt))
-      (λ debt. ack_told event command.call_id
-      (paid_at name event debt command.content side.dialogs).1)
+      (pending_for pending.Ack name side.dialogs) (λ refusal. (allows.refusal command.call_id event.id.place refusal, tt))
+      (λ pending. ack_told event command.call_id
+      (paid_at name event pending command.content side.dialogs).1)
 
-  prack_paid_told : (event : Event) (command : DialogBody) (name : DialogName) (owed : Debt)
-      (side : Side) → All (prack_paid event command name owed side).1
-  prack_paid_told event command name owed side =
-      let paid = paid_at name event owed command.content side.dialogs in
+  prack_paid_told : (event : Event) (command : DialogBody) (name : DialogId) (pending_requests : PendingRequest)
+      (side : Side) → All (prack_paid event command name pending_requests side).1
+  prack_paid_told event command name pending_requests side =
+      let paid = paid_at name event pending_requests command.content side.dialogs in
       let said = request_said event command.call_id name paid.1 in
       both P said.0 (settled event event.id said.1 side.clients).1
       (request_told event command.call_id name paid.1)
@@ -295,8 +295,8 @@ module _ (P : CallOut → Type 0) (allows : Allows P) where
   prack_command_told event command side =
       let name = name_in command.local_tag command.remote_tag in
       paid_either (λ taken. All taken.1) event command (prack_paid event command name) side
-      (debt_for debt.Prack name side.dialogs) (λ refusal. (allows.refusal command.call_id event.id.place refusal, tt))
-      (λ owed. prack_paid_told event command name owed side)
+      (pending_for pending.Prack name side.dialogs) (λ refusal. (allows.refusal command.call_id event.id.place refusal, tt))
+      (λ pending_requests. prack_paid_told event command name pending_requests side)
 
   cancel_by : (as_case : CancelCase) (event : Event) (command : CancelCommand) (invite : Client)
       (clients : Clients) → All (cancelled_as as_case event command invite clients).1

@@ -8,12 +8,12 @@ use Rattle.std.proofs.lemmas.List.Folds.{list_any-append}
 use Rattle.std.proofs.lemmas.List.Sums.{fold_push}
 use Rattle.sip_message.specs.declared.id.Id.{Id}
 use Rattle.sip_timers.specs.declared.estimate.TheConstants.{LIFETIME, T1}
-use Rattle.sip_common.specs.declared.held_dialog.DialogLife.{DialogLife}
+use Rattle.sip_common.specs.declared.held_dialog.DialogReference.{DialogReference}
 use Rattle.sip_clients.specs.declared.client.Cancelling.{Cancelling}
 use Rattle.sip_clients.specs.declared.client.Cancelling.TheVariants.{NotAsked, Waits, Sent}
 use Rattle.sip_clients.specs.declared.client.Client.{Client}
 use Rattle.sip_clients.specs.declared.client.RequestKind.{RequestKind}
-use Rattle.sip_clients.specs.declared.client.RequestKind.TheVariants.{First, Again, Inside, Plain}
+use Rattle.sip_clients.specs.declared.client.RequestKind.TheVariants.{InitialInvite, ReInvite, InDialog, OutOfDialog}
 use Rattle.sip_clients.specs.Cancel.{cancelling_after}
 use Rattle.sip_clients.specs.ClientLife.{ClientHappening, AsksCancel, GetsSuccess, GetsSuccessAgain, SendsCancel, TakesReliable}
 use Rattle.sip_clients.specs.ClientStory.{ClientStory, with_answer, asked_first, cancelling_of, client_told, first_success, is_cancel_sent, is_provisional_response, is_success_response, last_rseq, lives_on, rseq_taken}
@@ -35,12 +35,12 @@ cancelling_by cancel _ = cancel
 
 -- the dialogs of a first INVITE keep what is taken
 abbrev pub heard_taken : RequestKind → Option ℕ → ℕ → Option ℕ
-heard_taken First heard rseq = heard
-heard_taken _ heard rseq = Some rseq
+heard_taken InitialInvite last_rseq rseq = last_rseq
+heard_taken _ last_rseq rseq = Some rseq
 
 abbrev pub heard_by : RequestKind → Option ℕ → ClientHappening → Option ℕ
-heard_by kind heard (TakesReliable rseq) = heard_taken kind heard rseq
-heard_by kind heard _ = heard
+heard_by kind last_rseq (TakesReliable rseq) = heard_taken kind last_rseq rseq
+heard_by kind last_rseq _ = last_rseq
 
 abbrev pub removal_by : Option ℕ → ClientHappening → Option ℕ
 removal_by removal (GetsSuccess name moment) = Some (unwrap_or removal (moment + LIFETIME))
@@ -50,7 +50,7 @@ abbrev pub client_happened : Client → ClientHappening → Client
 client_happened client h = record client {
   provisional = client.provisional || is_provisional_response h;
   cancel = cancelling_by client.cancel h;
-  heard = heard_by client.kind client.heard h;
+  last_rseq = heard_by client.kind client.last_rseq h;
   answers = with_answer client.answers h;
   removal = removal_by client.removal h;
 }
@@ -76,36 +76,36 @@ abbrev heard_then : List ℕ → ClientHappening → Option ℕ
 heard_then rseqs h = last_or None (rseqs ++ filter_map rseq_taken (h ∷ []))
 
 last_taken : (rseqs : List ℕ) (h : ClientHappening)
-    → heard_then rseqs h ≡ heard_by Plain (last_or None rseqs) h
+    → heard_then rseqs h ≡ heard_by OutOfDialog (last_or None rseqs) h
 last_taken rseqs (TakesReliable rseq) = last_push None rseqs rseq
 last_taken rseqs _ = ap (last_or None) (append-nil rseqs)
 
-none_taken : (h : ClientHappening) → None ≡ heard_by First None h
+none_taken : (h : ClientHappening) → None ≡ heard_by InitialInvite None h
 none_taken (TakesReliable rseq) = refl
 none_taken _ = refl
 
 taken_more : (life : List ClientHappening) (h : ClientHappening)
-    → last_rseq Plain (life ++ h ∷ []) ≡ heard_by Plain (last_rseq Plain life) h
+    → last_rseq OutOfDialog (life ++ h ∷ []) ≡ heard_by OutOfDialog (last_rseq OutOfDialog life) h
 taken_more life h =
     ap (last_or None) (filter_map-append rseq_taken life (h ∷ []))
     ∙ last_taken (filter_map rseq_taken life) h
 
-as_inside : (own : DialogLife) (heard : Option ℕ) (h : ClientHappening)
-    → heard_by Plain heard h ≡ heard_by (Inside own) heard h
-as_inside own heard (TakesReliable rseq) = refl
-as_inside own heard _ = refl
+as_inside : (own : DialogReference) (last_rseq : Option ℕ) (h : ClientHappening)
+    → heard_by OutOfDialog last_rseq h ≡ heard_by (InDialog own) last_rseq h
+as_inside own last_rseq (TakesReliable rseq) = refl
+as_inside own last_rseq _ = refl
 
-as_again : (own : DialogLife) (heard : Option ℕ) (h : ClientHappening)
-    → heard_by Plain heard h ≡ heard_by (Again own) heard h
-as_again own heard (TakesReliable rseq) = refl
-as_again own heard _ = refl
+as_again : (own : DialogReference) (last_rseq : Option ℕ) (h : ClientHappening)
+    → heard_by OutOfDialog last_rseq h ≡ heard_by (ReInvite own) last_rseq h
+as_again own last_rseq (TakesReliable rseq) = refl
+as_again own last_rseq _ = refl
 
 heard_more : (kind : RequestKind) (life : List ClientHappening) (h : ClientHappening)
     → last_rseq kind (life ++ h ∷ []) ≡ heard_by kind (last_rseq kind life) h
-heard_more First life h = none_taken h
-heard_more (Again own) life h = taken_more life h ∙ as_again own (last_rseq Plain life) h
-heard_more (Inside own) life h = taken_more life h ∙ as_inside own (last_rseq Plain life) h
-heard_more Plain life h = taken_more life h
+heard_more InitialInvite life h = none_taken h
+heard_more (ReInvite own) life h = taken_more life h ∙ as_again own (last_rseq OutOfDialog life) h
+heard_more (InDialog own) life h = taken_more life h ∙ as_inside own (last_rseq OutOfDialog life) h
+heard_more OutOfDialog life h = taken_more life h
 
 -- ---- its 2xx responses
 
@@ -187,7 +187,7 @@ happens story h = λ i. record {
   to = story.to;
   provisional = any_more is_provisional_response story.life h i;
   cancel = cancelling_more story.life h i;
-  heard = heard_more story.kind story.life h i;
+  last_rseq = heard_more story.kind story.life h i;
   answers = fold_push with_answer [] story.life h i;
   removal = removal_more story.life h i;
 }
@@ -203,7 +203,7 @@ all_happen (h ∷ more) story =
 
 -- a request that was just sent has no story yet
 pub none_heard : (kind : RequestKind) → last_rseq kind [] ≡ None
-none_heard First = refl
-none_heard (Again own) = refl
-none_heard (Inside own) = refl
-none_heard Plain = refl
+none_heard InitialInvite = refl
+none_heard (ReInvite own) = refl
+none_heard (InDialog own) = refl
+none_heard OutOfDialog = refl

@@ -7,9 +7,9 @@ use Rattle.std.specs.Option.{option_map, option_map_or}
 use Rattle.sip_message.specs.Content.{Content}
 use Rattle.sip_common.specs.declared.command.DialogBody.{DialogBody}
 use Rattle.sip_common.specs.declared.command.DialogRequest.{DialogRequest}
-use Rattle.sip_common.specs.declared.debt.Debt.{Debt}
-use Rattle.sip_common.specs.declared.debt.Debt.TheVariants.{Ack, Prack}
-use Rattle.sip_common.specs.declared.held_dialog.DialogName.{DialogName}
+use Rattle.sip_common.specs.declared.pending_request.PendingRequest.{PendingRequest}
+use Rattle.sip_common.specs.declared.pending_request.PendingRequest.TheVariants.{Ack, Prack}
+use Rattle.sip_common.specs.declared.held_dialog.DialogId.{DialogId}
 use Rattle.sip_common.specs.declared.held_dialog.HeldDialog.{HeldDialog}
 use Rattle.sip_common.specs.declared.item.CallOut.{CallOut}
 use Rattle.sip_common.specs.declared.refusal.Refusal.{Refusal}
@@ -20,18 +20,18 @@ use Rattle.sip_common.specs.Refusal.{first_refusal}
 use Rattle.sip_common.proofs.Entries as entries
 use Rattle.sip_common.proofs.Heard.{AreApart, name_laws}
 use Rattle.sip_common.proofs.Owing.{OweSame, OwesStill, changed_same, same_then, still_as, still_same, unchanged}
-use Rattle.sip_clients.specs.declared.debts.DebtKind.{DebtKind}
-use Rattle.sip_clients.specs.declared.debts.DebtKind.TheVariants as kind
+use Rattle.sip_clients.specs.declared.pending.PendingKind.{PendingKind}
+use Rattle.sip_clients.specs.declared.pending.PendingKind.TheVariants as kind
 use Rattle.sip_clients.specs.declared.event.Event.{Event}
-use Rattle.sip_clients.specs.declared.service.Service.TheVariants.{Waits, Refused}
+use Rattle.sip_clients.specs.declared.send_outcome.SendOutcome.TheVariants.{Waits, Refused}
 use Rattle.sip_clients.specs.Client.{Side, ClientTaken}
 use Rattle.sip_clients.specs.Clients.{ack_paid, ack_by_user, paid_or_refused, prack_paid, prack_by_user, request_by_user, settled}
-use Rattle.sip_clients.specs.Commands.{bye_ended, debt_or_refusal, name_in, nothing_owed, oldest_debt, request_in_held, request_refusals, requested_at, sent_unless}
-use Rattle.sip_clients.specs.Debts.{is_of, paid}
+use Rattle.sip_clients.specs.Commands.{bye_ended, debt_or_refusal, name_in, nothing_pending, oldest_pending, request_in_held, request_refusals, requested_at, sent_unless}
+use Rattle.sip_clients.specs.Pending.{is_of, paid}
 use Rattle.sip_clients.specs.Dialogs.{paid_at}
 use Rattle.sip_clients.specs.Outputs.{ack_said, request_said}
 use Rattle.sip_clients.specs.Owing.{command_pays, goes_out, is_of_prack, oldest_paid}
-use Rattle.sip_clients.specs.Service.{sending_in}
+use Rattle.sip_clients.specs.SendOutcome.{sending_in}
 use Rattle.sip_clients.proofs.CommandDialogs.{request_keeps, served_leads}
 use Rattle.sip_clients.proofs.DialogSends.{AreNamed, after_silent}
 use Rattle.sip_clients.proofs.DialogDebts.{neither_way, bye_same, goes, all_but, paid_drops, ack_goes, prack_pays}
@@ -72,102 +72,102 @@ request_owes event command side apart =
 -- ---- the commands Ack and Prack
 
 module _ (event : Event) (command : DialogBody) (side : Side) where
-  abbrev asked_name : DialogName
+  abbrev asked_name : DialogId
   asked_name = name_in command.local_tag command.remote_tag
 
   -- the dialog where this is paid
-  abbrev paid_of : Debt → HeldDialog → HeldDialog
-  paid_of debt held = (paid event debt command.content held).0
+  abbrev paid_of : PendingRequest → HeldDialog → HeldDialog
+  paid_of pending held = (paid event pending command.content held).0
 
   -- in the dialog of each name
-  abbrev Pays : DebtKind → List CallOut → Dialogs → Type 0
-  Pays kind outs after = (name : DialogName)
+  abbrev Pays : PendingKind → List CallOut → Dialogs → Type 0
+  Pays kind outs after = (name : DialogId)
       → OwesStill (command_pays kind command name outs) (dialog_at name side.dialogs)
       (dialog_at name after)
 
-  nothing_paid : (kind : DebtKind) (outs : List CallOut)
-      → ((name : DialogName) → goes_out kind name outs ≡ false) → Pays kind outs side.dialogs
+  nothing_paid : (kind : PendingKind) (outs : List CallOut)
+      → ((name : DialogId) → goes_out kind name outs ≡ false) → Pays kind outs side.dialogs
   nothing_paid kind outs none name =
       let held = dialog_at name side.dialogs in
       still_as unchanged (command_pays kind command name outs) held held
-      (λ debts. sym (ap (λ b. if is_named asked_name name && b then oldest_paid kind debts
-      else debts) (none name)
-      ∙ neither_way (is_named asked_name name) (oldest_paid kind debts) debts)) (still_same held)
+      (λ pending_requests. sym (ap (λ b. if is_named asked_name name && b then oldest_paid kind pending_requests
+      else pending_requests) (none name)
+      ∙ neither_way (is_named asked_name name) (oldest_paid kind pending_requests) pending_requests)) (still_same held)
 
-  refused_pays : (kind : DebtKind) (refusal : Refusal)
+  refused_pays : (kind : PendingKind) (refusal : Refusal)
       → Pays kind (refused event.id command.call_id refusal) side.dialogs
   refused_pays kind.Ack refusal =
       nothing_paid kind.Ack (refused event.id command.call_id refusal) (λ name. refl)
   refused_pays kind.Prack refusal =
       nothing_paid kind.Prack (refused event.id command.call_id refusal) (λ name. refl)
 
-  debt_paid : (kind : DebtKind) (debt : Debt) (held : HeldDialog) (outs : List CallOut)
-      → dialog_at asked_name side.dialogs ≡ Some held → find (is_of kind) held.owed ≡ Some debt
-      → ((name : DialogName) → is_named asked_name name ≡ true
-      → goes_out kind name outs ≡ goes (paid event debt command.content held).1)
-      → Pays kind outs (paid_at asked_name event debt command.content side.dialogs).0
-  debt_paid kind debt held outs at oldest goes_so name =
+  debt_paid : (kind : PendingKind) (pending : PendingRequest) (held : HeldDialog) (outs : List CallOut)
+      → dialog_at asked_name side.dialogs ≡ Some held → find (is_of kind) held.pending_requests ≡ Some pending
+      → ((name : DialogId) → is_named asked_name name ≡ true
+      → goes_out kind name outs ≡ goes (paid event pending command.content held).1)
+      → Pays kind outs (paid_at asked_name event pending command.content side.dialogs).0
+  debt_paid kind pending held outs at oldest goes_so name =
       subst (λ after. OwesStill (command_pays kind command name outs)
       (dialog_at name side.dialogs) (dialog_at name after))
-      (sym (served_dialogs asked_name (paid event debt command.content) Waits side.dialogs))
+      (sym (served_dialogs asked_name (paid event pending command.content) Waits side.dialogs))
       (subst (OwesStill (command_pays kind command name outs) (dialog_at name side.dialogs))
-      (sym (entries.found_changed name_laws asked_name name (paid_of debt) side.dialogs))
+      (sym (entries.found_changed name_laws asked_name name (paid_of pending) side.dialogs))
       (by_name (is_named asked_name name) refl))
     where
       by_name : (b : Bool) → is_named asked_name name ≡ b
           → OwesStill (command_pays kind command name outs) (dialog_at name side.dialogs)
-          (cond b (option_map (paid_of debt) (dialog_at name side.dialogs))
+          (cond b (option_map (paid_of pending) (dialog_at name side.dialogs))
           (dialog_at name side.dialogs))
       by_name false is =
           let there = dialog_at name side.dialogs in
           still_as unchanged (command_pays kind command name outs) there there
-          (λ debts i. if sym is i && goes_out kind name outs then oldest_paid kind debts
-          else debts) (still_same there)
+          (λ pending_requests i. if sym is i && goes_out kind name outs then oldest_paid kind pending_requests
+          else pending_requests) (still_same there)
       by_name true is =
           let there : dialog_at name side.dialogs ≡ Some held =
           entries.same_key name_laws asked_name name side.dialogs is ∙ at in
-          let less = paid_drops event debt command.content held in
-          let pays : (if goes (paid event debt command.content held).1 then all_but debt held.owed
-          else held.owed) ≡ command_pays kind command name outs held.owed =
+          let less = paid_drops event pending command.content held in
+          let pays : (if goes (paid event pending command.content held).1 then all_but pending held.pending_requests
+          else held.pending_requests) ≡ command_pays kind command name outs held.pending_requests =
           sym (λ i. if is i && goes_so name is i
-          then option_map_or (λ debt. all_but debt held.owed) (oldest i) held.owed
-          else held.owed) in
+          then option_map_or (λ pending. all_but pending held.pending_requests) (oldest i) held.pending_requests
+          else held.pending_requests) in
           subst (λ (o : Option HeldDialog). OwesStill (command_pays kind command name outs) o
-          (option_map (paid_of debt) o)) (sym there) (less.0, less.1 ∙ pays)
+          (option_map (paid_of pending) o)) (sym there) (less.0, less.1 ∙ pays)
 
   -- what becomes of it where the dialog is held
-  served_as : (debt : Debt) (held : HeldDialog) → dialog_at asked_name side.dialogs ≡ Some held
-      → (paid_at asked_name event debt command.content side.dialogs).1
-      ≡ (paid event debt command.content held).1
-  served_as debt held at =
+  served_as : (pending : PendingRequest) (held : HeldDialog) → dialog_at asked_name side.dialogs ≡ Some held
+      → (paid_at asked_name event pending command.content side.dialogs).1
+      ≡ (paid event pending command.content held).1
+  served_as pending held at =
       ap (λ found.
-      (served_in asked_name (paid event debt command.content) Waits side.dialogs found).1) at
+      (served_in asked_name (paid event pending command.content) Waits side.dialogs found).1) at
 
-  by_owed : (kind : DebtKind) (pay : Debt → Side → ClientTaken)
-      → ((debt : Debt) (held : HeldDialog) → dialog_at asked_name side.dialogs ≡ Some held
-      → find (is_of kind) held.owed ≡ Some debt
-      → Pays kind (pay debt side).1 ((pay debt side).0).dialogs)
+  by_owed : (kind : PendingKind) (pay : PendingRequest → Side → ClientTaken)
+      → ((pending : PendingRequest) (held : HeldDialog) → dialog_at asked_name side.dialogs ≡ Some held
+      → find (is_of kind) held.pending_requests ≡ Some pending
+      → Pays kind (pay pending side).1 ((pay pending side).0).dialogs)
       → (o : Option HeldDialog) → dialog_at asked_name side.dialogs ≡ o
       → let taken = paid_or_refused event command pay
-      (option_map_or (oldest_debt kind) o (Err NoSuchDialog)) side in
+      (option_map_or (oldest_pending kind) o (Err NoSuchDialog)) side in
       Pays kind taken.1 (taken.0).dialogs
   by_owed kind pay pays None at = refused_pays kind NoSuchDialog
-  by_owed kind pay pays (Some held) at = by_oldest (find (is_of kind) held.owed) refl
+  by_owed kind pay pays (Some held) at = by_oldest (find (is_of kind) held.pending_requests) refl
     where
-      by_oldest : (o : Option Debt) → find (is_of kind) held.owed ≡ o
+      by_oldest : (o : Option PendingRequest) → find (is_of kind) held.pending_requests ≡ o
           → let taken = paid_or_refused event command pay (debt_or_refusal kind o) side in
           Pays kind taken.1 (taken.0).dialogs
-      by_oldest None is = refused_pays kind (nothing_owed kind)
-      by_oldest (Some debt) is = pays debt held at is
+      by_oldest None is = refused_pays kind (nothing_pending kind)
+      by_oldest (Some pending) is = pays pending held at is
 
-  ack_paid_off : (debt : Debt) (held : HeldDialog) → dialog_at asked_name side.dialogs ≡ Some held
-      → find (is_of kind.Ack) held.owed ≡ Some debt
-      → let taken = ack_paid event command asked_name debt side in
+  ack_paid_off : (pending : PendingRequest) (held : HeldDialog) → dialog_at asked_name side.dialogs ≡ Some held
+      → find (is_of kind.Ack) held.pending_requests ≡ Some pending
+      → let taken = ack_paid event command asked_name pending side in
       Pays kind.Ack taken.1 (taken.0).dialogs
-  ack_paid_off debt held at is =
-      let service = (paid_at asked_name event debt command.content side.dialogs).1 in
-      debt_paid kind.Ack debt held (ack_said event command.call_id service).0 at is
-      (λ name same. ack_goes event command.call_id service ∙ ap goes (served_as debt held at))
+  ack_paid_off pending held at is =
+      let service = (paid_at asked_name event pending command.content side.dialogs).1 in
+      debt_paid kind.Ack pending held (ack_said event command.call_id service).0 at is
+      (λ name same. ack_goes event command.call_id service ∙ ap goes (served_as pending held at))
 
   pub ack_pays : Pays kind.Ack (ack_by_user event command side).1
       ((ack_by_user event command side).0).dialogs
@@ -176,37 +176,37 @@ module _ (event : Event) (command : DialogBody) (side : Side) where
       (dialog_at asked_name side.dialogs) refl
 
   module _ (named : AreNamed side.dialogs) where
-    prack_out : (debt : Debt) (held : HeldDialog) → dialog_at asked_name side.dialogs ≡ Some held
-        → is_of kind.Prack debt ≡ true → (name : DialogName) → is_named asked_name name ≡ true
-        → let done = paid_at asked_name event debt command.content side.dialogs in
+    prack_out : (pending : PendingRequest) (held : HeldDialog) → dialog_at asked_name side.dialogs ≡ Some held
+        → is_of kind.Prack pending ≡ true → (name : DialogId) → is_named asked_name name ≡ true
+        → let done = paid_at asked_name event pending command.content side.dialogs in
         let said = request_said event command.call_id asked_name done.1 in
         goes_out kind.Prack name
         (said.0 ++ (settled event event.id said.1 side.clients).1)
-        ≡ goes (paid event debt command.content held).1
+        ≡ goes (paid event pending command.content held).1
     prack_out (Ack invite number) held at is name same = absurd cc
     prack_out (Prack rseq number) held at is name same =
-        let debt = Prack rseq number in
-        let service = (paid_at asked_name event debt command.content side.dialogs).1 in
+        let pending = Prack rseq number in
+        let service = (paid_at asked_name event pending command.content side.dialogs).1 in
         let said = request_said event command.call_id asked_name service in
         ap (list_any is_of_prack)
         (after_silent name said.0 (settled event event.id said.1 side.clients).1
         (none_started said.0 (request_said_quiet event command.call_id asked_name service))
         ∙ said_sent name event event.id command.call_id asked_name service side.clients
-        ∙ ap (service_cseqs name) (served_as debt held at))
+        ∙ ap (service_cseqs name) (served_as pending held at))
         ∙ prack_pays name asked_name event held (named asked_name held at) same rseq number
         command.content
 
-    prack_paid_off : (debt : Debt) (held : HeldDialog)
+    prack_paid_off : (pending : PendingRequest) (held : HeldDialog)
         → dialog_at asked_name side.dialogs ≡ Some held
-        → find (is_of kind.Prack) held.owed ≡ Some debt
-        → let taken = prack_paid event command asked_name debt side in
+        → find (is_of kind.Prack) held.pending_requests ≡ Some pending
+        → let taken = prack_paid event command asked_name pending side in
         Pays kind.Prack taken.1 (taken.0).dialogs
-    prack_paid_off debt held at is =
-        let done = paid_at asked_name event debt command.content side.dialogs in
+    prack_paid_off pending held at is =
+        let done = paid_at asked_name event pending command.content side.dialogs in
         let said = request_said event command.call_id asked_name done.1 in
-        debt_paid kind.Prack debt held
+        debt_paid kind.Prack pending held
         (said.0 ++ (settled event event.id said.1 side.clients).1) at is
-        (prack_out debt held at (found_passes (is_of kind.Prack) held.owed debt is))
+        (prack_out pending held at (found_passes (is_of kind.Prack) held.pending_requests pending is))
 
     pub prack_pays_off : Pays kind.Prack (prack_by_user event command side).1
         ((prack_by_user event command side).0).dialogs

@@ -5,25 +5,25 @@ use Rattle.sip_message.specs.Content.{Content}
 use Rattle.sip_dialog.specs.declared.dialog.Dialog.{Dialog}
 use Rattle.sip_dialog.specs.declared.fault.DialogFault.{DialogFault}
 use Rattle.sip_dialog.specs.Fault.{request_fault}
-use Rattle.sip_common.specs.declared.debt.Debt.{Debt}
-use Rattle.sip_common.specs.declared.debt.Debt.TheVariants.{Ack, Prack}
-use Rattle.sip_common.specs.declared.held_dialog.DialogName.{DialogName}
+use Rattle.sip_common.specs.declared.pending_request.PendingRequest.{PendingRequest}
+use Rattle.sip_common.specs.declared.pending_request.PendingRequest.TheVariants.{Ack, Prack}
+use Rattle.sip_common.specs.declared.held_dialog.DialogId.{DialogId}
 use Rattle.sip_common.specs.declared.held_dialog.HeldDialog.{HeldDialog}
 use Rattle.sip_common.specs.declared.item.CallOut.{CallOut}
 use Rattle.sip_common.specs.Dialogs.{ended_at, happened, is_early_of, lives, Dialogs}
 use Rattle.sip_common.specs.Sent.{requests_made}
 use Rattle.sip_clients.specs.declared.client.RequestKind.{RequestKind}
-use Rattle.sip_clients.specs.declared.client.RequestKind.TheVariants.{First, Again, Inside, Plain}
+use Rattle.sip_clients.specs.declared.client.RequestKind.TheVariants.{InitialInvite, ReInvite, InDialog, OutOfDialog}
 use Rattle.sip_clients.specs.declared.client.Client.{Client}
 use Rattle.sip_clients.specs.declared.event.Event.{Event}
-use Rattle.sip_clients.specs.declared.service.Service.{Service}
-use Rattle.sip_clients.specs.declared.service.Service.TheVariants.{Sent, Waits, Refused}
+use Rattle.sip_clients.specs.declared.send_outcome.SendOutcome.{SendOutcome}
+use Rattle.sip_clients.specs.declared.send_outcome.SendOutcome.TheVariants.{Sent, Waits, Refused}
 use Rattle.sip_common.specs.declared.refusal.Refusal.{Refusal as ARefusal}
 use Rattle.sip_common.specs.Refusal.{first_refusal}
 use Rattle.sip_clients.specs.Commands.{bye_ended, request_in_held, request_refusals, sent_unless}
-use Rattle.sip_clients.specs.Debts.{dropped_if_sent, kept_unless_sent, owed, paid}
+use Rattle.sip_clients.specs.Pending.{dropped_if_sent, kept_unless_sent, pending_requests, paid}
 use Rattle.sip_clients.specs.Dialogs.{ended_with, own_ended, served_at}
-use Rattle.sip_clients.specs.Service.{Outcome, discharged, sending_in, happens_by_sending}
+use Rattle.sip_clients.specs.SendOutcome.{Outcome, discharged, sending_in, happens_by_sending}
 use Rattle.sip_common.proofs.Heard.{AreApart, Grows, Keeps, Leads, Life, in_one, keeps_same, keeps_then, leads_changed, leads_filtered, leads_removed, leads_same, leads_then, quiet}
 use Rattle.sip_clients.proofs.SentIn.{asks, discharge_life, request_life, unless_refused}
 use Rattle.sip_clients.proofs.Served.{served_dialogs}
@@ -37,8 +37,8 @@ sends_made : (method : List ℕ) (fault : Option DialogFault) (dialog : Dialog)
 sends_made method None dialog = ((tt, tt), refl)
 sends_made method (Some fault) dialog = (tt, refl)
 
-discharged_keeps : (event : Event) (debt : Debt) (offer : Option Content) (held : HeldDialog)
-    → Keeps None (discharge_life debt offer held.dialog) held (discharged event debt offer held).0
+discharged_keeps : (event : Event) (pending : PendingRequest) (offer : Option Content) (held : HeldDialog)
+    → Keeps None (discharge_life pending offer held.dialog) held (discharged event pending offer held).0
 unfolding discharged
 discharged_keeps event (Ack invite number) None held = keeps_same held
 discharged_keeps event (Prack rseq number) None held = keeps_same held
@@ -47,36 +47,36 @@ discharged_keeps event (Prack rseq number) (Some content) held =
     let fault = request_fault held.dialog (codes "PRACK") in
     (refl, refl, sends_made (codes "PRACK") fault held.dialog)
 
-unless_sent_keeps : (debt : Debt) (service : Service) (held : HeldDialog)
-    → Keeps None [] held (kept_unless_sent debt service held)
-unless_sent_keeps debt (Sent sending) held = keeps_same held
-unless_sent_keeps debt Waits held = (refl, refl, (tt, refl))
-unless_sent_keeps debt (Refused refusal) held = (refl, refl, (tt, refl))
+unless_sent_keeps : (pending : PendingRequest) (service : SendOutcome) (held : HeldDialog)
+    → Keeps None [] held (kept_unless_sent pending service held)
+unless_sent_keeps pending (Sent sending) held = keeps_same held
+unless_sent_keeps pending Waits held = (refl, refl, (tt, refl))
+unless_sent_keeps pending (Refused refusal) held = (refl, refl, (tt, refl))
 
-if_sent_keeps : (debt : Debt) (service : Service) (held : HeldDialog)
-    → Keeps None [] held (dropped_if_sent debt service held)
-if_sent_keeps debt (Sent sending) held = (refl, refl, (tt, refl))
-if_sent_keeps debt Waits held = keeps_same held
-if_sent_keeps debt (Refused refusal) held = keeps_same held
+if_sent_keeps : (pending : PendingRequest) (service : SendOutcome) (held : HeldDialog)
+    → Keeps None [] held (dropped_if_sent pending service held)
+if_sent_keeps pending (Sent sending) held = (refl, refl, (tt, refl))
+if_sent_keeps pending Waits held = keeps_same held
+if_sent_keeps pending (Refused refusal) held = keeps_same held
 
-pub owed_keeps : (event : Event) (debt : Debt) (offer : Option Content) (held : HeldDialog)
-    → Keeps None (discharge_life debt offer held.dialog) held (owed event debt offer held).0
-unfolding owed
-owed_keeps event debt offer held =
-    let done = discharged event debt offer held in
-    keeps_then None (discharge_life debt offer held.dialog) held done.0
-    (kept_unless_sent debt done.1 done.0)
-    (discharged_keeps event debt offer held) (unless_sent_keeps debt done.1 done.0)
+pub owed_keeps : (event : Event) (pending : PendingRequest) (offer : Option Content) (held : HeldDialog)
+    → Keeps None (discharge_life pending offer held.dialog) held (pending_requests event pending offer held).0
+unfolding pending_requests
+owed_keeps event pending offer held =
+    let done = discharged event pending offer held in
+    keeps_then None (discharge_life pending offer held.dialog) held done.0
+    (kept_unless_sent pending done.1 done.0)
+    (discharged_keeps event pending offer held) (unless_sent_keeps pending done.1 done.0)
 
-pub paid_keeps : (event : Event) (debt : Debt) (content : Content) (held : HeldDialog)
-    → Keeps None (discharge_life debt (Some content) held.dialog) held
-    (paid event debt content held).0
+pub paid_keeps : (event : Event) (pending : PendingRequest) (content : Content) (held : HeldDialog)
+    → Keeps None (discharge_life pending (Some content) held.dialog) held
+    (paid event pending content held).0
 unfolding paid
-paid_keeps event debt content held =
-    let done = discharged event debt (Some content) held in
-    keeps_then None (discharge_life debt (Some content) held.dialog) held done.0
-    (dropped_if_sent debt done.1 done.0)
-    (discharged_keeps event debt (Some content) held) (if_sent_keeps debt done.1 done.0)
+paid_keeps event pending content held =
+    let done = discharged event pending (Some content) held in
+    keeps_then None (discharge_life pending (Some content) held.dialog) held done.0
+    (dropped_if_sent pending done.1 done.0)
+    (discharged_keeps event pending (Some content) held) (if_sent_keeps pending done.1 done.0)
 
 pub request_keeps : (event : Event) (method : List ℕ) (content : Content) (held : HeldDialog)
     → Keeps None (request_life method held.dialog) held
@@ -91,7 +91,7 @@ request_keeps event method content held =
     unless None = (refl, refl, ((tt, tt), refl))
     unless (Some refusal) = keeps_same held
 
-pub served_leads : (name : DialogName) (serve : HeldDialog → Outcome) (otherwise : Service)
+pub served_leads : (name : DialogId) (serve : HeldDialog → Outcome) (otherwise : SendOutcome)
     (life : Life) → ((held : HeldDialog) → Keeps None (life held) held (serve held).0)
     → (dialogs : Dialogs) → AreApart dialogs
     → Leads (in_one name life) dialogs (served_at name serve otherwise dialogs).0
@@ -101,7 +101,7 @@ served_leads name serve otherwise life keeps dialogs apart =
 
 -- ---- what ends dialogs
 
-removed_or_same : (b : Bool) (name : DialogName) (dialogs : Dialogs) → AreApart dialogs
+removed_or_same : (b : Bool) (name : DialogId) (dialogs : Dialogs) → AreApart dialogs
     → Leads quiet dialogs (cond {A = Dialogs × List CallOut} b (ended_at name dialogs)
     (dialogs, [])).0
 removed_or_same true name dialogs apart = leads_removed name dialogs apart
@@ -109,14 +109,14 @@ removed_or_same false name dialogs apart = leads_same dialogs apart
 
 own_leads : (kind : RequestKind) (ends : Bool) (dialogs : Dialogs) → AreApart dialogs
     → Leads quiet dialogs (own_ended kind ends dialogs).0
-own_leads First ends dialogs apart = leads_same dialogs apart
-own_leads (Again life) true dialogs apart =
+own_leads InitialInvite ends dialogs apart = leads_same dialogs apart
+own_leads (ReInvite life) true dialogs apart =
     removed_or_same (lives dialogs life) life.name dialogs apart
-own_leads (Again life) false dialogs apart = leads_same dialogs apart
-own_leads (Inside life) true dialogs apart =
+own_leads (ReInvite life) false dialogs apart = leads_same dialogs apart
+own_leads (InDialog life) true dialogs apart =
     removed_or_same (lives dialogs life) life.name dialogs apart
-own_leads (Inside life) false dialogs apart = leads_same dialogs apart
-own_leads Plain ends dialogs apart = leads_same dialogs apart
+own_leads (InDialog life) false dialogs apart = leads_same dialogs apart
+own_leads OutOfDialog ends dialogs apart = leads_same dialogs apart
 
 pub ended_leads : (client : Client) (ends : Bool) (dialogs : Dialogs) → AreApart dialogs
     → Leads quiet dialogs (ended_with client ends dialogs).0
@@ -126,7 +126,7 @@ ended_leads client ends dialogs apart =
     (leads_filtered (λ held. not (is_early_of client.id held)) dialogs apart)
     (own_leads client.kind ends left)
 
-pub bye_leads : (name : DialogName) (method : List ℕ) (service : Service) (dialogs : Dialogs)
+pub bye_leads : (name : DialogId) (method : List ℕ) (service : SendOutcome) (dialogs : Dialogs)
     → AreApart dialogs → Leads quiet dialogs (bye_ended name method service dialogs).0
 bye_leads name method (Sent sending) dialogs apart = removed_or_same _ name dialogs apart
 bye_leads name method Waits dialogs apart = leads_same dialogs apart

@@ -7,9 +7,9 @@ use Rattle.sip_common.specs.declared.command.DialogBody.{DialogBody}
 use Rattle.sip_common.specs.declared.command.DialogRequest.{DialogRequest}
 use Rattle.sip_common.specs.declared.command.Invite.{Invite}
 use Rattle.sip_common.specs.declared.command.Plain.{Plain as PlainCommand}
-use Rattle.sip_common.specs.declared.debt.Debt.{Debt}
-use Rattle.sip_common.specs.declared.debt.Debt.TheVariants.{Ack, Prack}
-use Rattle.sip_common.specs.declared.held_dialog.DialogName.{DialogName}
+use Rattle.sip_common.specs.declared.pending_request.PendingRequest.{PendingRequest}
+use Rattle.sip_common.specs.declared.pending_request.PendingRequest.TheVariants.{Ack, Prack}
+use Rattle.sip_common.specs.declared.held_dialog.DialogId.{DialogId}
 use Rattle.sip_common.specs.declared.item.CallOut.{CallOut}
 use Rattle.sip_common.specs.declared.refusal.Refusal.TheVariants.{BadMethod, NoSuchRequest}
 use Rattle.sip_common.specs.Ids.{is_id}
@@ -17,17 +17,17 @@ use Rattle.sip_common.proofs.Starts.{starts}
 use Rattle.sip_clients.specs.declared.answers.SentAck.{SentAck}
 use Rattle.sip_clients.specs.declared.cancel.CancelCase.{CancelCase}
 use Rattle.sip_clients.specs.declared.cancel.CancelCase.TheVariants as asked
-use Rattle.sip_clients.specs.declared.client.RequestKind.TheVariants.{First, Plain}
+use Rattle.sip_clients.specs.declared.client.RequestKind.TheVariants.{InitialInvite, OutOfDialog}
 use Rattle.sip_clients.specs.declared.client.Cancelling.{Cancelling}
 use Rattle.sip_clients.specs.declared.client.Cancelling.TheVariants as cancel
 use Rattle.sip_clients.specs.declared.client.Client.{Client}
-use Rattle.sip_clients.specs.declared.debts.DebtKind.TheVariants as kind
+use Rattle.sip_clients.specs.declared.pending.PendingKind.TheVariants as kind
 use Rattle.sip_clients.specs.declared.event.Event.{Event}
-use Rattle.sip_clients.specs.declared.service.Service.{Service}
+use Rattle.sip_clients.specs.declared.send_outcome.SendOutcome.{SendOutcome}
 use Rattle.sip_clients.specs.Cancel.{asked as with_cancel, cancel_case, cancel_by_user, cancel_client, cancelled_as, cancelled_of, sent_beside}
 use Rattle.sip_clients.specs.Client.{Clients, Side, ClientTaken, client_at, client_changed, client_for, with_client}
 use Rattle.sip_clients.specs.Clients.{ack_kept, ack_paid, ack_by_user, acked_with, invite_taken, plain_taken, prack_paid, prack_by_user, request_by_user, settled, started}
-use Rattle.sip_clients.specs.Commands.{ack_asked, bye_ended, debt_for, is_bad_outside, name_in, requested_at}
+use Rattle.sip_clients.specs.Commands.{ack_asked, bye_ended, pending_for, is_bad_outside, name_in, requested_at}
 use Rattle.sip_clients.specs.Dialogs.{paid_at}
 use Rattle.sip_common.specs.Notices.{refused}
 use Rattle.sip_clients.specs.Outputs.{request_said, start_command}
@@ -56,7 +56,7 @@ module _ (event : Event) where
   pub invite_fits : (command : Invite) (clients : Clients)
       → OwnOf clients (invite_taken event command clients)
   invite_fits command clients =
-      started_fits (client_for event.id First (invite_of event command) command.address) clients
+      started_fits (client_for event.id InitialInvite (invite_of event command) command.address) clients
       refl
 
   plain_by : (b : Bool) (client : Client) (clients : Clients) (refused : List CallOut)
@@ -70,11 +70,11 @@ module _ (event : Event) where
       → OwnOf clients (plain_taken event command clients)
   plain_fits command clients =
       plain_by (is_bad_outside command.method)
-      (client_for event.id Plain (plain_of event command) command.address) clients
+      (client_for event.id OutOfDialog (plain_of event command) command.address) clients
       (refused event.id command.call_id BadMethod) refl refl
 
   -- what is told, and what becomes of the requests
-  said_fits : (call_id : List ℕ) (name : DialogName) (service : Service) (clients : Clients)
+  said_fits : (call_id : List ℕ) (name : DialogId) (service : SendOutcome) (clients : Clients)
       → OwnOf clients (
         (settled event event.id (request_said event call_id name service).1 clients).0,
         (request_said event call_id name service).0
@@ -117,8 +117,8 @@ module _ (event : Event) where
       (none_started ends.1 (bye_quiet name command.method done.1 done.0))
       (said_fits command.call_id name done.1 side.clients)
 
-  noted_fewer : (debt : Debt) (name : DialogName) (ack : Option SentAck) (clients : Clients)
-      (id : Id) → how_many id (waiting (ack_kept debt name ack clients))
+  noted_fewer : (pending : PendingRequest) (name : DialogId) (ack : Option SentAck) (clients : Clients)
+      (id : Id) → how_many id (waiting (ack_kept pending name ack clients))
       ≤ how_many id (waiting clients)
   noted_fewer (Ack invite number) name None clients id = at_most_same clients id
   noted_fewer (Ack invite number) name (Some ack) clients id =
@@ -133,23 +133,23 @@ module _ (event : Event) where
   ack_fits command side =
       let name = name_in command.local_tag command.remote_tag in
       paid_either (OnSide side) event command (ack_paid event command name) side
-      (debt_for kind.Ack name side.dialogs)
+      (pending_for kind.Ack name side.dialogs)
       (λ refusal. quiet_fits side.clients (refused event.id command.call_id refusal) refl)
-      (λ debt. let told = ack_asked event name debt command side.dialogs in
-      silent_fits (Some event.id) side.clients told.1 (ack_kept debt name told.2 side.clients)
+      (λ pending. let told = ack_asked event name pending command side.dialogs in
+      silent_fits (Some event.id) side.clients told.1 (ack_kept pending name told.2 side.clients)
       (none_started told.1 (ack_said_quiet event command.call_id
-      (paid_at name event debt command.content side.dialogs).1))
-      (noted_fewer debt name told.2 side.clients))
+      (paid_at name event pending command.content side.dialogs).1))
+      (noted_fewer pending name told.2 side.clients))
 
   pub prack_fits : (command : DialogBody) (side : Side)
       → OnSide side (prack_by_user event command side)
   prack_fits command side =
       let name = name_in command.local_tag command.remote_tag in
       paid_either (OnSide side) event command (prack_paid event command name) side
-      (debt_for kind.Prack name side.dialogs)
+      (pending_for kind.Prack name side.dialogs)
       (λ refusal. quiet_fits side.clients (refused event.id command.call_id refusal) refl)
-      (λ debt. said_fits command.call_id name
-      (paid_at name event debt command.content side.dialogs).1 side.clients)
+      (λ pending. said_fits command.call_id name
+      (paid_at name event pending command.content side.dialogs).1 side.clients)
 
   -- ---- CANCEL
 

@@ -17,9 +17,9 @@ use Rattle.sip_common.specs.declared.command.DialogBody.{DialogBody}
 use Rattle.sip_common.specs.declared.command.DialogRequest.{DialogRequest}
 use Rattle.sip_common.specs.declared.command.Invite.{Invite}
 use Rattle.sip_common.specs.declared.command.Plain.{Plain as PlainCommand}
-use Rattle.sip_common.specs.declared.debt.Debt.{Debt}
-use Rattle.sip_common.specs.declared.debt.Debt.TheVariants.{Ack, Prack}
-use Rattle.sip_common.specs.declared.held_dialog.DialogName.{DialogName}
+use Rattle.sip_common.specs.declared.pending_request.PendingRequest.{PendingRequest}
+use Rattle.sip_common.specs.declared.pending_request.PendingRequest.TheVariants.{Ack, Prack}
+use Rattle.sip_common.specs.declared.held_dialog.DialogId.{DialogId}
 use Rattle.sip_common.specs.declared.held_dialog.HeldDialog.{HeldDialog}
 use Rattle.sip_common.specs.declared.item.CallOut.{CallOut}
 use Rattle.sip_common.specs.declared.refusal.Refusal.{Refusal}
@@ -37,12 +37,12 @@ use Rattle.sip_clients.specs.declared.client.Cancelling.{Cancelling}
 use Rattle.sip_clients.specs.declared.client.Cancelling.TheVariants as cancel
 use Rattle.sip_clients.specs.declared.client.Client.{Client}
 use Rattle.sip_clients.specs.declared.client.RequestKind.{RequestKind}
-use Rattle.sip_clients.specs.declared.client.RequestKind.TheVariants.{First, Plain}
-use Rattle.sip_clients.specs.declared.debts.DebtKind.TheVariants as kind
+use Rattle.sip_clients.specs.declared.client.RequestKind.TheVariants.{InitialInvite, OutOfDialog}
+use Rattle.sip_clients.specs.declared.pending.PendingKind.TheVariants as kind
 use Rattle.sip_clients.specs.declared.event.Event.{Event}
-use Rattle.sip_clients.specs.declared.service.Sending.{Sending}
-use Rattle.sip_clients.specs.declared.service.Service.{Service}
-use Rattle.sip_clients.specs.declared.service.Service.TheVariants as service
+use Rattle.sip_clients.specs.declared.send_outcome.OutgoingRequest.{OutgoingRequest}
+use Rattle.sip_clients.specs.declared.send_outcome.SendOutcome.{SendOutcome}
+use Rattle.sip_clients.specs.declared.send_outcome.SendOutcome.TheVariants as service
 use Rattle.sip_clients.specs.Cancel.{asked, asking_case, cancel_by_user, cancel_client, cancelled_as, cancelled_of}
 use Rattle.sip_clients.specs.Client.{Clients, Side, ClientTaken, client_at, client_changed, client_for}
 use Rattle.sip_clients.specs.ClientLife.{ClientHappening, Outgoing, AsksCancel, SendsAck, SendsCancel, acks_out, cancels_out, requests_out}
@@ -50,15 +50,15 @@ use Rattle.sip_clients.specs.ClientRules.{AllLive, EachFits, HoldsRules}
 use Rattle.sip_clients.specs.ClientStory.{ClientStory, client_told, is_provisional_response}
 use Rattle.sip_clients.specs.ClientTelling.{ClientStories, AreTold, HoldsStories, ack_told, begin_story, begin_stories, cancel_told, for_dialog, happens_to, in_dialog_told, invite_owed, invite_told, lost_told, plain_told, ticked_told}
 use Rattle.sip_clients.specs.Clients.{ack_by_user, ack_kept, ack_paid, acked_with, invite_taken, lost_of, paid_or_refused, plain_taken, prack_by_user, prack_paid, request_by_user, request_lost, settled, started}
-use Rattle.sip_clients.specs.Commands.{bye_ended, debt_for, is_bad_outside, name_in, request_in_held, request_refusals, requested_at, sent_unless}
-use Rattle.sip_clients.specs.Debts.{paid}
+use Rattle.sip_clients.specs.Commands.{bye_ended, pending_for, is_bad_outside, name_in, request_in_held, request_refusals, requested_at, sent_unless}
+use Rattle.sip_clients.specs.Pending.{paid}
 use Rattle.sip_clients.specs.Dialogs.{paid_at, served_at}
 use Rattle.sip_clients.specs.OwnCall.{on_side}
 use Rattle.sip_clients.specs.Outputs.{ack_said, kind_in, request_said, sent_ack, start_command}
 use Rattle.sip_clients.specs.Outside.{invite_of, plain_of}
 use Rattle.sip_clients.specs.RefusedCommands.{is_refusal}
-use Rattle.sip_clients.specs.Reply.{is_inviting}
-use Rattle.sip_clients.specs.Service.{Outcome, discharged, sending_in, service_by}
+use Rattle.sip_clients.specs.ReceivedResponse.{is_inviting}
+use Rattle.sip_clients.specs.SendOutcome.{Outcome, discharged, sending_in, service_by}
 use Rattle.sip_clients.specs.Tick.{clients_ticked, is_over}
 use Rattle.sip_clients.proofs.ClientRecords.{any_more, asked_again, client_happened, or_false}
 use Rattle.sip_clients.proofs.StoryBegins.{ChangesFor, beside, beside_on, beside_sent, both_sent, changed_on, freed_cancel, freed_out, none_sent, over_on, quiet_then, settled_on, some_same}
@@ -104,7 +104,7 @@ pub invite_holds : (event : Event) (invite : Invite)
     → HoldsStories (on_side (invite_taken event invite))
     (λ side outs stories. invite_told outs stories)
 invite_holds event invite side stories told =
-    started_on event First (client_for event.id First (invite_of event invite) invite.address)
+    started_on event InitialInvite (client_for event.id InitialInvite (invite_of event invite) invite.address)
     side.clients stories refl told
 
 pub plain_holds : (event : Event) (plain : PlainCommand)
@@ -115,57 +115,57 @@ plain_holds event plain side stories told = by_method (is_bad_outside plain.meth
     by_method : (bad : Bool)
         → let taken = cond {A = Clients × List CallOut} bad
         (side.clients, refused event.id plain.call_id BadMethod)
-        (started event (client_for event.id Plain (plain_of event plain) plain.address)
+        (started event (client_for event.id OutOfDialog (plain_of event plain) plain.address)
         side.clients) in
         AreTold taken.0 (plain_told taken.1 stories)
     by_method true = told
     by_method false =
-        started_on event Plain (client_for event.id Plain (plain_of event plain) plain.address)
+        started_on event OutOfDialog (client_for event.id OutOfDialog (plain_of event plain) plain.address)
         side.clients stories refl told
 
 -- ---- requests in a dialog
 
 -- what is sent is sent in this dialog
-abbrev IsBorn : Id → Service → Type 0
-IsBorn born (service.Sent sending) = sending.born ≡ born
-IsBorn born service.Waits = Unit {0}
-IsBorn born (service.Refused refusal) = Unit {0}
+abbrev IsBorn : Id → SendOutcome → Type 0
+IsBorn created_by (service.Sent sending) = sending.created_by ≡ created_by
+IsBorn created_by service.Waits = Unit {0}
+IsBorn created_by (service.Refused refusal) = Unit {0}
 
-module _ (event : Event) (name : DialogName) (dialogs : Dialogs) where
+module _ (event : Event) (name : DialogId) (dialogs : Dialogs) where
   abbrev born_in : Option HeldDialog → Id
-  born_in o = option_map_or (λ held. held.born) o event.id
+  born_in o = option_map_or (λ held. held.created_by) o event.id
 
   abbrev sent_for : Message → RequestKind
   sent_for = for_dialog event name dialogs
 
-  served_born : (serve : HeldDialog → Outcome) (otherwise : Service)
-      → ((held : HeldDialog) → IsBorn held.born (serve held).1)
-      → ((born : Id) → IsBorn born otherwise)
+  served_born : (serve : HeldDialog → Outcome) (otherwise : SendOutcome)
+      → ((held : HeldDialog) → IsBorn held.created_by (serve held).1)
+      → ((created_by : Id) → IsBorn created_by otherwise)
       → IsBorn (born_in (dialog_at name dialogs)) (served_at name serve otherwise dialogs).1
   served_born serve otherwise serves other = by_found (dialog_at name dialogs)
     where
       by_found : (o : Option HeldDialog) → IsBorn (born_in o)
-          (option_map_or {U = Dialogs × Service} (λ held. (
+          (option_map_or {U = Dialogs × SendOutcome} (λ held. (
             set_value (is_named name) dialogs (serve held).0,
             (serve held).1,
           )) o (dialogs, otherwise)).1
       by_found None = other event.id
       by_found (Some held) = serves held
 
-  said_for : (call_id : List ℕ) (service : Service)
+  said_for : (call_id : List ℕ) (service : SendOutcome)
       → IsBorn (born_in (dialog_at name dialogs)) service
       → ChangesFor event sent_for (request_said event call_id name service).1
   said_for call_id (service.Sent sending) is =
       record {
         fresh = λ i. client_for event.id
-            (kind_in record { name = name; born = is i } sending.message) sending.message
+            (kind_in record { name = name; created_by = is i } sending.message) sending.message
             sending.to;
       }
   said_for call_id service.Waits is = tt
   said_for call_id (service.Refused refusal) is = tt
 
   -- what is told before and after the request that is sent
-  said_on : (call_id : List ℕ) (service : Service) (ends : List CallOut) (clients : Clients)
+  said_on : (call_id : List ℕ) (service : SendOutcome) (ends : List CallOut) (clients : Clients)
       (stories : ClientStories) → IsBorn (born_in (dialog_at name dialogs)) service
       → AreQuiet ends → AreTold clients stories
       → let said = request_said event call_id name service in
@@ -182,12 +182,12 @@ module _ (event : Event) (name : DialogName) (dialogs : Dialogs) where
       ∙ quiet_then said.0 after.1 (request_said_quiet event call_id name service)) i)))
 
 request_born : (event : Event) (method : List ℕ) (content : Content) (held : HeldDialog)
-    → IsBorn held.born (request_in_held event method content held).1
+    → IsBorn held.created_by (request_in_held event method content held).1
 unfolding request_in_held
 request_born event method content held =
     by_refusal (first_refusal (request_refusals held.dialog method) None)
   where
-    by_refusal : (o : Option Refusal) → IsBorn held.born
+    by_refusal : (o : Option Refusal) → IsBorn held.created_by
         (sent_unless o (sending_in event method None content held) held).1
     by_refusal None = refl
     by_refusal (Some refusal) = tt
@@ -203,42 +203,42 @@ request_holds event command side stories told =
     let bye = bye_ended name command.method done.1 done.0 in
     said_on event name side.dialogs command.call_id done.1 bye.1 side.clients stories
     (served_born event name side.dialogs serve (service.Refused NoSuchDialog)
-    (request_born event command.method command.content) (λ born. tt))
+    (request_born event command.method command.content) (λ created_by. tt))
     (bye_quiet name command.method done.1 done.0) told
 
-service_born : (born : Id) (o : Option DialogFault) (sending : Sending) → sending.born ≡ born
-    → IsBorn born (service_by o sending)
-service_born born None sending is = is
-service_born born (Some fault) sending is = tt
+service_born : (created_by : Id) (o : Option DialogFault) (sending : OutgoingRequest) → sending.created_by ≡ created_by
+    → IsBorn created_by (service_by o sending)
+service_born created_by None sending is = is
+service_born created_by (Some fault) sending is = tt
 
-paid_born : (event : Event) (debt : Debt) (content : Content) (held : HeldDialog)
-    → IsBorn held.born (paid event debt content held).1
+paid_born : (event : Event) (pending : PendingRequest) (content : Content) (held : HeldDialog)
+    → IsBorn held.created_by (paid event pending content held).1
 unfolding paid discharged
 paid_born event (Ack invite number) content held =
-    service_born held.born (ack_fault held.dialog) _ refl
+    service_born held.created_by (ack_fault held.dialog) _ refl
 paid_born event (Prack rseq number) content held =
-    service_born held.born (request_fault held.dialog (codes "PRACK")) _ refl
+    service_born held.created_by (request_fault held.dialog (codes "PRACK")) _ refl
 
 pub prack_holds : (event : Event) (command : DialogBody)
     → HoldsStories (prack_by_user event command) (λ side outs stories.
     in_dialog_told event (name_in command.local_tag command.remote_tag) side outs stories)
 prack_holds event command side stories told =
-    by_debt (debt_for kind.Prack name side.dialogs)
+    by_debt (pending_for kind.Prack name side.dialogs)
   where
-    name : DialogName
+    name : DialogId
     name = name_in command.local_tag command.remote_tag
 
-    by_debt : (o : Result Debt Refusal)
+    by_debt : (o : Result PendingRequest Refusal)
         → let taken = paid_or_refused event command (prack_paid event command name) o side in
         AreTold (taken.0).clients (in_dialog_told event name side taken.1 stories)
     by_debt (Err refusal) = told
-    by_debt (Ok debt) =
-        let done = paid_at name event debt command.content side.dialogs in
+    by_debt (Ok pending) =
+        let done = paid_at name event pending command.content side.dialogs in
         let said = request_said event command.call_id name done.1 in
         let after = settled event event.id said.1 side.clients in
         said_on event name side.dialogs command.call_id done.1 [] side.clients stories
-        (served_born event name side.dialogs (paid event debt command.content) service.Waits
-        (paid_born event debt command.content) (λ born. tt)) tt told
+        (served_born event name side.dialogs (paid event pending command.content) service.Waits
+        (paid_born event pending command.content) (λ created_by. tt)) tt told
         ∙ (λ i. lived (begin_stories (for_dialog event name side.dialogs)
         (append-nil (said.0 ++ after.1) i) stories))
 
@@ -259,12 +259,12 @@ same_on id more clients stories told same =
     by_found None at = refl
     by_found (Some client) at = set_value_same (is_id id) clients client at
 
-ack_on : (event : Event) (call_id : List ℕ) (name : DialogName) (debt : Debt) (service : Service)
+ack_on : (event : Event) (call_id : List ℕ) (name : DialogId) (pending : PendingRequest) (service : SendOutcome)
     (clients : Clients) (stories : ClientStories) → AreTold clients stories
     → let said = ack_said event call_id service in
-    AreTold (ack_kept debt name said.1 clients)
+    AreTold (ack_kept pending name said.1 clients)
     (option_map_or (λ invite. happens_to invite (map (SendsAck name) (acks_out said.0)) stories)
-    (invite_owed (Ok debt)) stories)
+    (invite_owed (Ok pending)) stories)
 ack_on event call_id name (Ack invite number) (service.Sent sending) clients stories told =
     changed_on clients stories told invite (SendsAck name (sent_ack sending) ∷ [])
     (acked_with name (sent_ack sending))
@@ -282,20 +282,20 @@ ack_on event call_id name (Prack rseq number) (service.Refused refusal) clients 
 pub ack_holds : (event : Event) (command : DialogBody)
     → HoldsStories (ack_by_user event command)
     (λ side outs stories. ack_told command side outs stories)
-ack_holds event command side stories told = by_debt (debt_for kind.Ack name side.dialogs)
+ack_holds event command side stories told = by_debt (pending_for kind.Ack name side.dialogs)
   where
-    name : DialogName
+    name : DialogId
     name = name_in command.local_tag command.remote_tag
 
-    by_debt : (o : Result Debt Refusal)
+    by_debt : (o : Result PendingRequest Refusal)
         → let taken = paid_or_refused event command (ack_paid event command name) o side in
         AreTold (taken.0).clients (option_map_or
         (λ invite. happens_to invite (map (SendsAck name) (acks_out taken.1)) stories)
         (invite_owed o) stories)
     by_debt (Err refusal) = told
-    by_debt (Ok debt) =
-        ack_on event command.call_id name debt
-        (paid_at name event debt command.content side.dialogs).1 side.clients stories told
+    by_debt (Ok pending) =
+        ack_on event command.call_id name pending
+        (paid_at name event pending command.content side.dialogs).1 side.clients stories told
 
 -- ---- the command Cancel
 
@@ -346,7 +346,7 @@ module _ (event : Event) (command : Cancel) (side : Side) (stories : ClientStori
         ap (filter (λ sent. is_cancel sent.request)) sent ∙ freed_cancel invite freed in
         let more : List Outgoing → List ClientHappening =
         λ cancels. AsksCancel event.id ∷ map SendsCancel cancels in
-        beside_on (λ request. Plain) invite refl freed (changed, [])
+        beside_on (λ request. OutOfDialog) invite refl freed (changed, [])
         (happens_to command.id (more (freed_out invite freed)) stories)
         (changed_on side.clients stories told command.id (more (freed_out invite freed))
         (asked cancel.Sent) (of_invite (λ client.
@@ -355,7 +355,7 @@ module _ (event : Event) (command : Cancel) (side : Side) (stories : ClientStori
           provisional = (or_false (invite.provisional || false) ∙ or_false invite.provisional) i;
         })))
         ∙ (λ i. lived (if sym (start_unrefused event.id invite) i then stories
-        else fold (begin_story (λ request. Plain))
+        else fold (begin_story (λ request. OutOfDialog))
         (happens_to command.id (more (sym cancels i)) stories) (sym sent i)))
 
     by_state : (provisional : Bool) (state : Cancelling) → invite.cancel ≡ state
@@ -411,11 +411,11 @@ pub invite_rules : (event : Event) (invite : Invite)
     → HoldsRules (on_side (invite_taken event invite))
     (λ side outs stories. invite_told outs stories)
 invite_rules event invite =
-    begun_rules (on_side (invite_taken event invite)) (λ side request. First)
+    begun_rules (on_side (invite_taken event invite)) (λ side request. InitialInvite)
 
 pub plain_rules : (event : Event) (plain : PlainCommand)
     → HoldsRules (on_side (plain_taken event plain)) (λ side outs stories. plain_told outs stories)
-plain_rules event plain = begun_rules (on_side (plain_taken event plain)) (λ side request. Plain)
+plain_rules event plain = begun_rules (on_side (plain_taken event plain)) (λ side request. OutOfDialog)
 
 pub request_rules : (event : Event) (command : DialogRequest)
     → HoldsRules (request_by_user event command) (λ side outs stories.
@@ -435,9 +435,9 @@ pub ack_rules : (event : Event) (command : DialogBody)
     → HoldsRules (ack_by_user event command)
     (λ side outs stories. ack_told command side outs stories)
 ack_rules event command side stories told all =
-    by_invite (invite_owed (debt_for kind.Ack name side.dialogs))
+    by_invite (invite_owed (pending_for kind.Ack name side.dialogs))
   where
-    name : DialogName
+    name : DialogId
     name = name_in command.local_tag command.remote_tag
 
     acks : List SentAck
@@ -506,9 +506,9 @@ module _ (event : Event) (command : Cancel) (side : Side) (stories : ClientStori
           λ cancels. AsksCancel event.id ∷ map SendsCancel cancels in
           subst AllLive
           (λ i. if sym (start_unrefused event.id invite) i then stories
-          else begin_stories (λ request. Plain) outs
+          else begin_stories (λ request. OutOfDialog) outs
           (happens_to command.id (more (sym cancels i)) stories))
-          (begin_fit (λ request. Plain) (requests_out outs)
+          (begin_fit (λ request. OutOfDialog) (requests_out outs)
           (happens_to command.id (more (freed_out invite (Some event.id))) stories)
           (happens_fit command.id (more (freed_out invite (Some event.id))) stories all
           (λ story is lived. starts_fit story (is_told story is) came state)))

@@ -6,7 +6,7 @@ use Rattle.sip_message.specs.declared.cseq.CSeq.{CSeq}
 use Rattle.sip_message.specs.declared.id.Id.{Id}
 use Rattle.sip_dialog.specs.Life.{Happening}
 use Rattle.sip_dialog.specs.Opening.{Opening}
-use Rattle.sip_common.specs.declared.held_dialog.DialogName.{DialogName}
+use Rattle.sip_common.specs.declared.held_dialog.DialogId.{DialogId}
 use Rattle.sip_common.specs.declared.held_dialog.HeldDialog.{HeldDialog}
 use Rattle.sip_common.specs.declared.item.CallOut.{CallOut}
 use Rattle.sip_common.specs.Dialogs.{Dialogs, dialog_at, is_named}
@@ -16,8 +16,8 @@ use Rattle.sip_common.proofs.Starts.{cseqs_both, none_numbered, numbered_none, s
 use Rattle.sip_clients.specs.declared.event.Event.{Event}
 use Rattle.sip_clients.specs.declared.outputs.ClientChange.{ClientChange}
 use Rattle.sip_clients.specs.declared.outputs.ClientChange.TheVariants.{Stays, Over, Starts}
-use Rattle.sip_clients.specs.declared.service.Service.{Service}
-use Rattle.sip_clients.specs.declared.service.Service.TheVariants.{Sent, Waits, Refused}
+use Rattle.sip_clients.specs.declared.send_outcome.SendOutcome.{SendOutcome}
+use Rattle.sip_clients.specs.declared.send_outcome.SendOutcome.TheVariants.{Sent, Waits, Refused}
 use Rattle.sip_clients.specs.Client.{Clients}
 use Rattle.sip_clients.specs.Clients.{settled}
 use Rattle.sip_clients.specs.Outputs.{request_said, start_command}
@@ -25,7 +25,7 @@ use Rattle.sip_clients.proofs.SentIn.{service_cseqs}
 
 -- each dialog is held under the name of its tags
 abbrev pub AreNamed : Dialogs → Type 0
-AreNamed dialogs = (name : DialogName) (held : HeldDialog) → dialog_at name dialogs ≡ Some held
+AreNamed dialogs = (name : DialogId) (held : HeldDialog) → dialog_at name dialogs ≡ Some held
     → is_named name (name_of_dialog held.dialog) ≡ true
 
 -- what goes out in it is all that happens
@@ -34,14 +34,14 @@ by_outs outs name held = sent_in name outs
 
 -- the requests that go out in it have the numbers after its local CSeq
 abbrev pub AreNumbered : Option Opening → Dialogs → List CallOut → Type 0
-AreNumbered start dialogs outs = (name : DialogName)
+AreNumbered start dialogs outs = (name : DialogId)
     → NumberedFrom (number_before start (dialog_at name dialogs)) (cseqs_in name outs)
 
 pub record Sends (outs : List CallOut) (before after : Dialogs) : Type 0 where
   pub leads : Leads (by_outs outs) before after
   pub numbered : AreNumbered None before outs
 
-pub sends_none : (outs : List CallOut) → ((name : DialogName) → [] ≡ cseqs_in name outs)
+pub sends_none : (outs : List CallOut) → ((name : DialogId) → [] ≡ cseqs_in name outs)
     → (dialogs after : Dialogs) → Leads quiet dialogs after → Sends outs dialogs after
 sends_none outs none dialogs after leads = record {
   leads = leads_as quiet (by_outs outs) dialogs after (λ name held at. ap requests_made (none name))
@@ -66,10 +66,10 @@ numbered_either true last cseqs numbers = numbers
 numbered_either false last cseqs numbers = tt
 
 -- in the dialog of one name
-pub sends_one : (own : DialogName) (cseqs : HeldDialog → List CSeq) (outs : List CallOut)
+pub sends_one : (own : DialogId) (cseqs : HeldDialog → List CSeq) (outs : List CallOut)
     (dialogs after : Dialogs)
     → ((held : HeldDialog) → NumberedAfter held.dialog.local_cseq (cseqs held))
-    → ((name : DialogName) (held : HeldDialog) → dialog_at name dialogs ≡ Some held
+    → ((name : DialogId) (held : HeldDialog) → dialog_at name dialogs ≡ Some held
     → cond (is_named own name) (cseqs held) [] ≡ cseqs_in name outs)
     → Leads (in_one own (λ held. requests_made (cseqs held))) dialogs after
     → Sends outs dialogs after
@@ -80,19 +80,19 @@ sends_one own cseqs outs dialogs after numbers same leads = record {
   numbered = λ name. by_found name (dialog_at name dialogs) refl;
 }
   where
-    by_found : (name : DialogName) (o : Option HeldDialog) → dialog_at name dialogs ≡ o
+    by_found : (name : DialogId) (o : Option HeldDialog) → dialog_at name dialogs ≡ o
         → NumberedFrom (number_before None o) (cseqs_in name outs)
     by_found name None at = tt
     by_found name (Some held) at =
         subst (NumberedAfter held.dialog.local_cseq) (same name held at)
         (numbered_either (is_named own name) held.dialog.local_cseq (cseqs held) (numbers held))
 
-pub after_silent : (name : DialogName) (xs ys : List CallOut) → starts xs ≡ []
+pub after_silent : (name : DialogId) (xs ys : List CallOut) → starts xs ≡ []
     → cseqs_in name (xs ++ ys) ≡ cseqs_in name ys
 after_silent name xs ys none =
     cseqs_both name xs ys ∙ ap (λ zs. zs ++ cseqs_in name ys) (none_numbered name xs none)
 
-pub between_silent : (name : DialogName) (xs ys zs : List CallOut) → starts xs ≡ [] → starts zs ≡ []
+pub between_silent : (name : DialogId) (xs ys zs : List CallOut) → starts xs ≡ [] → starts zs ≡ []
     → cseqs_in name ((xs ++ ys) ++ zs) ≡ cseqs_in name ys
 between_silent name xs ys zs none_x none_z =
     cseqs_both name (xs ++ ys) zs
@@ -100,15 +100,15 @@ between_silent name xs ys zs none_x none_z =
     ∙ append-nil (cseqs_in name ys)
 
 -- what goes out with what becomes of its request
-abbrev pub change_cseqs : DialogName → ClientChange → List CSeq
+abbrev pub change_cseqs : DialogId → ClientChange → List CSeq
 change_cseqs name Stays = []
 change_cseqs name Over = []
 change_cseqs name (Starts client) = cons_option (cseq_of_request name client.request) []
 
-abbrev pub change_sent : DialogName → ClientChange → List Happening
+abbrev pub change_sent : DialogId → ClientChange → List Happening
 change_sent name change = requests_made (change_cseqs name change)
 
-pub settled_cseqs : (name : DialogName) (event : Event) (id : Id) (change : ClientChange)
+pub settled_cseqs : (name : DialogId) (event : Event) (id : Id) (change : ClientChange)
     (clients : Clients)
     → cseqs_in name (settled event id change clients).1 ≡ change_cseqs name change
 unfolding start_command
@@ -116,8 +116,8 @@ settled_cseqs name event id Stays clients = refl
 settled_cseqs name event id Over clients = refl
 settled_cseqs name event id (Starts client) clients = refl
 
-pub said_change : (name : DialogName) (event : Event) (call_id : List ℕ) (own : DialogName)
-    (service : Service)
+pub said_change : (name : DialogId) (event : Event) (call_id : List ℕ) (own : DialogId)
+    (service : SendOutcome)
     → change_cseqs name (request_said event call_id own service).1 ≡ service_cseqs name service
 said_change name event call_id own (Sent sending) = refl
 said_change name event call_id own Waits = refl

@@ -10,8 +10,8 @@ use Rattle.sip_common.specs.declared.command.DialogBody.{DialogBody}
 use Rattle.sip_common.specs.declared.command.DialogRequest.{DialogRequest}
 use Rattle.sip_common.specs.declared.command.Invite.{Invite}
 use Rattle.sip_common.specs.declared.command.Plain.{Plain as PlainCommand}
-use Rattle.sip_common.specs.declared.debt.Debt.{Debt}
-use Rattle.sip_common.specs.declared.held_dialog.DialogName.{DialogName}
+use Rattle.sip_common.specs.declared.pending_request.PendingRequest.{PendingRequest}
+use Rattle.sip_common.specs.declared.held_dialog.DialogId.{DialogId}
 use Rattle.sip_common.specs.declared.held_dialog.HeldDialog.{HeldDialog}
 use Rattle.sip_common.specs.declared.item.CallOut.{CallOut}
 use Rattle.sip_common.specs.declared.refusal.Refusal.{Refusal}
@@ -26,20 +26,20 @@ use Rattle.sip_clients.specs.declared.cancel.CancelCase.{CancelCase}
 use Rattle.sip_clients.specs.declared.cancel.CancelCase.TheVariants as ask
 use Rattle.sip_clients.specs.declared.client.Cancelling.TheVariants as state
 use Rattle.sip_clients.specs.declared.client.Client.{Client}
-use Rattle.sip_clients.specs.declared.client.RequestKind.TheVariants.{Plain}
-use Rattle.sip_clients.specs.declared.debts.DebtKind.TheVariants as kind
+use Rattle.sip_clients.specs.declared.client.RequestKind.TheVariants.{OutOfDialog}
+use Rattle.sip_clients.specs.declared.pending.PendingKind.TheVariants as kind
 use Rattle.sip_clients.specs.declared.event.Event.{Event}
-use Rattle.sip_clients.specs.declared.service.Service.{Service}
-use Rattle.sip_clients.specs.declared.service.Service.TheVariants.{Sent, Waits, Refused}
+use Rattle.sip_clients.specs.declared.send_outcome.SendOutcome.{SendOutcome}
+use Rattle.sip_clients.specs.declared.send_outcome.SendOutcome.TheVariants.{Sent, Waits, Refused}
 use Rattle.sip_clients.specs.Cancel.{asked, cancel_by_user, cancel_case, cancelled_as, cancelled_of}
 use Rattle.sip_clients.specs.Client.{Clients, ClientTaken, Side, client_at, client_changed, client_for}
 use Rattle.sip_clients.specs.Clients.{ack_by_user, ack_paid, invite_taken, plain_taken, prack_by_user, prack_paid, request_by_user, settled, started}
-use Rattle.sip_clients.specs.Commands.{bye_ended, debt_for, is_bad_outside, name_in, request_in_held, request_refusals, requested_at, sent_unless}
-use Rattle.sip_clients.specs.Debts.{paid}
+use Rattle.sip_clients.specs.Commands.{bye_ended, pending_for, is_bad_outside, name_in, request_in_held, request_refusals, requested_at, sent_unless}
+use Rattle.sip_clients.specs.Pending.{paid}
 use Rattle.sip_clients.specs.Dialogs.{paid_at, served_at}
 use Rattle.sip_clients.specs.Outputs.{request_said, start_command}
 use Rattle.sip_clients.specs.Outside.{plain_of}
-use Rattle.sip_clients.specs.Service.{Outcome, sending_in}
+use Rattle.sip_clients.specs.SendOutcome.{Outcome, sending_in}
 use Rattle.sip_clients.proofs.DialogSends.{between_silent}
 use Rattle.sip_common.proofs.EndedDialogs.{AreNamed, Goes, Which, changed_held, changed_named, goes_as, goes_before, goes_kept, goes_named_then, goes_removed, goes_same, names_ended, no_name, none_ends, silent_both}
 use Rattle.sip_clients.proofs.EndedReplies.{ack_silent, beside_goes, request_silent, settled_silent}
@@ -53,7 +53,7 @@ use Rattle.sip_clients.proofs.WithoutStarts.{bye_quiet, none_started, request_sa
 abbrev pub is_of_bye : CSeq → Bool
 is_of_bye cseq = bytes_eq cseq.method (codes "BYE")
 
-abbrev pub gives_bye : DialogName → List CallOut → Bool
+abbrev pub gives_bye : DialogId → List CallOut → Bool
 gives_bye name outs = list_any is_of_bye (cseqs_in name outs)
 
 -- what is served in a dialog leaves it its name
@@ -72,20 +72,20 @@ served_named event command held =
 
 module _ (event : Event) (side : Side) (apart : AreApart side.dialogs)
     (named : AreNamed side.dialogs) (command : DialogRequest) where
-  abbrev own : DialogName
+  abbrev own : DialogId
   own = name_in command.local_tag command.remote_tag
 
   abbrev serve : HeldDialog → Outcome
   serve held = request_in_held event command.method command.content held
 
-  abbrev done : Dialogs × Service
+  abbrev done : Dialogs × SendOutcome
   done = served_at own serve (Refused NoSuchDialog) side.dialogs
 
   abbrev outs : List CallOut
   outs = (request_by_user event command side).1
 
   -- the same dialogs are held before the end that is told last
-  served_held : (name : DialogName)
+  served_held : (name : DialogId)
       → is_some (dialog_at name done.0) ≡ is_some (dialog_at name side.dialogs)
   served_held name =
       ap (λ dialogs. is_some (dialog_at name dialogs))
@@ -104,13 +104,13 @@ module _ (event : Event) (side : Side) (apart : AreApart side.dialogs)
       (changed_named own (λ held. (serve held).0) (served_named event command) side.dialogs named)
 
   -- whether it is a BYE that is sent
-  abbrev sends_bye : Service → Bool
+  abbrev sends_bye : SendOutcome → Bool
   sends_bye (Sent sending) = bytes_eq command.method (codes "BYE")
   sends_bye Waits = false
   sends_bye (Refused refusal) = false
 
   -- what goes out in the dialog of a name
-  given : (name : DialogName) (held : HeldDialog) → dialog_at name side.dialogs ≡ Some held
+  given : (name : DialogId) (held : HeldDialog) → dialog_at name side.dialogs ≡ Some held
       → cond (is_named own name) (request_cseqs command.method held.dialog) []
       ≡ cseqs_in name outs
   unfolding requested_at
@@ -144,7 +144,7 @@ module _ (event : Event) (side : Side) (apart : AreApart side.dialogs)
   sends_as held =
       by_refusal held (first_refusal (request_refusals held.dialog command.method) None)
 
-  same_end : (name : DialogName) (held : HeldDialog) → dialog_at name side.dialogs ≡ Some held
+  same_end : (name : DialogId) (held : HeldDialog) → dialog_at name side.dialogs ≡ Some held
       → (sends_bye done.1 && is_named own name) ≡ gives_bye name outs
   same_end name held at =
       by_name (is_named own name) refl
@@ -177,7 +177,7 @@ module _ (event : Event) (side : Side) (apart : AreApart side.dialogs)
   removed true dialogs apart named = goes_removed own dialogs apart named
   removed false dialogs apart named = goes_same dialogs [] refl
 
-  by_service : (service : Service) (dialogs : Dialogs) → AreApart dialogs → AreNamed dialogs
+  by_service : (service : SendOutcome) (dialogs : Dialogs) → AreApart dialogs → AreNamed dialogs
       → Goes no_name (λ name held. sends_bye service && is_named own name) dialogs
       (bye_ended own command.method service dialogs).0
       (bye_ended own command.method service dialogs).1
@@ -204,12 +204,12 @@ module _ (event : Event) (side : Side) (apart : AreApart side.dialogs)
 
 -- ---- an ACK and a PRACK
 
-paid_held : (name : DialogName) (event : Event) (debt : Debt) (command : DialogBody)
-    (dialogs : Dialogs) (other : DialogName)
-    → is_some (dialog_at other (paid_at name event debt command.content dialogs).0)
+paid_held : (name : DialogId) (event : Event) (pending : PendingRequest) (command : DialogBody)
+    (dialogs : Dialogs) (other : DialogId)
+    → is_some (dialog_at other (paid_at name event pending command.content dialogs).0)
     ≡ is_some (dialog_at other dialogs)
-paid_held name event debt command dialogs other =
-    let serve = paid event debt command.content in
+paid_held name event pending command dialogs other =
+    let serve = paid event pending command.content in
     ap (λ dialogs. is_some (dialog_at other dialogs)) (served_dialogs name serve Waits dialogs)
     ∙ changed_held name (λ held. (serve held).0) dialogs other
 
@@ -222,10 +222,10 @@ pub ack_goes : (event : Event) (command : DialogBody) (side : Side)
 ack_goes event command side =
     let name = name_in command.local_tag command.remote_tag in
     paid_either (Keeps side) event command (ack_paid event command name) side
-    (debt_for kind.Ack name side.dialogs) (λ refusal. goes_same side.dialogs _ refl)
-    (λ debt. let paid = paid_at name event debt command.content side.dialogs in
-    goes_kept side.dialogs paid.0 (ack_paid event command name debt side).1
-    (paid_held name event debt command side.dialogs)
+    (pending_for kind.Ack name side.dialogs) (λ refusal. goes_same side.dialogs _ refl)
+    (λ pending. let paid = paid_at name event pending command.content side.dialogs in
+    goes_kept side.dialogs paid.0 (ack_paid event command name pending side).1
+    (paid_held name event pending command side.dialogs)
     (ack_silent event command.call_id paid.1))
 
 pub prack_goes : (event : Event) (command : DialogBody) (side : Side)
@@ -233,11 +233,11 @@ pub prack_goes : (event : Event) (command : DialogBody) (side : Side)
 prack_goes event command side =
     let name = name_in command.local_tag command.remote_tag in
     paid_either (Keeps side) event command (prack_paid event command name) side
-    (debt_for kind.Prack name side.dialogs) (λ refusal. goes_same side.dialogs _ refl)
-    (λ debt. let paid = paid_at name event debt command.content side.dialogs in
+    (pending_for kind.Prack name side.dialogs) (λ refusal. goes_same side.dialogs _ refl)
+    (λ pending. let paid = paid_at name event pending command.content side.dialogs in
     let said = request_said event command.call_id name paid.1 in
-    goes_kept side.dialogs paid.0 (prack_paid event command name debt side).1
-    (paid_held name event debt command side.dialogs)
+    goes_kept side.dialogs paid.0 (prack_paid event command name pending side).1
+    (paid_held name event pending command side.dialogs)
     (silent_both said.0 (settled event event.id said.1 side.clients).1
     (request_silent event command.call_id name paid.1)
     (settled_silent event event.id said.1 side.clients)))
@@ -282,11 +282,11 @@ invite_silent event invite clients = refl
 plain_by : (b : Bool) (event : Event) (plain : PlainCommand) (clients : Clients)
     → names_ended (cond {A = Clients × List CallOut} b
     (clients, refused event.id plain.call_id BadMethod)
-    (started event (client_for event.id Plain (plain_of event plain) plain.address) clients)).1
+    (started event (client_for event.id OutOfDialog (plain_of event plain) plain.address) clients)).1
     ≡ []
 plain_by true event plain clients = refl
 plain_by false event plain clients =
-    start_silent event (client_for event.id Plain (plain_of event plain) plain.address) clients
+    start_silent event (client_for event.id OutOfDialog (plain_of event plain) plain.address) clients
 
 pub plain_silent : (event : Event) (plain : PlainCommand) (clients : Clients)
     → names_ended (plain_taken event plain clients).1 ≡ []

@@ -11,9 +11,9 @@ use Rattle.sip_common.specs.declared.command.DialogBody.{DialogBody}
 use Rattle.sip_common.specs.declared.command.DialogRequest.{DialogRequest}
 use Rattle.sip_common.specs.declared.command.Invite.{Invite}
 use Rattle.sip_common.specs.declared.command.Plain.{Plain as PlainCommand}
-use Rattle.sip_common.specs.declared.debt.Debt.{Debt}
-use Rattle.sip_common.specs.declared.debt.Debt.TheVariants.{Ack, Prack}
-use Rattle.sip_common.specs.declared.held_dialog.DialogName.{DialogName}
+use Rattle.sip_common.specs.declared.pending_request.PendingRequest.{PendingRequest}
+use Rattle.sip_common.specs.declared.pending_request.PendingRequest.TheVariants.{Ack, Prack}
+use Rattle.sip_common.specs.declared.held_dialog.DialogId.{DialogId}
 use Rattle.sip_common.specs.declared.held_dialog.HeldDialog.{HeldDialog}
 use Rattle.sip_common.specs.declared.item.CallOut.{CallOut}
 use Rattle.sip_common.specs.declared.refusal.Refusal.TheVariants.{BadMethod}
@@ -30,25 +30,25 @@ use Rattle.sip_clients.specs.declared.cancel.CancelCase.TheVariants as ask
 use Rattle.sip_clients.specs.declared.client.Cancelling.TheVariants as state
 use Rattle.sip_clients.specs.declared.client.Client.{Client}
 use Rattle.sip_clients.specs.declared.client.RequestKind.{RequestKind}
-use Rattle.sip_clients.specs.declared.client.RequestKind.TheVariants.{First, Again, Inside, Plain}
-use Rattle.sip_clients.specs.declared.debts.DebtKind.TheVariants as kind
+use Rattle.sip_clients.specs.declared.client.RequestKind.TheVariants.{InitialInvite, ReInvite, InDialog, OutOfDialog}
+use Rattle.sip_clients.specs.declared.pending.PendingKind.TheVariants as kind
 use Rattle.sip_clients.specs.declared.event.Event.{Event}
 use Rattle.sip_clients.specs.declared.outputs.ClientChange.{ClientChange}
 use Rattle.sip_clients.specs.declared.outputs.ClientChange.TheVariants.{Stays, Over, Starts}
-use Rattle.sip_clients.specs.declared.reply.Reply.{Reply as Answer}
+use Rattle.sip_clients.specs.declared.reply.ReceivedResponse.{ReceivedResponse}
 use Rattle.sip_clients.specs.declared.reply.ReplyCase.{ReplyCase}
 use Rattle.sip_clients.specs.declared.reply.ReplyCase.TheVariants as reply
-use Rattle.sip_clients.specs.declared.service.Service.{Service}
-use Rattle.sip_clients.specs.declared.service.Service.TheVariants.{Sent, Waits, Refused}
+use Rattle.sip_clients.specs.declared.send_outcome.SendOutcome.{SendOutcome}
+use Rattle.sip_clients.specs.declared.send_outcome.SendOutcome.TheVariants.{Sent, Waits, Refused}
 use Rattle.sip_clients.specs.Cancel.{after_response, asked, cancel_by_user, cancel_case, cancel_client, cancelled_as, cancelled_of, freed_by, sent_beside}
 use Rattle.sip_clients.specs.Client.{Clients, Side, client_at, client_changed, client_for, with_client, without_client}
 use Rattle.sip_clients.specs.Clients.{ack_by_user, ack_kept, ack_paid, acked_with, found_taken, invite_taken, lost_of, plain_taken, prack_by_user, prack_paid, reply_name, reply_of, reply_settled, request_by_user, response_taken, settled, started, status_of}
-use Rattle.sip_clients.specs.Commands.{ack_asked, debt_for, is_bad_outside, name_in, requested_at}
+use Rattle.sip_clients.specs.Commands.{ack_asked, pending_for, is_bad_outside, name_in, requested_at}
 use Rattle.sip_clients.specs.Dialogs.{dialog_for_provisional, paid_at}
 use Rattle.sip_clients.specs.Outputs.{request_said}
 use Rattle.sip_clients.specs.Outside.{invite_of, plain_of}
 use Rattle.sip_clients.specs.Replied.{Replied, after_dialog, by_reply_case, heard_again, prack_owed, reply_taken, request_over}
-use Rattle.sip_clients.specs.Reply.{is_last, reply_case}
+use Rattle.sip_clients.specs.ReceivedResponse.{is_last, reply_case}
 use Rattle.sip_clients.specs.Tick.{clients_left, is_over}
 use Rattle.sip_clients.proofs.AgainInvite.{AreApart}
 use Rattle.sip_clients.proofs.EndedTicks.{AreKeyed}
@@ -144,7 +144,7 @@ StartsOwn event Stays = Unit {0}
 StartsOwn event Over = Unit {0}
 StartsOwn event (Starts client) = is_id event.id client.id ≡ true
 
-said_own : (event : Event) (call_id : List ℕ) (name : DialogName) (service : Service)
+said_own : (event : Event) (call_id : List ℕ) (name : DialogId) (service : SendOutcome)
     → StartsOwn event (request_said event call_id name service).1
 said_own event call_id name (Sent sending) = id_laws.refl event.id
 said_own event call_id name Waits = tt
@@ -168,16 +168,16 @@ sound_beside (Some id) invite done sound =
 
 heard_same : (kind : RequestKind) (rseq : ℕ) (client : Client)
     → (heard_again kind rseq client).id ≡ client.id
-heard_same First rseq client = refl
-heard_same (Again life) rseq client = refl
-heard_same (Inside life) rseq client = refl
-heard_same Plain rseq client = refl
+heard_same InitialInvite rseq client = refl
+heard_same (ReInvite life) rseq client = refl
+heard_same (InDialog life) rseq client = refl
+heard_same OutOfDialog rseq client = refl
 
 -- the request keeps its id, and one that starts has that of the event
-abbrev Own : Client → Answer → Client × ClientChange → Type 0
+abbrev Own : Client → ReceivedResponse → Client × ClientChange → Type 0
 Own client answer done = (done.0.id ≡ client.id) × StartsOwn answer.event done.1
 
-case_own : (case : ReplyCase) (client : Client) (found : Option HeldDialog) (answer : Answer)
+case_own : (case : ReplyCase) (client : Client) (found : Option HeldDialog) (answer : ReceivedResponse)
     → Own client answer (
       (by_reply_case case client found answer).0,
       (by_reply_case case client found answer).3,
@@ -194,7 +194,7 @@ case_own reply.Passed client found answer = (refl, tt)
 case_own reply.Early client found answer = (refl, tt)
 case_own reply.Told client found answer = (refl, tt)
 
-reply_own : (client : Client) (dialogs : Dialogs) (answer : Answer)
+reply_own : (client : Client) (dialogs : Dialogs) (answer : ReceivedResponse)
     → Own client answer (
       (reply_taken client dialogs answer).0,
       (reply_taken client dialogs answer).3,
@@ -210,7 +210,7 @@ reply_own client dialogs answer = by_last (is_last client.kind answer.status)
         case_own (reply_case client (dialog_at answer.name dialogs) answer) client
         (dialog_at answer.name dialogs) answer
 
-reply_sound : (answer : Answer) (client : Client) (side : Side)
+reply_sound : (answer : ReceivedResponse) (client : Client) (side : Side)
     → client_at answer.id side.clients ≡ Some client → AreSound side.clients
     → AreSound ((reply_settled answer client side).0).clients
 reply_sound answer client side is sound =
@@ -255,16 +255,16 @@ lost_sound id timed_out (Some client) side sound = sound_without id side.clients
 pub invite_sound : (event : Event) (command : Invite) (clients : Clients) → AreSound clients
     → AreSound (invite_taken event command clients).0
 invite_sound event command clients sound =
-    sound_put event.id (client_for event.id First (invite_of event command) command.address)
+    sound_put event.id (client_for event.id InitialInvite (invite_of event command) command.address)
     (id_laws.refl event.id) clients sound
 
 plain_by : (b : Bool) (event : Event) (plain : PlainCommand) (clients : Clients)
     → AreSound clients → AreSound (cond {A = Clients × List CallOut} b
     (clients, refused event.id plain.call_id BadMethod)
-    (started event (client_for event.id Plain (plain_of event plain) plain.address) clients)).0
+    (started event (client_for event.id OutOfDialog (plain_of event plain) plain.address) clients)).0
 plain_by true event plain clients sound = sound
 plain_by false event plain clients sound =
-    sound_put event.id (client_for event.id Plain (plain_of event plain) plain.address)
+    sound_put event.id (client_for event.id OutOfDialog (plain_of event plain) plain.address)
     (id_laws.refl event.id) clients sound
 
 pub plain_sound : (event : Event) (plain : PlainCommand) (clients : Clients) → AreSound clients
@@ -280,8 +280,8 @@ request_sound event command side sound =
     sound_settled event event.id (request_said event command.call_id name service).1
     (said_own event command.call_id name service) side.clients sound
 
-noted_sound : (debt : Debt) (name : DialogName) (ack : Option SentAck) (clients : Clients)
-    → AreSound clients → AreSound (ack_kept debt name ack clients)
+noted_sound : (pending : PendingRequest) (name : DialogId) (ack : Option SentAck) (clients : Clients)
+    → AreSound clients → AreSound (ack_kept pending name ack clients)
 noted_sound (Ack of number) name None clients sound = sound
 noted_sound (Ack of number) name (Some ack) clients sound =
     sound_changed of (acked_with name ack) (λ client. refl) clients sound
@@ -292,8 +292,8 @@ pub ack_sound : (event : Event) (command : DialogBody) (side : Side) → AreSoun
 ack_sound event command side sound =
     let name = name_in command.local_tag command.remote_tag in
     paid_either (λ taken. AreSound (taken.0).clients) event command
-    (ack_paid event command name) side (debt_for kind.Ack name side.dialogs) (λ refusal. sound)
-    (λ debt. noted_sound debt name (ack_asked event name debt command side.dialogs).2 side.clients
+    (ack_paid event command name) side (pending_for kind.Ack name side.dialogs) (λ refusal. sound)
+    (λ pending. noted_sound pending name (ack_asked event name pending command side.dialogs).2 side.clients
     sound)
 
 pub prack_sound : (event : Event) (command : DialogBody) (side : Side) → AreSound side.clients
@@ -301,8 +301,8 @@ pub prack_sound : (event : Event) (command : DialogBody) (side : Side) → AreSo
 prack_sound event command side sound =
     let name = name_in command.local_tag command.remote_tag in
     paid_either (λ taken. AreSound (taken.0).clients) event command
-    (prack_paid event command name) side (debt_for kind.Prack name side.dialogs) (λ refusal. sound)
-    (λ debt. let service = (paid_at name event debt command.content side.dialogs).1 in
+    (prack_paid event command name) side (pending_for kind.Prack name side.dialogs) (λ refusal. sound)
+    (λ pending. let service = (paid_at name event pending command.content side.dialogs).1 in
     sound_settled event event.id (request_said event command.call_id name service).1
     (said_own event command.call_id name service) side.clients sound)
 

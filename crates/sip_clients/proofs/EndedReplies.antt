@@ -7,27 +7,27 @@ use Rattle.std.specs.Option.{option_map, option_map_or}
 use Rattle.indexmap.specs.IndexMap.{insert_entry}
 use Rattle.sip_message.specs.declared.id.Id.{Id}
 use Rattle.sip_message.specs.declared.message.Message.{Message}
-use Rattle.sip_common.specs.declared.held_dialog.DialogLife.{DialogLife}
-use Rattle.sip_common.specs.declared.held_dialog.DialogName.{DialogName}
+use Rattle.sip_common.specs.declared.held_dialog.DialogReference.{DialogReference}
+use Rattle.sip_common.specs.declared.held_dialog.DialogId.{DialogId}
 use Rattle.sip_common.specs.declared.held_dialog.HeldDialog.{HeldDialog}
 use Rattle.sip_common.specs.declared.item.CallOut.{CallOut}
 use Rattle.sip_common.specs.Dialogs.{Dialogs, dialog_at, early_ended, ended_at, is_early_of, is_named, lives}
 use Rattle.sip_common.specs.Ids.{is_id}
-use Rattle.sip_common.specs.Requests.{is_final, is_inside, is_success}
+use Rattle.sip_common.specs.Requests.{is_final, has_to_tag, is_success}
 use Rattle.sip_common.proofs.Entries as entries
 use Rattle.sip_common.proofs.Heard.{AreApart, name_laws}
 use Rattle.sip_clients.specs.declared.answers.SentAck.{SentAck}
 use Rattle.sip_clients.specs.declared.client.RequestKind.{RequestKind}
-use Rattle.sip_clients.specs.declared.client.RequestKind.TheVariants.{First, Again, Inside, Plain}
+use Rattle.sip_clients.specs.declared.client.RequestKind.TheVariants.{InitialInvite, ReInvite, InDialog, OutOfDialog}
 use Rattle.sip_clients.specs.declared.client.Client.{Client}
 use Rattle.sip_clients.specs.declared.event.Event.{Event}
 use Rattle.sip_clients.specs.declared.outputs.ClientChange.{ClientChange}
 use Rattle.sip_clients.specs.declared.outputs.ClientChange.TheVariants.{Stays, Over, Starts}
-use Rattle.sip_clients.specs.declared.reply.Reply.{Reply as Answer}
+use Rattle.sip_clients.specs.declared.reply.ReceivedResponse.{ReceivedResponse}
 use Rattle.sip_clients.specs.declared.reply.ReplyCase.{ReplyCase}
 use Rattle.sip_clients.specs.declared.reply.ReplyCase.TheVariants as reply
-use Rattle.sip_clients.specs.declared.service.Service.{Service}
-use Rattle.sip_clients.specs.declared.service.Service.TheVariants.{Sent, Waits, Refused}
+use Rattle.sip_clients.specs.declared.send_outcome.SendOutcome.{SendOutcome}
+use Rattle.sip_clients.specs.declared.send_outcome.SendOutcome.TheVariants.{Sent, Waits, Refused}
 use Rattle.sip_clients.specs.Answers.{ack_of, has_answer}
 use Rattle.sip_clients.specs.Cancel.{after_response, cancel_client, freed_by, sent_beside}
 use Rattle.sip_clients.specs.Client.{Clients, ClientTaken, Side, client_at}
@@ -35,33 +35,33 @@ use Rattle.sip_clients.specs.Clients.{found_taken, lost_of, reply_name, reply_of
 use Rattle.sip_clients.specs.Dialogs.{accepted, dialog_for_provisional, ended_with, own_ended}
 use Rattle.sip_clients.specs.Outputs.{ack_said, direct, request_said, start_command}
 use Rattle.sip_clients.specs.Replied.{Replied, ack_owed, after_dialog, by_reply_case, dialogs_with, ends_dialog, notice, prack_owed, reply_taken, request_over}
-use Rattle.sip_clients.specs.Reply.{heard_of, is_dialog_response, is_inviting, is_last, is_there, reliable_case, reply_case, rseq_of}
+use Rattle.sip_clients.specs.ReceivedResponse.{heard_of, is_dialog_response, is_inviting, is_last, has_dialog, reliable_case, reply_case, rseq_of}
 use Rattle.sip_common.proofs.EndedDialogs.{AreNamed, Goes, Which, early_told, ended_none, ends_told, none_told, filtered_named, goes_as, goes_before, goes_beside, goes_filtered_then, goes_removed, goes_same, left_of, names_ended, no_name, none_ends}
 
 -- ---- what ends with a client request
 
 -- the dialog that it was sent in, as it was then
 abbrev pub was_sent_in : RequestKind → Which
-was_sent_in First name held = false
-was_sent_in (Again life) name held = is_named life.name name && is_id held.born life.born
-was_sent_in (Inside life) name held = is_named life.name name && is_id held.born life.born
-was_sent_in Plain name held = false
+was_sent_in InitialInvite name held = false
+was_sent_in (ReInvite life) name held = is_named life.name name && is_id held.created_by life.created_by
+was_sent_in (InDialog life) name held = is_named life.name name && is_id held.created_by life.created_by
+was_sent_in OutOfDialog name held = false
 
 abbrev pub ends_with : Client → Bool → Which
 ends_with client gone name held =
     is_early_of client.id held || (gone && was_sent_in client.kind name held)
 
-module _ (life : DialogLife) (dialogs : Dialogs) (apart : AreApart dialogs)
+module _ (life : DialogReference) (dialogs : Dialogs) (apart : AreApart dialogs)
     (named : AreNamed dialogs) where
   abbrev is_it : Which
-  is_it name held = is_named life.name name && is_id held.born life.born
+  is_it name held = is_named life.name name && is_id held.created_by life.created_by
 
   -- what is held under its name is that dialog where that lives
-  lives_as : (name : DialogName) (held : HeldDialog) → dialog_at name dialogs ≡ Some held
+  lives_as : (name : DialogId) (held : HeldDialog) → dialog_at name dialogs ≡ Some held
       → (lives_so : Bool) → lives dialogs life ≡ lives_so → (b : Bool)
-      → is_named life.name name ≡ b → (b && lives_so) ≡ (b && is_id held.born life.born)
+      → is_named life.name name ≡ b → (b && lives_so) ≡ (b && is_id held.created_by life.created_by)
   lives_as name held at lives_so is true same =
-      sym is ∙ ap (λ o. option_map_or (λ (held : HeldDialog). is_id held.born life.born) o false)
+      sym is ∙ ap (λ o. option_map_or (λ (held : HeldDialog). is_id held.created_by life.created_by) o false)
       (sym (entries.same_key name_laws life.name name dialogs same) ∙ at)
   lives_as name held at lives_so is false other = refl
 
@@ -92,16 +92,16 @@ own_goes : (kind : RequestKind) (gone : Bool) (dialogs : Dialogs) → AreApart d
     → AreNamed dialogs
     → Goes no_name (λ name held. gone && was_sent_in kind name held) dialogs
     (own_ended kind gone dialogs).0 (own_ended kind gone dialogs).1
-own_goes First true dialogs apart named = goes_same dialogs [] refl
-own_goes First false dialogs apart named = goes_same dialogs [] refl
-own_goes (Again life) true dialogs apart named =
+own_goes InitialInvite true dialogs apart named = goes_same dialogs [] refl
+own_goes InitialInvite false dialogs apart named = goes_same dialogs [] refl
+own_goes (ReInvite life) true dialogs apart named =
     life_goes life dialogs apart named (lives dialogs life) refl
-own_goes (Again life) false dialogs apart named = goes_same dialogs [] refl
-own_goes (Inside life) true dialogs apart named =
+own_goes (ReInvite life) false dialogs apart named = goes_same dialogs [] refl
+own_goes (InDialog life) true dialogs apart named =
     life_goes life dialogs apart named (lives dialogs life) refl
-own_goes (Inside life) false dialogs apart named = goes_same dialogs [] refl
-own_goes Plain true dialogs apart named = goes_same dialogs [] refl
-own_goes Plain false dialogs apart named = goes_same dialogs [] refl
+own_goes (InDialog life) false dialogs apart named = goes_same dialogs [] refl
+own_goes OutOfDialog true dialogs apart named = goes_same dialogs [] refl
+own_goes OutOfDialog false dialogs apart named = goes_same dialogs [] refl
 
 pub ended_goes : (client : Client) (gone : Bool) (dialogs : Dialogs) → AreApart dialogs
     → AreNamed dialogs
@@ -119,13 +119,13 @@ ended_goes client gone dialogs apart named =
 
 -- ---- what is said besides
 
-pub request_silent : (event : Event) (call_id : List ℕ) (name : DialogName) (service : Service)
+pub request_silent : (event : Event) (call_id : List ℕ) (name : DialogId) (service : SendOutcome)
     → names_ended (request_said event call_id name service).0 ≡ []
 request_silent event call_id name (Sent sending) = refl
 request_silent event call_id name Waits = refl
 request_silent event call_id name (Refused refusal) = refl
 
-pub ack_silent : (event : Event) (call_id : List ℕ) (service : Service)
+pub ack_silent : (event : Event) (call_id : List ℕ) (service : SendOutcome)
     → names_ended (ack_said event call_id service).0 ≡ []
 ack_silent event call_id (Sent sending) = refl
 ack_silent event call_id Waits = refl
@@ -144,7 +144,7 @@ settled_silent event id Over clients = refl
 settled_silent event id (Starts client) clients = refl
 
 -- a CANCEL that goes out last
-pub beside_goes : (opens : DialogName → Bool) (ends : Which) (before after : Dialogs)
+pub beside_goes : (opens : DialogId → Bool) (ends : Which) (before after : Dialogs)
     (freed : Option Id) (invite : Client) (done : Clients × List CallOut)
     → Goes opens ends before after done.1
     → Goes opens ends before after
@@ -159,10 +159,10 @@ beside_goes opens ends before after (Some id) invite done goes =
 
 -- it opens dialogs: the first INVITE
 abbrev pub opens_dialogs : RequestKind → Bool
-opens_dialogs First = true
-opens_dialogs (Again life) = false
-opens_dialogs (Inside life) = false
-opens_dialogs Plain = false
+opens_dialogs InitialInvite = true
+opens_dialogs (ReInvite life) = false
+opens_dialogs (InDialog life) = false
+opens_dialogs OutOfDialog = false
 
 -- whether a dialog is put by a case
 abbrev puts : ReplyCase → Bool
@@ -194,30 +194,30 @@ first_reliable (Some number) = refl
 by_kind : (kind : RequestKind) (client : Client) (final success again inside : Bool)
     (rseq : Option ℕ) → (success ≡ true → final ≡ true) → (final ≡ true → success ≡ true)
     → puts (if final then (if again then reply.Repeated
-    else (if is_there kind None then reply.Accepted else reply.Late))
-    else (if inside && is_there kind None
+    else (if has_dialog kind None then reply.Accepted else reply.Late))
+    else (if inside && has_dialog kind None
     then reliable_case (heard_of kind client None) rseq else reply.Told))
     ≡ (opens_dialogs kind && opening final success again inside)
-by_kind First client true true true inside rseq so last = refl
-by_kind First client true true false inside rseq so last = refl
-by_kind First client true false again inside rseq so last =
+by_kind InitialInvite client true true true inside rseq so last = refl
+by_kind InitialInvite client true true false inside rseq so last = refl
+by_kind InitialInvite client true false again inside rseq so last =
     let wrong : false ≡ true = last refl in absurd cc
-by_kind First client false true again inside rseq so last =
+by_kind InitialInvite client false true again inside rseq so last =
     let wrong : false ≡ true = so refl in absurd cc
-by_kind First client false false again true rseq so last = first_reliable rseq
-by_kind First client false false again false rseq so last = refl
-by_kind (Again life) client true success true inside rseq so last = refl
-by_kind (Again life) client true success false inside rseq so last = refl
-by_kind (Again life) client false success again true rseq so last = refl
-by_kind (Again life) client false success again false rseq so last = refl
-by_kind (Inside life) client true success true inside rseq so last = refl
-by_kind (Inside life) client true success false inside rseq so last = refl
-by_kind (Inside life) client false success again true rseq so last = refl
-by_kind (Inside life) client false success again false rseq so last = refl
-by_kind Plain client true success true inside rseq so last = refl
-by_kind Plain client true success false inside rseq so last = refl
-by_kind Plain client false success again true rseq so last = refl
-by_kind Plain client false success again false rseq so last = refl
+by_kind InitialInvite client false false again true rseq so last = first_reliable rseq
+by_kind InitialInvite client false false again false rseq so last = refl
+by_kind (ReInvite life) client true success true inside rseq so last = refl
+by_kind (ReInvite life) client true success false inside rseq so last = refl
+by_kind (ReInvite life) client false success again true rseq so last = refl
+by_kind (ReInvite life) client false success again false rseq so last = refl
+by_kind (InDialog life) client true success true inside rseq so last = refl
+by_kind (InDialog life) client true success false inside rseq so last = refl
+by_kind (InDialog life) client false success again true rseq so last = refl
+by_kind (InDialog life) client false success again false rseq so last = refl
+by_kind OutOfDialog client true success true inside rseq so last = refl
+by_kind OutOfDialog client true success false inside rseq so last = refl
+by_kind OutOfDialog client false success again true rseq so last = refl
+by_kind OutOfDialog client false success again false rseq so last = refl
 
 success_final : (status : ℕ) → is_success status ≡ true → is_final status ≡ true
 success_final status e = first_so (is_final status) _ e
@@ -233,33 +233,33 @@ not_last false success inviting last is = absurd cc
 last_opens : (kind : RequestKind) (final success first early : Bool)
     → (final && not (is_inviting kind && success)) ≡ true
     → (opens_dialogs kind && ((success && first) || (not final && early))) ≡ false
-last_opens First true true first early last = absurd cc
-last_opens First true false first early last = refl
-last_opens First false success first early last = absurd cc
-last_opens (Again life) final success first early last = refl
-last_opens (Inside life) final success first early last = refl
-last_opens Plain final success first early last = refl
+last_opens InitialInvite true true first early last = absurd cc
+last_opens InitialInvite true false first early last = refl
+last_opens InitialInvite false success first early last = absurd cc
+last_opens (ReInvite life) final success first early last = refl
+last_opens (InDialog life) final success first early last = refl
+last_opens OutOfDialog final success first early last = refl
 
 module _ (event : Event) (id : Id) (call_id : List ℕ) (response : Message) (status : ℕ)
     (asker : Client) (dialogs : Dialogs) (apart : AreApart dialogs) (named : AreNamed dialogs)
   where
-    abbrev own : DialogName
+    abbrev own : DialogId
     own = reply_name asker.kind asker response
 
     -- the request when the response has come
     abbrev noted : Client
     noted = after_response (is_final status) asker
 
-    abbrev answer : Answer
+    abbrev answer : ReceivedResponse
     answer = reply_of event id call_id own status response
 
     abbrev found : Option HeldDialog
     found = dialog_at own dialogs
 
-    abbrev pub opened_by_reply : DialogName → Bool
+    abbrev pub opened_by_reply : DialogId → Bool
     opened_by_reply name = opens_dialogs asker.kind && is_named own name
         && ((is_success status && not (has_answer own asker.answers))
-        || (not (is_final status) && (not (status == 100) && is_inside response)))
+        || (not (is_final status) && (not (status == 100) && has_to_tag response)))
 
     abbrev pub ended_by_reply : Which
     ended_by_reply name held =
@@ -277,7 +277,7 @@ module _ (event : Event) (id : Id) (call_id : List ℕ) (response : Message) (st
     case_silent reply.Early = refl
     case_silent reply.Told = refl
 
-    put_so : (held : HeldDialog) (name : DialogName)
+    put_so : (held : HeldDialog) (name : DialogId)
         → is_some (dialog_at name (insert_entry is_named dialogs own held))
         ≡ (is_named own name || is_some (dialog_at name dialogs))
     put_so held name =
@@ -289,7 +289,7 @@ module _ (event : Event) (id : Id) (call_id : List ℕ) (response : Message) (st
         by_name true o = refl
         by_name false o = refl
 
-    case_held : (case : ReplyCase) (name : DialogName)
+    case_held : (case : ReplyCase) (name : DialogId)
         → is_some (dialog_at name
         (dialogs_with own (by_reply_case case noted found answer).1 dialogs))
         ≡ ((puts case && is_named own name) || is_some (dialog_at name dialogs))
@@ -306,10 +306,10 @@ module _ (event : Event) (id : Id) (call_id : List ℕ) (response : Message) (st
     abbrev opens_if : Bool → Bool
     opens_if named = opens_dialogs asker.kind && named
         && ((is_success status && not (has_answer own asker.answers))
-        || (not (is_final status) && (not (status == 100) && is_inside response)))
+        || (not (is_final status) && (not (status == 100) && has_to_tag response)))
 
     -- it puts a dialog that is there, or opens one
-    opens_so : is_last noted.kind status ≡ false → (name : DialogName)
+    opens_so : is_last noted.kind status ≡ false → (name : DialogId)
         → ((puts (reply_case noted found answer) && is_named own name)
         || is_some (dialog_at name dialogs))
         ≡ (opened_by_reply name || is_some (dialog_at name dialogs))
@@ -374,7 +374,7 @@ module _ (event : Event) (id : Id) (call_id : List ℕ) (response : Message) (st
         between true false may e = refl
         between false named may e = refl
 
-        none_opens : (name : DialogName) → opened_by_reply name ≡ false
+        none_opens : (name : DialogId) → opened_by_reply name ≡ false
         none_opens name =
             between (opens_dialogs asker.kind) (is_named own name) _
             (last_opens asker.kind (is_final status) (is_success status)
@@ -389,7 +389,7 @@ module _ (event : Event) (id : Id) (call_id : List ℕ) (response : Message) (st
         held_left None = refl
         held_left (Some held) = refl
 
-        none_told_in : (name : DialogName)
+        none_told_in : (name : DialogId)
             → ends_told name (by_reply_case (reply_case noted found answer) noted found answer).2
             ≡ 0
         none_told_in name =
@@ -405,7 +405,7 @@ module _ (event : Event) (id : Id) (call_id : List ℕ) (response : Message) (st
 
 module _ (event : Event) (id : Id) (call_id : List ℕ) (response : Message) (side : Side)
     (apart : AreApart side.dialogs) (named : AreNamed side.dialogs) where
-  abbrev opens_by : Option ℕ → Option Client → DialogName → Bool
+  abbrev opens_by : Option ℕ → Option Client → DialogId → Bool
   opens_by status o name =
       option_map_or (λ client. option_map_or
       (λ status. opened_by_reply event id call_id response status client side.dialogs apart named

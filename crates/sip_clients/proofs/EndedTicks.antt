@@ -7,7 +7,7 @@ use Rattle.std.specs.Map.{keys_of, values_of}
 use Rattle.std.proofs.lemmas.Map.Keys.{IsDistinct-head, IsDistinct-tail}
 use Rattle.sip_message.specs.declared.id.Id.{Id}
 use Rattle.sip_dialog.specs.Dialog.{is_early}
-use Rattle.sip_common.specs.declared.held_dialog.DialogName.{DialogName}
+use Rattle.sip_common.specs.declared.held_dialog.DialogId.{DialogId}
 use Rattle.sip_common.specs.declared.held_dialog.HeldDialog.{HeldDialog}
 use Rattle.sip_common.specs.declared.item.CallOut.{CallOut}
 use Rattle.sip_common.specs.Dialogs.{Dialogs, dialog_at, early_ended, is_early_of}
@@ -25,7 +25,7 @@ AreKeyed clients =
     AllByRecursion (λ (entry : Id × Client). is_id entry.0 entry.1.id ≡ true) clients
 
 module _ (now : ℕ) (dialogs : Dialogs) (apart : DialogsApart dialogs) (named : AreNamed dialogs)
-    (name : DialogName) where
+    (name : DialogId) where
   abbrev found : Option HeldDialog
   found = dialog_at name dialogs
 
@@ -50,12 +50,12 @@ module _ (now : ℕ) (dialogs : Dialogs) (apart : DialogsApart dialogs) (named :
   not_of_other : (id other : Id) (held : HeldDialog) → is_early_of id held ≡ true
       → is_id id other ≡ false → is_early_of other held ≡ false
   not_of_other id other held is apart_ids =
-      by_early (is_early held.dialog.state) (is_id held.made_by id) is
-      (λ same. id_laws.congr held.made_by id other same ∙ apart_ids)
+      by_early (is_early held.dialog.state) (is_id held.invite id) is
+      (λ same. id_laws.congr held.invite id other same ∙ apart_ids)
     where
       by_early : (early made : Bool) → (early && made) ≡ true
-          → (made ≡ true → is_id held.made_by other ≡ false)
-          → (early && is_id held.made_by other) ≡ false
+          → (made ≡ true → is_id held.invite other ≡ false)
+          → (early && is_id held.invite other) ≡ false
       by_early true true e others = others refl
       by_early true false e others = absurd cc
       by_early false made e others = refl

@@ -11,7 +11,7 @@ use Rattle.sip_model.proofs.Ordered.{by_bool}
 use Rattle.sip_reliable.specs.declared.offer.Offer.{Offer}
 use Rattle.sip_reliable.specs.declared.offer.Offer.TheVariants.{Taken}
 use Rattle.sip_reliable.specs.Inbound.{latest_after, offered, taken}
-use Rattle.sip_common.specs.declared.held_dialog.DialogLife.{DialogLife}
+use Rattle.sip_common.specs.declared.held_dialog.DialogReference.{DialogReference}
 use Rattle.sip_common.specs.declared.held_dialog.HeldDialog.{HeldDialog}
 use Rattle.sip_common.specs.declared.item.CallOut.{CallOut}
 use Rattle.sip_common.specs.Ids.{is_id}
@@ -26,12 +26,12 @@ use Rattle.sip_clients.specs.Outputs.{start_command}
 -- ---- the ear of a life
 
 -- what was heard last in a dialog, where it is that of the life
-abbrev pub ear_in : DialogLife → Option HeldDialog → Option (Option ℕ)
+abbrev pub ear_in : DialogReference → Option HeldDialog → Option (Option ℕ)
 ear_in life None = None
-ear_in life (Some held) = if is_id held.born life.born then Some held.heard else None
+ear_in life (Some held) = if is_id held.created_by life.created_by then Some held.last_rseq else None
 
-abbrev is_own : DialogLife → Option HeldDialog → Bool
-is_own life o = option_map_or (λ (held : HeldDialog). is_id held.born life.born) o false
+abbrev is_own : DialogReference → Option HeldDialog → Bool
+is_own life o = option_map_or (λ (held : HeldDialog). is_id held.created_by life.created_by) o false
 
 pub id_exact : (x y : Id) → is_id x y ≡ true → x ≡ y
 id_exact x y e =
@@ -39,31 +39,31 @@ id_exact x y e =
     let place = eqb-true x.place y.place (second_so (x.round == y.round) (x.place == y.place) e) in
     λ i. record { round = round i; place = place i }
 
-deaf : (life : DialogLife) (o : Option HeldDialog) → is_own life o ≡ false → ear_in life o ≡ None
+deaf : (life : DialogReference) (o : Option HeldDialog) → is_own life o ≡ false → ear_in life o ≡ None
 deaf life None e = refl
-deaf life (Some held) e = ap (λ b. if b then Some held.heard else None) e
+deaf life (Some held) e = ap (λ b. if b then Some held.last_rseq else None) e
 
 -- ---- nothing came
 
-begun_silent : (event : Option Id) (life : DialogLife) (before : Option (Option ℕ))
-    (held : HeldDialog) → event ≡ Some held.born → held.heard ≡ None
-    → Silent (event ≡ Some life.born) before (ear_in life (Some held))
+begun_silent : (event : Option Id) (life : DialogReference) (before : Option (Option ℕ))
+    (held : HeldDialog) → event ≡ Some held.created_by → held.last_rseq ≡ None
+    → Silent (event ≡ Some life.created_by) before (ear_in life (Some held))
 begun_silent event life before held made none =
-    by_bool (is_id held.born life.born)
+    by_bool (is_id held.created_by life.created_by)
     (λ e. inr (inr (
-      made ∙ ap (λ id. Some id) (id_exact held.born life.born e),
+      made ∙ ap (λ id. Some id) (id_exact held.created_by life.created_by e),
       (λ i. if e i then Some (none i) else None),
     )))
-    (λ e. inl (ap (λ b. if b then Some held.heard else None) e))
+    (λ e. inl (ap (λ b. if b then Some held.last_rseq else None) e))
 
-pub silent_from : (event : Option Id) (life : DialogLife) (Opens : Opening → Type 0)
+pub silent_from : (event : Option Id) (life : DialogReference) (Opens : Opening → Type 0)
     (lived : Life) (begun : List Happening) (before after : Option HeldDialog)
     → Goes event Opens None lived begun before after
-    → Silent (event ≡ Some life.born) (ear_in life before) (ear_in life after)
+    → Silent (event ≡ Some life.created_by) (ear_in life before) (ear_in life after)
 silent_from event life Opens lived begun before None goes = inl refl
 silent_from event life Opens lived begun None (Some after) (inl stays) = absurd stays
 silent_from event life Opens lived begun (Some before) (Some after) (inl stays) =
-    inr (inl (λ i. if is_id (stays.0 i) life.born then Some (stays.1 i) else None))
+    inr (inl (λ i. if is_id (stays.0 i) life.created_by then Some (stays.1 i) else None))
 silent_from event life Opens lived begun before (Some after) (inr begins) =
     begun_silent event life (ear_in life before) after begins.0 begins.1
 
@@ -111,38 +111,38 @@ told_beside number (Some id) cancelled done =
 -- ---- a number came
 
 -- where it is taken
-taken_held : (event : Option Id) (life : DialogLife) (number : ℕ) (Opens : Opening → Type 0)
+taken_held : (event : Option Id) (life : DialogReference) (number : ℕ) (Opens : Opening → Type 0)
     (lived : Life) (begun : List Happening) (before : Option HeldDialog) (after : HeldDialog)
     (shown : List ℕ)
     → Goes event Opens (Some number) lived begun before (Some after)
-    → is_id after.born life.born ≡ true
-    → offered (option_and_then (λ held. held.heard) before) number ≡ Taken → shown ≡ number ∷ []
-    → Hears (event ≡ Some life.born) (ear_in life before) (ear_in life (Some after)) number shown
+    → is_id after.created_by life.created_by ≡ true
+    → offered (option_and_then (λ held. held.last_rseq) before) number ≡ Taken → shown ≡ number ∷ []
+    → Hears (event ≡ Some life.created_by) (ear_in life before) (ear_in life (Some after)) number shown
 taken_held event life number Opens lived begun None after shown (inl stays) own offer is =
     absurd stays
 taken_held event life number Opens lived begun (Some held) after shown (inl stays) own offer is =
     record {
-      last = held.heard;
-      was = inl (λ i. if (ap (λ id. is_id id life.born) (sym stays.0) ∙ own) i
-          then Some held.heard else None);
+      last = held.last_rseq;
+      was = inl (λ i. if (ap (λ id. is_id id life.created_by) (sym stays.0) ∙ own) i
+          then Some held.last_rseq else None);
       now = inr (λ i. if own i then Some (stays.1 i) else None);
       shows = is ∙ ap (λ o. taken o number) (sym offer);
     }
 taken_held event life number Opens lived begun before after shown (inr begins) own offer is =
     record {
       last = None;
-      was = inr (begins.0 ∙ ap (λ id. Some id) (id_exact after.born life.born own), refl);
+      was = inr (begins.0 ∙ ap (λ id. Some id) (id_exact after.created_by life.created_by own), refl);
       now = inr (λ i. if own i then Some (begins.1 i) else None);
       shows = is;
     }
 
-pub taken_so : (event : Option Id) (life : DialogLife) (number : ℕ) (Opens : Opening → Type 0)
+pub taken_so : (event : Option Id) (life : DialogReference) (number : ℕ) (Opens : Opening → Type 0)
     (lived : Life) (begun : List Happening) (before after : Option HeldDialog) (b : Bool)
     (outs : List CallOut) → is_own life after ≡ b
     → Goes event Opens (Some number) lived begun before after
-    → offered (option_and_then (λ held. held.heard) before) number ≡ Taken
+    → offered (option_and_then (λ held. held.last_rseq) before) number ≡ Taken
     → map (λ out. number) (filter is_response outs) ≡ number ∷ []
-    → Listens (event ≡ Some life.born) (ear_in life before) (ear_in life after)
+    → Listens (event ≡ Some life.created_by) (ear_in life before) (ear_in life after)
     (in_life b (Some number)) (told_of (in_life b (Some number)) outs)
 taken_so event life number Opens lived begun before after false outs own goes offer is =
     (inl (deaf life after own), refl)
@@ -152,21 +152,21 @@ taken_so event life number Opens lived begun before (Some after) true outs own g
     (map (λ out. number) (filter is_response outs)) goes own offer is
 
 -- where it isn't, nothing changes and nothing is told
-pub passed_so : (Begins : Type 0) (life : DialogLife) (number : ℕ) (held : Option HeldDialog)
+pub passed_so : (Begins : Type 0) (life : DialogReference) (number : ℕ) (held : Option HeldDialog)
     (offer : Offer) (b : Bool) → is_own life held ≡ b
-    → offered (option_and_then (λ held. held.heard) held) number ≡ offer → taken offer number ≡ []
+    → offered (option_and_then (λ held. held.last_rseq) held) number ≡ offer → taken offer number ≡ []
     → ((last : Option ℕ) → latest_after offer last number ≡ last)
     → Listens Begins (ear_in life held) (ear_in life held) (in_life b (Some number))
     (told_of (in_life b (Some number)) [])
 passed_so Begins life number held offer false own is none same = (inl (deaf life held own), refl)
 passed_so Begins life number None offer true own is none same = absurd cc
 passed_so Begins life number (Some held) offer true own is none same =
-    let now : ear_in life (Some held) ≡ Some held.heard =
-    λ i. if own i then Some held.heard else None in
+    let now : ear_in life (Some held) ≡ Some held.last_rseq =
+    λ i. if own i then Some held.last_rseq else None in
     record {
-      last = held.heard;
+      last = held.last_rseq;
       was = inl now;
       now = inr (now ∙ ap (λ h. Some h)
-          (sym (ap (λ o. latest_after o held.heard number) is ∙ same held.heard)));
+          (sym (ap (λ o. latest_after o held.last_rseq number) is ∙ same held.last_rseq)));
       shows = sym (ap (λ o. taken o number) is ∙ none);
     }

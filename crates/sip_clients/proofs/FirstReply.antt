@@ -8,24 +8,24 @@ use Rattle.sip_dialog.specs.Life.{Happening}
 use Rattle.sip_reliable.specs.declared.offer.Offer.{Offer}
 use Rattle.sip_reliable.specs.declared.offer.Offer.TheVariants.{Taken, Repeat, Gap}
 use Rattle.sip_reliable.specs.Inbound.{offered}
-use Rattle.sip_common.specs.declared.held_dialog.DialogLife.{DialogLife}
+use Rattle.sip_common.specs.declared.held_dialog.DialogReference.{DialogReference}
 use Rattle.sip_common.specs.declared.held_dialog.HeldDialog.{HeldDialog}
 use Rattle.sip_common.specs.declared.item.CallOut.{CallOut}
 use Rattle.sip_common.specs.Dialogs.{dialog_at, is_named, lives, Dialogs}
-use Rattle.sip_common.specs.Requests.{is_final, is_inside, is_success}
-use Rattle.sip_clients.specs.declared.client.RequestKind.TheVariants.{First}
+use Rattle.sip_common.specs.Requests.{is_final, has_to_tag, is_success}
+use Rattle.sip_clients.specs.declared.client.RequestKind.TheVariants.{InitialInvite}
 use Rattle.sip_clients.specs.declared.client.Client.{Client}
-use Rattle.sip_clients.specs.declared.reply.Reply.{Reply as Answer}
+use Rattle.sip_clients.specs.declared.reply.ReceivedResponse.{ReceivedResponse}
 use Rattle.sip_clients.specs.declared.reply.ReplyCase.{ReplyCase}
 use Rattle.sip_clients.specs.declared.reply.ReplyCase.TheVariants as reply
-use Rattle.sip_clients.specs.declared.service.Service.{Service}
-use Rattle.sip_clients.specs.declared.service.Service.TheVariants.{Sent, Waits, Refused}
+use Rattle.sip_clients.specs.declared.send_outcome.SendOutcome.{SendOutcome}
+use Rattle.sip_clients.specs.declared.send_outcome.SendOutcome.TheVariants.{Sent, Waits, Refused}
 use Rattle.sip_clients.specs.Answers.{has_answer}
 use Rattle.sip_clients.specs.Client.{Clients}
 use Rattle.sip_clients.specs.Clients.{reply_name, settled}
 use Rattle.sip_clients.specs.Outputs.{start_command}
 use Rattle.sip_clients.specs.Replied.{Replied, after_dialog, by_reply_case, ends_dialog, request_over, prack_owed, reply_taken, told_of_prack}
-use Rattle.sip_clients.specs.Reply.{is_last, offer_case, reliable_case, reply_case, rseq_of, success_case}
+use Rattle.sip_clients.specs.ReceivedResponse.{is_last, offer_case, reliable_case, reply_case, rseq_of, success_case}
 use Rattle.sip_clients.specs.Dialogs.{dialog_for_provisional}
 use Rattle.sip_clients.specs.Provisionals.{in_life, is_response, provisional_number, told_of}
 use Rattle.sip_clients.proofs.CommandDialogs.{ended_leads}
@@ -36,12 +36,12 @@ use Rattle.sip_common.proofs.Heard.{AreApart, Goes, Life, OpensBy, in_one, name_
 use Rattle.sip_clients.proofs.Hearing.{Listens}
 
 abbrev pub first : Client → Client
-first client = record client { kind = First }
+first client = record client { kind = InitialInvite }
 
 -- ---- what is told
 
 -- a reliable provisional response that is taken is told once, whatever becomes of its PRACK
-pub told_once : (number : ℕ) (answer : Answer) (id : Id) (service : Service) (clients : Clients)
+pub told_once : (number : ℕ) (answer : ReceivedResponse) (id : Id) (service : SendOutcome) (clients : Clients)
     → map (λ out. number) (filter is_response
     ((told_of_prack answer service).0
     ++ (settled answer.event id (told_of_prack answer service).1 clients).1)) ≡ number ∷ []
@@ -54,26 +54,26 @@ told_once number answer id (Refused refusal) clients = refl
 
 -- it has no such number, or the number decides
 abbrev pub Decided : (ReplyCase → Type 0) → Option ℕ → Option ℕ → ReplyCase → Type 0
-Decided Other heard None case = Other case
-Decided Other heard (Some number) case = case ≡ offer_case (offered heard number) number
+Decided Other last_rseq None case = Other case
+Decided Other last_rseq (Some number) case = case ≡ offer_case (offered last_rseq number) number
 
 -- none that is heard of the first INVITE
 abbrev pub Unheard : ReplyCase → Type 0
-Unheard case = heard_number case First true ≡ None
+Unheard case = heard_number case InitialInvite true ≡ None
 
 abbrev pub number_by : Bool → Bool → Option ℕ → Option ℕ
 number_by final inside rseq = if final then None else (if inside then rseq else None)
 
-pub decided : (final inside : Bool) (winning : ReplyCase) (heard rseq : Option ℕ)
+pub decided : (final inside : Bool) (winning : ReplyCase) (last_rseq rseq : Option ℕ)
     → Unheard winning
-    → Decided Unheard heard (number_by final inside rseq)
-    (if final then winning else (if inside && true then reliable_case heard rseq else reply.Told))
-decided true inside winning heard rseq none = none
-decided false true winning heard None none = refl
-decided false true winning heard (Some number) none = refl
-decided false false winning heard rseq none = refl
+    → Decided Unheard last_rseq (number_by final inside rseq)
+    (if final then winning else (if inside && true then reliable_case last_rseq rseq else reply.Told))
+decided true inside winning last_rseq rseq none = none
+decided false true winning last_rseq None none = refl
+decided false true winning last_rseq (Some number) none = refl
+decided false false winning last_rseq rseq none = refl
 
-success_unheard : (client : Client) (found : Option HeldDialog) (answer : Answer)
+success_unheard : (client : Client) (found : Option HeldDialog) (answer : ReceivedResponse)
     → Unheard (success_case (first client) found answer.name)
 success_unheard client found answer =
     elim (has_answer answer.name client.answers) as (λ b.
@@ -82,10 +82,10 @@ success_unheard client found answer =
 -- ---- one response
 
 -- what a client request and the dialogs are after a response, and all that is given
-abbrev pub given : Answer → Replied → Clients → List CallOut
+abbrev pub given : ReceivedResponse → Replied → Clients → List CallOut
 given answer done clients = done.2 ++ (settled answer.event answer.id done.3 clients).1
 
-module _ (event : Option Id) (life : DialogLife) (client : Client) (answer : Answer)
+module _ (event : Option Id) (life : DialogReference) (client : Client) (answer : ReceivedResponse)
     (dialogs : Dialogs) (apart : AreApart dialogs) (made : event ≡ Some (answer.event).id) where
   abbrev before : Option HeldDialog
   before = dialog_at life.name dialogs
@@ -93,7 +93,7 @@ module _ (event : Option Id) (life : DialogLife) (client : Client) (answer : Ans
   abbrev Result : Client → Option ℕ → Replied → Clients → Type 0
   Result client number done clients =
       AreApart done.1
-      × Listens (event ≡ Some life.born) (ear_in life before)
+      × Listens (event ≡ Some life.created_by) (ear_in life before)
       (ear_in life (dialog_at life.name done.1)) (in_life (lives done.1 life) number)
       (told_of (in_life (lives done.1 life) number) (given answer done clients))
 
@@ -120,7 +120,7 @@ module _ (event : Option Id) (life : DialogLife) (client : Client) (answer : Ans
       → Result client None done clients
   goes_unheard client done clients apart lived begun goes = (
     apart,
-    no_number (event ≡ Some life.born) (lives done.1 life) (ear_in life before)
+    no_number (event ≡ Some life.created_by) (lives done.1 life) (ear_in life before)
         (ear_in life (dialog_at life.name done.1)) (given answer done clients)
         (silent_from event life (OpensBy (Some (start event client answer made)) life.name) lived
         begun before (dialog_at life.name done.1) goes),
@@ -156,7 +156,7 @@ module _ (event : Option Id) (life : DialogLife) (client : Client) (answer : Ans
   by_offer : (number : ℕ) (offer : Offer) (clients : Clients)
       → IsNamedSo (first client) answer found
       → is_named answer.name life.name ≡ true
-      → offered (option_and_then (λ held. held.heard) before) number ≡ offer
+      → offered (option_and_then (λ held. held.last_rseq) before) number ≡ offer
       → Result (first client) (Some number) (taken_as (offer_case offer number) (first client))
       clients
   unfolding prack_owed
@@ -168,7 +168,7 @@ module _ (event : Option Id) (life : DialogLife) (client : Client) (answer : Ans
       let lived = lived_by case (first client) in
       let begun = begun_by case (first client) in
       let here : Goes event Opens (Some number) lived begun before (dialog_at life.name done.1) =
-      subst (λ b. Goes event Opens (heard_number case First b) lived begun before
+      subst (λ b. Goes event Opens (heard_number case InitialInvite b) lived begun before
       (dialog_at life.name done.1)) named (moves.goes life.name) in (
         moves.apart,
         taken_so event life number Opens lived begun before (dialog_at life.name done.1)
@@ -180,32 +180,32 @@ module _ (event : Option Id) (life : DialogLife) (client : Client) (answer : Ans
       )
   by_offer number Repeat clients own named is = (
     apart,
-    passed_so (event ≡ Some life.born) life number before Repeat
+    passed_so (event ≡ Some life.created_by) life number before Repeat
         (lives dialogs life) refl is refl (λ last. refl),
   )
   by_offer number Gap clients own named is = (
     apart,
-    passed_so (event ≡ Some life.born) life number before Gap
+    passed_so (event ≡ Some life.created_by) life number before Gap
         (lives dialogs life) refl is refl (λ last. refl),
   )
 
   by_number : (number : Option ℕ) (case : ReplyCase) (clients : Clients)
       → IsNamedSo (first client) answer found
       → is_named answer.name life.name ≡ true
-      → Decided Unheard (option_and_then (λ held. held.heard) found) number case
+      → Decided Unheard (option_and_then (λ held. held.last_rseq) found) number case
       → Result (first client) number (taken_as case (first client)) clients
   by_number None case clients own named is =
-      unheard case (first client) clients (λ _. own) (ap (heard_number case First) named ∙ is)
+      unheard case (first client) clients (λ _. own) (ap (heard_number case InitialInvite) named ∙ is)
   by_number (Some number) case clients own named is =
-      let heard = option_and_then (λ (held : HeldDialog). held.heard) found in
+      let last_rseq = option_and_then (λ (held : HeldDialog). held.last_rseq) found in
       subst (λ c. Result (first client) (Some number) (taken_as c (first client)) clients) (sym is)
-      (by_offer number (offered heard number) clients own named
-      (ap (λ o. offered (option_and_then (λ (held : HeldDialog). held.heard) o) number)
+      (by_offer number (offered last_rseq number) clients own named
+      (ap (λ o. offered (option_and_then (λ (held : HeldDialog). held.last_rseq) o) number)
       (entries.same_key name_laws answer.name life.name dialogs named)))
 
   -- a response to the first INVITE, in the dialog of the name or in another
   abbrev inside : Bool
-  inside = not (answer.status == 100) && is_inside answer.response
+  inside = not (answer.status == 100) && has_to_tag answer.response
 
   abbrev rseq : Option ℕ
   rseq = rseq_of answer.response
@@ -213,7 +213,7 @@ module _ (event : Option Id) (life : DialogLife) (client : Client) (answer : Ans
   abbrev case_of : Bool → ReplyCase
   case_of final = if final then success_case (first client) found answer.name
       else (if inside && true
-      then reliable_case (option_and_then (λ held. held.heard) found) rseq else reply.Told)
+      then reliable_case (option_and_then (λ held. held.last_rseq) found) rseq else reply.Told)
 
   in_dialog : (final named : Bool) (clients : Clients) → IsNamedSo (first client) answer found
       → is_named life.name answer.name ≡ named
@@ -223,11 +223,11 @@ module _ (event : Option Id) (life : DialogLife) (client : Client) (answer : Ans
       by_number (number_by final inside rseq) (case_of final) clients own
       (name_laws.symm answer.name life.name ∙ named)
       (decided final inside (success_case (first client) found answer.name)
-      (option_and_then (λ held. held.heard) found) rseq (success_unheard client found answer))
+      (option_and_then (λ held. held.last_rseq) found) rseq (success_unheard client found answer))
   in_dialog final false clients own named =
       unheard (case_of final) (first client) clients (λ _. own)
-      (ap (heard_number (case_of final) First) (name_laws.symm answer.name life.name ∙ named)
-      ∙ unnamed_unheard (case_of final) First)
+      (ap (heard_number (case_of final) InitialInvite) (name_laws.symm answer.name life.name ∙ named)
+      ∙ unnamed_unheard (case_of final) InitialInvite)
 
   by_last : (final success named : Bool) (clients : Clients) → IsNamedSo (first client) answer found
       → is_named life.name answer.name ≡ named
@@ -240,7 +240,7 @@ module _ (event : Option Id) (life : DialogLife) (client : Client) (answer : Ans
   by_last false success b clients own named = in_dialog false b clients own named
 
   pub first_replied : (clients : Clients) (named : Bool)
-      → answer.name ≡ reply_name First client answer.response
+      → answer.name ≡ reply_name InitialInvite client answer.response
       → is_named life.name answer.name ≡ named
       → Result (first client) (if named then provisional_number (Some answer.status) answer.response
       else None) (reply_taken (first client) dialogs answer) clients

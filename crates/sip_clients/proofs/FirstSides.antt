@@ -9,29 +9,29 @@ use Rattle.sip_dialog.specs.Opening.{Opening}
 use Rattle.sip_message.specs.declared.message.Message.{Message}
 use Rattle.sip_common.specs.declared.command.DialogBody.{DialogBody}
 use Rattle.sip_common.specs.declared.command.DialogRequest.{DialogRequest}
-use Rattle.sip_common.specs.declared.debt.Debt.{Debt}
-use Rattle.sip_common.specs.declared.held_dialog.DialogLife.{DialogLife}
-use Rattle.sip_common.specs.declared.held_dialog.DialogName.{DialogName}
+use Rattle.sip_common.specs.declared.pending_request.PendingRequest.{PendingRequest}
+use Rattle.sip_common.specs.declared.held_dialog.DialogReference.{DialogReference}
+use Rattle.sip_common.specs.declared.held_dialog.DialogId.{DialogId}
 use Rattle.sip_common.specs.declared.item.CallOut.{CallOut}
 use Rattle.sip_common.specs.declared.refusal.Refusal.{Refusal}
 use Rattle.sip_common.specs.declared.refusal.Refusal.TheVariants.{NoSuchDialog}
-use Rattle.sip_clients.specs.declared.service.Service.TheVariants.{Refused, Waits}
+use Rattle.sip_clients.specs.declared.send_outcome.SendOutcome.TheVariants.{Refused, Waits}
 use Rattle.sip_common.specs.Dialogs.{dialog_at, is_named, lives, Dialogs}
 use Rattle.sip_common.specs.Requests.{is_final}
 use Rattle.sip_common.specs.Ids.{is_id}
 use Rattle.sip_clients.specs.declared.client.RequestKind.{RequestKind}
-use Rattle.sip_clients.specs.declared.client.RequestKind.TheVariants.{First, Again, Inside, Plain}
+use Rattle.sip_clients.specs.declared.client.RequestKind.TheVariants.{InitialInvite, ReInvite, InDialog, OutOfDialog}
 use Rattle.sip_clients.specs.declared.client.Client.{Client}
 use Rattle.sip_clients.specs.declared.event.Event.{Event}
-use Rattle.sip_clients.specs.declared.reply.Reply.{Reply as Answer}
+use Rattle.sip_clients.specs.declared.reply.ReceivedResponse.{ReceivedResponse}
 use Rattle.sip_clients.specs.declared.reply.ReplyCase.{ReplyCase}
 use Rattle.sip_clients.specs.declared.reply.ReplyCase.TheVariants as reply
 use Rattle.sip_clients.specs.Cancel.{cancel_client, freed_by, after_response}
 use Rattle.sip_clients.specs.Client.{Clients, Side, ClientTaken, client_at}
 use Rattle.sip_clients.specs.Clients.{ack_paid, ack_by_user, found_taken, lost_of, paid_or_refused, prack_paid, prack_by_user, reply_name, reply_of, reply_settled, request_by_user, settled, side_after, response_taken, status_of}
-use Rattle.sip_clients.specs.declared.debts.DebtKind.TheVariants as kind
-use Rattle.sip_clients.specs.Commands.{bye_ended, debt_for, name_in, request_in_held, requested_at}
-use Rattle.sip_clients.specs.Debts.{paid}
+use Rattle.sip_clients.specs.declared.pending.PendingKind.TheVariants as kind
+use Rattle.sip_clients.specs.Commands.{bye_ended, pending_for, name_in, request_in_held, requested_at}
+use Rattle.sip_clients.specs.Pending.{paid}
 use Rattle.sip_clients.specs.Dialogs.{paid_at}
 use Rattle.sip_clients.specs.Replied.{Replied, reply_taken}
 use Rattle.sip_clients.specs.Provisionals.{OfTheCall, in_life, is_for, number_for, provisional_number, told_of}
@@ -58,7 +58,7 @@ unheard_by kind none reply.Told named = refl
 abbrev with_asks : RequestKind → Client → Client
 with_asks kind client = record client { kind = kind }
 
-module _ (life : DialogLife) where
+module _ (life : DialogReference) where
   abbrev pub ear : Dialogs → Option (Option ℕ)
   ear dialogs = ear_in life (dialog_at life.name dialogs)
 
@@ -66,16 +66,16 @@ module _ (life : DialogLife) where
   -- and this is given
   abbrev pub ResultOf : Option Id → Dialogs → Dialogs → Option ℕ → List CallOut → Type 0
   ResultOf event before after number outs =
-      AreApart after × Listens (event ≡ Some life.born) (ear before) (ear after)
+      AreApart after × Listens (event ≡ Some life.created_by) (ear before) (ear after)
       (in_life (lives after life) number) (told_of (in_life (lives after life) number) outs)
 
   pub silent_moves : (event : Option Id) (start : Option Opening) (lived : Lives)
-      (begun : DialogName → List Happening) (before after : Dialogs) (outs : List CallOut)
+      (begun : DialogId → List Happening) (before after : Dialogs) (outs : List CallOut)
       → Moves event start none_came lived begun before after
       → ResultOf event before after None outs
   silent_moves event start lived begun before after outs moves = (
     moves.apart,
-    no_number (event ≡ Some life.born) (lives after life) (ear before)
+    no_number (event ≡ Some life.created_by) (lives after life) (ear before)
         (ear after) outs (silent_from event life (OpensBy start life.name) (lived life.name)
         (begun life.name) (dialog_at life.name before)
         (dialog_at life.name after) (moves.goes life.name)),
@@ -97,7 +97,7 @@ module _ (life : DialogLife) where
     unchanged : SideResult None (side, [])
     unchanged = silent call quiet side.dialogs side.dialogs [] (leads_same side.dialogs apart)
 
-    abbrev answer_for : ℕ → Client → Answer
+    abbrev answer_for : ℕ → Client → ReceivedResponse
     answer_for status client =
         reply_of event id call_id (reply_name client.kind client response) status response
 
@@ -122,7 +122,7 @@ module _ (life : DialogLife) where
         let settles = settled event id done.3 (set_value (is_id id) side.clients done.0) in
         let came = in_life (lives done.1 life) number in (
           so.0,
-          subst (λ shown. Listens (call ≡ Some life.born) (ear side.dialogs) (ear done.1) came
+          subst (λ shown. Listens (call ≡ Some life.created_by) (ear side.dialogs) (ear done.1) came
               shown)
               (sym (told_beside came command cancelled (settles.0, done.2 ++ settles.1))) so.1,
         )
@@ -134,25 +134,25 @@ module _ (life : DialogLife) where
     settles : (status : ℕ) (client : Client) (kind : RequestKind)
         → SideResult (number_at (Some status) (with_asks kind client))
         (side_after event id side None (done_of status (with_asks kind client)))
-    settles status client First =
+    settles status client InitialInvite =
         let found = first client in
         first_replied call life (noting status client) (answer_for status found) side.dialogs apart
         made (replied status found) (is_named life.name (answer_for status found).name) refl refl
-    settles status client (Again own) =
-        let found = with_asks (Again own) client in
+    settles status client (ReInvite own) =
+        let found = with_asks (ReInvite own) client in
         other_replied call life client (answer_for status found) side.dialogs apart made
         (noting status found)
-        (replied status found) refl (unheard_by (Again own) (λ number named. refl))
-    settles status client (Inside own) =
-        let found = with_asks (Inside own) client in
+        (replied status found) refl (unheard_by (ReInvite own) (λ number named. refl))
+    settles status client (InDialog own) =
+        let found = with_asks (InDialog own) client in
         other_replied call life client (answer_for status found) side.dialogs apart made
         (noting status found)
-        (replied status found) refl (unheard_by (Inside own) (λ number named. refl))
-    settles status client Plain =
-        let found = with_asks Plain client in
+        (replied status found) refl (unheard_by (InDialog own) (λ number named. refl))
+    settles status client OutOfDialog =
+        let found = with_asks OutOfDialog client in
         other_replied call life client (answer_for status found) side.dialogs apart made
         (noting status found)
-        (replied status found) refl (unheard_by Plain (λ number named. refl))
+        (replied status found) refl (unheard_by OutOfDialog (λ number named. refl))
 
     by_asks : (status : ℕ) (client : Client)
         → SideResult (number_at (Some status) client)
@@ -204,44 +204,44 @@ request_leads event command side apart =
     (bye_leads name command.method done.1 done.0)
 
 -- the same of what is owed and paid
-abbrev pub paid_in : DialogBody → Result Debt Refusal → Lives
+abbrev pub paid_in : DialogBody → Result PendingRequest Refusal → Lives
 paid_in command (Err refusal) = quiet
-paid_in command (Ok debt) = in_one (name_in command.local_tag command.remote_tag)
-    (λ held. discharge_life debt (Some command.content) held.dialog)
+paid_in command (Ok pending) = in_one (name_in command.local_tag command.remote_tag)
+    (λ held. discharge_life pending (Some command.content) held.dialog)
 
-pub pay_leads : (event : Event) (command : DialogBody) (debt : Debt) (dialogs : Dialogs)
+pub pay_leads : (event : Event) (command : DialogBody) (pending : PendingRequest) (dialogs : Dialogs)
     → AreApart dialogs
-    → Leads (paid_in command (Ok debt)) dialogs
-    (paid_at (name_in command.local_tag command.remote_tag) event debt command.content dialogs).0
-pay_leads event command debt dialogs apart =
+    → Leads (paid_in command (Ok pending)) dialogs
+    (paid_at (name_in command.local_tag command.remote_tag) event pending command.content dialogs).0
+pay_leads event command pending dialogs apart =
     served_leads (name_in command.local_tag command.remote_tag)
-    (paid event debt command.content) Waits
-    (λ held. discharge_life debt (Some command.content) held.dialog)
-    (paid_keeps event debt command.content) dialogs apart
+    (paid event pending command.content) Waits
+    (λ held. discharge_life pending (Some command.content) held.dialog)
+    (paid_keeps event pending command.content) dialogs apart
 
-by_pay : (event : Event) (command : DialogBody) (pay : Debt → Side → ClientTaken) (side : Side)
-    (o : Result Debt Refusal) → AreApart side.dialogs
-    → ((debt : Debt) → Leads (paid_in command (Ok debt)) side.dialogs ((pay debt side).0).dialogs)
+by_pay : (event : Event) (command : DialogBody) (pay : PendingRequest → Side → ClientTaken) (side : Side)
+    (o : Result PendingRequest Refusal) → AreApart side.dialogs
+    → ((pending : PendingRequest) → Leads (paid_in command (Ok pending)) side.dialogs ((pay pending side).0).dialogs)
     → Leads (paid_in command o) side.dialogs
     ((paid_or_refused event command pay o side).0).dialogs
 by_pay event command pay side (Err refusal) apart pays = leads_same side.dialogs apart
-by_pay event command pay side (Ok debt) apart pays = pays debt
+by_pay event command pay side (Ok pending) apart pays = pays pending
 
 pub ack_leads : (event : Event) (command : DialogBody) (side : Side) → AreApart side.dialogs
-    → Leads (paid_in command (debt_for kind.Ack
+    → Leads (paid_in command (pending_for kind.Ack
     (name_in command.local_tag command.remote_tag) side.dialogs)) side.dialogs
     ((ack_by_user event command side).0).dialogs
 ack_leads event command side apart =
     let name = name_in command.local_tag command.remote_tag in
-    by_pay event command (ack_paid event command name) side (debt_for kind.Ack name side.dialogs)
-    apart (λ debt. pay_leads event command debt side.dialogs apart)
+    by_pay event command (ack_paid event command name) side (pending_for kind.Ack name side.dialogs)
+    apart (λ pending. pay_leads event command pending side.dialogs apart)
 
 pub prack_leads : (event : Event) (command : DialogBody) (side : Side) → AreApart side.dialogs
-    → Leads (paid_in command (debt_for kind.Prack
+    → Leads (paid_in command (pending_for kind.Prack
     (name_in command.local_tag command.remote_tag) side.dialogs)) side.dialogs
     ((prack_by_user event command side).0).dialogs
 prack_leads event command side apart =
     let name = name_in command.local_tag command.remote_tag in
     by_pay event command (prack_paid event command name) side
-    (debt_for kind.Prack name side.dialogs) apart
-    (λ debt. pay_leads event command debt side.dialogs apart)
+    (pending_for kind.Prack name side.dialogs) apart
+    (λ pending. pay_leads event command pending side.dialogs apart)

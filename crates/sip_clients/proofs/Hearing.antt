@@ -40,22 +40,22 @@ id_itself x = grind (arith, common_steps)
 
 -- no later input is of the event
 abbrev pub NoneOf : Id → List Id → Type 0
-NoneOf born ids = AllByRecursion (λ id. is_id born id ≡ false) ids
+NoneOf created_by ids = AllByRecursion (λ id. is_id created_by id ≡ false) ids
 
-none_now : (born : Id) (o : Option Id) (rest : List Id) → NoneOf born (cons_option o rest)
-    → (o ≡ Some born → ⊥) × NoneOf born rest
-none_now born None rest all = (λ e. absurd cc, all)
-none_now born (Some id) rest all = (
-  λ e. absurd (false≢true (sym all.0 ∙ ap (is_id born) (same_id id born e) ∙ id_itself born)),
+none_now : (created_by : Id) (o : Option Id) (rest : List Id) → NoneOf created_by (cons_option o rest)
+    → (o ≡ Some created_by → ⊥) × NoneOf created_by rest
+none_now created_by None rest all = (λ e. absurd cc, all)
+none_now created_by (Some id) rest all = (
+  λ e. absurd (false≢true (sym all.0 ∙ ap (is_id created_by) (same_id id created_by e) ∙ id_itself created_by)),
   all.1,
 )
 
-pub apart_now : (born : Id) (o : Option Id) (rest : List Id) → IsDistinct is_id (cons_option o rest)
-    → IsDistinct is_id rest × (o ≡ Some born → NoneOf born rest)
-apart_now born None rest apart = (apart, λ e. absurd cc)
-apart_now born (Some id) rest apart = (
+pub apart_now : (created_by : Id) (o : Option Id) (rest : List Id) → IsDistinct is_id (cons_option o rest)
+    → IsDistinct is_id rest × (o ≡ Some created_by → NoneOf created_by rest)
+apart_now created_by None rest apart = (apart, λ e. absurd cc)
+apart_now created_by (Some id) rest apart = (
   IsDistinct-tail is_id id rest apart,
-  λ e. subst (λ x. NoneOf x rest) (same_id id born e) (IsDistinct-head is_id id rest apart),
+  λ e. subst (λ x. NoneOf x rest) (same_id id created_by e) (IsDistinct-head is_id id rest apart),
 )
 
 abbrev InOrderFrom : List ℕ → List ℕ → List ℕ → Type 0
@@ -78,7 +78,7 @@ one_more before last n now shown came is shown_now later =
 last_is : (before : List ℕ) (ear : Option (Option ℕ)) (last : Option ℕ) → Heard ear before
     → ear ≡ Some last → last ≡ latest before
 last_is before ear last (inl none) is = absurd cc
-last_is before ear last (inr heard) is = ap (λ o. unwrap_or o last) (sym is ∙ heard)
+last_is before ear last (inr last_rseq) is = ap (λ o. unwrap_or o last) (sym is ∙ last_rseq)
 
 heard_next : (before : List ℕ) (n : ℕ) (last : Option ℕ) (ear : Option (Option ℕ))
     → last ≡ latest before
@@ -91,26 +91,26 @@ heard_next before n last ear is (inr now) =
 
 still_heard : (Begins : Type 0) (before : List ℕ) (old new : Option (Option ℕ)) → (Begins → ⊥)
     → Heard old before → Silent Begins old new → Heard new before
-still_heard Begins before old new never heard (inl none) = inl none
+still_heard Begins before old new never last_rseq (inl none) = inl none
 still_heard Begins before old new never (inl none) (inr (inl same)) = inl (same ∙ none)
 still_heard Begins before old new never (inr is) (inr (inl same)) = inr (same ∙ is)
-still_heard Begins before old new never heard (inr (inr begins)) = absurd (never begins.0)
+still_heard Begins before old new never last_rseq (inr (inr begins)) = absurd (never begins.0)
 
 -- in the life
 in_life : (Begins : Type 0) (before : List ℕ) (old new : Option (Option ℕ)) (o : Option ℕ)
     (now shown came : List ℕ) → (Begins → ⊥) → Heard old before → Listens Begins old new o now
     → ((so_far : List ℕ) → Heard new so_far → InOrderFrom so_far shown came)
     → InOrderFrom before (now ++ shown) (option_to_list o ++ came)
-in_life Begins before old new None now shown came never heard silent later =
+in_life Begins before old new None now shown came never last_rseq silent later =
     subst (λ xs. InOrderFrom before (xs ++ shown) came) (sym silent.1)
-    (later before (still_heard Begins before old new never heard silent.0))
-in_life Begins before old new (Some n) now shown came never heard hears later =
+    (later before (still_heard Begins before old new never last_rseq silent.0))
+in_life Begins before old new (Some n) now shown came never last_rseq hears later =
     let is : hears.last ≡ latest before = by_was hears.was in
     one_more before hears.last n now shown came is hears.shows
     (later (before ++ n ∷ []) (heard_next before n hears.last new is hears.now))
   where
     by_was : ((old ≡ Some hears.last) ⊎ (Begins × (hears.last ≡ None))) → hears.last ≡ latest before
-    by_was (inl is) = last_is before old hears.last heard is
+    by_was (inl is) = last_is before old hears.last last_rseq is
     by_was (inr begins) = absurd (never begins.0)
 
 -- before it
@@ -140,9 +140,9 @@ before_life Begins old new (Some n) now shown came none hears begun later = by_w
 -- ---- all inputs
 
 module _ {S I : Type 0} (next : S → I → S) (event : I → Option Id) (number : S → I → Option ℕ)
-    (shows : S → I → List ℕ) (ear : S → Option (Option ℕ)) (Sound : S → Type 0) (born : Id)
-    (step : (state : S) (input : I) → Sound state → (event input ≡ Some born → ear state ≡ None)
-    → Sound (next state input) × Listens (event input ≡ Some born) (ear state)
+    (shows : S → I → List ℕ) (ear : S → Option (Option ℕ)) (Sound : S → Type 0) (created_by : Id)
+    (step : (state : S) (input : I) → Sound state → (event input ≡ Some created_by → ear state ≡ None)
+    → Sound (next state input) × Listens (event input ≡ Some created_by) (ear state)
     (ear (next state input)) (number state input) (shows state input)) where
   abbrev pub came_from : S → List I → List ℕ
   came_from state [] = []
@@ -154,26 +154,26 @@ module _ {S I : Type 0} (next : S → I → S) (event : I → Option Id) (number
   shown_from state (input ∷ inputs) = shows state input ++ shown_from (next state input) inputs
 
   from_life : (inputs : List I) (state : S) (before : List ℕ) → Sound state
-      → NoneOf born (filter_map event inputs) → Heard (ear state) before
+      → NoneOf created_by (filter_map event inputs) → Heard (ear state) before
       → InOrderFrom before (shown_from state inputs) (came_from state inputs)
-  from_life [] state before sound others heard =
+  from_life [] state before sound others last_rseq =
       append-nil (in_order before) ∙ ap in_order (sym (append-nil before))
-  from_life (input ∷ inputs) state before sound others heard =
-      let now = none_now born (event input) (filter_map event inputs) others in
+  from_life (input ∷ inputs) state before sound others last_rseq =
+      let now = none_now created_by (event input) (filter_map event inputs) others in
       let done = step state input sound (λ is. absurd (now.0 is)) in
-      in_life (event input ≡ Some born) before (ear state) (ear (next state input))
+      in_life (event input ≡ Some created_by) before (ear state) (ear (next state input))
       (number state input) (shows state input) (shown_from (next state input) inputs)
       (came_from (next state input) inputs)
-      now.0 heard done.1 (λ so_far. from_life inputs (next state input) so_far done.0 now.1)
+      now.0 last_rseq done.1 (λ so_far. from_life inputs (next state input) so_far done.0 now.1)
 
   from_before : (inputs : List I) (state : S) → Sound state
       → IsDistinct is_id (filter_map event inputs) → ear state ≡ None
       → InOrderFrom [] (shown_from state inputs) (came_from state inputs)
   from_before [] state sound apart none = refl
   from_before (input ∷ inputs) state sound apart none =
-      let now = apart_now born (event input) (filter_map event inputs) apart in
+      let now = apart_now created_by (event input) (filter_map event inputs) apart in
       let done = step state input sound (λ _. none) in
-      before_life (event input ≡ Some born) (ear state) (ear (next state input))
+      before_life (event input ≡ Some created_by) (ear state) (ear (next state input))
       (number state input) (shows state input) (shown_from (next state input) inputs)
       (came_from (next state input) inputs)
       none done.1 (λ begins so_far. from_life inputs (next state input) so_far done.0

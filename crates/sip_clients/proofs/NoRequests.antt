@@ -10,8 +10,8 @@ use Rattle.sip_common.specs.declared.command.DialogBody.{DialogBody}
 use Rattle.sip_common.specs.declared.command.DialogRequest.{DialogRequest}
 use Rattle.sip_common.specs.declared.command.Invite.{Invite}
 use Rattle.sip_common.specs.declared.command.Plain.{Plain as PlainCommand}
-use Rattle.sip_common.specs.declared.debt.Debt.{Debt}
-use Rattle.sip_common.specs.declared.held_dialog.DialogName.{DialogName}
+use Rattle.sip_common.specs.declared.pending_request.PendingRequest.{PendingRequest}
+use Rattle.sip_common.specs.declared.held_dialog.DialogId.{DialogId}
 use Rattle.sip_common.specs.declared.item.CallOut.{CallOut}
 use Rattle.sip_common.specs.declared.refusal.Refusal.TheVariants.{BadMethod}
 use Rattle.sip_common.specs.Requests.{is_final}
@@ -19,18 +19,18 @@ use Rattle.sip_common.specs.Ids.{is_id}
 use Rattle.sip_common.proofs.ToldRequests.{none_of_both, shown}
 use Rattle.sip_clients.specs.declared.cancel.CancelCase.{CancelCase}
 use Rattle.sip_clients.specs.declared.cancel.CancelCase.TheVariants as ask
-use Rattle.sip_clients.specs.declared.client.RequestKind.TheVariants.{Plain}
+use Rattle.sip_clients.specs.declared.client.RequestKind.TheVariants.{OutOfDialog}
 use Rattle.sip_clients.specs.declared.client.Cancelling.TheVariants as cancel
 use Rattle.sip_clients.specs.declared.client.Client.{Client}
-use Rattle.sip_clients.specs.declared.debts.DebtKind.TheVariants as kind
+use Rattle.sip_clients.specs.declared.pending.PendingKind.TheVariants as kind
 use Rattle.sip_clients.specs.declared.event.Event.{Event}
 use Rattle.sip_clients.specs.declared.outputs.ClientChange.{ClientChange}
 use Rattle.sip_clients.specs.declared.outputs.ClientChange.TheVariants.{Stays, Over, Starts}
-use Rattle.sip_clients.specs.declared.reply.Reply.{Reply as Answer}
+use Rattle.sip_clients.specs.declared.reply.ReceivedResponse.{ReceivedResponse}
 use Rattle.sip_clients.specs.Cancel.{asked, cancel_case, cancel_by_user, cancel_client, cancelled_as, cancelled_of, freed_by, after_response, sent_beside}
 use Rattle.sip_clients.specs.Client.{Clients, Side, client_at, client_changed, client_for}
 use Rattle.sip_clients.specs.Clients.{ack_by_user, found_taken, invite_taken, request_lost, lost_of, plain_taken, prack_paid, prack_by_user, reply_name, reply_of, reply_settled, request_by_user, response_taken, settled, started, status_of}
-use Rattle.sip_clients.specs.Commands.{bye_ended, debt_for, is_bad_outside, name_in, requested_at}
+use Rattle.sip_clients.specs.Commands.{bye_ended, pending_for, is_bad_outside, name_in, requested_at}
 use Rattle.sip_clients.specs.Dialogs.{paid_at}
 use Rattle.sip_common.specs.Notices.{refused}
 use Rattle.sip_clients.specs.Outputs.{request_said, start_command}
@@ -64,7 +64,7 @@ beside_asks (Some id) invite done none =
 
 -- ---- a response
 
-replied_asks : (answer : Answer) (client : Client) (side : Side)
+replied_asks : (answer : ReceivedResponse) (client : Client) (side : Side)
     → shown (reply_settled answer client side).1 ≡ []
 replied_asks answer client side =
     let final = is_final answer.status in
@@ -114,11 +114,11 @@ invite_asks event invite clients = refl
 plain_by : (b : Bool) (event : Event) (plain : PlainCommand) (clients : Clients)
     → shown (cond {A = Clients × List CallOut} b
     (clients, refused event.id plain.call_id BadMethod)
-    (started event (client_for event.id Plain (plain_of event plain) plain.address) clients)).1
+    (started event (client_for event.id OutOfDialog (plain_of event plain) plain.address) clients)).1
     ≡ []
 plain_by true event plain clients = refl
 plain_by false event plain clients =
-    start_asks event (client_for event.id Plain (plain_of event plain) plain.address) clients
+    start_asks event (client_for event.id OutOfDialog (plain_of event plain) plain.address) clients
 
 pub plain_asks : (event : Event) (plain : PlainCommand) (clients : Clients)
     → shown (plain_taken event plain clients).1 ≡ []
@@ -138,10 +138,10 @@ request_asks event command side =
     (settled_asks event event.id said.1 side.clients))
     (none_shown bye.1 (bye_quiet name command.method done.1 done.0))
 
-prack_paid_asks : (event : Event) (command : DialogBody) (name : DialogName) (debt : Debt)
-    (side : Side) → shown (prack_paid event command name debt side).1 ≡ []
-prack_paid_asks event command name debt side =
-    let paid = paid_at name event debt command.content side.dialogs in
+prack_paid_asks : (event : Event) (command : DialogBody) (name : DialogId) (pending : PendingRequest)
+    (side : Side) → shown (prack_paid event command name pending side).1 ≡ []
+prack_paid_asks event command name pending side =
+    let paid = paid_at name event pending command.content side.dialogs in
     let said = request_said event command.call_id name paid.1 in
     none_of_both said.0 (settled event event.id said.1 side.clients).1
     (none_shown said.0 (request_said_quiet event command.call_id name paid.1))
@@ -157,8 +157,8 @@ pub prack_command_asks : (event : Event) (command : DialogBody) (side : Side)
 prack_command_asks event command side =
     let name = name_in command.local_tag command.remote_tag in
     paid_either (λ taken. shown taken.1 ≡ []) event command (prack_paid event command name) side
-    (debt_for kind.Prack name side.dialogs) (λ refusal. refl)
-    (λ debt. prack_paid_asks event command name debt side)
+    (pending_for kind.Prack name side.dialogs) (λ refusal. refl)
+    (λ pending. prack_paid_asks event command name pending side)
 
 cancel_by : (as_case : CancelCase) (event : Event) (command : Cancel) (invite : Client)
     (clients : Clients) → shown (cancelled_as as_case event command invite clients).1 ≡ []

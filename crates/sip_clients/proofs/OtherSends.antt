@@ -24,9 +24,9 @@ use Rattle.sip_common.specs.declared.command.Invite.{Invite}
 use Rattle.sip_common.specs.declared.command.Plain.{Plain as PlainCommand}
 use Rattle.sip_common.specs.declared.command.ProvisionalSupport.{ProvisionalSupport}
 use Rattle.sip_common.specs.declared.command.ProvisionalSupport.TheVariants as support
-use Rattle.sip_common.specs.declared.debt.Debt.{Debt}
-use Rattle.sip_common.specs.declared.debt.Debt.TheVariants.{Ack, Prack}
-use Rattle.sip_common.specs.declared.held_dialog.DialogName.{DialogName}
+use Rattle.sip_common.specs.declared.pending_request.PendingRequest.{PendingRequest}
+use Rattle.sip_common.specs.declared.pending_request.PendingRequest.TheVariants.{Ack, Prack}
+use Rattle.sip_common.specs.declared.held_dialog.DialogId.{DialogId}
 use Rattle.sip_common.specs.declared.held_dialog.HeldDialog.{HeldDialog}
 use Rattle.sip_common.specs.declared.item.CallOut.{CallOut}
 use Rattle.sip_common.specs.declared.item.CallOut.TheVariants as out
@@ -44,32 +44,32 @@ use Rattle.sip_clients.specs.declared.client.Cancelling.{Cancelling}
 use Rattle.sip_clients.specs.declared.client.Cancelling.TheVariants as cancel
 use Rattle.sip_clients.specs.declared.client.Client.{Client}
 use Rattle.sip_clients.specs.declared.client.RequestKind.{RequestKind}
-use Rattle.sip_clients.specs.declared.client.RequestKind.TheVariants.{First, Again, Inside, Plain}
-use Rattle.sip_clients.specs.declared.debts.DebtKind.TheVariants as kind
+use Rattle.sip_clients.specs.declared.client.RequestKind.TheVariants.{InitialInvite, ReInvite, InDialog, OutOfDialog}
+use Rattle.sip_clients.specs.declared.pending.PendingKind.TheVariants as kind
 use Rattle.sip_clients.specs.declared.event.Event.{Event}
 use Rattle.sip_clients.specs.declared.outputs.ClientChange.{ClientChange}
 use Rattle.sip_clients.specs.declared.outputs.ClientChange.TheVariants.{Stays, Over, Starts}
-use Rattle.sip_clients.specs.declared.reply.Reply.{Reply as Answer}
+use Rattle.sip_clients.specs.declared.reply.ReceivedResponse.{ReceivedResponse}
 use Rattle.sip_clients.specs.declared.reply.ReplyCase.{ReplyCase}
 use Rattle.sip_clients.specs.declared.reply.ReplyCase.TheVariants as reply
-use Rattle.sip_clients.specs.declared.service.Sending.{Sending}
-use Rattle.sip_clients.specs.declared.service.Service.{Service}
-use Rattle.sip_clients.specs.declared.service.Service.TheVariants as service
+use Rattle.sip_clients.specs.declared.send_outcome.OutgoingRequest.{OutgoingRequest}
+use Rattle.sip_clients.specs.declared.send_outcome.SendOutcome.{SendOutcome}
+use Rattle.sip_clients.specs.declared.send_outcome.SendOutcome.TheVariants as service
 use Rattle.sip_clients.specs.Answers.{has_answer}
 use Rattle.sip_clients.specs.Cancel.{after_response, cancel_by_user, cancel_case, cancel_client, cancelled_as, cancelled_of, freed_by}
 use Rattle.sip_clients.specs.Client.{Clients, Side, ClientTaken, client_at, client_for}
 use Rattle.sip_clients.specs.ClientLife.{ack_in, acks_out, cancels_out, requests_out}
 use Rattle.sip_clients.specs.ClientRules.{SendsByStatus, SendsNoAck, SendsNoCancel}
 use Rattle.sip_clients.specs.Clients.{ack_by_user, found_taken, invite_taken, lost_of, paid_or_refused, plain_taken, prack_by_user, prack_paid, reply_name, reply_of, reply_settled, request_by_user, request_lost, response_taken, settled, side_after, started, status_of}
-use Rattle.sip_clients.specs.Commands.{bye_ended, debt_for, is_bad_outside, is_own_kind, name_in, request_in_held, request_refusals, requested_at, sent_unless}
-use Rattle.sip_clients.specs.Debts.{paid}
+use Rattle.sip_clients.specs.Commands.{bye_ended, pending_for, is_bad_outside, is_own_kind, name_in, request_in_held, request_refusals, requested_at, sent_unless}
+use Rattle.sip_clients.specs.Pending.{paid}
 use Rattle.sip_clients.specs.Dialogs.{dialog_for_provisional, ended_with, own_ended, paid_at, served_at}
 use Rattle.sip_clients.specs.OwnCall.{on_side}
 use Rattle.sip_clients.specs.Outputs.{request_said, start_command}
 use Rattle.sip_clients.specs.Outside.{bare_invite, bare_plain, bare_request, invite_of, plain_of, supporting, through}
 use Rattle.sip_clients.specs.Replied.{Replied, after_dialog, by_reply_case, ends_dialog, prack_owed, request_over}
-use Rattle.sip_clients.specs.Reply.{heard_of, is_dialog_response, is_inviting, is_last, is_there, offer_case, reliable_case, rseq_of, success_case}
-use Rattle.sip_clients.specs.Service.{Outcome, discharged, sending_in, service_by}
+use Rattle.sip_clients.specs.ReceivedResponse.{heard_of, is_dialog_response, is_inviting, is_last, has_dialog, offer_case, reliable_case, rseq_of, success_case}
+use Rattle.sip_clients.specs.SendOutcome.{Outcome, discharged, sending_in, service_by}
 use Rattle.sip_clients.specs.Tick.{clients_ticked, early_ends_told, is_over, over_notices}
 use Rattle.sip_clients.proofs.ReplyStories.{sent_method}
 use Rattle.sip_clients.proofs.StoryBegins.{HasNoCancel, beside, both_sent, none_sent, settled_no_cancel}
@@ -109,7 +109,7 @@ ended_notices : (dialogs : List HeldDialog) → AreNotices (map ended_notice dia
 ended_notices [] = tt
 ended_notices (held ∷ dialogs) = (tt, ended_notices dialogs)
 
-at_notices : (name : DialogName) (dialogs : Dialogs) → AreNotices (ended_at name dialogs).1
+at_notices : (name : DialogId) (dialogs : Dialogs) → AreNotices (ended_at name dialogs).1
 at_notices name dialogs = by_dialog (dialog_at name dialogs)
   where
     by_dialog : (o : Option HeldDialog)
@@ -117,19 +117,19 @@ at_notices name dialogs = by_dialog (dialog_at name dialogs)
     by_dialog None = tt
     by_dialog (Some held) = (tt, tt)
 
-at_or_notices : (b : Bool) (name : DialogName) (dialogs : Dialogs)
+at_or_notices : (b : Bool) (name : DialogId) (dialogs : Dialogs)
     → AreNotices (cond {A = Dialogs × List CallOut} b (ended_at name dialogs) (dialogs, [])).1
 at_or_notices true name dialogs = at_notices name dialogs
 at_or_notices false name dialogs = tt
 
 own_notices : (kind : RequestKind) (ends : Bool) (dialogs : Dialogs)
     → AreNotices (own_ended kind ends dialogs).1
-own_notices First ends dialogs = tt
-own_notices (Again life) true dialogs = at_or_notices (lives dialogs life) life.name dialogs
-own_notices (Again life) false dialogs = tt
-own_notices (Inside life) true dialogs = at_or_notices (lives dialogs life) life.name dialogs
-own_notices (Inside life) false dialogs = tt
-own_notices Plain ends dialogs = tt
+own_notices InitialInvite ends dialogs = tt
+own_notices (ReInvite life) true dialogs = at_or_notices (lives dialogs life) life.name dialogs
+own_notices (ReInvite life) false dialogs = tt
+own_notices (InDialog life) true dialogs = at_or_notices (lives dialogs life) life.name dialogs
+own_notices (InDialog life) false dialogs = tt
+own_notices OutOfDialog ends dialogs = tt
 
 with_notices : (client : Client) (ends : Bool) (dialogs : Dialogs)
     → AreNotices (ended_with client ends dialogs).1
@@ -139,14 +139,14 @@ with_notices client ends dialogs =
     (ended_notices (filter (is_early_of client.id) (values_of dialogs)))
     (own_notices client.kind ends early.0)
 
-bye_notices : (name : DialogName) (method : List ℕ) (service : Service) (dialogs : Dialogs)
+bye_notices : (name : DialogId) (method : List ℕ) (service : SendOutcome) (dialogs : Dialogs)
     → AreNotices (bye_ended name method service dialogs).1
 bye_notices name method (service.Sent sending) dialogs =
     at_or_notices (bytes_eq method (codes "BYE")) name dialogs
 bye_notices name method service.Waits dialogs = tt
 bye_notices name method (service.Refused refusal) dialogs = tt
 
-said_notices : (event : Event) (call_id : List ℕ) (name : DialogName) (service : Service)
+said_notices : (event : Event) (call_id : List ℕ) (name : DialogId) (service : SendOutcome)
     → AreNotices (request_said event call_id name service).0
 said_notices event call_id name (service.Sent sending) = tt
 said_notices event call_id name service.Waits = tt
@@ -228,13 +228,13 @@ pub invite_no_cancel : (event : Event) (invite : Invite)
     → SendsNoCancel (on_side (invite_taken event invite))
 invite_no_cancel event invite side =
     settled_no_cancel event event.id
-    (Starts (client_for event.id First (invite_of event invite) invite.address)) side.clients
+    (Starts (client_for event.id InitialInvite (invite_of event invite) invite.address)) side.clients
     (invite_is_none event invite)
 
 pub invite_no_ack : (event : Event) (invite : Invite)
     → SendsNoAck (on_side (invite_taken event invite))
 invite_no_ack event invite side =
-    start_no_ack event.id (client_for event.id First (invite_of event invite) invite.address)
+    start_no_ack event.id (client_for event.id InitialInvite (invite_of event invite) invite.address)
 
 none_own : (ack cancel prack invite bye : Bool)
     → (((ack || cancel) || prack) || invite || bye) ≡ false → cancel ≡ false
@@ -258,12 +258,12 @@ plain_no_cancel event plain side = by_method (is_bad_outside plain.method) refl
     by_method : (bad : Bool) → is_bad_outside plain.method ≡ bad
         → cancels_out (cond {A = Clients × List CallOut} bad
         (side.clients, refused event.id plain.call_id BadMethod)
-        (started event (client_for event.id Plain (plain_of event plain) plain.address)
+        (started event (client_for event.id OutOfDialog (plain_of event plain) plain.address)
         side.clients)).1 ≡ []
     by_method true is = refl
     by_method false is =
         settled_no_cancel event event.id
-        (Starts (client_for event.id Plain (plain_of event plain) plain.address)) side.clients
+        (Starts (client_for event.id OutOfDialog (plain_of event plain) plain.address)) side.clients
         (plain_is_none event plain is)
 
 pub plain_no_ack : (event : Event) (plain : PlainCommand)
@@ -273,37 +273,37 @@ plain_no_ack event plain side = by_method (is_bad_outside plain.method)
     by_method : (bad : Bool)
         → acks_out (cond {A = Clients × List CallOut} bad
         (side.clients, refused event.id plain.call_id BadMethod)
-        (started event (client_for event.id Plain (plain_of event plain) plain.address)
+        (started event (client_for event.id OutOfDialog (plain_of event plain) plain.address)
         side.clients)).1 ≡ []
     by_method true = refl
     by_method false =
-        start_no_ack event.id (client_for event.id Plain (plain_of event plain) plain.address)
+        start_no_ack event.id (client_for event.id OutOfDialog (plain_of event plain) plain.address)
 
 -- ---- requests in a dialog
 
-abbrev IsNoCancel : Service → Type 0
+abbrev IsNoCancel : SendOutcome → Type 0
 IsNoCancel (service.Sent sending) = is_cancel sending.message ≡ false
 IsNoCancel service.Waits = Unit {0}
 IsNoCancel (service.Refused refusal) = Unit {0}
 
-served_so : (name : DialogName) (serve : HeldDialog → Outcome) (otherwise : Service)
+served_so : (name : DialogId) (serve : HeldDialog → Outcome) (otherwise : SendOutcome)
     (dialogs : Dialogs) → ((held : HeldDialog) → IsNoCancel (serve held).1) → IsNoCancel otherwise
     → IsNoCancel (served_at name serve otherwise dialogs).1
 served_so name serve otherwise dialogs serves other = by_found (dialog_at name dialogs)
   where
-    by_found : (o : Option HeldDialog) → IsNoCancel (option_map_or {U = Dialogs × Service}
+    by_found : (o : Option HeldDialog) → IsNoCancel (option_map_or {U = Dialogs × SendOutcome}
         (λ held. (set_value (is_named name) dialogs (serve held).0, (serve held).1)) o
         (dialogs, otherwise)).1
     by_found None = other
     by_found (Some held) = serves held
 
-said_no_cancel : (event : Event) (call_id : List ℕ) (name : DialogName) (service : Service)
+said_no_cancel : (event : Event) (call_id : List ℕ) (name : DialogId) (service : SendOutcome)
     → IsNoCancel service → HasNoCancel (request_said event call_id name service).1
 said_no_cancel event call_id name (service.Sent sending) is = is
 said_no_cancel event call_id name service.Waits is = tt
 said_no_cancel event call_id name (service.Refused refusal) is = tt
 
-module _ (event : Event) (call_id : List ℕ) (name : DialogName) (service : Service)
+module _ (event : Event) (call_id : List ℕ) (name : DialogId) (service : SendOutcome)
     (clients : Clients) where
   abbrev outs_said : List CallOut
   outs_said =
@@ -361,10 +361,10 @@ request_none event method content held =
     by_refusal (Some refusal) is = tt
 
 module _ (event : Event) (command : DialogRequest) (side : Side) where
-  abbrev request_name : DialogName
+  abbrev request_name : DialogId
   request_name = name_in command.local_tag command.remote_tag
 
-  abbrev request_done : Dialogs × Service
+  abbrev request_done : Dialogs × SendOutcome
   request_done =
       served_at request_name (request_in_held event command.method command.content)
       (service.Refused NoSuchDialog) side.dialogs
@@ -404,13 +404,13 @@ pub request_no_ack : (event : Event) (command : DialogRequest)
 unfolding requested_at
 request_no_ack event command side = request_acks event command side
 
-service_none : (o : Option DialogFault) (sending : Sending) → is_cancel sending.message ≡ false
+service_none : (o : Option DialogFault) (sending : OutgoingRequest) → is_cancel sending.message ≡ false
     → IsNoCancel (service_by o sending)
 service_none None sending none = none
 service_none (Some fault) sending none = tt
 
-paid_none : (event : Event) (debt : Debt) (content : Content) (held : HeldDialog)
-    → IsNoCancel (paid event debt content held).1
+paid_none : (event : Event) (pending : PendingRequest) (content : Content) (held : HeldDialog)
+    → IsNoCancel (paid event pending content held).1
 unfolding paid discharged with_content_of
 paid_none event (Ack invite number) content held =
     service_none (ack_fault held.dialog) _ refl
@@ -419,33 +419,33 @@ paid_none event (Prack rseq number) content held =
 
 pub prack_no_cancel : (event : Event) (command : DialogBody)
     → SendsNoCancel (prack_by_user event command)
-prack_no_cancel event command side = by_debt (debt_for kind.Prack name side.dialogs)
+prack_no_cancel event command side = by_debt (pending_for kind.Prack name side.dialogs)
   where
-    name : DialogName
+    name : DialogId
     name = name_in command.local_tag command.remote_tag
 
-    by_debt : (o : Result Debt Refusal) → cancels_out
+    by_debt : (o : Result PendingRequest Refusal) → cancels_out
         (paid_or_refused event command (prack_paid event command name) o side).1 ≡ []
     by_debt (Err refusal) = refl
-    by_debt (Ok debt) =
+    by_debt (Ok pending) =
         said_cancels event command.call_id name
-        (paid_at name event debt command.content side.dialogs).1 side.clients
-        (served_so name (paid event debt command.content) service.Waits side.dialogs
-        (paid_none event debt command.content) tt)
+        (paid_at name event pending command.content side.dialogs).1 side.clients
+        (served_so name (paid event pending command.content) service.Waits side.dialogs
+        (paid_none event pending command.content) tt)
 
 pub prack_no_ack : (event : Event) (command : DialogBody)
     → SendsNoAck (prack_by_user event command)
-prack_no_ack event command side = by_debt (debt_for kind.Prack name side.dialogs)
+prack_no_ack event command side = by_debt (pending_for kind.Prack name side.dialogs)
   where
-    name : DialogName
+    name : DialogId
     name = name_in command.local_tag command.remote_tag
 
-    by_debt : (o : Result Debt Refusal) → acks_out
+    by_debt : (o : Result PendingRequest Refusal) → acks_out
         (paid_or_refused event command (prack_paid event command name) o side).1 ≡ []
     by_debt (Err refusal) = refl
-    by_debt (Ok debt) =
+    by_debt (Ok pending) =
         said_acks event command.call_id name
-        (paid_at name event debt command.content side.dialogs).1 side.clients
+        (paid_at name event pending command.content side.dialogs).1 side.clients
 
 -- ---- the commands Ack and Cancel
 
@@ -475,10 +475,10 @@ cancel_no_ack event command side = by_found (client_at command.id side.clients)
 
 module _ (event : Event) (id : Id) (call_id : List ℕ) (response : Message) (status : ℕ)
     (client : Client) (side : Side) where
-  abbrev name : DialogName
+  abbrev name : DialogId
   name = reply_name client.kind client response
 
-  abbrev answer : Answer
+  abbrev answer : ReceivedResponse
   answer = reply_of event id call_id name status response
 
   abbrev found : Option HeldDialog
@@ -524,7 +524,7 @@ module _ (event : Event) (id : Id) (call_id : List ℕ) (response : Message) (st
   abbrev case_at : Bool → ReplyCase
   case_at final =
       if final then success_case (after_response final client) found name
-      else (if is_dialog_response answer && is_there client.kind found
+      else (if is_dialog_response answer && has_dialog client.kind found
       then reliable_case (heard_of client.kind (after_response final client) found)
       (rseq_of response)
       else reply.Told)
@@ -541,7 +541,7 @@ module _ (event : Event) (id : Id) (call_id : List ℕ) (response : Message) (st
       quiet_done (request_over (after_response true client) side.dialogs answer)
       (refl, ended_quiet (after_response true client) (ends_dialog status) side.dialogs) refl
   final_cancels false =
-      success_quiet (has_answer name client.answers) (is_there client.kind found)
+      success_quiet (has_answer name client.answers) (has_dialog client.kind found)
 
   -- ---- a provisional one
 
@@ -571,9 +571,9 @@ module _ (event : Event) (id : Id) (call_id : List ℕ) (response : Message) (st
   offer_notices Repeat rseq = tt
   offer_notices Gap rseq = tt
 
-  rseq_notices : (heard : Option ℕ) (o : Option ℕ) → NoAck (reliable_case heard o)
-  rseq_notices heard None = (tt, tt)
-  rseq_notices heard (Some rseq) = offer_notices (offered heard rseq) rseq
+  rseq_notices : (last_rseq : Option ℕ) (o : Option ℕ) → NoAck (reliable_case last_rseq o)
+  rseq_notices last_rseq None = (tt, tt)
+  rseq_notices last_rseq (Some rseq) = offer_notices (offered last_rseq rseq) rseq
 
   case_notices : (there : Bool) → NoAck (if there
       then reliable_case (heard_of client.kind (after_response false client) found)
@@ -588,7 +588,7 @@ module _ (event : Event) (id : Id) (call_id : List ℕ) (response : Message) (st
       let done = done_at false false in
       let after = settled event id done.3 (set_value (is_id id) side.clients done.0) in
       beside_no_ack freed (after.0, done.2 ++ after.1) (both_acks done.2 after.1
-      (no_ack done.2 (case_notices (is_dialog_response answer && is_there client.kind found)))
+      (no_ack done.2 (case_notices (is_dialog_response answer && has_dialog client.kind found)))
       (settled_no_ack event id done.3 (set_value (is_id id) side.clients done.0)))
 
   -- ---- any

@@ -10,25 +10,25 @@ use Rattle.sip_common.specs.declared.command.Invite.{Invite}
 use Rattle.sip_common.specs.declared.command.Plain.{Plain as PlainCommand}
 use Rattle.sip_common.specs.declared.command.ProvisionalSupport.{ProvisionalSupport}
 use Rattle.sip_common.specs.declared.command.ProvisionalSupport.TheVariants as support
-use Rattle.sip_common.specs.declared.debt.Debt.{Debt}
-use Rattle.sip_common.specs.declared.debt.Debt.TheVariants.{Ack, Prack}
-use Rattle.sip_common.specs.declared.held_dialog.DialogName.{DialogName}
+use Rattle.sip_common.specs.declared.pending_request.PendingRequest.{PendingRequest}
+use Rattle.sip_common.specs.declared.pending_request.PendingRequest.TheVariants.{Ack, Prack}
+use Rattle.sip_common.specs.declared.held_dialog.DialogId.{DialogId}
 use Rattle.sip_common.specs.declared.item.CallOut.{CallOut}
 use Rattle.sip_common.specs.declared.refusal.Refusal.TheVariants.{BadMethod}
 use Rattle.sip_common.specs.Ids.{is_id}
 use Rattle.sip_clients.specs.declared.answers.SentAck.{SentAck}
 use Rattle.sip_clients.specs.declared.cancel.CancelCase.{CancelCase}
 use Rattle.sip_clients.specs.declared.cancel.CancelCase.TheVariants as ask
-use Rattle.sip_clients.specs.declared.client.RequestKind.TheVariants.{First, Plain}
+use Rattle.sip_clients.specs.declared.client.RequestKind.TheVariants.{InitialInvite, OutOfDialog}
 use Rattle.sip_clients.specs.declared.client.Cancelling.{Cancelling}
 use Rattle.sip_clients.specs.declared.client.Cancelling.TheVariants as cancel
 use Rattle.sip_clients.specs.declared.client.Client.{Client}
-use Rattle.sip_clients.specs.declared.debts.DebtKind.TheVariants as kind
+use Rattle.sip_clients.specs.declared.pending.PendingKind.TheVariants as kind
 use Rattle.sip_clients.specs.declared.event.Event.{Event}
 use Rattle.sip_clients.specs.Cancel.{asked, cancel_case, cancel_by_user, cancelled_as, cancelled_of}
 use Rattle.sip_clients.specs.Client.{Clients, client_at, client_changed, client_for}
 use Rattle.sip_clients.specs.Clients.{ack_kept, ack_paid, ack_by_user, acked_with, invite_taken, plain_taken, prack_paid, prack_by_user, request_by_user, settled, started}
-use Rattle.sip_clients.specs.Commands.{ack_asked, bye_ended, debt_for, is_bad_outside, name_in, requested_at}
+use Rattle.sip_clients.specs.Commands.{ack_asked, bye_ended, pending_for, is_bad_outside, name_in, requested_at}
 use Rattle.sip_clients.specs.Dialogs.{paid_at}
 use Rattle.sip_common.specs.Notices.{refused}
 use Rattle.sip_clients.specs.Outputs.{request_said}
@@ -68,7 +68,7 @@ plain_kept event plain =
 pub invite_own : (event : Event) (invite : Invite)
     → KeepsTo invite.call_id (on_side (invite_taken event invite))
 invite_own event invite side own =
-    let client = client_for event.id First (invite_of event invite) invite.address in
+    let client = client_for event.id InitialInvite (invite_of event invite) invite.address in
     let so = started_own invite.call_id event client side.clients (invite_kept event invite)
     own.clients in
     (record { dialogs = own.dialogs; clients = so.0 }, so.1)
@@ -77,11 +77,11 @@ plain_by : (b : Bool) (event : Event) (plain : PlainCommand) (clients : Clients)
     → AreClientsOf plain.call_id clients
     → AreSettledOf plain.call_id (cond {A = Clients × List CallOut} b
     (clients, refused event.id plain.call_id BadMethod)
-    (started event (client_for event.id Plain (plain_of event plain) plain.address) clients))
+    (started event (client_for event.id OutOfDialog (plain_of event plain) plain.address) clients))
 plain_by true event plain clients own = (own, (refl, tt))
 plain_by false event plain clients own =
     started_own plain.call_id event
-    (client_for event.id Plain (plain_of event plain) plain.address) clients
+    (client_for event.id OutOfDialog (plain_of event plain) plain.address) clients
     (plain_kept event plain) own
 
 pub plain_own : (event : Event) (plain : PlainCommand)
@@ -110,33 +110,33 @@ dialog_request_own event command side own =
           (both (IsNoticeOf call_id) said.0 after.1 says.0 settles.1) ends.1,
     )
 
-noted_own : (call_id : List ℕ) (debt : Debt) (name : DialogName) (ack : Option SentAck)
+noted_own : (call_id : List ℕ) (pending : PendingRequest) (name : DialogId) (ack : Option SentAck)
     (clients : Clients) → AreClientsOf call_id clients
-    → AreClientsOf call_id (ack_kept debt name ack clients)
+    → AreClientsOf call_id (ack_kept pending name ack clients)
 noted_own call_id (Ack invite number) name None clients own = own
 noted_own call_id (Ack invite number) name (Some ack) clients own =
     each_changed (IsRequestOf call_id) (is_id invite) (acked_with name ack)
     (λ client its. its) clients own
 noted_own call_id (Prack rseq number) name ack clients own = own
 
-ack_paid_own : (event : Event) (command : DialogBody) (name : DialogName) (debt : Debt)
-    → KeepsTo command.call_id (ack_paid event command name debt)
-ack_paid_own event command name debt side own =
+ack_paid_own : (event : Event) (command : DialogBody) (name : DialogId) (pending : PendingRequest)
+    → KeepsTo command.call_id (ack_paid event command name pending)
+ack_paid_own event command name pending side own =
     let call_id = command.call_id in
-    let told = ack_asked event name debt command side.dialogs in
-    let paid = paid_at name event debt command.content side.dialogs in
-    let so = paid_own call_id name event debt command.content side.dialogs own.dialogs in
-    let after_response = noted_own call_id debt name told.2 side.clients own.clients in (
+    let told = ack_asked event name pending command side.dialogs in
+    let paid = paid_at name event pending command.content side.dialogs in
+    let so = paid_own call_id name event pending command.content side.dialogs own.dialogs in
+    let after_response = noted_own call_id pending name told.2 side.clients own.clients in (
       record { dialogs = so.0; clients = after_response },
       ack_said_own call_id event call_id refl paid.1,
     )
 
-prack_paid_own : (event : Event) (command : DialogBody) (name : DialogName) (debt : Debt)
-    → KeepsTo command.call_id (prack_paid event command name debt)
-prack_paid_own event command name debt side own =
+prack_paid_own : (event : Event) (command : DialogBody) (name : DialogId) (pending : PendingRequest)
+    → KeepsTo command.call_id (prack_paid event command name pending)
+prack_paid_own event command name pending side own =
     let call_id = command.call_id in
-    let paid = paid_at name event debt command.content side.dialogs in
-    let so = paid_own call_id name event debt command.content side.dialogs own.dialogs in
+    let paid = paid_at name event pending command.content side.dialogs in
+    let so = paid_own call_id name event pending command.content side.dialogs own.dialogs in
     let said = request_said event call_id name paid.1 in
     let says = request_said_own call_id event call_id refl name paid.1 so.1 in
     let after = settled event event.id said.1 side.clients in
@@ -150,16 +150,16 @@ pub ack_own : (event : Event) (command : DialogBody)
 ack_own event command side own =
     let name = name_in command.local_tag command.remote_tag in
     paid_either (λ taken. IsSideOf command.call_id taken.0 × AreNoticesOf command.call_id taken.1)
-    event command (ack_paid event command name) side (debt_for kind.Ack name side.dialogs)
-    (λ refusal. (own, (refl, tt))) (λ debt. ack_paid_own event command name debt side own)
+    event command (ack_paid event command name) side (pending_for kind.Ack name side.dialogs)
+    (λ refusal. (own, (refl, tt))) (λ pending. ack_paid_own event command name pending side own)
 
 pub prack_own : (event : Event) (command : DialogBody)
     → KeepsTo command.call_id (prack_by_user event command)
 prack_own event command side own =
     let name = name_in command.local_tag command.remote_tag in
     paid_either (λ taken. IsSideOf command.call_id taken.0 × AreNoticesOf command.call_id taken.1)
-    event command (prack_paid event command name) side (debt_for kind.Prack name side.dialogs)
-    (λ refusal. (own, (refl, tt))) (λ debt. prack_paid_own event command name debt side own)
+    event command (prack_paid event command name) side (pending_for kind.Prack name side.dialogs)
+    (λ refusal. (own, (refl, tt))) (λ pending. prack_paid_own event command name pending side own)
 
 -- ---- CANCEL
 

@@ -11,9 +11,9 @@ use Rattle.sip_dialog.specs.declared.fault.DialogFault.{DialogFault}
 use Rattle.sip_dialog.specs.Fault.{ack_fault, request_fault}
 use Rattle.sip_dialog.specs.Request.{bare_request_in}
 use Rattle.sip_common.specs.declared.command.DialogRequest.{DialogRequest}
-use Rattle.sip_common.specs.declared.debt.Debt.{Debt}
-use Rattle.sip_common.specs.declared.debt.Debt.TheVariants.{Ack, Prack}
-use Rattle.sip_common.specs.declared.held_dialog.DialogName.{DialogName}
+use Rattle.sip_common.specs.declared.pending_request.PendingRequest.{PendingRequest}
+use Rattle.sip_common.specs.declared.pending_request.PendingRequest.TheVariants.{Ack, Prack}
+use Rattle.sip_common.specs.declared.held_dialog.DialogId.{DialogId}
 use Rattle.sip_common.specs.declared.held_dialog.HeldDialog.{HeldDialog}
 use Rattle.sip_common.specs.declared.item.CallOut.{CallOut}
 use Rattle.sip_common.specs.declared.refusal.Refusal.TheVariants.{NoSuchDialog}
@@ -21,15 +21,15 @@ use Rattle.sip_common.specs.Dialogs.{dialog_at, early_ended, ended_at, is_named,
 use Rattle.sip_common.proofs.Each.{both, each_set}
 use Rattle.sip_common.proofs.OwnDialogs.{AreEndedOf, dialog_own, early_own, ended_own, lived_keeps}
 use Rattle.sip_clients.specs.declared.client.RequestKind.{RequestKind}
-use Rattle.sip_clients.specs.declared.client.RequestKind.TheVariants.{First, Again, Inside, Plain}
+use Rattle.sip_clients.specs.declared.client.RequestKind.TheVariants.{InitialInvite, ReInvite, InDialog, OutOfDialog}
 use Rattle.sip_clients.specs.declared.client.Client.{Client}
 use Rattle.sip_clients.specs.declared.event.Event.{Event}
-use Rattle.sip_clients.specs.declared.reply.Reply.{Reply as Answer}
-use Rattle.sip_clients.specs.declared.service.Sending.{Sending}
-use Rattle.sip_clients.specs.declared.service.Service.{Service}
-use Rattle.sip_clients.specs.declared.service.Service.TheVariants.{Sent, Waits, Refused}
+use Rattle.sip_clients.specs.declared.reply.ReceivedResponse.{ReceivedResponse}
+use Rattle.sip_clients.specs.declared.send_outcome.OutgoingRequest.{OutgoingRequest}
+use Rattle.sip_clients.specs.declared.send_outcome.SendOutcome.{SendOutcome}
+use Rattle.sip_clients.specs.declared.send_outcome.SendOutcome.TheVariants.{Sent, Waits, Refused}
 use Rattle.sip_clients.specs.Commands.{bye_ended, request_in_held, requested_at}
-use Rattle.sip_clients.specs.Debts.{dropped_if_sent, kept_unless_sent, owed, paid}
+use Rattle.sip_clients.specs.Pending.{dropped_if_sent, kept_unless_sent, pending_requests, paid}
 use Rattle.sip_clients.specs.Dialogs.{accepted, ended_with, dialog_for_provisional, own_ended, paid_at, served_at}
 use Rattle.sip_clients.specs.Happenings.{success_brings}
 use Rattle.sip_clients.proofs.ReplyDialogs.{success_keeps}
@@ -37,7 +37,7 @@ use Rattle.sip_clients.proofs.Served.{bad_request, good_request, is_bad, served_
 use Rattle.sip_clients.specs.Event.{branch_of}
 use Rattle.sip_clients.specs.OwnCall.{AreDialogsOf, IsDialogOf, IsNoticeOf, IsRequestOf}
 use Rattle.sip_clients.specs.Replied.{heard_first}
-use Rattle.sip_clients.specs.Service.{Outcome, acked, happens_by_sending, requested, discharged, service_by}
+use Rattle.sip_clients.specs.SendOutcome.{Outcome, acked, happens_by_sending, requested, discharged, service_by}
 
 pub content_kept : (message : Message) (content : Content)
     → (with_content_of message content).call_id ≡ message.call_id
@@ -48,7 +48,7 @@ module _ (call_id : List ℕ) where
   -- ---- what a step makes
 
   -- a request that is to be sent
-  abbrev pub IsServiceOf : Service → Type 0
+  abbrev pub IsServiceOf : SendOutcome → Type 0
   IsServiceOf (Sent sending) = sending.message.call_id ≡ call_id
   IsServiceOf Waits = Unit {0}
   IsServiceOf (Refused refusal) = Unit {0}
@@ -59,7 +59,7 @@ module _ (call_id : List ℕ) where
 
   -- ---- what is sent in a dialog
 
-  service_own : (fault : Option DialogFault) (sending : Sending)
+  service_own : (fault : Option DialogFault) (sending : OutgoingRequest)
       → sending.message.call_id ≡ call_id → IsServiceOf (service_by fault sending)
   service_own None sending own = own
   service_own (Some fault) sending own = tt
@@ -81,43 +81,43 @@ module _ (call_id : List ℕ) where
       (content_kept (bare_request_in held.dialog (codes "ACK") number (branch_of event) event.local)
       content ∙ own)
 
-  served_own : (event : Event) (debt : Debt) (offer : Option Content) (held : HeldDialog)
-      → IsDialogOf call_id held → IsOutcomeOf (discharged event debt offer held)
+  served_own : (event : Event) (pending : PendingRequest) (offer : Option Content) (held : HeldDialog)
+      → IsDialogOf call_id held → IsOutcomeOf (discharged event pending offer held)
   unfolding discharged
-  served_own event debt None held own = (own, tt)
+  served_own event pending None held own = (own, tt)
   served_own event (Ack invite number) (Some content) held own =
       (own, acked_own event held number content own)
   served_own event (Prack rseq number) (Some content) held own =
       requested_own event (codes "PRACK")
       (Some record { rseq = rseq; cseq = number; method = codes "INVITE" }) content held own
 
-  kept_own : (debt : Debt) (service : Service) (held : HeldDialog) → IsDialogOf call_id held
-      → IsDialogOf call_id (kept_unless_sent debt service held)
-  kept_own debt (Sent sending) held own = own
-  kept_own debt Waits held own = own
-  kept_own debt (Refused refusal) held own = own
+  kept_own : (pending : PendingRequest) (service : SendOutcome) (held : HeldDialog) → IsDialogOf call_id held
+      → IsDialogOf call_id (kept_unless_sent pending service held)
+  kept_own pending (Sent sending) held own = own
+  kept_own pending Waits held own = own
+  kept_own pending (Refused refusal) held own = own
 
-  pub owed_own : (event : Event) (debt : Debt) (offer : Option Content) (held : HeldDialog)
-      → IsDialogOf call_id held → IsOutcomeOf (owed event debt offer held)
-  unfolding owed
-  owed_own event debt offer held own =
-      let done = discharged event debt offer held in
-      let so = served_own event debt offer held own in
-      (kept_own debt done.1 done.0 so.0, so.1)
+  pub owed_own : (event : Event) (pending : PendingRequest) (offer : Option Content) (held : HeldDialog)
+      → IsDialogOf call_id held → IsOutcomeOf (pending_requests event pending offer held)
+  unfolding pending_requests
+  owed_own event pending offer held own =
+      let done = discharged event pending offer held in
+      let so = served_own event pending offer held own in
+      (kept_own pending done.1 done.0 so.0, so.1)
 
-  dropped_own : (debt : Debt) (service : Service) (held : HeldDialog) → IsDialogOf call_id held
-      → IsDialogOf call_id (dropped_if_sent debt service held)
-  dropped_own debt (Sent sending) held own = own
-  dropped_own debt Waits held own = own
-  dropped_own debt (Refused refusal) held own = own
+  dropped_own : (pending : PendingRequest) (service : SendOutcome) (held : HeldDialog) → IsDialogOf call_id held
+      → IsDialogOf call_id (dropped_if_sent pending service held)
+  dropped_own pending (Sent sending) held own = own
+  dropped_own pending Waits held own = own
+  dropped_own pending (Refused refusal) held own = own
 
-  debt_paid_own : (event : Event) (debt : Debt) (content : Content) (held : HeldDialog)
-      → IsDialogOf call_id held → IsOutcomeOf (paid event debt content held)
+  debt_paid_own : (event : Event) (pending : PendingRequest) (content : Content) (held : HeldDialog)
+      → IsDialogOf call_id held → IsOutcomeOf (paid event pending content held)
   unfolding paid
-  debt_paid_own event debt content held own =
-      let done = discharged event debt (Some content) held in
-      let so = served_own event debt (Some content) held own in
-      (dropped_own debt done.1 done.0 so.0, so.1)
+  debt_paid_own event pending content held own =
+      let done = discharged event pending (Some content) held in
+      let so = served_own event pending (Some content) held own in
+      (dropped_own pending done.1 done.0 so.0, so.1)
 
   request_own : (event : Event) (method : List ℕ) (content : Content) (held : HeldDialog)
       → IsDialogOf call_id held → IsOutcomeOf (request_in_held event method content held)
@@ -127,7 +127,7 @@ module _ (call_id : List ℕ) where
       (λ good. subst IsOutcomeOf (sym (good_request event method content held good))
       (requested_own event method None content held own))
 
-  served_at_own : (name : DialogName) (serve : HeldDialog → Outcome) (otherwise : Service)
+  served_at_own : (name : DialogId) (serve : HeldDialog → Outcome) (otherwise : SendOutcome)
       → ((held : HeldDialog) → IsDialogOf call_id held → IsOutcomeOf (serve held))
       → IsServiceOf otherwise → (dialogs : Dialogs) → AreDialogsOf call_id dialogs
       → AreDialogsOf call_id (served_at name serve otherwise dialogs).0
@@ -145,15 +145,15 @@ module _ (call_id : List ℕ) where
         (serves held its).1,
       )
 
-  pub paid_own : (name : DialogName) (event : Event) (debt : Debt) (content : Content)
+  pub paid_own : (name : DialogId) (event : Event) (pending : PendingRequest) (content : Content)
       (dialogs : Dialogs) → AreDialogsOf call_id dialogs
-      → AreDialogsOf call_id (paid_at name event debt content dialogs).0
-      × IsServiceOf (paid_at name event debt content dialogs).1
-  paid_own name event debt content dialogs own =
-      served_at_own name (paid event debt content) Waits (debt_paid_own event debt content) tt
+      → AreDialogsOf call_id (paid_at name event pending content dialogs).0
+      × IsServiceOf (paid_at name event pending content dialogs).1
+  paid_own name event pending content dialogs own =
+      served_at_own name (paid event pending content) Waits (debt_paid_own event pending content) tt
       dialogs own
 
-  pub requested_at_own : (name : DialogName) (event : Event) (command : DialogRequest)
+  pub requested_at_own : (name : DialogId) (event : Event) (command : DialogRequest)
       (dialogs : Dialogs) → AreDialogsOf call_id dialogs
       → AreDialogsOf call_id (requested_at name event command dialogs).0
       × IsServiceOf (requested_at name event command dialogs).1
@@ -164,7 +164,7 @@ module _ (call_id : List ℕ) where
 
   -- ---- what ends
 
-  ended_or_not : (b : Bool) (name : DialogName) (dialogs : Dialogs)
+  ended_or_not : (b : Bool) (name : DialogId) (dialogs : Dialogs)
       → AreDialogsOf call_id dialogs
       → AreEndedOf call_id
       (cond {A = Dialogs × List CallOut} b (ended_at name dialogs) (dialogs, []))
@@ -173,14 +173,14 @@ module _ (call_id : List ℕ) where
 
   own_ended_own : (kind : RequestKind) (ends : Bool) (dialogs : Dialogs)
       → AreDialogsOf call_id dialogs → AreEndedOf call_id (own_ended kind ends dialogs)
-  own_ended_own First ends dialogs own = (own, tt)
-  own_ended_own (Again life) true dialogs own =
+  own_ended_own InitialInvite ends dialogs own = (own, tt)
+  own_ended_own (ReInvite life) true dialogs own =
       ended_or_not (lives dialogs life) life.name dialogs own
-  own_ended_own (Again life) false dialogs own = (own, tt)
-  own_ended_own (Inside life) true dialogs own =
+  own_ended_own (ReInvite life) false dialogs own = (own, tt)
+  own_ended_own (InDialog life) true dialogs own =
       ended_or_not (lives dialogs life) life.name dialogs own
-  own_ended_own (Inside life) false dialogs own = (own, tt)
-  own_ended_own Plain ends dialogs own = (own, tt)
+  own_ended_own (InDialog life) false dialogs own = (own, tt)
+  own_ended_own OutOfDialog ends dialogs own = (own, tt)
 
   pub ended_with_own : (client : Client) (ends : Bool) (dialogs : Dialogs)
       → AreDialogsOf call_id dialogs → AreEndedOf call_id (ended_with client ends dialogs)
@@ -193,7 +193,7 @@ module _ (call_id : List ℕ) where
             first.1 last.1,
       )
 
-  pub bye_own : (name : DialogName) (method : List ℕ) (service : Service) (dialogs : Dialogs)
+  pub bye_own : (name : DialogId) (method : List ℕ) (service : SendOutcome) (dialogs : Dialogs)
       → AreDialogsOf call_id dialogs → AreEndedOf call_id (bye_ended name method service dialogs)
   bye_own name method (Sent sending) dialogs own =
       ended_or_not (bytes_eq method (codes "BYE")) name dialogs own
@@ -202,7 +202,7 @@ module _ (call_id : List ℕ) where
 
   -- ---- what a response makes
 
-  pub accepted_own : (client : Client) (answer : Answer) (found : Option HeldDialog)
+  pub accepted_own : (client : Client) (answer : ReceivedResponse) (found : Option HeldDialog)
       → IsRequestOf call_id client → IfSome found (IsDialogOf call_id)
       → IsDialogOf call_id (accepted client answer found)
   accepted_own client answer None its own = its
@@ -211,7 +211,7 @@ module _ (call_id : List ℕ) where
       ap (λ (dialog : Dialog). dialog.call_id) kept.2.1
       ∙ lived_keeps held.dialog (success_brings client.kind answer.response held) ∙ own
 
-  pub opened_own : (client : Client) (answer : Answer) (found : Option HeldDialog)
+  pub opened_own : (client : Client) (answer : ReceivedResponse) (found : Option HeldDialog)
       → IsRequestOf call_id client → IfSome found (IsDialogOf call_id)
       → IsDialogOf call_id (dialog_for_provisional client answer found)
   opened_own client answer None its own = its
@@ -219,7 +219,7 @@ module _ (call_id : List ℕ) where
 
   pub heard_own : (kind : RequestKind) (rseq : ℕ) (held : HeldDialog) → IsDialogOf call_id held
       → IsDialogOf call_id (heard_first kind rseq held)
-  heard_own First rseq held own = own
-  heard_own (Again life) rseq held own = own
-  heard_own (Inside life) rseq held own = own
-  heard_own Plain rseq held own = own
+  heard_own InitialInvite rseq held own = own
+  heard_own (ReInvite life) rseq held own = own
+  heard_own (InDialog life) rseq held own = own
+  heard_own OutOfDialog rseq held own = own

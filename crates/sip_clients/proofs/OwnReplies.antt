@@ -6,8 +6,8 @@ use Rattle.std.specs.Map.{set_value, values_of}
 use Rattle.std.specs.Option.{option_map, option_map_or}
 use Rattle.sip_message.specs.declared.id.Id.{Id}
 use Rattle.sip_message.specs.declared.message.Message.{Message}
-use Rattle.sip_common.specs.declared.debt.Debt.TheVariants.{Ack, Prack}
-use Rattle.sip_common.specs.declared.held_dialog.DialogName.{DialogName}
+use Rattle.sip_common.specs.declared.pending_request.PendingRequest.TheVariants.{Ack, Prack}
+use Rattle.sip_common.specs.declared.held_dialog.DialogId.{DialogId}
 use Rattle.sip_common.specs.declared.held_dialog.HeldDialog.{HeldDialog}
 use Rattle.sip_common.specs.declared.item.CallOut.{CallOut}
 use Rattle.sip_common.specs.Dialogs.{dialog_at, early_ended, is_named, Dialogs}
@@ -15,16 +15,16 @@ use Rattle.sip_common.specs.Requests.{is_final}
 use Rattle.sip_common.specs.Ids.{is_id}
 use Rattle.sip_clients.specs.declared.answers.SentAck.{SentAck}
 use Rattle.sip_clients.specs.declared.client.RequestKind.{RequestKind}
-use Rattle.sip_clients.specs.declared.client.RequestKind.TheVariants.{First, Again, Inside, Plain}
+use Rattle.sip_clients.specs.declared.client.RequestKind.TheVariants.{InitialInvite, ReInvite, InDialog, OutOfDialog}
 use Rattle.sip_clients.specs.declared.client.Client.{Client}
 use Rattle.sip_clients.specs.declared.event.Event.{Event}
 use Rattle.sip_clients.specs.declared.outputs.ClientChange.{ClientChange}
 use Rattle.sip_clients.specs.declared.outputs.ClientChange.TheVariants.{Stays, Over, Starts}
-use Rattle.sip_clients.specs.declared.reply.Reply.{Reply as Answer}
+use Rattle.sip_clients.specs.declared.reply.ReceivedResponse.{ReceivedResponse}
 use Rattle.sip_clients.specs.declared.reply.ReplyCase.{ReplyCase}
 use Rattle.sip_clients.specs.declared.reply.ReplyCase.TheVariants as reply
-use Rattle.sip_clients.specs.declared.service.Service.{Service}
-use Rattle.sip_clients.specs.declared.service.Service.TheVariants.{Sent, Waits, Refused}
+use Rattle.sip_clients.specs.declared.send_outcome.SendOutcome.{SendOutcome}
+use Rattle.sip_clients.specs.declared.send_outcome.SendOutcome.TheVariants.{Sent, Waits, Refused}
 use Rattle.sip_clients.specs.Answers.{ack_of}
 use Rattle.sip_clients.specs.Cancel.{cancel_client, freed_by, after_response, sent_beside}
 use Rattle.sip_clients.specs.Client.{Clients, Side, ClientTaken, client_at}
@@ -32,8 +32,8 @@ use Rattle.sip_clients.specs.Clients.{found_taken, request_lost, lost_of, reply_
 use Rattle.sip_clients.specs.Dialogs.{accepted, dialog_for_provisional}
 use Rattle.sip_clients.specs.Outputs.{ack_said, direct, request_said, start_command}
 use Rattle.sip_clients.specs.OwnCall.{AreClientsOf, AreDialogsOf, AreNoticesOf, IsDialogOf, IsNoticeOf, IsRequestOf, IsSideOf, KeepsTo}
-use Rattle.sip_clients.specs.Replied.{InDialog, Replied, ack_owed, after_dialog, by_reply_case, ends_dialog, request_over, heard_again, heard_first, offer_to, prack_owed, replied_in, reply_taken, dialogs_with}
-use Rattle.sip_clients.specs.Reply.{is_last, reply_case}
+use Rattle.sip_clients.specs.Replied.{InDialog, Replied, ack_owed, after_dialog, by_reply_case, ends_dialog, request_over, heard_again, heard_first, automatic_body, prack_owed, replied_in, reply_taken, dialogs_with}
+use Rattle.sip_clients.specs.ReceivedResponse.{is_last, reply_case}
 use Rattle.sip_clients.specs.Tick.{ends_early_at, is_over, early_ends_told, clients_ticked}
 use Rattle.sip_common.proofs.Each.{all_of_each, both, each_but_one, each_inserted, each_left, each_set, found_one}
 use Rattle.sip_common.proofs.OwnDialogs.{dialog_own, early_own}
@@ -57,22 +57,22 @@ module _ (call_id : List ℕ) where
 
   hears_own : (kind : RequestKind) (rseq : ℕ) (client : Client) → IsRequestOf call_id client
       → IsRequestOf call_id (heard_again kind rseq client)
-  hears_own First rseq client its = its
-  hears_own (Again life) rseq client its = its
-  hears_own (Inside life) rseq client its = its
-  hears_own Plain rseq client its = its
+  hears_own InitialInvite rseq client its = its
+  hears_own (ReInvite life) rseq client its = its
+  hears_own (InDialog life) rseq client its = its
+  hears_own OutOfDialog rseq client its = its
 
   -- ---- what is told beside it
 
-  pub request_said_own : (event : Event) (of : List ℕ) → of ≡ call_id → (name : DialogName)
-      (service : Service) → IsServiceOf call_id service
+  pub request_said_own : (event : Event) (of : List ℕ) → of ≡ call_id → (name : DialogId)
+      (service : SendOutcome) → IsServiceOf call_id service
       → AreNoticesOf call_id (request_said event of name service).0
       × IsChangeOf (request_said event of name service).1
   request_said_own event of is name (Sent sending) own = (tt, own)
   request_said_own event of is name Waits own = (tt, tt)
   request_said_own event of is name (Refused refusal) own = ((is, tt), tt)
 
-  pub ack_said_own : (event : Event) (of : List ℕ) → of ≡ call_id → (service : Service)
+  pub ack_said_own : (event : Event) (of : List ℕ) → of ≡ call_id → (service : SendOutcome)
       → AreNoticesOf call_id (ack_said event of service).0
   ack_said_own event of is (Sent sending) = (tt, tt)
   ack_said_own event of is Waits = tt
@@ -127,22 +127,22 @@ module _ (call_id : List ℕ) where
     pub told : AreNoticesOf call_id done.2
     pub change : IsChangeOf done.3
 
-  ack_owed_own : (client : Client) (held : HeldDialog) (answer : Answer)
+  ack_owed_own : (client : Client) (held : HeldDialog) (answer : ReceivedResponse)
       → IsDialogOf call_id held → IsOutcomeOf call_id (ack_owed client held answer)
   unfolding ack_owed
   ack_owed_own client held answer own =
       owed_own call_id answer.event (Ack client.id client.request.cseq.number)
-      (offer_to client answer.response) held own
+      (automatic_body client answer.response) held own
 
-  prack_owed_own : (rseq : ℕ) (client : Client) (held : HeldDialog) (answer : Answer)
+  prack_owed_own : (rseq : ℕ) (client : Client) (held : HeldDialog) (answer : ReceivedResponse)
       → IsDialogOf call_id held → IsOutcomeOf call_id (prack_owed rseq client held answer)
   unfolding prack_owed
   prack_owed_own rseq client held answer own =
       owed_own call_id answer.event (Prack rseq client.request.cseq.number)
-      (offer_to client answer.response) (heard_first client.kind rseq held)
+      (automatic_body client answer.response) (heard_first client.kind rseq held)
       (heard_own call_id client.kind rseq held own)
 
-  case_own : (case : ReplyCase) (client : Client) (found : Option HeldDialog) (answer : Answer)
+  case_own : (case : ReplyCase) (client : Client) (found : Option HeldDialog) (answer : ReceivedResponse)
       → answer.call_id ≡ call_id → IsRequestOf call_id client
       → IfSome found (IsDialogOf call_id) → IsInDialogOf (by_reply_case case client found answer)
   case_own reply.Repeated client found answer is its own = record {
@@ -154,10 +154,10 @@ module _ (call_id : List ℕ) where
   case_own reply.Accepted client found answer is its own =
       let held = accepted client answer found in
       let holds = accepted_own call_id client answer found its own in
-      let owed = ack_owed_own client held answer holds in
+      let pending_requests = ack_owed_own client held answer holds in
       record {
         client = its;
-        dialog = owed.0;
+        dialog = pending_requests.0;
         told = (is, ack_said_own answer.event answer.call_id is (ack_owed client held answer).1);
         change = tt;
       }
@@ -166,12 +166,12 @@ module _ (call_id : List ℕ) where
   case_own (reply.Reliable rseq) client found answer is its own =
       let held = dialog_for_provisional client answer found in
       let holds = opened_own call_id client answer found its own in
-      let owed = prack_owed_own rseq client held answer holds in
+      let pending_requests = prack_owed_own rseq client held answer holds in
       let said = request_said_own answer.event answer.call_id is answer.name
-      (prack_owed rseq client held answer).1 owed.1 in
+      (prack_owed rseq client held answer).1 pending_requests.1 in
       record {
         client = hears_own client.kind rseq client its;
-        dialog = owed.0;
+        dialog = pending_requests.0;
         told = (is, said.0);
         change = said.1;
       }
@@ -186,14 +186,14 @@ module _ (call_id : List ℕ) where
   case_own reply.Told client found answer is its own =
       record { client = its; dialog = tt; told = (is, tt); change = tt }
 
-  with_dialog_own : (name : DialogName) (o : Option HeldDialog) (dialogs : Dialogs)
+  with_dialog_own : (name : DialogId) (o : Option HeldDialog) (dialogs : Dialogs)
       → IfSome o (IsDialogOf call_id) → AreDialogsOf call_id dialogs
       → AreDialogsOf call_id (dialogs_with name o dialogs)
   with_dialog_own name None dialogs its own = own
   with_dialog_own name (Some held) dialogs its own =
       each_inserted (IsDialogOf call_id) is_named name held its dialogs own
 
-  reply_own : (client : Client) (dialogs : Dialogs) (answer : Answer)
+  reply_own : (client : Client) (dialogs : Dialogs) (answer : ReceivedResponse)
       → answer.call_id ≡ call_id → IsRequestOf call_id client → AreDialogsOf call_id dialogs
       → IsRepliedOf (reply_taken client dialogs answer)
   reply_own client dialogs answer is its own = by_last (is_last client.kind answer.status)
@@ -218,7 +218,7 @@ module _ (call_id : List ℕ) where
             change = so.change;
           }
 
-  replied_own : (answer : Answer) (client : Client) (side : Side) → answer.call_id ≡ call_id
+  replied_own : (answer : ReceivedResponse) (client : Client) (side : Side) → answer.call_id ≡ call_id
       → IsRequestOf call_id client → IsSideOf call_id side
       → IsTakenOf (reply_settled answer client side)
   replied_own answer client side is its own =

@@ -15,9 +15,9 @@ use Rattle.sip_common.specs.Refusal.{first_refusal}
 use Rattle.sip_common.specs.declared.command.Cancel.{Cancel}
 use Rattle.sip_common.specs.declared.command.DialogBody.{DialogBody}
 use Rattle.sip_common.specs.declared.command.DialogRequest.{DialogRequest}
-use Rattle.sip_common.specs.declared.debt.Debt.{Debt}
-use Rattle.sip_common.specs.declared.debt.Debt.TheVariants as debt
-use Rattle.sip_common.specs.declared.held_dialog.DialogName.{DialogName}
+use Rattle.sip_common.specs.declared.pending_request.PendingRequest.{PendingRequest}
+use Rattle.sip_common.specs.declared.pending_request.PendingRequest.TheVariants as pending
+use Rattle.sip_common.specs.declared.held_dialog.DialogId.{DialogId}
 use Rattle.sip_common.specs.declared.held_dialog.HeldDialog.{HeldDialog}
 use Rattle.sip_common.specs.declared.item.CallOut.{CallOut}
 use Rattle.sip_common.specs.declared.refusal.Refusal.{Refusal}
@@ -25,19 +25,19 @@ use Rattle.sip_common.specs.declared.refusal.Refusal.TheVariants.{NoSuchDialog, 
 use Rattle.sip_clients.specs.Cancel.{cancel_case, cancel_by_user, cancelled_as, cancelled_of}
 use Rattle.sip_clients.specs.Client.{Clients, Side, client_at, ClientTaken}
 use Rattle.sip_clients.specs.Clients.{ack_kept, ack_paid, ack_by_user, prack_paid, prack_by_user, request_settled, request_by_user, settled}
-use Rattle.sip_clients.specs.Commands.{bye_ended, debt_for, name_in, request_in_held, request_refusals, requested_at, sent_unless}
+use Rattle.sip_clients.specs.Commands.{bye_ended, pending_for, name_in, request_in_held, request_refusals, requested_at, sent_unless}
 use Rattle.sip_clients.specs.Dialogs.{paid_at}
-use Rattle.sip_clients.specs.Debts.{dropped_if_sent, paid}
+use Rattle.sip_clients.specs.Pending.{dropped_if_sent, paid}
 use Rattle.sip_clients.specs.Outputs.{ack_said, request_said, start_command}
-use Rattle.sip_clients.specs.Service.{happens_by_sending, requested, discharged, sending_in, service_by}
+use Rattle.sip_clients.specs.SendOutcome.{happens_by_sending, requested, discharged, sending_in, service_by}
 use Rattle.sip_clients.specs.declared.cancel.CancelCase.{CancelCase}
 use Rattle.sip_clients.specs.declared.cancel.CancelCase.TheVariants as cancel
 use Rattle.sip_clients.specs.declared.client.Client.{Client}
-use Rattle.sip_clients.specs.declared.debts.DebtKind.TheVariants as kind
+use Rattle.sip_clients.specs.declared.pending.PendingKind.TheVariants as kind
 use Rattle.sip_clients.specs.declared.event.Event.{Event}
-use Rattle.sip_clients.specs.declared.service.Sending.{Sending}
-use Rattle.sip_clients.specs.declared.service.Service.{Service}
-use Rattle.sip_clients.specs.declared.service.Service.TheVariants.{Sent, Waits, Refused}
+use Rattle.sip_clients.specs.declared.send_outcome.OutgoingRequest.{OutgoingRequest}
+use Rattle.sip_clients.specs.declared.send_outcome.SendOutcome.{SendOutcome}
+use Rattle.sip_clients.specs.declared.send_outcome.SendOutcome.TheVariants.{Sent, Waits, Refused}
 use Rattle.sip_clients.specs.RefusedCommands.{is_refusal, IsRefusedAlone}
 use Rattle.sip_clients.proofs.Served.{refused_same, paid_either}
 
@@ -72,7 +72,7 @@ requested_same : (event : Event) (method : List ℕ) (rack : Option RAck) (conte
     → (requested event method rack content held).0 ≡ held
 requested_same event method rack content held refusal e = by_fault _ _ e
   where
-    by_fault : (fault : Option DialogFault) (sending : Sending)
+    by_fault : (fault : Option DialogFault) (sending : OutgoingRequest)
         → service_by fault sending ≡ Refused refusal → lived (happens_by_sending method fault) held
         ≡ held
     by_fault None sending is = absurd cc
@@ -85,7 +85,7 @@ unfolding request_in_held
 request_same event method content held refusal e =
     unless (first_refusal (request_refusals held.dialog method) None) e
   where
-    sending : Sending
+    sending : OutgoingRequest
     sending = sending_in event method None content held
 
     unless : (first : Option Refusal) → (sent_unless first sending held).1 ≡ Refused refusal
@@ -93,21 +93,21 @@ request_same event method content held refusal e =
     unless None is = absurd cc
     unless (Some first) is = refl
 
-served_same : (event : Event) (owed : Debt) (content : Content) (held : HeldDialog)
-    (refusal : Refusal) → (discharged event owed (Some content) held).1 ≡ Refused refusal
-    → (discharged event owed (Some content) held).0 ≡ held
+served_same : (event : Event) (pending_requests : PendingRequest) (content : Content) (held : HeldDialog)
+    (refusal : Refusal) → (discharged event pending_requests (Some content) held).1 ≡ Refused refusal
+    → (discharged event pending_requests (Some content) held).0 ≡ held
 unfolding discharged
-served_same event (debt.Ack invite number) content held refusal e = refl
-served_same event (debt.Prack rseq number) content held refusal e =
+served_same event (pending.Ack invite number) content held refusal e = refl
+served_same event (pending.Prack rseq number) content held refusal e =
     requested_same event (codes "PRACK") _ content held refusal e
 
-debt_same : (event : Event) (owed : Debt) (content : Content) (held : HeldDialog)
-    (refusal : Refusal) → (paid event owed content held).1 ≡ Refused refusal
-    → (paid event owed content held).0 ≡ held
+debt_same : (event : Event) (pending_requests : PendingRequest) (content : Content) (held : HeldDialog)
+    (refusal : Refusal) → (paid event pending_requests content held).1 ≡ Refused refusal
+    → (paid event pending_requests content held).0 ≡ held
 unfolding paid
-debt_same event owed content held refusal e =
-    ap (λ service. dropped_if_sent owed service (discharged event owed (Some content) held).0) e
-    ∙ served_same event owed content held refusal e
+debt_same event pending_requests content held refusal e =
+    ap (λ service. dropped_if_sent pending_requests service (discharged event pending_requests (Some content) held).0) e
+    ∙ served_same event pending_requests content held refusal e
 
 -- ---- a request in a dialog, an ACK and a PRACK
 
@@ -116,25 +116,25 @@ module _ (event : Event) (side : Side) where
   Lonely call_id taken = IsRefusedAlone side call_id event.id taken
 
   -- where the request isn't sent, the dialogs are as they were
-  abbrev Keeps : Dialogs → Service → Type 0
+  abbrev Keeps : Dialogs → SendOutcome → Type 0
   Keeps dialogs service =
       (refusal : Refusal) → service ≡ Refused refusal → dialogs ≡ side.dialogs
 
-  abbrev request_done : DialogName → DialogRequest → Dialogs → Service → ClientTaken
+  abbrev request_done : DialogId → DialogRequest → Dialogs → SendOutcome → ClientTaken
   request_done name command dialogs service =
       let bye = bye_ended name command.method service dialogs in
       let said = request_said event command.call_id name service in
       let after = request_settled event said.0 said.1 bye.1 side.clients in
       (record { dialogs = bye.0; clients = after.0 }, after.1)
 
-  bye_told : (name : DialogName) (method : List ℕ) (sending : Sending) (dialogs : Dialogs)
+  bye_told : (name : DialogId) (method : List ℕ) (sending : OutgoingRequest) (dialogs : Dialogs)
       → list_any is_refusal (bye_ended name method (Sent sending) dialogs).1 ≡ false
   bye_told name method sending dialogs =
       by_bool (bytes_eq method (codes "BYE")) (λ bye. rw bye (end_told (dialog_at name dialogs)))
       (λ other. rw other refl)
 
-  request_by : (name : DialogName) (command : DialogRequest) (dialogs : Dialogs)
-      (service : Service) → Keeps dialogs service
+  request_by : (name : DialogId) (command : DialogRequest) (dialogs : Dialogs)
+      (service : SendOutcome) → Keeps dialogs service
       → Lonely command.call_id (request_done name command dialogs service)
   unfolding start_command
   request_by name command dialogs (Sent sending) same =
@@ -162,50 +162,50 @@ module _ (event : Event) (side : Side) where
       (λ refusal. refused_same name serve (Refused NoSuchDialog) side.dialogs refusal
       (λ held. request_same event command.method command.content held refusal))
 
-  paid_same : (name : DialogName) (owed : Debt) (content : Content)
-      → Keeps (paid_at name event owed content side.dialogs).0
-      (paid_at name event owed content side.dialogs).1
-  paid_same name owed content refusal =
-      refused_same name (paid event owed content) Waits side.dialogs refusal
-      (λ held. debt_same event owed content held refusal)
+  paid_same : (name : DialogId) (pending_requests : PendingRequest) (content : Content)
+      → Keeps (paid_at name event pending_requests content side.dialogs).0
+      (paid_at name event pending_requests content side.dialogs).1
+  paid_same name pending_requests content refusal =
+      refused_same name (paid event pending_requests content) Waits side.dialogs refusal
+      (λ held. debt_same event pending_requests content held refusal)
 
-  abbrev ack_done : DialogName → DialogBody → Debt → Dialogs → Service → ClientTaken
-  ack_done name command owed dialogs service =
+  abbrev ack_done : DialogId → DialogBody → PendingRequest → Dialogs → SendOutcome → ClientTaken
+  ack_done name command pending_requests dialogs service =
       let said = ack_said event command.call_id service in
-      (record { dialogs = dialogs; clients = ack_kept owed name said.1 side.clients }, said.0)
+      (record { dialogs = dialogs; clients = ack_kept pending_requests name said.1 side.clients }, said.0)
 
-  none_noted : (owed : Debt) (name : DialogName) (clients : Clients)
-      → ack_kept owed name None clients ≡ clients
-  none_noted (debt.Ack invite number) name clients = refl
-  none_noted (debt.Prack rseq number) name clients = refl
+  none_noted : (pending_requests : PendingRequest) (name : DialogId) (clients : Clients)
+      → ack_kept pending_requests name None clients ≡ clients
+  none_noted (pending.Ack invite number) name clients = refl
+  none_noted (pending.Prack rseq number) name clients = refl
 
-  ack_by : (name : DialogName) (command : DialogBody) (owed : Debt) (dialogs : Dialogs)
-      (service : Service) → Keeps dialogs service
-      → Lonely command.call_id (ack_done name command owed dialogs service)
-  ack_by name command owed dialogs (Sent sending) same =
+  ack_by : (name : DialogId) (command : DialogBody) (pending_requests : PendingRequest) (dialogs : Dialogs)
+      (service : SendOutcome) → Keeps dialogs service
+      → Lonely command.call_id (ack_done name command pending_requests dialogs service)
+  ack_by name command pending_requests dialogs (Sent sending) same =
       silent side command.call_id event.id
-      (ack_done name command owed dialogs (Sent sending)) refl
-  ack_by name command owed dialogs Waits same =
-      silent side command.call_id event.id (ack_done name command owed dialogs Waits) refl
-  ack_by name command owed dialogs (Refused refusal) same = λ some. (
+      (ack_done name command pending_requests dialogs (Sent sending)) refl
+  ack_by name command pending_requests dialogs Waits same =
+      silent side command.call_id event.id (ack_done name command pending_requests dialogs Waits) refl
+  ack_by name command pending_requests dialogs (Refused refusal) same = λ some. (
     refusal,
     ap (λ (kept : Dialogs). (
-      record { dialogs = kept; clients = ack_kept owed name None side.clients },
+      record { dialogs = kept; clients = ack_kept pending_requests name None side.clients },
       refused event.id command.call_id refusal,
     )) (same refusal refl)
         ∙ ap (λ (kept : Clients). (
           record { dialogs = side.dialogs; clients = kept },
           refused event.id command.call_id refusal,
-        )) (none_noted owed name side.clients),
+        )) (none_noted pending_requests name side.clients),
   )
 
-  abbrev prack_done : DialogName → DialogBody → Dialogs → Service → ClientTaken
+  abbrev prack_done : DialogId → DialogBody → Dialogs → SendOutcome → ClientTaken
   prack_done name command dialogs service =
       let said = request_said event command.call_id name service in
       let after = settled event event.id said.1 side.clients in
       (record { dialogs = dialogs; clients = after.0 }, said.0 ++ after.1)
 
-  prack_by : (name : DialogName) (command : DialogBody) (dialogs : Dialogs) (service : Service)
+  prack_by : (name : DialogId) (command : DialogBody) (dialogs : Dialogs) (service : SendOutcome)
       → Keeps dialogs service
       → Lonely command.call_id (prack_done name command dialogs service)
   unfolding start_command
@@ -226,20 +226,20 @@ module _ (event : Event) (side : Side) where
   ack_alone command =
       let name = name_in command.local_tag command.remote_tag in
       paid_either (Lonely command.call_id) event command (ack_paid event command name) side
-      (debt_for kind.Ack name side.dialogs) (told_alone side command.call_id event.id)
-      (λ owed. ack_by name command owed (paid_at name event owed command.content side.dialogs).0
-      (paid_at name event owed command.content side.dialogs).1
-      (paid_same name owed command.content))
+      (pending_for kind.Ack name side.dialogs) (told_alone side command.call_id event.id)
+      (λ pending_requests. ack_by name command pending_requests (paid_at name event pending_requests command.content side.dialogs).0
+      (paid_at name event pending_requests command.content side.dialogs).1
+      (paid_same name pending_requests command.content))
 
   pub prack_alone : (command : DialogBody) → Lonely command.call_id
       (prack_by_user event command side)
   prack_alone command =
       let name = name_in command.local_tag command.remote_tag in
       paid_either (Lonely command.call_id) event command (prack_paid event command name) side
-      (debt_for kind.Prack name side.dialogs) (told_alone side command.call_id event.id)
-      (λ owed. prack_by name command (paid_at name event owed command.content side.dialogs).0
-      (paid_at name event owed command.content side.dialogs).1
-      (paid_same name owed command.content))
+      (pending_for kind.Prack name side.dialogs) (told_alone side command.call_id event.id)
+      (λ pending_requests. prack_by name command (paid_at name event pending_requests command.content side.dialogs).0
+      (paid_at name event pending_requests command.content side.dialogs).1
+      (paid_same name pending_requests command.content))
 
   -- ---- CANCEL
 

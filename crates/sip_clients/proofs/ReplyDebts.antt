@@ -8,9 +8,9 @@ use Rattle.std.specs.Option.{option_map_or}
 use Rattle.sip_message.specs.declared.id.Id.{Id}
 use Rattle.sip_message.specs.declared.message.Message.{Message}
 use Rattle.sip_transactions.specs.declared.input.Command.{Command as Order}
-use Rattle.sip_common.specs.declared.debt.Debt.{Debt}
-use Rattle.sip_common.specs.declared.debt.Debt.TheVariants.{Ack, Prack}
-use Rattle.sip_common.specs.declared.held_dialog.DialogName.{DialogName}
+use Rattle.sip_common.specs.declared.pending_request.PendingRequest.{PendingRequest}
+use Rattle.sip_common.specs.declared.pending_request.PendingRequest.TheVariants.{Ack, Prack}
+use Rattle.sip_common.specs.declared.held_dialog.DialogId.{DialogId}
 use Rattle.sip_common.specs.declared.item.CallOut.{CallOut}
 use Rattle.sip_common.specs.declared.item.CallOut.TheVariants as out
 use Rattle.sip_common.specs.Dialogs.{dialog_at, is_named}
@@ -21,14 +21,14 @@ use Rattle.sip_common.proofs.Heard.{AreApart}
 use Rattle.sip_common.proofs.Owing.{Owes, owes_as, still_same, unchanged}
 use Rattle.sip_clients.specs.declared.client.Client.{Client}
 use Rattle.sip_clients.specs.declared.event.Event.{Event}
-use Rattle.sip_clients.specs.declared.reply.Reply.{Reply as Answer}
+use Rattle.sip_clients.specs.declared.reply.ReceivedResponse.{ReceivedResponse}
 use Rattle.sip_clients.specs.Cancel.{freed_by, after_response}
 use Rattle.sip_clients.specs.Client.{Clients, Side, ClientTaken, client_at}
 use Rattle.sip_clients.specs.Clients.{found_taken, reply_name, reply_of, reply_settled, response_taken, settled, status_of}
 use Rattle.sip_clients.specs.Owing.{asked_for, debt_kind, goes_out, is_direct, is_of_prack, owed_if_told, reply_owes, response_owes}
 use Rattle.sip_clients.specs.Provisionals.{is_response}
 use Rattle.sip_clients.specs.Replied.{Replied, reply_taken}
-use Rattle.sip_clients.specs.Reply.{is_there}
+use Rattle.sip_clients.specs.ReceivedResponse.{has_dialog}
 use Rattle.sip_clients.proofs.AskedDebts.{any_given, left_by}
 use Rattle.sip_clients.proofs.DialogSends.{AreNamed, after_silent, change_cseqs, settled_cseqs}
 use Rattle.sip_clients.proofs.ReplyLives.{given, leaves, replied_owes}
@@ -39,28 +39,28 @@ use Rattle.sip_clients.proofs.WithoutStarts.{none_started}
 module _ (event : Event) (id : Id) (call_id : List ℕ) (response : Message) (side : Side)
     (apart : AreApart side.dialogs) (named : AreNamed side.dialogs) where
   -- by the status and the request
-  abbrev owes_by : Option ℕ → Option Client → DialogName → List CallOut → List Debt
+  abbrev owes_by : Option ℕ → Option Client → DialogId → List CallOut → List PendingRequest
   owes_by status o name outs = option_map_or (λ client. option_map_or
       (λ status. reply_owes status client response name (dialog_at name side.dialogs) outs)
       status []) o []
 
   abbrev Responded : Option ℕ → Option Client → ClientTaken → Type 0
-  Responded status o taken = (name : DialogName)
-      → Owes (Some event.id) (λ debts. debts ++ owes_by status o name taken.1)
+  Responded status o taken = (name : DialogId)
+      → Owes (Some event.id) (λ pending_requests. pending_requests ++ owes_by status o name taken.1)
       (dialog_at name side.dialogs) (dialog_at name (taken.0).dialogs)
 
-  as_before : (name : DialogName) → Owes (Some event.id) (λ debts. debts ++ [])
+  as_before : (name : DialogId) → Owes (Some event.id) (λ pending_requests. pending_requests ++ [])
       (dialog_at name side.dialogs) (dialog_at name side.dialogs)
   as_before name =
       let held = dialog_at name side.dialogs in
-      owes_as (Some event.id) unchanged (λ debts. debts ++ []) held held
-      (λ debts. sym (append-nil debts)) (inl (still_same held))
+      owes_as (Some event.id) unchanged (λ pending_requests. pending_requests ++ []) held held
+      (λ pending_requests. sym (append-nil pending_requests)) (inl (still_same held))
 
   module _ (status : ℕ) (client : Client) where
     abbrev with_note : Client
     with_note = after_response (is_final status) client
 
-    abbrev answer_to : Answer
+    abbrev answer_to : ReceivedResponse
     answer_to = reply_of event id call_id (reply_name client.kind client response) status response
 
     abbrev done : Replied
@@ -73,7 +73,7 @@ module _ (event : Event) (id : Id) (call_id : List ℕ) (response : Message) (si
     clients = set_value (is_id id) side.clients done.0
 
     -- what goes out so, by what becomes of the request
-    abbrev out_by : DialogName → Debt → Bool
+    abbrev out_by : DialogId → PendingRequest → Bool
     out_by name =
         given event id call_id response status client side.dialogs apart named name done.2 done.3
 
@@ -83,7 +83,7 @@ module _ (event : Event) (id : Id) (call_id : List ℕ) (response : Message) (si
         sym (any_given p none (freed_by (is_final status) client.cancel) client event id done.3
         clients done.2)
 
-    cseqs_same : (name : DialogName) → change_cseqs name done.3 ≡ cseqs_in name taken.1
+    cseqs_same : (name : DialogId) → change_cseqs name done.3 ≡ cseqs_in name taken.1
     cseqs_same name =
         let after = settled event id done.3 clients in
         sym (beside_sent name (freed_by (is_final status) client.cancel) client
@@ -92,28 +92,28 @@ module _ (event : Event) (id : Id) (call_id : List ℕ) (response : Message) (si
         (none_started done.2 (replies with_note side.dialogs answer_to).quiet)
         ∙ settled_cseqs name event id done.3 clients)
 
-    debt_same : (name : DialogName) (debt : Debt)
-        → out_by name debt ≡ goes_out (debt_kind debt) name taken.1
+    debt_same : (name : DialogId) (pending : PendingRequest)
+        → out_by name pending ≡ goes_out (debt_kind pending) name taken.1
     debt_same name (Ack invite number) = any_same is_direct (λ id order. refl)
     debt_same name (Prack rseq number) = ap (list_any is_of_prack) (cseqs_same name)
 
-    asked_same : (name : DialogName) (o : Option Debt)
+    asked_same : (name : DialogId) (o : Option PendingRequest)
         → left_by (list_any is_response done.2) (out_by name) o
         ≡ option_map_or (owed_if_told name taken.1) o []
     asked_same name None = refl
-    asked_same name (Some debt) =
+    asked_same name (Some pending) =
         let told = any_same is_response (λ id order. refl) in
-        λ i. if told i && not (debt_same name debt i) then debt ∷ [] else []
+        λ i. if told i && not (debt_same name pending i) then pending ∷ [] else []
 
     settles : Responded (Some status) (Some client) taken
     settles name =
         owes_as (Some event.id)
-        (λ debts. debts ++ leaves event id call_id response status client side.dialogs apart named
+        (λ pending_requests. pending_requests ++ leaves event id call_id response status client side.dialogs apart named
         name done)
-        (λ debts. debts ++ owes_by (Some status) (Some client) name taken.1)
+        (λ pending_requests. pending_requests ++ owes_by (Some status) (Some client) name taken.1)
         (dialog_at name side.dialogs) (dialog_at name done.1)
-        (λ debts. ap (λ xs. debts ++ (if is_named answer_to.name name
-        && is_there client.kind (dialog_at name side.dialogs) then xs else []))
+        (λ pending_requests. ap (λ xs. pending_requests ++ (if is_named answer_to.name name
+        && has_dialog client.kind (dialog_at name side.dialogs) then xs else []))
         (asked_same name (asked_for status client response)))
         (replied_owes event id call_id response status client side.dialogs apart named name)
 
@@ -124,9 +124,9 @@ module _ (event : Event) (id : Id) (call_id : List ℕ) (response : Message) (si
   by_client None (Some asker) = as_before
   by_client (Some status) (Some asker) = settles status asker
 
-  pub response_leaves : (name : DialogName)
+  pub response_leaves : (name : DialogId)
       → let taken = response_taken event id call_id response side in
-      Owes (Some event.id) (λ debts. debts ++ response_owes id response side.clients name
+      Owes (Some event.id) (λ pending_requests. pending_requests ++ response_owes id response side.clients name
       (dialog_at name side.dialogs) taken.1) (dialog_at name side.dialogs)
       (dialog_at name (taken.0).dialogs)
   response_leaves = by_client (status_of response.start) (client_at id side.clients)

@@ -9,25 +9,25 @@ use Rattle.sip_message.specs.Party.{tag_of}
 use Rattle.sip_dialog.specs.declared.dialog.Dialog.{Dialog}
 use Rattle.sip_dialog.specs.Life.{Happening}
 use Rattle.sip_dialog.specs.Opening.{ByResponse, Opening, contact_uri, opened as dialog_opened}
-use Rattle.sip_common.specs.declared.debt.Debt.TheVariants.{Ack, Prack}
-use Rattle.sip_common.specs.declared.held_dialog.DialogName.{DialogName}
+use Rattle.sip_common.specs.declared.pending_request.PendingRequest.TheVariants.{Ack, Prack}
+use Rattle.sip_common.specs.declared.held_dialog.DialogId.{DialogId}
 use Rattle.sip_common.specs.declared.held_dialog.HeldDialog.{HeldDialog}
 use Rattle.sip_common.specs.Dialogs.{dialog_at, is_named, Dialogs}
 use Rattle.sip_common.specs.Requests.{is_final, name_of_tags}
 use Rattle.sip_common.specs.Sent.{name_of_dialog}
 use Rattle.sip_clients.specs.declared.client.RequestKind.{RequestKind}
-use Rattle.sip_clients.specs.declared.client.RequestKind.TheVariants.{First, Again, Inside, Plain}
+use Rattle.sip_clients.specs.declared.client.RequestKind.TheVariants.{InitialInvite, ReInvite, InDialog, OutOfDialog}
 use Rattle.sip_clients.specs.declared.client.Client.{Client}
-use Rattle.sip_clients.specs.declared.reply.Reply.{Reply as Answer}
+use Rattle.sip_clients.specs.declared.reply.ReceivedResponse.{ReceivedResponse}
 use Rattle.sip_clients.specs.declared.reply.ReplyCase.{ReplyCase}
 use Rattle.sip_clients.specs.declared.reply.ReplyCase.TheVariants as reply
 use Rattle.sip_clients.specs.Answers.{has_answer}
 use Rattle.sip_clients.specs.Clients.{reply_name}
-use Rattle.sip_clients.specs.Debts.{owed}
+use Rattle.sip_clients.specs.Pending.{pending_requests}
 use Rattle.sip_clients.specs.Dialogs.{accepted, accepted_in, hearing, dialog_by_response, dialog_for_provisional}
 use Rattle.sip_clients.specs.Happenings.{success_brings}
-use Rattle.sip_clients.specs.Replied.{ack_owed, by_reply_case, heard_first, offer_to, prack_owed, dialogs_with}
-use Rattle.sip_clients.specs.Reply.{heard_of, is_dialog_response, is_there, reliable_case, reply_case, rseq_of}
+use Rattle.sip_clients.specs.Replied.{ack_owed, by_reply_case, heard_first, automatic_body, prack_owed, dialogs_with}
+use Rattle.sip_clients.specs.ReceivedResponse.{heard_of, is_dialog_response, has_dialog, reliable_case, reply_case, rseq_of}
 use Rattle.sip_common.proofs.Entries as entries
 use Rattle.sip_common.proofs.Heard.{AreApart, Goes, Keeps, Life, Moves, OpensBy, Stays, in_one, keeps_same, keeps_then, name_laws, none_either, nothing, same_name, stays_same, tag_kept}
 use Rattle.sip_common.proofs.Lives.{cases_fit}
@@ -35,17 +35,17 @@ use Rattle.sip_clients.proofs.CommandDialogs.{owed_keeps}
 use Rattle.sip_clients.proofs.SentIn.{discharge_life}
 
 abbrev pub heard_number : ReplyCase → RequestKind → Bool → Option ℕ
-heard_number (reply.Reliable number) First true = Some number
+heard_number (reply.Reliable number) InitialInvite true = Some number
 heard_number _ kind named = None
 
 pub unnamed_unheard : (case : ReplyCase) (kind : RequestKind) → heard_number case kind false ≡ None
 unnamed_unheard reply.Repeated kind = refl
 unnamed_unheard reply.Accepted kind = refl
 unnamed_unheard reply.Late kind = refl
-unnamed_unheard (reply.Reliable number) First = refl
-unnamed_unheard (reply.Reliable number) (Again life) = refl
-unnamed_unheard (reply.Reliable number) (Inside life) = refl
-unnamed_unheard (reply.Reliable number) Plain = refl
+unnamed_unheard (reply.Reliable number) InitialInvite = refl
+unnamed_unheard (reply.Reliable number) (ReInvite life) = refl
+unnamed_unheard (reply.Reliable number) (InDialog life) = refl
+unnamed_unheard (reply.Reliable number) OutOfDialog = refl
 unnamed_unheard reply.Passed kind = refl
 unnamed_unheard reply.Early kind = refl
 unnamed_unheard reply.Told kind = refl
@@ -63,40 +63,40 @@ may_make reply.Told = false
 -- what a 2xx does in a dialog that is held
 pub success_keeps : (kind : RequestKind) (response : Message) (held : HeldDialog)
     → Keeps None (success_brings kind response held) held (accepted_in kind response held)
-success_keeps First response held = (refl, refl, ((cases_fit held).confirms response, refl))
-success_keeps (Again life) response held =
+success_keeps InitialInvite response held = (refl, refl, ((cases_fit held).confirms response, refl))
+success_keeps (ReInvite life) response held =
     (refl, refl, ((cases_fit held).retargets (contact_uri response), refl))
-success_keeps (Inside life) response held = keeps_same held
-success_keeps Plain response held = keeps_same held
+success_keeps (InDialog life) response held = keeps_same held
+success_keeps OutOfDialog response held = keeps_same held
 
 -- of a request whose kind is not First none is
-makes_first : (kind : RequestKind) (final again inside : Bool) (heard rseq : Option ℕ)
+makes_first : (kind : RequestKind) (final again inside : Bool) (last_rseq rseq : Option ℕ)
     → may_make (if final then (if again then reply.Repeated
-    else (if is_there kind None then reply.Accepted else reply.Late))
-    else (if inside && is_there kind None then reliable_case heard rseq else reply.Told)) ≡ true
-    → kind ≡ First
-makes_first First final again inside heard rseq makes = refl
-makes_first (Again life) true true inside heard rseq makes = absurd cc
-makes_first (Again life) true false inside heard rseq makes = absurd cc
-makes_first (Again life) false again true heard rseq makes = absurd cc
-makes_first (Again life) false again false heard rseq makes = absurd cc
-makes_first (Inside life) true true inside heard rseq makes = absurd cc
-makes_first (Inside life) true false inside heard rseq makes = absurd cc
-makes_first (Inside life) false again true heard rseq makes = absurd cc
-makes_first (Inside life) false again false heard rseq makes = absurd cc
-makes_first Plain true true inside heard rseq makes = absurd cc
-makes_first Plain true false inside heard rseq makes = absurd cc
-makes_first Plain false again true heard rseq makes = absurd cc
-makes_first Plain false again false heard rseq makes = absurd cc
+    else (if has_dialog kind None then reply.Accepted else reply.Late))
+    else (if inside && has_dialog kind None then reliable_case last_rseq rseq else reply.Told)) ≡ true
+    → kind ≡ InitialInvite
+makes_first InitialInvite final again inside last_rseq rseq makes = refl
+makes_first (ReInvite life) true true inside last_rseq rseq makes = absurd cc
+makes_first (ReInvite life) true false inside last_rseq rseq makes = absurd cc
+makes_first (ReInvite life) false again true last_rseq rseq makes = absurd cc
+makes_first (ReInvite life) false again false last_rseq rseq makes = absurd cc
+makes_first (InDialog life) true true inside last_rseq rseq makes = absurd cc
+makes_first (InDialog life) true false inside last_rseq rseq makes = absurd cc
+makes_first (InDialog life) false again true last_rseq rseq makes = absurd cc
+makes_first (InDialog life) false again false last_rseq rseq makes = absurd cc
+makes_first OutOfDialog true true inside last_rseq rseq makes = absurd cc
+makes_first OutOfDialog true false inside last_rseq rseq makes = absurd cc
+makes_first OutOfDialog false again true last_rseq rseq makes = absurd cc
+makes_first OutOfDialog false again false last_rseq rseq makes = absurd cc
 
 -- a dialog that a response makes has the name of its tags
-abbrev pub IsNamedSo : Client → Answer → Option HeldDialog → Type 0
+abbrev pub IsNamedSo : Client → ReceivedResponse → Option HeldDialog → Type 0
 IsNamedSo client answer found = found ≡ None
     → is_named answer.name
     (name_of_dialog (dialog_opened (ByResponse client.request answer.response))) ≡ true
 
-pub first_name : (client : Client) (answer : Answer) (found : Option HeldDialog)
-    → answer.name ≡ reply_name First client answer.response → IsNamedSo client answer found
+pub first_name : (client : Client) (answer : ReceivedResponse) (found : Option HeldDialog)
+    → answer.name ≡ reply_name InitialInvite client answer.response → IsNamedSo client answer found
 first_name client answer found own none =
     let from = (client.request).from in
     let to = (answer.response).to in
@@ -105,11 +105,11 @@ first_name client answer found own none =
     own ∙ (λ i. name_of_tags (sym (tag_kept (tag_of from)) i) (sym (tag_kept (tag_of to)) i)) in
     ap (λ name. is_named name tags) same ∙ name_laws.refl tags
 
-pub reply_names : (client : Client) (answer : Answer) (found : Option HeldDialog)
+pub reply_names : (client : Client) (answer : ReceivedResponse) (found : Option HeldDialog)
     → answer.name ≡ reply_name client.kind client answer.response
     → may_make (reply_case client found answer) ≡ true → IsNamedSo client answer found
 reply_names client answer found own makes none =
-    let first : client.kind ≡ First =
+    let first : client.kind ≡ InitialInvite =
     makes_first client.kind (is_final answer.status) (has_answer answer.name client.answers)
     (is_dialog_response answer) (heard_of client.kind client None) (rseq_of answer.response)
     (ap (λ (found : Option HeldDialog). may_make (reply_case client found answer)) (sym none)
@@ -117,7 +117,7 @@ reply_names client answer found own makes none =
     first_name client answer found
     (own ∙ ap (λ kind. reply_name kind client answer.response) first) none
 
-module _ (event : Option Id) (client : Client) (answer : Answer)
+module _ (event : Option Id) (client : Client) (answer : ReceivedResponse)
     (made : event ≡ Some (answer.event).id) where
   abbrev pub start : Opening
   start = ByResponse client.request answer.response
@@ -125,7 +125,7 @@ module _ (event : Option Id) (client : Client) (answer : Answer)
   abbrev pub prack_life : ℕ → Dialog → List Happening
   prack_life number dialog =
       discharge_life (Prack number ((client.request).cseq).number)
-      (offer_to client answer.response) dialog
+      (automatic_body client answer.response) dialog
 
   -- what happens in the dialog of its name where it is held, and in one that is opened
   abbrev pub case_life : ReplyCase → Life
@@ -149,16 +149,16 @@ module _ (event : Option Id) (client : Client) (answer : Answer)
 
   -- ---- the dialog of its name
 
-  abbrev GoesTo : ReplyCase → Option HeldDialog → HeldDialog → DialogName → Type 0
+  abbrev GoesTo : ReplyCase → Option HeldDialog → HeldDialog → DialogId → Type 0
   GoesTo case found after other =
       Goes event (OpensBy (Some start) other) (heard_number case client.kind true) (case_life case)
       (case_begun case found) found (Some after)
 
   abbrev GoesHere : ReplyCase → Option HeldDialog → HeldDialog → Type 0
   GoesHere case found after =
-      (other : DialogName) → is_named answer.name other ≡ true → GoesTo case found after other
+      (other : DialogId) → is_named answer.name other ≡ true → GoesTo case found after other
 
-  opens_so : IsNamedSo client answer None → (other : DialogName) → is_named answer.name other ≡ true
+  opens_so : IsNamedSo client answer None → (other : DialogId) → is_named answer.name other ≡ true
       → OpensBy (Some start) other start
   opens_so named other same =
       (refl, same_name answer.name other (name_of_dialog (dialog_opened start)) (named refl) same)
@@ -176,7 +176,7 @@ module _ (event : Option Id) (client : Client) (answer : Answer)
     where
       keeps : (held : HeldDialog) → Keeps None [] held (ack_owed client held answer).0
       keeps held = owed_keeps answer.event (Ack client.id ((client.request).cseq).number)
-          (offer_to client answer.response) held
+          (automatic_body client answer.response) held
 
       by_found : (found : Option HeldDialog) → IsNamedSo client answer found
           → GoesTo reply.Accepted found (ack_owed client (accepted client answer found) answer).0
@@ -198,11 +198,11 @@ module _ (event : Option Id) (client : Client) (answer : Answer)
   -- a reliable provisional response, whose PRACK is owed in the dialog that has heard it so
   abbrev prack_owes : ℕ → HeldDialog → HeldDialog
   prack_owes number held =
-      (owed answer.event (Prack number ((client.request).cseq).number)
-      (offer_to client answer.response) held).0
+      (pending_requests answer.event (Prack number ((client.request).cseq).number)
+      (automatic_body client answer.response) held).0
 
   abbrev GoesBy : Option ℕ → (HeldDialog → HeldDialog) → ℕ → Option HeldDialog → Type 0
-  GoesBy came hears number found = (other : DialogName) → is_named answer.name other ≡ true
+  GoesBy came hears number found = (other : DialogId) → is_named answer.name other ≡ true
       → Goes event (OpensBy (Some start) other) came (case_life (reply.Reliable number))
       (case_begun (reply.Reliable number) found) found
       (Some (prack_owes number (hears (dialog_for_provisional client answer found))))
@@ -226,19 +226,19 @@ module _ (event : Option Id) (client : Client) (answer : Answer)
       → GoesBy None (λ held. held) number found
   unheard_goes number =
       goes_by None (λ held. held) number (λ held. owed_keeps answer.event
-      (Prack number ((client.request).cseq).number) (offer_to client answer.response) held)
+      (Prack number ((client.request).cseq).number) (automatic_body client answer.response) held)
 
   prack_goes : (kind : RequestKind) (number : ℕ) (found : Option HeldDialog)
       → IsNamedSo client answer found
       → GoesBy (heard_number (reply.Reliable number) kind true) (heard_first kind number) number
       found
-  prack_goes First number found named =
+  prack_goes InitialInvite number found named =
       goes_by (Some number) (hearing number) number (λ held. owed_keeps answer.event
-      (Prack number ((client.request).cseq).number) (offer_to client answer.response)
+      (Prack number ((client.request).cseq).number) (automatic_body client answer.response)
       (hearing number held)) found named
-  prack_goes (Again life) number found named = unheard_goes number found named
-  prack_goes (Inside life) number found named = unheard_goes number found named
-  prack_goes Plain number found named = unheard_goes number found named
+  prack_goes (ReInvite life) number found named = unheard_goes number found named
+  prack_goes (InDialog life) number found named = unheard_goes number found named
+  prack_goes OutOfDialog number found named = unheard_goes number found named
 
   -- ---- all dialogs
 
@@ -270,7 +270,7 @@ module _ (event : Option Id) (client : Client) (answer : Answer)
         (by_name name (is_named answer.name name) refl);
   }
     where
-      by_name : (name : DialogName) (b : Bool) → is_named answer.name name ≡ b
+      by_name : (name : DialogId) (b : Bool) → is_named answer.name name ≡ b
           → Goes event (OpensBy (Some start) name) (heard_number case client.kind b)
           (λ held. cond b (case_life case held) [])
           (cond b (case_begun case (dialog_at answer.name dialogs)) []) (dialog_at name dialogs)

@@ -13,13 +13,13 @@ use Rattle.sip_dialog.specs.Opening.{ByResponse, Opening}
 use Rattle.sip_reliable.specs.declared.offer.Offer.{Offer}
 use Rattle.sip_reliable.specs.declared.offer.Offer.TheVariants.{Taken, Repeat, Gap}
 use Rattle.sip_reliable.specs.Inbound.{offered}
-use Rattle.sip_common.specs.declared.debt.Debt.TheVariants.{Prack, Ack}
-use Rattle.sip_common.specs.declared.held_dialog.DialogName.{DialogName}
+use Rattle.sip_common.specs.declared.pending_request.PendingRequest.TheVariants.{Prack, Ack}
+use Rattle.sip_common.specs.declared.held_dialog.DialogId.{DialogId}
 use Rattle.sip_common.specs.declared.held_dialog.HeldDialog.{HeldDialog}
 use Rattle.sip_common.specs.Dialogs.{Dialogs, dialog_at, is_named}
 use Rattle.sip_common.specs.Requests.{is_final, is_success}
 use Rattle.sip_common.specs.Sent.{NumberedFrom, name_of_dialog, number_before, requests_made}
-use Rattle.sip_common.specs.declared.debt.Debt.{Debt}
+use Rattle.sip_common.specs.declared.pending_request.PendingRequest.{PendingRequest}
 use Rattle.sip_common.specs.declared.item.CallOut.{CallOut}
 use Rattle.sip_common.proofs.Entries as entries
 use Rattle.sip_common.proofs.Heard.{AreApart, Lives, Moves, in_one, leads_as, moves_as, moves_led, name_laws, none_came, none_either, quiet}
@@ -27,20 +27,20 @@ use Rattle.sip_common.proofs.Starts.{numbered_none}
 use Rattle.sip_common.proofs.Owing.{Owes, owes_as, still_same, unchanged}
 use Rattle.sip_clients.specs.declared.client.Client.{Client}
 use Rattle.sip_clients.specs.declared.client.RequestKind.{RequestKind}
-use Rattle.sip_clients.specs.declared.client.RequestKind.TheVariants.{First, Again, Inside, Plain}
+use Rattle.sip_clients.specs.declared.client.RequestKind.TheVariants.{InitialInvite, ReInvite, InDialog, OutOfDialog}
 use Rattle.sip_clients.specs.declared.event.Event.{Event}
-use Rattle.sip_clients.specs.declared.reply.Reply.{Reply as Answer}
+use Rattle.sip_clients.specs.declared.reply.ReceivedResponse.{ReceivedResponse}
 use Rattle.sip_clients.specs.declared.reply.ReplyCase.{ReplyCase}
 use Rattle.sip_clients.specs.declared.reply.ReplyCase.TheVariants as reply
 use Rattle.sip_clients.specs.declared.outputs.ClientChange.{ClientChange}
-use Rattle.sip_clients.specs.declared.service.Service.{Service}
+use Rattle.sip_clients.specs.declared.send_outcome.SendOutcome.{SendOutcome}
 use Rattle.sip_clients.specs.Answers.{has_answer}
 use Rattle.sip_clients.specs.Cancel.{after_response}
 use Rattle.sip_clients.specs.Clients.{reply_name, reply_of}
 use Rattle.sip_clients.specs.Dialogs.{dialog_for_provisional, accepted, accepted_in, dialog_by_response}
 use Rattle.sip_clients.specs.Happenings.{reply_brings, success_brings}
-use Rattle.sip_clients.specs.Replied.{Replied, after_dialog, by_reply_case, ends_dialog, request_over, heard_first, offer_to, prack_owed, reply_taken, ack_owed, dialogs_with}
-use Rattle.sip_clients.specs.Reply.{offer_case, heard_of, is_inviting, is_last, is_dialog_response, is_there, reliable_case, reply_case, rseq_of}
+use Rattle.sip_clients.specs.Replied.{Replied, after_dialog, by_reply_case, ends_dialog, request_over, heard_first, automatic_body, prack_owed, reply_taken, ack_owed, dialogs_with}
+use Rattle.sip_clients.specs.ReceivedResponse.{offer_case, heard_of, is_inviting, is_last, is_dialog_response, has_dialog, reliable_case, reply_case, rseq_of}
 use Rattle.sip_clients.specs.Outputs.{request_said}
 use Rattle.sip_clients.specs.Owing.{asked_for, is_direct, is_of_prack}
 use Rattle.sip_clients.specs.Provisionals.{is_response}
@@ -53,10 +53,10 @@ use Rattle.sip_clients.proofs.DialogDebts.{ended_same, goes, unless_out, owed_ad
 
 heard_dialog : (kind : RequestKind) (number : ℕ) (held : HeldDialog)
     → (heard_first kind number held).dialog ≡ held.dialog
-heard_dialog First number held = refl
-heard_dialog (Again life) number held = refl
-heard_dialog (Inside life) number held = refl
-heard_dialog Plain number held = refl
+heard_dialog InitialInvite number held = refl
+heard_dialog (ReInvite life) number held = refl
+heard_dialog (InDialog life) number held = refl
+heard_dialog OutOfDialog number held = refl
 
 success_final : (status : ℕ) → is_success status ≡ true → is_final status ≡ true
 success_final status e = first_so (nat_le 200 status) (nat_lt status 300) e
@@ -78,44 +78,44 @@ case_success reply.Passed life = []
 case_success reply.Early life = []
 case_success reply.Told life = []
 
-no_success : (heard rseq : Option ℕ) (life : List Happening)
-    → case_success (reliable_case heard rseq) life ≡ []
-no_success heard None life = refl
-no_success heard (Some rseq) life = by_offer (offered heard rseq)
+no_success : (last_rseq rseq : Option ℕ) (life : List Happening)
+    → case_success (reliable_case last_rseq rseq) life ≡ []
+no_success last_rseq None life = refl
+no_success last_rseq (Some rseq) life = by_offer (offered last_rseq rseq)
   where
     by_offer : (offer : Offer) → case_success (offer_case offer rseq) life ≡ []
     by_offer Taken = refl
     by_offer Repeat = refl
     by_offer Gap = refl
 
-by_parts : (final success again there inside : Bool) (heard rseq : Option ℕ)
+by_parts : (final success again there inside : Bool) (last_rseq rseq : Option ℕ)
     (life : List Happening) → (success ≡ true → final ≡ true) → (final ≡ true → success ≡ true)
     → case_success (if final then (if again then reply.Repeated
     else (if there then reply.Accepted else reply.Late))
-    else (if inside && there then reliable_case heard rseq else reply.Told)) life
+    else (if inside && there then reliable_case last_rseq rseq else reply.Told)) life
     ≡ (if success && not again && there then life else [])
-by_parts true true true there inside heard rseq life so last = refl
-by_parts true true false true inside heard rseq life so last = refl
-by_parts true true false false inside heard rseq life so last = refl
-by_parts true false again there inside heard rseq life so last =
+by_parts true true true there inside last_rseq rseq life so last = refl
+by_parts true true false true inside last_rseq rseq life so last = refl
+by_parts true true false false inside last_rseq rseq life so last = refl
+by_parts true false again there inside last_rseq rseq life so last =
     let wrong : false ≡ true = last refl in absurd cc
-by_parts false true again there inside heard rseq life so last =
+by_parts false true again there inside last_rseq rseq life so last =
     let wrong : false ≡ true = so refl in absurd cc
-by_parts false false again true true heard rseq life so last = no_success heard rseq life
-by_parts false false again false true heard rseq life so last = refl
-by_parts false false again there false heard rseq life so last = refl
+by_parts false false again true true last_rseq rseq life so last = no_success last_rseq rseq life
+by_parts false false again false true last_rseq rseq life so last = refl
+by_parts false false again there false last_rseq rseq life so last = refl
 
 module _ (event : Event) (id : Id) (call_id : List ℕ) (response : Message) (status : ℕ)
     (asker : Client) (dialogs : Dialogs) (apart : AreApart dialogs) (named : AreNamed dialogs)
   where
-    abbrev own : DialogName
+    abbrev own : DialogId
     own = reply_name asker.kind asker response
 
     -- the request when the response has come
     abbrev client : Client
     client = after_response (is_final status) asker
 
-    abbrev answer : Answer
+    abbrev answer : ReceivedResponse
     answer = reply_of event id call_id own status response
 
     abbrev found : Option HeldDialog
@@ -129,10 +129,10 @@ module _ (event : Event) (id : Id) (call_id : List ℕ) (response : Message) (st
 
     name_kept : (kind : RequestKind)
         → reply_name kind asker response ≡ reply_name kind client response
-    name_kept First = refl
-    name_kept (Again life) = refl
-    name_kept (Inside life) = refl
-    name_kept Plain = refl
+    name_kept InitialInvite = refl
+    name_kept (ReInvite life) = refl
+    name_kept (InDialog life) = refl
+    name_kept OutOfDialog = refl
 
     -- the dialog of the name, as it is opened, has its tags
     opened_named : (o : Option HeldDialog) → found ≡ o → IsNamedSo client answer found
@@ -146,7 +146,7 @@ module _ (event : Event) (id : Id) (call_id : List ℕ) (response : Message) (st
     case_cseqs reply.Accepted o = []
     case_cseqs reply.Late o = []
     case_cseqs (reply.Reliable number) o =
-        discharge_cseqs (Prack number ((client.request).cseq).number) (offer_to client response)
+        discharge_cseqs (Prack number ((client.request).cseq).number) (automatic_body client response)
         (dialog_for_provisional client answer o).dialog
     case_cseqs reply.Passed o = []
     case_cseqs reply.Early o = []
@@ -163,7 +163,7 @@ module _ (event : Event) (id : Id) (call_id : List ℕ) (response : Message) (st
     begun_made reply.Early = refl
     begun_made reply.Told = refl
 
-    goes_out : (case : ReplyCase) → Named case → (name : DialogName)
+    goes_out : (case : ReplyCase) → Named case → (name : DialogId)
         → change_cseqs name (by_reply_case case client found answer).3
         ≡ cond (is_named own name) (case_cseqs case found) []
     unfolding prack_owed
@@ -172,21 +172,21 @@ module _ (event : Event) (id : Id) (call_id : List ℕ) (response : Message) (st
     goes_out reply.Late so name = sym (none_either (is_named own name))
     goes_out (reply.Reliable number) so name =
         let held = dialog_for_provisional client answer found in
-        let heard = heard_first client.kind number held in
+        let last_rseq = heard_first client.kind number held in
         let same = heard_dialog client.kind number held in
-        let debt = Prack number ((client.request).cseq).number in
+        let pending = Prack number ((client.request).cseq).number in
         said_change name event call_id own (prack_owed number client held answer).1
-        ∙ owed_sent name own event heard
+        ∙ owed_sent name own event last_rseq
         (ap (λ dialog. is_named own (name_of_dialog dialog)) same
         ∙ opened_named found refl (so refl))
-        debt (offer_to client response)
+        pending (automatic_body client response)
         ∙ ap (λ dialog. cond (is_named own name)
-        (discharge_cseqs debt (offer_to client response) dialog) []) same
+        (discharge_cseqs pending (automatic_body client response) dialog) []) same
     goes_out reply.Passed so name = sym (none_either (is_named own name))
     goes_out reply.Early so name = sym (none_either (is_named own name))
     goes_out reply.Told so name = sym (none_either (is_named own name))
 
-    changes : (case : ReplyCase) → Named case → (name : DialogName)
+    changes : (case : ReplyCase) → Named case → (name : DialogId)
         → change_sent name (by_reply_case case client found answer).3
         ≡ cond (is_named own name) (case_begun (Some event.id) client answer refl case found) []
     changes case so name =
@@ -204,16 +204,16 @@ module _ (event : Event) (id : Id) (call_id : List ℕ) (response : Message) (st
     case_numbered reply.Accepted o = numbered_none (number_before (Some start) o)
     case_numbered reply.Late o = numbered_none (number_before (Some start) o)
     case_numbered (reply.Reliable number) None =
-        discharge_numbered (Prack number ((client.request).cseq).number) (offer_to client response)
+        discharge_numbered (Prack number ((client.request).cseq).number) (automatic_body client response)
         (dialog_for_provisional client answer None).dialog
     case_numbered (reply.Reliable number) (Some held) =
-        discharge_numbered (Prack number ((client.request).cseq).number) (offer_to client response)
+        discharge_numbered (Prack number ((client.request).cseq).number) (automatic_body client response)
         held.dialog
     case_numbered reply.Passed o = numbered_none (number_before (Some start) o)
     case_numbered reply.Early o = numbered_none (number_before (Some start) o)
     case_numbered reply.Told o = numbered_none (number_before (Some start) o)
 
-    numbered_so : (case : ReplyCase) → Named case → (name : DialogName)
+    numbered_so : (case : ReplyCase) → Named case → (name : DialogId)
         → NumberedFrom (number_before (Some start) (dialog_at name dialogs))
         (change_cseqs name (by_reply_case case client found answer).3)
     numbered_so case so name =
@@ -234,7 +234,7 @@ module _ (event : Event) (id : Id) (call_id : List ℕ) (response : Message) (st
     brings case name held =
         cond (is_named own name) (case_success case (success_brings client.kind response held)) []
 
-    prack_same : (number : ℕ) (name : DialogName) (held : HeldDialog)
+    prack_same : (number : ℕ) (name : DialogId) (held : HeldDialog)
         → dialog_at name dialogs ≡ Some held → (b : Bool) → is_named own name ≡ b
         → cond b (prack_life (Some event.id) client answer refl number held.dialog) []
         ≡ cond b (prack_life (Some event.id) client answer refl number
@@ -245,7 +245,7 @@ module _ (event : Event) (id : Id) (call_id : List ℕ) (response : Message) (st
         (dialog_for_provisional client answer o).dialog)
         (sym (sym (entries.same_key name_laws own name dialogs is) ∙ at))
 
-    lives : (case : ReplyCase) → Named case → (name : DialogName) (held : HeldDialog)
+    lives : (case : ReplyCase) → Named case → (name : DialogId) (held : HeldDialog)
         → dialog_at name dialogs ≡ Some held
         → in_one own (case_life (Some event.id) client answer refl case) name held
         ≡ brings case name held ++ change_sent name (by_reply_case case client found answer).3
@@ -262,12 +262,12 @@ module _ (event : Event) (id : Id) (call_id : List ℕ) (response : Message) (st
     lives reply.Early so name held at = sym (append-nil (brings reply.Early name held))
     lives reply.Told so name held at = sym (append-nil (brings reply.Told name held))
 
-    abbrev spec_by : Bool → DialogName → HeldDialog → List Happening
+    abbrev spec_by : Bool → DialogId → HeldDialog → List Happening
     spec_by named name held =
         if named && (is_success status && not (has_answer own client.answers))
-        && is_there client.kind (Some held) then success_brings client.kind response held else []
+        && has_dialog client.kind (Some held) then success_brings client.kind response held else []
 
-    brings_so : is_last client.kind status ≡ false → (name : DialogName) (held : HeldDialog)
+    brings_so : is_last client.kind status ≡ false → (name : DialogId) (held : HeldDialog)
         → dialog_at name dialogs ≡ Some held
         → brings case_now name held ≡ reply_brings status asker response name held
     brings_so last name held at = by_name (is_named own name) refl
@@ -281,17 +281,17 @@ module _ (event : Event) (id : Id) (call_id : List ℕ) (response : Message) (st
             (success_brings client.kind response held))
             (sym (entries.same_key name_laws own name dialogs is) ∙ at)
             ∙ by_parts (is_final status) (is_success status) (has_answer own client.answers)
-            (is_there client.kind (Some held)) (is_dialog_response answer)
+            (has_dialog client.kind (Some held)) (is_dialog_response answer)
             (heard_of client.kind client (Some held)) (rseq_of response)
             (success_brings client.kind response held) (success_final status)
             (not_last (is_final status) (is_success status) (is_inviting client.kind) last)
 
     -- the last response does nothing in a dialog that stays
-    last_brings : is_last client.kind status ≡ true → (name : DialogName) (held : HeldDialog)
+    last_brings : is_last client.kind status ≡ true → (name : DialogId) (held : HeldDialog)
         → reply_brings status asker response name held ≡ []
     last_brings last name held =
         by_kind client.kind (is_named own name) (is_success status)
-        (not (has_answer own client.answers)) (is_there client.kind (Some held)) last
+        (not (has_answer own client.answers)) (has_dialog client.kind (Some held)) last
       where
         never : (final : Bool) → (final && false) ≡ true → ⊥
         never true e = absurd cc
@@ -304,17 +304,17 @@ module _ (event : Event) (id : Id) (call_id : List ℕ) (response : Message) (st
             ≡ []
         by_kind kind true false first there last = refl
         by_kind kind false success first there last = refl
-        by_kind First true true first there last = absurd (never (is_final status) last)
-        by_kind (Again life) true true first there last = absurd (never (is_final status) last)
-        by_kind (Inside life) true true first there last = none_either (first && there)
-        by_kind Plain true true first there last = none_either (first && there)
+        by_kind InitialInvite true true first there last = absurd (never (is_final status) last)
+        by_kind (ReInvite life) true true first there last = absurd (never (is_final status) last)
+        by_kind (InDialog life) true true first there last = none_either (first && there)
+        by_kind OutOfDialog true true first there last = none_either (first && there)
 
     abbrev RepliedSo : Replied → Type 0
-    RepliedSo done = (came : DialogName → Option ℕ)
+    RepliedSo done = (came : DialogId → Option ℕ)
         × Moves (Some event.id) (Some start) came
         (λ name held. reply_brings status asker response name held ++ change_sent name done.3)
         (λ name. change_sent name done.3) dialogs done.1
-        × ((name : DialogName) → NumberedFrom (number_before (Some start) (dialog_at name dialogs))
+        × ((name : DialogId) → NumberedFrom (number_before (Some start) (dialog_at name dialogs))
         (change_cseqs name done.3))
 
     by_last : (last : Bool) → is_last client.kind status ≡ last
@@ -336,7 +336,7 @@ module _ (event : Event) (id : Id) (call_id : List ℕ) (response : Message) (st
         let after = (after_dialog own dialogs done).1 in
         let so : Named case_now = reply_names client answer found (name_kept asker.kind) in
         let moves = case_moves (Some event.id) client answer refl case_now dialogs apart so in
-        let came : DialogName → Option ℕ =
+        let came : DialogId → Option ℕ =
         λ name. heard_number case_now client.kind (is_named own name) in (
           came,
           moves_as (Some event.id) (Some (ByResponse client.request response)) came
@@ -360,103 +360,103 @@ module _ (event : Event) (id : Id) (call_id : List ℕ) (response : Message) (st
     abbrev invite_number : ℕ
     invite_number = ((client.request).cseq).number
 
-    abbrev ack_debt : Debt
+    abbrev ack_debt : PendingRequest
     ack_debt = Ack client.id invite_number
 
-    abbrev prack_debt : ℕ → Debt
+    abbrev prack_debt : ℕ → PendingRequest
     prack_debt rseq = Prack rseq invite_number
 
-    abbrev acked_so : Option HeldDialog → HeldDialog × Service
+    abbrev acked_so : Option HeldDialog → HeldDialog × SendOutcome
     acked_so o = ack_owed client (accepted client answer o) answer
 
-    abbrev pracked_so : ℕ → Option HeldDialog → HeldDialog × Service
+    abbrev pracked_so : ℕ → Option HeldDialog → HeldDialog × SendOutcome
     pracked_so rseq o = prack_owed rseq client (dialog_for_provisional client answer o) answer
 
     -- what goes out
-    abbrev sent_now : Debt → Bool
+    abbrev sent_now : PendingRequest → Bool
     sent_now (Ack invite number) = goes (acked_so found).1
     sent_now (Prack rseq number) = goes (pracked_so rseq found).1
 
-    abbrev case_left : ReplyCase → List Debt
+    abbrev case_left : ReplyCase → List PendingRequest
     case_left case = case_owes sent_now ack_debt prack_debt case
 
     ack_here : (o : Option HeldDialog)
-        → Owes (Some event.id) (λ debts. debts ++ unless_out (goes (acked_so o).1) ack_debt) o
+        → Owes (Some event.id) (λ pending_requests. pending_requests ++ unless_out (goes (acked_so o).1) ack_debt) o
         (Some (acked_so o).0)
     unfolding ack_owed
     ack_here None =
         let made = dialog_by_response client answer in
-        let adds = owed_adds event ack_debt (offer_to client response) made in
+        let adds = owed_adds event ack_debt (automatic_body client response) made in
         inr (ap (λ id. Some id) (sym adds.0), adds.1)
     ack_here (Some held) =
         let before = accepted_in client.kind response held in
-        let adds = owed_adds event ack_debt (offer_to client response) before in
+        let adds = owed_adds event ack_debt (automatic_body client response) before in
         let kept = accepted_kept client.kind response held in
         let left = unless_out (goes (acked_so (Some held)).1) ack_debt in
-        inl (adds.0 ∙ kept.0, adds.1 ∙ ap (λ debts. debts ++ left) kept.1)
+        inl (adds.0 ∙ kept.0, adds.1 ∙ ap (λ pending_requests. pending_requests ++ left) kept.1)
 
     prack_here : (rseq : ℕ) (o : Option HeldDialog)
         → Owes (Some event.id)
-        (λ debts. debts ++ unless_out (goes (pracked_so rseq o).1) (prack_debt rseq)) o
+        (λ pending_requests. pending_requests ++ unless_out (goes (pracked_so rseq o).1) (prack_debt rseq)) o
         (Some (pracked_so rseq o).0)
     unfolding prack_owed
     prack_here rseq None =
         let made = dialog_by_response client answer in
-        let heard = heard_first client.kind rseq made in
-        let adds = owed_adds event (prack_debt rseq) (offer_to client response) heard in
+        let last_rseq = heard_first client.kind rseq made in
+        let adds = owed_adds event (prack_debt rseq) (automatic_body client response) last_rseq in
         let kept = heard_kept client.kind rseq made in
         let left = unless_out (goes (pracked_so rseq None).1) (prack_debt rseq) in
         inr (
           ap (λ id. Some id) (sym (adds.0 ∙ kept.0)),
-          adds.1 ∙ ap (λ debts. debts ++ left) kept.1,
+          adds.1 ∙ ap (λ pending_requests. pending_requests ++ left) kept.1,
         )
     prack_here rseq (Some held) =
-        let heard = heard_first client.kind rseq held in
-        let adds = owed_adds event (prack_debt rseq) (offer_to client response) heard in
+        let last_rseq = heard_first client.kind rseq held in
+        let adds = owed_adds event (prack_debt rseq) (automatic_body client response) last_rseq in
         let kept = heard_kept client.kind rseq held in
         let left = unless_out (goes (pracked_so rseq (Some held)).1) (prack_debt rseq) in
-        inl (adds.0 ∙ kept.0, adds.1 ∙ ap (λ debts. debts ++ left) kept.1)
+        inl (adds.0 ∙ kept.0, adds.1 ∙ ap (λ pending_requests. pending_requests ++ left) kept.1)
 
     abbrev early_here : (o : Option HeldDialog)
-        → Owes (Some event.id) (λ debts. debts ++ []) o
+        → Owes (Some event.id) (λ pending_requests. pending_requests ++ []) o
         (Some (dialog_for_provisional client answer o))
     early_here None = inr (refl, refl)
-    early_here (Some held) = inl (refl, sym (append-nil held.owed))
+    early_here (Some held) = inl (refl, sym (append-nil held.pending_requests))
 
     -- of each name
-    abbrev LeavesIn : List Debt → Dialogs → DialogName → Type 0
+    abbrev LeavesIn : List PendingRequest → Dialogs → DialogId → Type 0
     LeavesIn left after name =
-        Owes (Some event.id) (λ debts. debts ++ cond (is_named own name) left [])
+        Owes (Some event.id) (λ pending_requests. pending_requests ++ cond (is_named own name) left [])
         (dialog_at name dialogs) (dialog_at name after)
 
-    nothing_left : (name : DialogName) → LeavesIn [] dialogs name
+    nothing_left : (name : DialogId) → LeavesIn [] dialogs name
     nothing_left name =
         let held = dialog_at name dialogs in
-        owes_as (Some event.id) unchanged (λ debts. debts ++ cond (is_named own name) [] []) held
-        held (λ debts. sym (ap (λ xs. debts ++ xs) (none_either (is_named own name))
-        ∙ append-nil debts)) (inl (still_same held))
+        owes_as (Some event.id) unchanged (λ pending_requests. pending_requests ++ cond (is_named own name) [] []) held
+        held (λ pending_requests. sym (ap (λ xs. pending_requests ++ xs) (none_either (is_named own name))
+        ∙ append-nil pending_requests)) (inl (still_same held))
 
-    put_leaves : (left : List Debt) (after : HeldDialog)
-        → Owes (Some event.id) (λ debts. debts ++ left) found (Some after) → (name : DialogName)
+    put_leaves : (left : List PendingRequest) (after : HeldDialog)
+        → Owes (Some event.id) (λ pending_requests. pending_requests ++ left) found (Some after) → (name : DialogId)
         → LeavesIn left (insert_entry is_named dialogs own after) name
     put_leaves left after here name =
-        subst (Owes (Some event.id) (λ debts. debts ++ cond (is_named own name) left [])
+        subst (Owes (Some event.id) (λ pending_requests. pending_requests ++ cond (is_named own name) left [])
         (dialog_at name dialogs))
         (sym (entries.found_inserted name_laws own name after dialogs))
         (by_name (is_named own name) refl)
       where
         by_name : (b : Bool) → is_named own name ≡ b
-            → Owes (Some event.id) (λ debts. debts ++ cond b left []) (dialog_at name dialogs)
+            → Owes (Some event.id) (λ pending_requests. pending_requests ++ cond b left []) (dialog_at name dialogs)
             (cond b (Some after) (dialog_at name dialogs))
         by_name true is =
-            subst (λ o. Owes (Some event.id) (λ debts. debts ++ left) o (Some after))
+            subst (λ o. Owes (Some event.id) (λ pending_requests. pending_requests ++ left) o (Some after))
             (sym (entries.same_key name_laws own name dialogs is)) here
         by_name false is =
             let held = dialog_at name dialogs in
-            owes_as (Some event.id) unchanged (λ debts. debts ++ []) held held
-            (λ debts. sym (append-nil debts)) (inl (still_same held))
+            owes_as (Some event.id) unchanged (λ pending_requests. pending_requests ++ []) held held
+            (λ pending_requests. sym (append-nil pending_requests)) (inl (still_same held))
 
-    case_leaves : (case : ReplyCase) (name : DialogName)
+    case_leaves : (case : ReplyCase) (name : DialogId)
         → LeavesIn (case_left case)
         (dialogs_with own (by_reply_case case client found answer).1 dialogs) name
     case_leaves reply.Repeated name = nothing_left name
@@ -473,11 +473,11 @@ module _ (event : Event) (id : Id) (call_id : List ℕ) (response : Message) (st
 
     -- ---- by what is given
 
-    abbrev pub given : DialogName → List CallOut → ClientChange → Debt → Bool
+    abbrev pub given : DialogId → List CallOut → ClientChange → PendingRequest → Bool
     given name outs change (Ack invite number) = list_any is_direct outs
     given name outs change (Prack rseq number) = list_any is_of_prack (change_cseqs name change)
 
-    prack_given : (rseq : ℕ) (name : DialogName) → IsNamedSo client answer found
+    prack_given : (rseq : ℕ) (name : DialogId) → IsNamedSo client answer found
         → is_named own name ≡ true
         → list_any is_of_prack (change_cseqs name
         (request_said event call_id own (pracked_so rseq found).1).1)
@@ -488,9 +488,9 @@ module _ (event : Event) (id : Id) (call_id : List ℕ) (response : Message) (st
         ap (list_any is_of_prack) (said_change name event call_id own (pracked_so rseq found).1)
         ∙ prack_owes name own event (heard_first client.kind rseq held)
         (ap (λ dialog. is_named own (name_of_dialog dialog)) (heard_dialog client.kind rseq held)
-        ∙ opened_named found refl so) same rseq invite_number (offer_to client response)
+        ∙ opened_named found refl so) same rseq invite_number (automatic_body client response)
 
-    case_given : (case : ReplyCase) → Named case → (name : DialogName) → is_named own name ≡ true
+    case_given : (case : ReplyCase) → Named case → (name : DialogId) → is_named own name ≡ true
         → let done = by_reply_case case client found answer in
         case_owes (given name done.2 done.3) ack_debt prack_debt case ≡ case_left case
     case_given reply.Repeated so name same = refl
@@ -504,40 +504,40 @@ module _ (event : Event) (id : Id) (call_id : List ℕ) (response : Message) (st
     case_given reply.Told so name same = refl
 
     -- what is owed by what is given
-    abbrev pub leaves : DialogName → Replied → List Debt
+    abbrev pub leaves : DialogId → Replied → List PendingRequest
     leaves name done =
-        if is_named own name && is_there asker.kind (dialog_at name dialogs)
+        if is_named own name && has_dialog asker.kind (dialog_at name dialogs)
         then left_by (list_any is_response done.2) (given name done.2 done.3)
         (asked_for status asker response) else []
 
     abbrev done_now : Replied
     done_now = after_dialog own dialogs (by_reply_case case_now client found answer)
 
-    case_now_leaves : is_last asker.kind status ≡ false → (name : DialogName)
+    case_now_leaves : is_last asker.kind status ≡ false → (name : DialogId)
         → leaves name (after_dialog own dialogs (by_reply_case case_now client found answer))
         ≡ cond (is_named own name) (case_left case_now) []
     case_now_leaves last name = by_name (is_named own name) refl
       where
         by_name : (b : Bool) → is_named own name ≡ b
-            → (if b && is_there asker.kind (dialog_at name dialogs)
+            → (if b && has_dialog asker.kind (dialog_at name dialogs)
             then left_by (list_any is_response done_now.2) (given name done_now.2 done_now.3)
             (asked_for status asker response) else [])
             ≡ cond b (case_left case_now) []
         by_name false is = refl
         by_name true is =
-            (λ i. if is_there asker.kind (entries.same_key name_laws own name dialogs is i)
+            (λ i. if has_dialog asker.kind (entries.same_key name_laws own name dialogs is i)
             then left_by (case_told case_now client found answer i)
             (given name done_now.2 done_now.3) (asked_for status asker response) else [])
             ∙ asks_so (given name done_now.2 done_now.3) ack_debt prack_debt (is_final status)
-            (is_success status) (has_answer own client.answers) (is_there client.kind found)
+            (is_success status) (has_answer own client.answers) (has_dialog client.kind found)
             (is_dialog_response answer) (heard_of client.kind client found) (rseq_of response)
             (success_final status)
             (not_last (is_final status) (is_success status) (is_inviting client.kind) last)
             ∙ case_given case_now (reply_names client answer found (name_kept asker.kind)) name is
 
     abbrev RepliedOwes : Replied → Type 0
-    RepliedOwes done = (name : DialogName)
-        → Owes (Some event.id) (λ debts. debts ++ leaves name done) (dialog_at name dialogs)
+    RepliedOwes done = (name : DialogId)
+        → Owes (Some event.id) (λ pending_requests. pending_requests ++ leaves name done) (dialog_at name dialogs)
         (dialog_at name done.1)
 
     last_owes : (last : Bool) → is_last client.kind status ≡ last
@@ -546,18 +546,18 @@ module _ (event : Event) (id : Id) (call_id : List ℕ) (response : Message) (st
     last_owes true last name =
         let done = request_over client dialogs answer in
         let before = dialog_at name dialogs in
-        owes_as (Some event.id) unchanged (λ debts. debts ++ leaves name done) before
+        owes_as (Some event.id) unchanged (λ pending_requests. pending_requests ++ leaves name done) before
         (dialog_at name done.1)
-        (λ debts. sym (ap (λ xs. debts ++ xs)
+        (λ pending_requests. sym (ap (λ xs. pending_requests ++ xs)
         (last_asks (given name done.2 done.3) ack_debt prack_debt asker.kind before
         (is_named own name) (is_final status) (is_success status) (is_dialog_response answer)
-        (list_any is_response done.2) (rseq_of response) last) ∙ append-nil debts))
+        (list_any is_response done.2) (rseq_of response) last) ∙ append-nil pending_requests))
         (inl (ended_same client (ends_dialog status) dialogs apart name))
     last_owes false last name =
         let done = after_dialog own dialogs (by_reply_case case_now client found answer) in
-        owes_as (Some event.id) (λ debts. debts ++ cond (is_named own name) (case_left case_now) [])
-        (λ debts. debts ++ leaves name done) (dialog_at name dialogs) (dialog_at name done.1)
-        (λ debts. ap (λ xs. debts ++ xs) (sym (case_now_leaves last name)))
+        owes_as (Some event.id) (λ pending_requests. pending_requests ++ cond (is_named own name) (case_left case_now) [])
+        (λ pending_requests. pending_requests ++ leaves name done) (dialog_at name dialogs) (dialog_at name done.1)
+        (λ pending_requests. ap (λ xs. pending_requests ++ xs) (sym (case_now_leaves last name)))
         (case_leaves case_now name)
 
     pub replied_owes : RepliedOwes (reply_taken client dialogs answer)

@@ -10,12 +10,12 @@ use Rattle.sip_common.specs.Requests.{is_final}
 use Rattle.sip_common.specs.Ids.{is_id}
 use Rattle.sip_common.proofs.Starts.{starts}
 use Rattle.sip_clients.specs.declared.client.RequestKind.{RequestKind}
-use Rattle.sip_clients.specs.declared.client.RequestKind.TheVariants.{First, Again, Inside, Plain}
+use Rattle.sip_clients.specs.declared.client.RequestKind.TheVariants.{InitialInvite, ReInvite, InDialog, OutOfDialog}
 use Rattle.sip_clients.specs.declared.client.Cancelling.{Cancelling}
 use Rattle.sip_clients.specs.declared.client.Cancelling.TheVariants as cancel
 use Rattle.sip_clients.specs.declared.client.Client.{Client}
 use Rattle.sip_clients.specs.declared.event.Event.{Event}
-use Rattle.sip_clients.specs.declared.reply.Reply.{Reply as Answer}
+use Rattle.sip_clients.specs.declared.reply.ReceivedResponse.{ReceivedResponse}
 use Rattle.sip_clients.specs.declared.reply.ReplyCase.{ReplyCase}
 use Rattle.sip_clients.specs.declared.reply.ReplyCase.TheVariants as reply
 use Rattle.sip_clients.specs.Cancel.{cancel_freed, cancelling_after, freed_by, after_response, sent_beside}
@@ -23,7 +23,7 @@ use Rattle.sip_clients.specs.Client.{Side, ClientTaken, client_at}
 use Rattle.sip_clients.specs.Clients.{found_taken, reply_name, reply_of, reply_settled, response_taken, settled, status_of}
 use Rattle.sip_clients.specs.Dialogs.{dialog_for_provisional}
 use Rattle.sip_clients.specs.Replied.{Replied, after_dialog, by_reply_case, ends_dialog, request_over, heard_again, prack_owed, replied_in, reply_taken}
-use Rattle.sip_clients.specs.Reply.{is_last, reply_case}
+use Rattle.sip_clients.specs.ReceivedResponse.{is_last, reply_case}
 use Rattle.sip_clients.proofs.StartBounds.{waits_in, waits_for, waiting, how_many, ids_of, Fits, Within, fits, at_most_as, balanced, none_of, own_nothing, at_most_same, StartsFresh, settled_within, said_fresh, sent_within}
 use Rattle.sip_clients.proofs.Tally.{tally_set, weight}
 use Rattle.sip_clients.proofs.WithoutStarts.{AreQuiet, none_started, ended_quiet, case_quiet}
@@ -32,7 +32,7 @@ use Rattle.sip_clients.proofs.WithoutStarts.{AreQuiet, none_started, ended_quiet
 abbrev pub IsKept : Client → Client → Type 0
 IsKept before after = (after.kind ≡ before.kind) × (after.cancel ≡ before.cancel)
 
-pub rest_kept : (case : ReplyCase) (client : Client) (found : Option HeldDialog) (answer : Answer)
+pub rest_kept : (case : ReplyCase) (client : Client) (found : Option HeldDialog) (answer : ReceivedResponse)
     → IsKept client (by_reply_case case client found answer).0
 rest_kept reply.Repeated client found answer = (refl, refl)
 rest_kept reply.Accepted client found answer = (refl, refl)
@@ -40,15 +40,15 @@ rest_kept reply.Late client found answer = (refl, refl)
 rest_kept (reply.Reliable number) client found answer = by_asks client.kind
   where
     by_asks : (kind : RequestKind) → IsKept client (heard_again kind number client)
-    by_asks First = (refl, refl)
-    by_asks (Again own) = (refl, refl)
-    by_asks (Inside own) = (refl, refl)
-    by_asks Plain = (refl, refl)
+    by_asks InitialInvite = (refl, refl)
+    by_asks (ReInvite own) = (refl, refl)
+    by_asks (InDialog own) = (refl, refl)
+    by_asks OutOfDialog = (refl, refl)
 rest_kept reply.Passed client found answer = (refl, refl)
 rest_kept reply.Early client found answer = (refl, refl)
 rest_kept reply.Told client found answer = (refl, refl)
 
-pub case_fresh : (case : ReplyCase) (client : Client) (found : Option HeldDialog) (answer : Answer)
+pub case_fresh : (case : ReplyCase) (client : Client) (found : Option HeldDialog) (answer : ReceivedResponse)
     → StartsFresh (by_reply_case case client found answer).3
 unfolding prack_owed
 case_fresh reply.Repeated client found answer = tt
@@ -67,7 +67,7 @@ pub record Replies (client : Client) (done : Replied) : Type 0 where
   pub kept : IsKept client done.0
   pub fresh : StartsFresh done.3
 
-pub replies : (client : Client) (dialogs : Dialogs) (answer : Answer)
+pub replies : (client : Client) (dialogs : Dialogs) (answer : ReceivedResponse)
     → Replies client (reply_taken client dialogs answer)
 replies client dialogs answer = by_last (is_last client.kind answer.status)
   where

@@ -19,8 +19,8 @@ use Rattle.sip_message.specs.declared.rack.RAck.{RAck}
 use Rattle.sip_reliable.specs.declared.offer.Offer.{Offer}
 use Rattle.sip_reliable.specs.declared.offer.Offer.TheVariants.{Taken, Repeat, Gap}
 use Rattle.sip_reliable.specs.Inbound.{latest_after, offered}
-use Rattle.sip_common.specs.declared.debt.Debt.TheVariants.{Prack}
-use Rattle.sip_common.specs.declared.held_dialog.DialogName.{DialogName}
+use Rattle.sip_common.specs.declared.pending_request.PendingRequest.TheVariants.{Prack}
+use Rattle.sip_common.specs.declared.held_dialog.DialogId.{DialogId}
 use Rattle.sip_common.specs.declared.held_dialog.HeldDialog.{HeldDialog}
 use Rattle.sip_common.specs.declared.item.CallOut.{CallOut}
 use Rattle.sip_common.specs.Dialogs.{dialog_at}
@@ -33,14 +33,14 @@ use Rattle.sip_clients.specs.declared.client.Cancelling.{Cancelling}
 use Rattle.sip_clients.specs.declared.client.Cancelling.TheVariants as cancel
 use Rattle.sip_clients.specs.declared.client.Client.{Client}
 use Rattle.sip_clients.specs.declared.client.RequestKind.{RequestKind}
-use Rattle.sip_clients.specs.declared.client.RequestKind.TheVariants.{First, Again, Inside, Plain}
+use Rattle.sip_clients.specs.declared.client.RequestKind.TheVariants.{InitialInvite, ReInvite, InDialog, OutOfDialog}
 use Rattle.sip_clients.specs.declared.event.Event.{Event}
 use Rattle.sip_clients.specs.declared.outputs.ClientChange.TheVariants.{Stays}
-use Rattle.sip_clients.specs.declared.reply.Reply.{Reply as Answer}
+use Rattle.sip_clients.specs.declared.reply.ReceivedResponse.{ReceivedResponse}
 use Rattle.sip_clients.specs.declared.reply.ReplyCase.{ReplyCase}
 use Rattle.sip_clients.specs.declared.reply.ReplyCase.TheVariants as reply
-use Rattle.sip_clients.specs.declared.service.Service.{Service}
-use Rattle.sip_clients.specs.declared.service.Service.TheVariants as service
+use Rattle.sip_clients.specs.declared.send_outcome.SendOutcome.{SendOutcome}
+use Rattle.sip_clients.specs.declared.send_outcome.SendOutcome.TheVariants as service
 use Rattle.sip_clients.specs.Answers.{ack_of, has_answer}
 use Rattle.sip_clients.specs.Cancel.{after_response, cancel_client, cancelling_after, freed_by}
 use Rattle.sip_clients.specs.Client.{Side, ClientTaken, client_at, client_for}
@@ -49,14 +49,14 @@ use Rattle.sip_clients.specs.ClientRules.{AllLive, EachFits, HoldsRules}
 use Rattle.sip_clients.specs.ClientStory.{ClientStory, with_answer, client_told, is_provisional_response}
 use Rattle.sip_clients.specs.ClientTelling.{ClientStories, AreTold, HoldsStories, begin_story, begin_stories, for_dialog, for_dialog_or_cancel, happens_to, reliable_taken, reply_told, response_happens, response_told, success_happens}
 use Rattle.sip_clients.specs.Clients.{found_taken, reply_name, reply_of, reply_settled, response_taken, settled, side_after, status_of}
-use Rattle.sip_clients.specs.Debts.{owed}
+use Rattle.sip_clients.specs.Pending.{pending_requests}
 use Rattle.sip_clients.specs.Dialogs.{accepted, dialog_for_provisional}
 use Rattle.sip_clients.specs.Event.{branch_of}
 use Rattle.sip_clients.specs.Outputs.{direct, kind_in, request_said, sent_ack}
 use Rattle.sip_clients.specs.Provisionals.{is_response, provisional_number}
-use Rattle.sip_clients.specs.Replied.{Replied, ack_owed, after_dialog, by_reply_case, heard_again, heard_first, held_after_success, offer_to, prack_owed, replied_in, request_over, told_of_ack}
-use Rattle.sip_clients.specs.Reply.{heard_of, is_dialog_response, is_last, is_there, offer_case, reliable_case, rseq_of, success_case}
-use Rattle.sip_clients.specs.Service.{discharged, sending_in, service_by}
+use Rattle.sip_clients.specs.Replied.{Replied, ack_owed, after_dialog, by_reply_case, heard_again, heard_first, held_after_success, automatic_body, prack_owed, replied_in, request_over, told_of_ack}
+use Rattle.sip_clients.specs.ReceivedResponse.{heard_of, is_dialog_response, is_last, has_dialog, offer_case, reliable_case, rseq_of, success_case}
+use Rattle.sip_clients.specs.SendOutcome.{discharged, sending_in, service_by}
 use Rattle.sip_clients.proofs.ClientRecords.{any_more, client_happened, heard_taken, or_false}
 use Rattle.sip_clients.proofs.StoryBegins.{ChangesFor, HasNoCancel, beside_on, beside_sent, beside_silent, freed_cancel, freed_out, over_on, put_on, quiet_then, settled_no_cancel, settled_on, settled_silent, some_same, then_begin}
 use Rattle.sip_clients.proofs.StoryFits.{IsReady, LivesSo, acks_fit, begin_fit, freed_fits, happens_fit, ready_then, waits_ready}
@@ -65,7 +65,7 @@ use Rattle.sip_clients.proofs.WithoutStarts.{AreQuiet, case_quiet}
 
 -- ---- the record
 
-again_same : (name : DialogName) (acks : List SentAck) (client : Client)
+again_same : (name : DialogId) (acks : List SentAck) (client : Client)
     → fold client_happened client (map (SendsAckAgain name) acks) ≡ client
 again_same name [] client = refl
 again_same name (ack ∷ acks) client =
@@ -84,22 +84,22 @@ sends_freed invite client (cancel.Waits id) is = λ i. record client {
 sends_freed invite client cancel.Sent is = λ i. record client { cancel = is i }
 
 hears_so : (kind : RequestKind) (client : Client) (found : Option HeldDialog) (rseq : ℕ)
-    → is_there kind found ≡ true → offered (heard_of kind client found) rseq ≡ Taken
+    → has_dialog kind found ≡ true → offered (heard_of kind client found) rseq ≡ Taken
     → heard_again kind rseq client
-    ≡ record client { heard = heard_taken kind client.heard rseq }
-hears_so First client found rseq there taken = refl
-hears_so (Again own) client found rseq there taken =
-    ap (λ offer. record client { heard = latest_after offer client.heard rseq }) taken
-hears_so (Inside own) client found rseq there taken = absurd (false≢true there)
-hears_so Plain client found rseq there taken = absurd (false≢true there)
+    ≡ record client { last_rseq = heard_taken kind client.last_rseq rseq }
+hears_so InitialInvite client found rseq there taken = refl
+hears_so (ReInvite own) client found rseq there taken =
+    ap (λ offer. record client { last_rseq = latest_after offer client.last_rseq rseq }) taken
+hears_so (InDialog own) client found rseq there taken = absurd (false≢true there)
+hears_so OutOfDialog client found rseq there taken = absurd (false≢true there)
 
 -- ---- the PRACK
 
-abbrev pub IsPrack : Id → Service → Type 0
-IsPrack born (service.Sent sending) =
-    (is_cancel sending.message ≡ false) × (sending.born ≡ born)
-IsPrack born service.Waits = Unit {0}
-IsPrack born (service.Refused refusal) = Unit {0}
+abbrev pub IsPrack : Id → SendOutcome → Type 0
+IsPrack created_by (service.Sent sending) =
+    (is_cancel sending.message ≡ false) × (sending.created_by ≡ created_by)
+IsPrack created_by service.Waits = Unit {0}
+IsPrack created_by (service.Refused refusal) = Unit {0}
 
 pub sent_method : (event : Event) (method : List ℕ) (rack : Option RAck) (content : Content)
     (held : HeldDialog) → is_cancel (sending_in event method rack content held).message
@@ -109,8 +109,8 @@ unfolding with_content_of
 sent_method event method rack content held = refl
 
 owed_prack : (event : Event) (rseq number : ℕ) (offer : Option Content) (held : HeldDialog)
-    → IsPrack held.born (owed event (Prack rseq number) offer held).1
-unfolding owed discharged
+    → IsPrack held.created_by (pending_requests event (Prack rseq number) offer held).1
+unfolding pending_requests discharged
 owed_prack event rseq number None held = tt
 owed_prack event rseq number (Some content) held =
     by_fault (request_fault held.dialog (codes "PRACK"))
@@ -118,37 +118,37 @@ owed_prack event rseq number (Some content) held =
     rack : RAck
     rack = record { rseq = rseq; cseq = number; method = codes "INVITE" }
 
-    by_fault : (fault : Option DialogFault) → IsPrack held.born (service_by fault
+    by_fault : (fault : Option DialogFault) → IsPrack held.created_by (service_by fault
         (sending_in event (codes "PRACK") (Some rack) content held))
     by_fault None = (sent_method event (codes "PRACK") (Some rack) content held, refl)
     by_fault (Some fault) = tt
 
 first_born : (kind : RequestKind) (rseq : ℕ) (held : HeldDialog)
-    → (heard_first kind rseq held).born ≡ held.born
-first_born First rseq held = refl
-first_born (Again own) rseq held = refl
-first_born (Inside own) rseq held = refl
-first_born Plain rseq held = refl
+    → (heard_first kind rseq held).created_by ≡ held.created_by
+first_born InitialInvite rseq held = refl
+first_born (ReInvite own) rseq held = refl
+first_born (InDialog own) rseq held = refl
+first_born OutOfDialog rseq held = refl
 
-prack_is : (rseq : ℕ) (client : Client) (held : HeldDialog) (answer : Answer)
-    → IsPrack held.born (prack_owed rseq client held answer).1
+prack_is : (rseq : ℕ) (client : Client) (held : HeldDialog) (answer : ReceivedResponse)
+    → IsPrack held.created_by (prack_owed rseq client held answer).1
 unfolding prack_owed
 prack_is rseq client held answer =
-    let heard = heard_first client.kind rseq held in
-    subst (λ born. IsPrack born (prack_owed rseq client held answer).1)
+    let last_rseq = heard_first client.kind rseq held in
+    subst (λ created_by. IsPrack created_by (prack_owed rseq client held answer).1)
     (first_born client.kind rseq held)
     (owed_prack answer.event rseq ((client.request).cseq).number
-    (offer_to client answer.response) heard)
+    (automatic_body client answer.response) last_rseq)
 
 -- ---- a response to a request that is held
 
 module _ (event : Event) (id : Id) (call_id : List ℕ) (response : Message) (status : ℕ)
     (client : Client) (side : Side) (stories : ClientStories)
     (told : AreTold side.clients stories) (at : client_at id side.clients ≡ Some client) where
-  abbrev name : DialogName
+  abbrev name : DialogId
   name = reply_name client.kind client response
 
-  abbrev answer : Answer
+  abbrev answer : ReceivedResponse
   answer = reply_of event id call_id name status response
 
   abbrev found : Option HeldDialog
@@ -220,18 +220,18 @@ module _ (event : Event) (id : Id) (call_id : List ℕ) (response : Message) (st
       by_service (ack_owed (after_response true client)
       (accepted (after_response true client) answer found) answer)
     where
-      done_by : HeldDialog × Service → Replied
-      done_by owed =
-          let told = told_of_ack answer owed.1 in
+      done_by : HeldDialog × SendOutcome → Replied
+      done_by pending_requests =
+          let told = told_of_ack answer pending_requests.1 in
           after_dialog name side.dialogs (
             held_after_success answer told.1 (after_response true client),
-            Some owed.0,
+            Some pending_requests.0,
             told.0,
             Stays,
           )
 
-      by_service : (owed : HeldDialog × Service)
-          → SuccessTold false (taken_with None (done_by owed))
+      by_service : (pending_requests : HeldDialog × SendOutcome)
+          → SuccessTold false (taken_with None (done_by pending_requests))
       by_service (held, service.Sent sending) =
           let ack = sent_ack sending in
           success_on (held_after_success answer (Some ack) (after_response true client))
@@ -319,7 +319,7 @@ module _ (event : Event) (id : Id) (call_id : List ℕ) (response : Message) (st
   quiet_same =
       sends_freed client (client_happened client GetsProvisional) client.cancel refl
 
-  reliable_same : (rseq : ℕ) → is_there client.kind found ≡ true
+  reliable_same : (rseq : ℕ) → has_dialog client.kind found ≡ true
       → offered (heard_of client.kind (after_response false client) found) rseq ≡ Taken
       → fold client_happened client
       (provisional_more (TakesReliable rseq ∷ []) (freed_out client freed))
@@ -329,34 +329,34 @@ module _ (event : Event) (id : Id) (call_id : List ℕ) (response : Message) (st
       sends_freed client (client_happened one (TakesReliable rseq)) client.cancel refl
       ∙ (λ i. record (after_response false client) {
         provisional = or_false (client.provisional || true) i;
-        heard = heard_taken client.kind client.heard rseq;
+        last_rseq = heard_taken client.kind client.last_rseq rseq;
       })
       ∙ sym (hears_so client.kind (after_response false client) found rseq there taken)
 
-  prack_for : (service : Service)
-      → IsPrack (option_map_or (λ held. held.born) found event.id) service
+  prack_for : (service : SendOutcome)
+      → IsPrack (option_map_or (λ held. held.created_by) found event.id) service
       → ChangesFor event sent_for (request_said event call_id name service).1
   prack_for (service.Sent sending) is =
       let message = sending.message in
       record {
-        fresh = (λ i. client_for event.id (kind_in record { name = name; born = is.1 i } message)
+        fresh = (λ i. client_for event.id (kind_in record { name = name; created_by = is.1 i } message)
             message sending.to)
             ∙ (λ i. client_for event.id
-            (if sym is.0 i then Plain else for_dialog event name side.dialogs message) message
+            (if sym is.0 i then OutOfDialog else for_dialog event name side.dialogs message) message
             sending.to);
       }
   prack_for service.Waits is = tt
   prack_for (service.Refused refusal) is = tt
 
-  prack_none : (born : Id) (service : Service) → IsPrack born service
+  prack_none : (created_by : Id) (service : SendOutcome) → IsPrack created_by service
       → HasNoCancel (request_said event call_id name service).1
-  prack_none born (service.Sent sending) is = is.0
-  prack_none born service.Waits is = tt
-  prack_none born (service.Refused refusal) is = tt
+  prack_none created_by (service.Sent sending) is = is.0
+  prack_none created_by service.Waits is = tt
+  prack_none created_by (service.Refused refusal) is = tt
 
   found_born : (o : Option HeldDialog)
-      → (dialog_for_provisional (after_response false client) answer o).born
-      ≡ option_map_or (λ held. held.born) o event.id
+      → (dialog_for_provisional (after_response false client) answer o).created_by
+      ≡ option_map_or (λ held. held.created_by) o event.id
   found_born None = refl
   found_born (Some held) = refl
 
@@ -369,18 +369,18 @@ module _ (event : Event) (id : Id) (call_id : List ℕ) (response : Message) (st
   passed_told : ProvisionalTold [] (case_taken reply.Passed)
   passed_told = provisional_on (case_done reply.Passed) [] tt tt tt quiet_same
 
-  reliable_told : (rseq : ℕ) → is_there client.kind found ≡ true
+  reliable_told : (rseq : ℕ) → has_dialog client.kind found ≡ true
       → offered (heard_of client.kind (after_response false client) found) rseq ≡ Taken
       → ProvisionalTold (TakesReliable rseq ∷ []) (case_taken (reply.Reliable rseq))
   reliable_told rseq there taken =
       let held = dialog_for_provisional (after_response false client) answer found in
-      let owed = prack_owed rseq (after_response false client) held answer in
-      let is = subst (λ born. IsPrack born owed.1) (found_born found)
+      let pending_requests = prack_owed rseq (after_response false client) held answer in
+      let is = subst (λ created_by. IsPrack created_by pending_requests.1) (found_born found)
       (prack_is rseq (after_response false client) held answer) in
       provisional_on (case_done (reply.Reliable rseq)) (TakesReliable rseq ∷ [])
       (case_quiet (reply.Reliable rseq) (after_response false client) found answer)
-      (prack_for owed.1 is)
-      (prack_none (option_map_or (λ held. held.born) found event.id) owed.1 is)
+      (prack_for pending_requests.1 is)
+      (prack_none (option_map_or (λ held. held.created_by) found event.id) pending_requests.1 is)
       (reliable_same rseq there taken)
 
   -- ---- what is taken, by what is told
@@ -413,12 +413,12 @@ module _ (event : Event) (id : Id) (call_id : List ℕ) (response : Message) (st
       (case_taken case)
 
   so_taken : is_final status ≡ false → (case : ReplyCase) (takes : List ClientHappening)
-      → takes_by (is_there client.kind found) (list_any is_response (case_done case).2)
+      → takes_by (has_dialog client.kind found) (list_any is_response (case_done case).2)
       (is_dialog_response answer) (rseq_of response) ≡ takes
       → ProvisionalTold takes (case_taken case) → ByResponse case
   so_taken final case takes same so =
       subst (λ takes. ProvisionalTold takes (case_taken case))
-      (sym ((λ i. if is_there client.kind found && shown_by (case_done case) i
+      (sym ((λ i. if has_dialog client.kind found && shown_by (case_done case) i
       then option_map_or (λ rseq. TakesReliable rseq ∷ []) (number_so final i) [] else []) ∙ same))
       so
 
@@ -426,7 +426,7 @@ module _ (event : Event) (id : Id) (call_id : List ℕ) (response : Message) (st
   none_taken there shown = none_either (there && shown)
 
   by_offer : is_final status ≡ false → is_dialog_response answer ≡ true
-      → is_there client.kind found ≡ true → (rseq : ℕ) → rseq_of response ≡ Some rseq
+      → has_dialog client.kind found ≡ true → (rseq : ℕ) → rseq_of response ≡ Some rseq
       → (offer : Offer)
       → offered (heard_of client.kind (after_response false client) found) rseq ≡ offer
       → ByResponse (offer_case offer rseq)
@@ -442,7 +442,7 @@ module _ (event : Event) (id : Id) (call_id : List ℕ) (response : Message) (st
       (λ i. takes_by (there i) false (of_dialog i) (has i)) passed_told
 
   by_rseq : is_final status ≡ false → is_dialog_response answer ≡ true
-      → is_there client.kind found ≡ true → (o : Option ℕ) → rseq_of response ≡ o
+      → has_dialog client.kind found ≡ true → (o : Option ℕ) → rseq_of response ≡ o
       → ByResponse (reliable_case (heard_of client.kind (after_response false client) found) o)
   by_rseq final of_dialog there None has =
       so_taken final reply.Early []
@@ -452,7 +452,7 @@ module _ (event : Event) (id : Id) (call_id : List ℕ) (response : Message) (st
       (offered (heard_of client.kind (after_response false client) found) rseq) refl
 
   provisional_told : is_final status ≡ false → (of_dialog there : Bool)
-      → is_dialog_response answer ≡ of_dialog → is_there client.kind found ≡ there
+      → is_dialog_response answer ≡ of_dialog → has_dialog client.kind found ≡ there
       → ByResponse (if of_dialog && there
       then reliable_case (heard_of client.kind (after_response false client) found)
       (rseq_of response)
@@ -464,15 +464,15 @@ module _ (event : Event) (id : Id) (call_id : List ℕ) (response : Message) (st
       (λ i. takes_by (is i) true (is_dialog_response answer) (rseq_of response)) told_told
   provisional_told final false there of_dialog is =
       so_taken final reply.Told []
-      ((λ i. takes_by (is_there client.kind found) true (of_dialog i) (rseq_of response))
-      ∙ none_taken (is_there client.kind found) true) told_told
+      ((λ i. takes_by (has_dialog client.kind found) true (of_dialog i) (rseq_of response))
+      ∙ none_taken (has_dialog client.kind found) true) told_told
 
   -- ---- any
 
   abbrev final_case : Bool → ReplyCase
   final_case final =
       if final then success_case (after_response final client) found name
-      else (if is_dialog_response answer && is_there client.kind found
+      else (if is_dialog_response answer && has_dialog client.kind found
       then reliable_case (heard_of client.kind (after_response final client) found)
       (rseq_of response)
       else reply.Told)
@@ -492,9 +492,9 @@ module _ (event : Event) (id : Id) (call_id : List ℕ) (response : Message) (st
       → FinalTold final (final_taken final (freed_by final client.cancel))
   by_final true is =
       subst (λ freed. FinalTold true (final_taken true freed)) (sym (none_freed client.cancel))
-      (success_told (has_answer name client.answers) (is_there client.kind found))
+      (success_told (has_answer name client.answers) (has_dialog client.kind found))
   by_final false is =
-      provisional_told is (is_dialog_response answer) (is_there client.kind found) refl refl
+      provisional_told is (is_dialog_response answer) (has_dialog client.kind found) refl refl
 
   abbrev LastTold : Bool → ClientTaken → Type 0
   LastTold last taken = AreTold (taken.0).clients (if last then remove_entry (is_id id) stories
@@ -535,8 +535,8 @@ module _ (event : Event) (id : Id) (call_id : List ℕ) (response : Message) (st
   case_no_cancel reply.Late = tt
   case_no_cancel (reply.Reliable rseq) =
       let held = dialog_for_provisional (after_response false client) answer found in
-      let owed = prack_owed rseq (after_response false client) held answer in
-      prack_none held.born owed.1 (prack_is rseq (after_response false client) held answer)
+      let pending_requests = prack_owed rseq (after_response false client) held answer in
+      prack_none held.created_by pending_requests.1 (prack_is rseq (after_response false client) held answer)
   case_no_cancel reply.Passed = tt
   case_no_cancel reply.Early = tt
   case_no_cancel reply.Told = tt
@@ -625,7 +625,7 @@ module _ (event : Event) (id : Id) (call_id : List ℕ) (response : Message) (st
           subst (λ cancels. EachFits story after_provisional
               (reliable_taken status client response found outs ++ map SendsCancel cancels))
               (sym (case_cancels case))
-              (takes_fit (is_there client.kind found && list_any is_response outs)
+              (takes_fit (has_dialog client.kind found && list_any is_response outs)
               (provisional_number (Some status) response)),
         )
 
@@ -638,7 +638,7 @@ module _ (event : Event) (id : Id) (call_id : List ℕ) (response : Message) (st
     final_fits : (final : Bool) → FinalFits final (final_taken final (freed_by final client.cancel))
     final_fits true =
         subst (λ freed. FinalFits true (final_taken true freed)) (sym (none_freed client.cancel))
-        (success_fits (has_answer name client.answers) (is_there client.kind found))
+        (success_fits (has_answer name client.answers) (has_dialog client.kind found))
     final_fits false = provisional_fits (final_case false)
 
   abbrev LastLives : Bool → ClientTaken → Type 0

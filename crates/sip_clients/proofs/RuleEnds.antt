@@ -10,7 +10,7 @@ use Rattle.sip_common.specs.declared.item.CallOut.{CallOut}
 use Rattle.sip_common.specs.Dialogs.{early_ended, ended_at, is_early_of, lives, Dialogs}
 use Rattle.sip_common.specs.Ids.{is_id}
 use Rattle.sip_clients.specs.declared.client.RequestKind.{RequestKind}
-use Rattle.sip_clients.specs.declared.client.RequestKind.TheVariants.{First, Again, Inside, Plain}
+use Rattle.sip_clients.specs.declared.client.RequestKind.TheVariants.{InitialInvite, ReInvite, InDialog, OutOfDialog}
 use Rattle.sip_clients.specs.declared.client.Client.{Client}
 use Rattle.sip_clients.specs.Client.{Clients, Side, ClientTaken, client_at}
 use Rattle.sip_clients.specs.Clients.{lost_of, request_lost}
@@ -29,12 +29,12 @@ own_same : (kind : RequestKind) (gone : Bool) (dialogs : Dialogs)
     → option_map_or (λ life. if gone && lives dialogs life
     then ended_at life.name dialogs else (dialogs, [])) (life_of kind) (dialogs, [])
     ≡ own_ended kind gone dialogs
-own_same First gone dialogs = refl
-own_same (Again life) gone dialogs =
+own_same InitialInvite gone dialogs = refl
+own_same (ReInvite life) gone dialogs =
     both gone (lives dialogs life) (ended_at life.name dialogs) (dialogs, [])
-own_same (Inside life) gone dialogs =
+own_same (InDialog life) gone dialogs =
     both gone (lives dialogs life) (ended_at life.name dialogs) (dialogs, [])
-own_same Plain gone dialogs = refl
+own_same OutOfDialog gone dialogs = refl
 
 pub over_same : (client : Client) (gone : Bool) (dialogs : Dialogs)
     → request_over client gone dialogs ≡ ended_with client gone dialogs

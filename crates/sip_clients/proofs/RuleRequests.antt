@@ -26,9 +26,9 @@ use Rattle.sip_common.specs.declared.command.Invite.{Invite}
 use Rattle.sip_common.specs.declared.command.Plain.{Plain as PlainCommand}
 use Rattle.sip_common.specs.declared.command.ProvisionalSupport.{ProvisionalSupport}
 use Rattle.sip_common.specs.declared.command.ProvisionalSupport.TheVariants as support
-use Rattle.sip_common.specs.declared.debt.Debt.{Debt}
-use Rattle.sip_common.specs.declared.debt.Debt.TheVariants.{Ack, Prack}
-use Rattle.sip_common.specs.declared.held_dialog.DialogName.{DialogName}
+use Rattle.sip_common.specs.declared.pending_request.PendingRequest.{PendingRequest}
+use Rattle.sip_common.specs.declared.pending_request.PendingRequest.TheVariants.{Ack, Prack}
+use Rattle.sip_common.specs.declared.held_dialog.DialogId.{DialogId}
 use Rattle.sip_common.specs.declared.held_dialog.HeldDialog.{HeldDialog}
 use Rattle.sip_common.specs.declared.item.CallOut.{CallOut}
 use Rattle.sip_common.specs.declared.refusal.Refusal.{Refusal}
@@ -41,24 +41,24 @@ use Rattle.sip_clients.specs.declared.answers.SentAck.{SentAck}
 use Rattle.sip_clients.specs.declared.client.Cancelling.{Cancelling}
 use Rattle.sip_clients.specs.declared.client.Cancelling.TheVariants.{NotAsked, Sent, Waits}
 use Rattle.sip_clients.specs.declared.client.Client.{Client}
-use Rattle.sip_clients.specs.declared.debts.DebtKind.TheVariants as kind
+use Rattle.sip_clients.specs.declared.pending.PendingKind.TheVariants as kind
 use Rattle.sip_clients.specs.declared.event.Event.{Event}
 use Rattle.sip_clients.specs.declared.outputs.ClientChange.{ClientChange}
 use Rattle.sip_clients.specs.declared.outputs.ClientChange.TheVariants as change
-use Rattle.sip_clients.specs.declared.service.Service.{Service}
-use Rattle.sip_clients.specs.declared.service.Service.TheVariants as service
+use Rattle.sip_clients.specs.declared.send_outcome.SendOutcome.{SendOutcome}
+use Rattle.sip_clients.specs.declared.send_outcome.SendOutcome.TheVariants as service
 use Rattle.sip_clients.specs.declared.cancel.CancelCase.TheVariants as case
 use Rattle.sip_clients.specs.declared.client.RequestKind.{RequestKind}
-use Rattle.sip_clients.specs.declared.client.RequestKind.TheVariants.{First, Again, Inside, Plain}
+use Rattle.sip_clients.specs.declared.client.RequestKind.TheVariants.{InitialInvite, ReInvite, InDialog, OutOfDialog}
 use Rattle.sip_clients.specs.Cancel.{asked, asking_case, cancel_by_user, cancelled_as, cancelled_of}
 use Rattle.sip_clients.specs.Client.{Clients, ClientTaken, Side, client_at, client_changed, client_for}
 use Rattle.sip_clients.specs.Clients.{ack_by_user, ack_kept, ack_paid, invite_taken, paid_or_refused, plain_taken, prack_by_user, prack_paid, request_by_user, request_settled, settled}
-use Rattle.sip_clients.specs.Commands.{bye_ended, debt_or_refusal, is_callee, name_in, oldest_debt, request_in_held, request_refusals, requested_at, sent_unless}
-use Rattle.sip_clients.specs.Debts.{dropped_if_sent, is_debt, is_of, paid}
+use Rattle.sip_clients.specs.Commands.{bye_ended, debt_or_refusal, is_callee, name_in, oldest_pending, request_in_held, request_refusals, requested_at, sent_unless}
+use Rattle.sip_clients.specs.Pending.{dropped_if_sent, is_same_pending, is_of, paid}
 use Rattle.sip_clients.specs.Outputs.{ack_said, request_said, start_command}
 use Rattle.sip_clients.specs.Outside.{bare_request, supporting, through, with_contact}
-use Rattle.sip_clients.specs.Service.{Outcome, discharged, refusal_for_fault, sending_in}
-use Rattle.sip_clients.specs.Reply.{is_inviting}
+use Rattle.sip_clients.specs.SendOutcome.{Outcome, discharged, refusal_for_fault, sending_in}
+use Rattle.sip_clients.specs.ReceivedResponse.{is_inviting}
 use Rattle.sip_clients.specs.Rules.Requests as rule
 use Rattle.sip_clients.specs.Rules.Requests.{ack_rule, cancel_rule, invite_rule, plain_rule, prack_rule, request_rule}
 use Rattle.sip_clients.proofs.Served.{found_passes}
@@ -82,7 +82,7 @@ pub invite_same : (event : Event) (invite : Invite) (clients : Clients)
     → rule.invite_rule event invite clients ≡ invite_taken event invite clients
 unfolding invite_rule start_command bare_request
 invite_same event invite clients =
-    ap (λ (request : Message). rule.start (clients, []) (client_for event.id First
+    ap (λ (request : Message). rule.start (clients, []) (client_for event.id InitialInvite
     (with_content_of request invite.content) invite.address))
     (supported_so event invite invite.support)
 
@@ -147,13 +147,13 @@ prack_by Confirmed side false false = refl
 prack_by Ended side strict last = refl
 
 -- why what is owed isn't sent
-abbrev fault_of : Debt → Dialog → Option DialogFault
+abbrev fault_of : PendingRequest → Dialog → Option DialogFault
 fault_of (Ack invite number) dialog = ack_fault dialog
 fault_of (Prack rseq number) dialog = request_fault dialog (codes "PRACK")
 
-debt_refusal : (debt : Debt) (dialog : Dialog)
-    → first_refusal (rule.refusals_in dialog (rule.method_of debt)) None
-    ≡ option_map refusal_for_fault (fault_of debt dialog)
+debt_refusal : (pending : PendingRequest) (dialog : Dialog)
+    → first_refusal (rule.refusals_in dialog (rule.method_of pending)) None
+    ≡ option_map refusal_for_fault (fault_of pending dialog)
 debt_refusal (Ack invite number) dialog =
     ack_by dialog.state (is_strict dialog.route_set) (nat_le 2147483647 dialog.local_cseq)
 debt_refusal (Prack rseq number) dialog =
@@ -163,10 +163,10 @@ debt_refusal (Prack rseq number) dialog =
 -- ---- a request in a dialog
 
 module _ (event : Event) (command : DialogRequest) (side : Side) where
-  abbrev own_name : DialogName
+  abbrev own_name : DialogId
   own_name = name_in command.local_tag command.remote_tag
 
-  abbrev request_done : Dialogs × Service → ClientTaken
+  abbrev request_done : Dialogs × SendOutcome → ClientTaken
   request_done done =
       let bye = bye_ended own_name command.method done.1 done.0 in
       let said = request_said event command.call_id own_name done.1 in
@@ -230,10 +230,10 @@ request_same event command side =
 -- ---- an ACK or a PRACK
 
 -- which dialog is held after it
-abbrev pub dialog_by : Service → List Debt → List Debt → HeldDialog → HeldDialog
-dialog_by (service.Sent sending) paid owing after = record after { owed = paid }
-dialog_by service.Waits paid owing after = record after { owed = owing }
-dialog_by (service.Refused why) paid owing after = record after { owed = owing }
+abbrev pub dialog_by : SendOutcome → List PendingRequest → List PendingRequest → HeldDialog → HeldDialog
+dialog_by (service.Sent sending) paid owing after = record after { pending_requests = paid }
+dialog_by service.Waits paid owing after = record after { pending_requests = owing }
+dialog_by (service.Refused why) paid owing after = record after { pending_requests = owing }
 
 abbrev pub started_by : ClientChange → List Client
 started_by change.Stays = []
@@ -241,7 +241,7 @@ started_by change.Over = []
 started_by (change.Starts client) = client ∷ []
 
 -- the same of the step
-abbrev pub served_by : Event → List ℕ → DialogName → Debt → List Debt → List Debt → Outcome
+abbrev pub served_by : Event → List ℕ → DialogId → PendingRequest → List PendingRequest → List PendingRequest → Outcome
     → rule.Payment
 served_by event call_id name (Ack invite number) paid owing done = record {
   dialog = dialog_by done.1 paid owing done.0;
@@ -256,18 +256,18 @@ served_by event call_id name (Prack rseq number) paid owing done = record {
   outs = (request_said event call_id name done.1).0;
 }
 
-module _ (event : Event) (call_id : List ℕ) (name : DialogName) (held : HeldDialog)
-    (paid owing : List Debt) where
-  abbrev with_owed : List Debt → HeldDialog
-  with_owed debts = record held { owed = debts }
+module _ (event : Event) (call_id : List ℕ) (name : DialogId) (held : HeldDialog)
+    (paid owing : List PendingRequest) where
+  abbrev with_owed : List PendingRequest → HeldDialog
+  with_owed pending_requests = record held { pending_requests = pending_requests }
 
   abbrev unsent : List CallOut → rule.Payment
   unsent outs = record { dialog = with_owed owing; ack = None; prack = []; outs = outs }
 
-  abbrev sent_or : Debt → Content → Option Refusal → rule.Payment
-  sent_or debt content why =
+  abbrev sent_or : PendingRequest → Content → Option Refusal → rule.Payment
+  sent_or pending content why =
       option_map_or (λ why. unsent (refused event.id call_id why)) why
-      (rule.payment_with event name debt content (with_owed paid))
+      (rule.payment_with event name pending content (with_owed paid))
 
   ack_by_fault : (invite : Id) (number : ℕ) (content : Content) (why : Option DialogFault)
       → ack_fault held.dialog ≡ why
@@ -287,48 +287,48 @@ module _ (event : Event) (call_id : List ℕ) (name : DialogName) (held : HeldDi
   prack_by_fault rseq number content None is = rw is refl
   prack_by_fault rseq number content (Some why) is = rw is refl
 
-  by_debt : (debt : Debt) (content : Content)
-      → sent_or debt content (option_map refusal_for_fault (fault_of debt held.dialog))
-      ≡ served_by event call_id name debt paid owing (discharged event debt (Some content) held)
+  by_debt : (pending : PendingRequest) (content : Content)
+      → sent_or pending content (option_map refusal_for_fault (fault_of pending held.dialog))
+      ≡ served_by event call_id name pending paid owing (discharged event pending (Some content) held)
   by_debt (Ack invite number) content =
       ack_by_fault invite number content (ack_fault held.dialog) refl
   by_debt (Prack rseq number) content =
       prack_by_fault rseq number content (request_fault held.dialog (codes "PRACK")) refl
 
-  waits : (debt : Debt) → unsent [] ≡ served_by event call_id name debt paid owing
-      (discharged event debt None held)
+  waits : (pending : PendingRequest) → unsent [] ≡ served_by event call_id name pending paid owing
+      (discharged event pending None held)
   unfolding discharged
   waits (Ack invite number) = refl
   waits (Prack rseq number) = refl
 
-  pub served_same : (debt : Debt) (content : Option Content)
-      → rule.payment event call_id name debt content (with_owed paid) (with_owed owing)
-      ≡ served_by event call_id name debt paid owing (discharged event debt content held)
-  served_same debt None = waits debt
-  served_same debt (Some content) =
-      ap (sent_or debt content) (debt_refusal debt held.dialog) ∙ by_debt debt content
+  pub served_same : (pending : PendingRequest) (content : Option Content)
+      → rule.payment event call_id name pending content (with_owed paid) (with_owed owing)
+      ≡ served_by event call_id name pending paid owing (discharged event pending content held)
+  served_same pending None = waits pending
+  served_same pending (Some content) =
+      ap (sent_or pending content) (debt_refusal pending held.dialog) ∙ by_debt pending content
 
 -- ---- the user's ACK or PRACK
 
-same_debt : (debt other : Debt) → rule.is_debt debt other ≡ is_debt debt other
+same_debt : (pending other : PendingRequest) → rule.is_same_pending pending other ≡ is_same_pending pending other
 same_debt (Ack invite number) (Ack other_invite other_number) = refl
 same_debt (Ack invite number) (Prack other_rseq other_number) = refl
 same_debt (Prack rseq number) (Ack other_invite other_number) = refl
 same_debt (Prack rseq number) (Prack other_rseq other_number) = refl
 
-abbrev is_for : List ℕ → Debt → Bool
-is_for method debt = bytes_eq (rule.method_of debt) method
+abbrev is_for : List ℕ → PendingRequest → Bool
+is_for method pending = bytes_eq (rule.method_of pending) method
 
-is_an_ack : (debt : Debt) → is_for (codes "ACK") debt ≡ is_of kind.Ack debt
+is_an_ack : (pending : PendingRequest) → is_for (codes "ACK") pending ≡ is_of kind.Ack pending
 is_an_ack (Ack invite number) = refl
 is_an_ack (Prack rseq number) = refl
 
-is_a_prack : (debt : Debt) → is_for (codes "PRACK") debt ≡ is_of kind.Prack debt
+is_a_prack : (pending : PendingRequest) → is_for (codes "PRACK") pending ≡ is_of kind.Prack pending
 is_a_prack (Ack invite number) = refl
 is_a_prack (Prack rseq number) = refl
 
-pub owed_kept : (event : Event) (debt : Debt) (content : Option Content) (held : HeldDialog)
-    → (discharged event debt content held).0.owed ≡ held.owed
+pub owed_kept : (event : Event) (pending : PendingRequest) (content : Option Content) (held : HeldDialog)
+    → (discharged event pending content held).0.pending_requests ≡ held.pending_requests
 unfolding discharged
 owed_kept event (Ack invite number) None held = refl
 owed_kept event (Prack rseq number) None held = refl
@@ -336,25 +336,25 @@ owed_kept event (Ack invite number) (Some content) held = refl
 owed_kept event (Prack rseq number) (Some content) held = refl
 
 -- where nothing is sent the dialog is as it was but for what is owed
-dropped : (debt : Debt) (held after : HeldDialog) (o : Service) → after.owed ≡ held.owed
-    → dialog_by o (filter (λ other. not (is_debt debt other)) held.owed) held.owed after
-    ≡ dropped_if_sent debt o after
-dropped debt held after (service.Sent sending) same =
-    ap (λ (debts : List Debt).
-    record after { owed = filter (λ other. not (is_debt debt other)) debts }) (sym same)
-dropped debt held after service.Waits same =
-    ap (λ (debts : List Debt). record after { owed = debts }) (sym same)
-dropped debt held after (service.Refused why) same =
-    ap (λ (debts : List Debt). record after { owed = debts }) (sym same)
+dropped : (pending : PendingRequest) (held after : HeldDialog) (o : SendOutcome) → after.pending_requests ≡ held.pending_requests
+    → dialog_by o (filter (λ other. not (is_same_pending pending other)) held.pending_requests) held.pending_requests after
+    ≡ dropped_if_sent pending o after
+dropped pending held after (service.Sent sending) same =
+    ap (λ (pending_requests : List PendingRequest).
+    record after { pending_requests = filter (λ other. not (is_same_pending pending other)) pending_requests }) (sym same)
+dropped pending held after service.Waits same =
+    ap (λ (pending_requests : List PendingRequest). record after { pending_requests = pending_requests }) (sym same)
+dropped pending held after (service.Refused why) same =
+    ap (λ (pending_requests : List PendingRequest). record after { pending_requests = pending_requests }) (sym same)
 
-kept_same : (debt : Debt) (name : DialogName) (ack : Option SentAck) (clients : Clients)
-    → rule.ack_kept debt name ack clients ≡ ack_kept debt name ack clients
+kept_same : (pending : PendingRequest) (name : DialogId) (ack : Option SentAck) (clients : Clients)
+    → rule.ack_kept pending name ack clients ≡ ack_kept pending name ack clients
 kept_same (Ack invite number) name None clients = refl
 kept_same (Ack invite number) name (Some ack) clients = refl
 kept_same (Prack rseq number) name ack clients = refl
 
 module _ (event : Event) (command : DialogBody) (side : Side) where
-  abbrev asked_name : DialogName
+  abbrev asked_name : DialogId
   asked_name = name_in command.local_tag command.remote_tag
 
   abbrev refuse_body : Refusal → ClientTaken
@@ -362,14 +362,14 @@ module _ (event : Event) (command : DialogBody) (side : Side) where
 
   -- ---- as the rule says
 
-  abbrev rule_served : HeldDialog → Debt → List Debt → rule.Payment
-  rule_served held debt left =
-      rule.payment event command.call_id asked_name debt (Some command.content)
-      (record held { owed = left }) held
+  abbrev rule_served : HeldDialog → PendingRequest → List PendingRequest → rule.Payment
+  rule_served held pending left =
+      rule.payment event command.call_id asked_name pending (Some command.content)
+      (record held { pending_requests = left }) held
 
-  abbrev rule_after : Debt → rule.Payment → ClientTaken
-  rule_after debt done =
-      let sent = fold rule.start (rule.ack_kept debt asked_name done.ack side.clients, done.outs)
+  abbrev rule_after : PendingRequest → rule.Payment → ClientTaken
+  rule_after pending done =
+      let sent = fold rule.start (rule.ack_kept pending asked_name done.ack side.clients, done.outs)
       done.prack in (
         record {
           dialogs = set_value (is_named asked_name) side.dialogs done.dialog;
@@ -378,50 +378,50 @@ module _ (event : Event) (command : DialogBody) (side : Side) where
         sent.1,
       )
 
-  abbrev rule_paid : HeldDialog → Debt → ClientTaken
-  rule_paid held debt =
-      rule_after debt
-      (rule_served held debt (filter (λ other. not (rule.is_debt debt other)) held.owed))
+  abbrev rule_paid : HeldDialog → PendingRequest → ClientTaken
+  rule_paid held pending =
+      rule_after pending
+      (rule_served held pending (filter (λ other. not (rule.is_same_pending pending other)) held.pending_requests))
 
   abbrev rule_found : List ℕ → Refusal → HeldDialog → ClientTaken
   rule_found method nothing held =
-      option_map_or (rule_paid held) (find (is_for method) held.owed) (refuse_body nothing)
+      option_map_or (rule_paid held) (find (is_for method) held.pending_requests) (refuse_body nothing)
 
   -- ---- the step
 
-  abbrev left : Debt → HeldDialog → List Debt
-  left debt held = filter (λ other. not (is_debt debt other)) held.owed
+  abbrev left : PendingRequest → HeldDialog → List PendingRequest
+  left pending held = filter (λ other. not (is_same_pending pending other)) held.pending_requests
 
-  abbrev step_served : HeldDialog → Debt → Outcome
-  step_served held debt = discharged event debt (Some command.content) held
+  abbrev step_served : HeldDialog → PendingRequest → Outcome
+  step_served held pending = discharged event pending (Some command.content) held
 
-  served_as : (held : HeldDialog) (debt : Debt) → rule_paid held debt
-      ≡ rule_after debt (served_by event command.call_id asked_name debt (left debt held) held.owed
-      (step_served held debt))
-  served_as held debt =
-      ap (rule_after debt) (ap (rule_served held debt)
-      (λ i. filter (λ other. not (same_debt debt other i)) held.owed)
-      ∙ served_same event command.call_id asked_name held (left debt held) held.owed debt
+  served_as : (held : HeldDialog) (pending : PendingRequest) → rule_paid held pending
+      ≡ rule_after pending (served_by event command.call_id asked_name pending (left pending held) held.pending_requests
+      (step_served held pending))
+  served_as held pending =
+      ap (rule_after pending) (ap (rule_served held pending)
+      (λ i. filter (λ other. not (same_debt pending other i)) held.pending_requests)
+      ∙ served_same event command.call_id asked_name held (left pending held) held.pending_requests pending
       (Some command.content))
 
-  dropped_in : (held : HeldDialog) (debt : Debt)
-      → dialog_by (step_served held debt).1 (left debt held) held.owed (step_served held debt).0
-      ≡ dropped_if_sent debt (step_served held debt).1 (step_served held debt).0
-  dropped_in held debt =
-      dropped debt held (step_served held debt).0 (step_served held debt).1
-      (owed_kept event debt (Some command.content) held)
+  dropped_in : (held : HeldDialog) (pending : PendingRequest)
+      → dialog_by (step_served held pending).1 (left pending held) held.pending_requests (step_served held pending).0
+      ≡ dropped_if_sent pending (step_served held pending).1 (step_served held pending).0
+  dropped_in held pending =
+      dropped pending held (step_served held pending).0 (step_served held pending).1
+      (owed_kept event pending (Some command.content) held)
 
-  abbrev at_name : (HeldDialog → Outcome) → Option HeldDialog → Dialogs × Service
+  abbrev at_name : (HeldDialog → Outcome) → Option HeldDialog → Dialogs × SendOutcome
   at_name serve found = option_map_or
       (λ held. (set_value (is_named asked_name) side.dialogs (serve held).0, (serve held).1)) found
       (side.dialogs, service.Waits)
 
   -- ---- the command Ack
 
-  abbrev ack_after : Debt → Dialogs × Service → ClientTaken
-  ack_after debt done =
+  abbrev ack_after : PendingRequest → Dialogs × SendOutcome → ClientTaken
+  ack_after pending done =
       let said = ack_said event command.call_id done.1 in (
-        record { dialogs = done.0; clients = ack_kept debt asked_name said.1 side.clients },
+        record { dialogs = done.0; clients = ack_kept pending asked_name said.1 side.clients },
         said.0,
       )
 
@@ -431,45 +431,45 @@ module _ (event : Event) (command : DialogBody) (side : Side) where
       ≡ ack_paid event command asked_name (Ack invite number) side
   unfolding paid
   ack_paid_same held invite number at =
-      let debt = Ack invite number in
-      let said = ack_said event command.call_id (step_served held debt).1 in
-      let after : rule_paid held debt ≡ ack_after debt (at_name (paid event debt command.content)
-      (Some held)) = served_as held debt ∙ (λ i. (
+      let pending = Ack invite number in
+      let said = ack_said event command.call_id (step_served held pending).1 in
+      let after : rule_paid held pending ≡ ack_after pending (at_name (paid event pending command.content)
+      (Some held)) = served_as held pending ∙ (λ i. (
         record {
-          dialogs = set_value (is_named asked_name) side.dialogs (dropped_in held debt i);
-          clients = kept_same debt asked_name said.1 side.clients i;
+          dialogs = set_value (is_named asked_name) side.dialogs (dropped_in held pending i);
+          clients = kept_same pending asked_name said.1 side.clients i;
         },
         said.0,
       )) in
-      after ∙ ap (λ found. ack_after debt (at_name (paid event debt command.content) found))
+      after ∙ ap (λ found. ack_after pending (at_name (paid event pending command.content) found))
       (sym at)
 
-  ack_owed : (held : HeldDialog) (found : Option Debt)
-      → dialog_at asked_name side.dialogs ≡ Some held → find (is_of kind.Ack) held.owed ≡ found
+  ack_owed : (held : HeldDialog) (found : Option PendingRequest)
+      → dialog_at asked_name side.dialogs ≡ Some held → find (is_of kind.Ack) held.pending_requests ≡ found
       → option_map_or (rule_paid held) found (refuse_body refusal.NothingToAck)
       ≡ paid_or_refused event command (ack_paid event command asked_name)
       (debt_or_refusal kind.Ack found) side
   ack_owed held None at is = refl
   ack_owed held (Some (Ack invite number)) at is = ack_paid_same held invite number at
   ack_owed held (Some (Prack rseq number)) at is =
-      absurd (false≢true (found_passes (is_of kind.Ack) held.owed (Prack rseq number) is))
+      absurd (false≢true (found_passes (is_of kind.Ack) held.pending_requests (Prack rseq number) is))
 
   ack_in : (found : Option HeldDialog) → dialog_at asked_name side.dialogs ≡ found
       → option_map_or (rule_found (codes "ACK") refusal.NothingToAck) found
       (refuse_body refusal.NoSuchDialog)
       ≡ paid_or_refused event command (ack_paid event command asked_name)
-      (option_map_or (oldest_debt kind.Ack) found (Err refusal.NoSuchDialog)) side
+      (option_map_or (oldest_pending kind.Ack) found (Err refusal.NoSuchDialog)) side
   ack_in None at = refl
   ack_in (Some held) at =
       ap (λ found. option_map_or (rule_paid held) found (refuse_body refusal.NothingToAck))
-      (λ i. find (λ debt. is_an_ack debt i) held.owed)
-      ∙ ack_owed held (find (is_of kind.Ack) held.owed) at refl
+      (λ i. find (λ pending. is_an_ack pending i) held.pending_requests)
+      ∙ ack_owed held (find (is_of kind.Ack) held.pending_requests) at refl
 
   -- ---- the command Prack
 
-  prack_by_service : (debt : Debt) (dialogs : Dialogs) (o : Service) → is_of kind.Prack debt ≡ true
+  prack_by_service : (pending : PendingRequest) (dialogs : Dialogs) (o : SendOutcome) → is_of kind.Prack pending ≡ true
       → (let said = request_said event command.call_id asked_name o in
-      let sent = fold rule.start (rule.ack_kept debt asked_name None side.clients, said.0)
+      let sent = fold rule.start (rule.ack_kept pending asked_name None side.clients, said.0)
       (started_by said.1) in
       let after : ClientTaken = (record { dialogs = dialogs; clients = sent.0 }, sent.1) in after)
       ≡ (let said = request_said event command.call_id asked_name o in
@@ -482,7 +482,7 @@ module _ (event : Event) (command : DialogBody) (side : Side) where
   prack_by_service (Prack rseq number) dialogs service.Waits is = refl
   prack_by_service (Prack rseq number) dialogs (service.Refused why) is = refl
 
-  abbrev prack_after : Dialogs × Service → ClientTaken
+  abbrev prack_after : Dialogs × SendOutcome → ClientTaken
   prack_after done =
       let said = request_said event command.call_id asked_name done.1 in
       let kept = settled event event.id said.1 side.clients in
@@ -494,39 +494,39 @@ module _ (event : Event) (command : DialogBody) (side : Side) where
       ≡ prack_paid event command asked_name (Prack rseq number) side
   unfolding paid
   prack_paid_same held rseq number at =
-      let debt = Prack rseq number in
-      let done = step_served held debt in
-      served_as held debt
-      ∙ ap (λ (after : HeldDialog). rule_after debt (record {
+      let pending = Prack rseq number in
+      let done = step_served held pending in
+      served_as held pending
+      ∙ ap (λ (after : HeldDialog). rule_after pending (record {
         dialog = after;
         ack = None;
         prack = started_by (request_said event command.call_id asked_name done.1).1;
         outs = (request_said event command.call_id asked_name done.1).0;
-      })) (dropped_in held debt)
-      ∙ prack_by_service debt (set_value (is_named asked_name) side.dialogs
-      (dropped_if_sent debt done.1 done.0)) done.1 refl
-      ∙ ap (λ found. prack_after (at_name (paid event debt command.content) found)) (sym at)
+      })) (dropped_in held pending)
+      ∙ prack_by_service pending (set_value (is_named asked_name) side.dialogs
+      (dropped_if_sent pending done.1 done.0)) done.1 refl
+      ∙ ap (λ found. prack_after (at_name (paid event pending command.content) found)) (sym at)
 
-  prack_owed : (held : HeldDialog) (found : Option Debt)
-      → dialog_at asked_name side.dialogs ≡ Some held → find (is_of kind.Prack) held.owed ≡ found
+  prack_owed : (held : HeldDialog) (found : Option PendingRequest)
+      → dialog_at asked_name side.dialogs ≡ Some held → find (is_of kind.Prack) held.pending_requests ≡ found
       → option_map_or (rule_paid held) found (refuse_body refusal.NothingToPrack)
       ≡ paid_or_refused event command (prack_paid event command asked_name)
       (debt_or_refusal kind.Prack found) side
   prack_owed held None at is = refl
   prack_owed held (Some (Prack rseq number)) at is = prack_paid_same held rseq number at
   prack_owed held (Some (Ack invite number)) at is =
-      absurd (false≢true (found_passes (is_of kind.Prack) held.owed (Ack invite number) is))
+      absurd (false≢true (found_passes (is_of kind.Prack) held.pending_requests (Ack invite number) is))
 
   prack_in : (found : Option HeldDialog) → dialog_at asked_name side.dialogs ≡ found
       → option_map_or (rule_found (codes "PRACK") refusal.NothingToPrack) found
       (refuse_body refusal.NoSuchDialog)
       ≡ paid_or_refused event command (prack_paid event command asked_name)
-      (option_map_or (oldest_debt kind.Prack) found (Err refusal.NoSuchDialog)) side
+      (option_map_or (oldest_pending kind.Prack) found (Err refusal.NoSuchDialog)) side
   prack_in None at = refl
   prack_in (Some held) at =
       ap (λ found. option_map_or (rule_paid held) found (refuse_body refusal.NothingToPrack))
-      (λ i. find (λ debt. is_a_prack debt i) held.owed)
-      ∙ prack_owed held (find (is_of kind.Prack) held.owed) at refl
+      (λ i. find (λ pending. is_a_prack pending i) held.pending_requests)
+      ∙ prack_owed held (find (is_of kind.Prack) held.pending_requests) at refl
 
 pub ack_same : (event : Event) (command : DialogBody) (side : Side)
     → rule.ack_rule event command side ≡ ack_by_user event command side
@@ -591,10 +591,10 @@ module _ (event : Event) (command : Cancel) (side : Side) where
   cancel_by invite true false provisional Sent at = refl
 
   inviting_same : (kind : RequestKind) → rule.is_inviting kind ≡ is_inviting kind
-  inviting_same First = refl
-  inviting_same (Again life) = refl
-  inviting_same (Inside life) = refl
-  inviting_same Plain = refl
+  inviting_same InitialInvite = refl
+  inviting_same (ReInvite life) = refl
+  inviting_same (InDialog life) = refl
+  inviting_same OutOfDialog = refl
 
   cancel_in : (found : Option Client) → client_at command.id side.clients ≡ found
       → option_map_or (λ (invite : Client).

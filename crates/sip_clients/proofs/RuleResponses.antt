@@ -15,10 +15,10 @@ use Rattle.sip_dialog.specs.Dialog.{is_ended}
 use Rattle.sip_dialog.specs.Opening.{contact_uri}
 use Rattle.sip_reliable.specs.declared.offer.Offer.TheVariants.{Taken, Repeat, Gap}
 use Rattle.sip_reliable.specs.Inbound.{latest_after, offered}
-use Rattle.sip_common.specs.declared.debt.Debt.{Debt}
-use Rattle.sip_common.specs.declared.debt.Debt.TheVariants.{Ack, Prack}
-use Rattle.sip_common.specs.declared.held_dialog.DialogLife.{DialogLife}
-use Rattle.sip_common.specs.declared.held_dialog.DialogName.{DialogName}
+use Rattle.sip_common.specs.declared.pending_request.PendingRequest.{PendingRequest}
+use Rattle.sip_common.specs.declared.pending_request.PendingRequest.TheVariants.{Ack, Prack}
+use Rattle.sip_common.specs.declared.held_dialog.DialogReference.{DialogReference}
+use Rattle.sip_common.specs.declared.held_dialog.DialogId.{DialogId}
 use Rattle.sip_common.specs.declared.held_dialog.HeldDialog.{HeldDialog}
 use Rattle.sip_common.specs.declared.item.CallOut.{CallOut}
 use Rattle.sip_common.specs.Dialogs.{confirmed, dialog_at, is_named, retargeted, Dialogs}
@@ -29,24 +29,24 @@ use Rattle.sip_clients.specs.declared.client.Cancelling.{Cancelling}
 use Rattle.sip_clients.specs.declared.client.Cancelling.TheVariants.{NotAsked, Waits, Sent}
 use Rattle.sip_clients.specs.declared.client.Client.{Client}
 use Rattle.sip_clients.specs.declared.client.RequestKind.{RequestKind}
-use Rattle.sip_clients.specs.declared.client.RequestKind.TheVariants.{First, Again, Inside, Plain}
+use Rattle.sip_clients.specs.declared.client.RequestKind.TheVariants.{InitialInvite, ReInvite, InDialog, OutOfDialog}
 use Rattle.sip_clients.specs.declared.event.Event.{Event}
 use Rattle.sip_clients.specs.declared.outputs.ClientChange.TheVariants.{Stays, Over}
-use Rattle.sip_clients.specs.declared.reply.Reply.{Reply as Answer}
+use Rattle.sip_clients.specs.declared.reply.ReceivedResponse.{ReceivedResponse}
 use Rattle.sip_clients.specs.declared.reply.ReplyCase.{ReplyCase}
 use Rattle.sip_clients.specs.declared.reply.ReplyCase.TheVariants as reply
-use Rattle.sip_clients.specs.declared.service.Service.{Service}
-use Rattle.sip_clients.specs.declared.service.Service.TheVariants as service
+use Rattle.sip_clients.specs.declared.send_outcome.SendOutcome.{SendOutcome}
+use Rattle.sip_clients.specs.declared.send_outcome.SendOutcome.TheVariants as service
 use Rattle.sip_clients.specs.Answers.{has_answer}
 use Rattle.sip_clients.specs.Cancel.{after_response, cancel_client, cancel_freed, cancelling_after, freed_by}
 use Rattle.sip_clients.specs.Client.{ClientTaken, Side, client_at}
 use Rattle.sip_clients.specs.Clients.{found_taken, reply_name, reply_of, reply_settled, response_taken, side_after, status_of}
-use Rattle.sip_clients.specs.Debts.{kept_unless_sent, owed}
+use Rattle.sip_clients.specs.Pending.{kept_unless_sent, pending_requests}
 use Rattle.sip_clients.specs.Dialogs.{accepted, hearing}
 use Rattle.sip_clients.specs.Outputs.{ack_said, request_said, response_notice, start_command}
-use Rattle.sip_clients.specs.Replied.{Replied, accepted_by_ack, ack_again, ack_owed, after_dialog, ends_dialog, hears, held_after_success, notice, offer_to, prack_owed, reliable, reply_taken, request_over, told_of_prack}
-use Rattle.sip_clients.specs.Reply.{is_dialog_response, offer_case, rseq_of}
-use Rattle.sip_clients.specs.Service.{discharged}
+use Rattle.sip_clients.specs.Replied.{Replied, accepted_by_ack, ack_again, ack_owed, after_dialog, ends_dialog, hears, held_after_success, notice, automatic_body, prack_owed, reliable, reply_taken, request_over, told_of_prack}
+use Rattle.sip_clients.specs.ReceivedResponse.{is_dialog_response, offer_case, rseq_of}
+use Rattle.sip_clients.specs.SendOutcome.{discharged}
 use Rattle.sip_clients.specs.Rules.Ends as ends
 use Rattle.sip_clients.specs.Rules.Requests as rule
 use Rattle.sip_clients.specs.Rules.Responses.{Outcome, dialog_made_by, outcome_of, response_rule, success_in, waiting_cancel}
@@ -120,7 +120,7 @@ over_put event id side (Some cancel) client dialogs outs =
 
 -- a PRACK is sent, waits or is refused
 prack_put : (event : Event) (id : Id) (side : Side) (cancel : Option Client) (client : Client)
-    (dialogs : Dialogs) (call_id : List ℕ) (name : DialogName) (told : CallOut) (o : Service)
+    (dialogs : Dialogs) (call_id : List ℕ) (name : DialogId) (told : CallOut) (o : SendOutcome)
     → (let said = request_said event call_id name o in
     put id side (option_to_list cancel) (record {
       request = Some client;
@@ -142,7 +142,7 @@ prack_put event id side cancel client dialogs call_id name told (service.Refused
 
 -- ---- what a response asks for
 
-abbrev seen : Event → List ℕ → DialogName → Debt → HeldDialog × Service → rule.Payment
+abbrev seen : Event → List ℕ → DialogId → PendingRequest → HeldDialog × SendOutcome → rule.Payment
 seen event call_id name (Ack invite number) done = record {
   dialog = done.0;
   ack = (ack_said event call_id done.1).1;
@@ -156,39 +156,39 @@ seen event call_id name (Prack rseq number) done = record {
   outs = (request_said event call_id name done.1).0;
 }
 
-kept_in : (debt : Debt) (held after : HeldDialog) (o : Service) → after.owed ≡ held.owed
-    → dialog_by o held.owed (held.owed ++ debt ∷ []) after ≡ kept_unless_sent debt o after
-kept_in debt held after (service.Sent sending) same =
-    ap (λ (debts : List Debt). record after { owed = debts }) (sym same)
-kept_in debt held after service.Waits same =
-    ap (λ (debts : List Debt). record after { owed = debts ++ debt ∷ [] }) (sym same)
-kept_in debt held after (service.Refused why) same =
-    ap (λ (debts : List Debt). record after { owed = debts ++ debt ∷ [] }) (sym same)
+kept_in : (pending : PendingRequest) (held after : HeldDialog) (o : SendOutcome) → after.pending_requests ≡ held.pending_requests
+    → dialog_by o held.pending_requests (held.pending_requests ++ pending ∷ []) after ≡ kept_unless_sent pending o after
+kept_in pending held after (service.Sent sending) same =
+    ap (λ (pending_requests : List PendingRequest). record after { pending_requests = pending_requests }) (sym same)
+kept_in pending held after service.Waits same =
+    ap (λ (pending_requests : List PendingRequest). record after { pending_requests = pending_requests ++ pending ∷ [] }) (sym same)
+kept_in pending held after (service.Refused why) same =
+    ap (λ (pending_requests : List PendingRequest). record after { pending_requests = pending_requests ++ pending ∷ [] }) (sym same)
 
-owed_seen : (event : Event) (call_id : List ℕ) (name : DialogName) (debt : Debt)
+owed_seen : (event : Event) (call_id : List ℕ) (name : DialogId) (pending : PendingRequest)
     (content : Option Content) (held : HeldDialog)
-    → served_by event call_id name debt held.owed (held.owed ++ debt ∷ [])
-    (discharged event debt content held)
-    ≡ seen event call_id name debt (owed event debt content held)
-unfolding owed
+    → served_by event call_id name pending held.pending_requests (held.pending_requests ++ pending ∷ [])
+    (discharged event pending content held)
+    ≡ seen event call_id name pending (pending_requests event pending content held)
+unfolding pending_requests
 owed_seen event call_id name (Ack invite number) content held =
-    let debt = Ack invite number in
-    let done = discharged event debt content held in
-    ap (λ (after : HeldDialog). seen event call_id name debt (after, done.1))
-    (kept_in debt held done.0 done.1 (owed_kept event debt content held))
+    let pending = Ack invite number in
+    let done = discharged event pending content held in
+    ap (λ (after : HeldDialog). seen event call_id name pending (after, done.1))
+    (kept_in pending held done.0 done.1 (owed_kept event pending content held))
 owed_seen event call_id name (Prack rseq number) content held =
-    let debt = Prack rseq number in
-    let done = discharged event debt content held in
-    ap (λ (after : HeldDialog). seen event call_id name debt (after, done.1))
-    (kept_in debt held done.0 done.1 (owed_kept event debt content held))
+    let pending = Prack rseq number in
+    let done = discharged event pending content held in
+    ap (λ (after : HeldDialog). seen event call_id name pending (after, done.1))
+    (kept_in pending held done.0 done.1 (owed_kept event pending content held))
 
-owed_same : (event : Event) (call_id : List ℕ) (name : DialogName) (debt : Debt)
+owed_same : (event : Event) (call_id : List ℕ) (name : DialogId) (pending : PendingRequest)
     (content : Option Content) (held : HeldDialog)
-    → rule.payment event call_id name debt content held (record held { owed = held.owed ++ debt ∷ [] })
-    ≡ seen event call_id name debt (owed event debt content held)
-owed_same event call_id name debt content held =
-    served_same event call_id name held held.owed (held.owed ++ debt ∷ []) debt content
-    ∙ owed_seen event call_id name debt content held
+    → rule.payment event call_id name pending content held (record held { pending_requests = held.pending_requests ++ pending ∷ [] })
+    ≡ seen event call_id name pending (pending_requests event pending content held)
+owed_same event call_id name pending content held =
+    served_same event call_id name held held.pending_requests (held.pending_requests ++ pending ∷ []) pending content
+    ∙ owed_seen event call_id name pending content held
 
 -- ---- one response
 
@@ -238,7 +238,7 @@ latest None rseq is = refl
 latest (Some last) rseq is = ap (λ b. latest_after (if b then Taken
     else (if nat_le rseq last then Repeat else Gap)) (Some last) rseq) is
 
-module _ (answer : Answer) (side : Side) (cancel : Option Client) where
+module _ (answer : ReceivedResponse) (side : Side) (cancel : Option Client) where
   abbrev ours : Outcome → ClientTaken
   ours done = put answer.id side (option_to_list cancel) done
 
@@ -273,9 +273,9 @@ module _ (answer : Answer) (side : Side) (cancel : Option Client) where
       })) (over_same client (ends_dialog answer.status) side.dialogs)
       ∙ over_put answer.event answer.id side cancel client _ _
 
-  abbrev asked_for : Option Content → Debt → HeldDialog → rule.Payment
-  asked_for content debt held = rule.payment answer.event answer.call_id answer.name debt content held
-      (record held { owed = held.owed ++ debt ∷ [] })
+  abbrev asked_for : Option Content → PendingRequest → HeldDialog → rule.Payment
+  asked_for content pending held = rule.payment answer.event answer.call_id answer.name pending content held
+      (record held { pending_requests = held.pending_requests ++ pending ∷ [] })
 
   abbrev with_served : (Option SentAck → Client) → rule.Payment → Outcome
   with_served after done = record {
@@ -287,28 +287,28 @@ module _ (answer : Answer) (side : Side) (cancel : Option Client) where
 
   ack_asked : (client : Client) (held : HeldDialog)
       → ours (with_served (λ ack. held_after_success answer ack client)
-      (asked_for (offer_to client answer.response)
+      (asked_for (automatic_body client answer.response)
       (Ack client.id ((client.request).cseq).number) held))
       ≡ theirs (after_dialog answer.name side.dialogs (accepted_by_ack client held answer))
   unfolding ack_owed
   ack_asked client held =
-      let debt = Ack client.id ((client.request).cseq).number in
-      let content = offer_to client answer.response in
-      let done = owed answer.event debt content held in
+      let pending = Ack client.id ((client.request).cseq).number in
+      let content = automatic_body client answer.response in
+      let done = pending_requests answer.event pending content held in
       let said = ack_said answer.event answer.call_id done.1 in
       ap (λ (done : rule.Payment).
       ours (with_served (λ ack. held_after_success answer ack client) done))
-      (owed_same answer.event answer.call_id answer.name debt content held)
+      (owed_same answer.event answer.call_id answer.name pending content held)
       ∙ stays (held_after_success answer said.1 client)
       (insert_entry is_named side.dialogs answer.name done.0) (response_notice answer ∷ said.0)
 
   prack_asked : (after : Client) (content : Option Content) (rseq number : ℕ) (held : HeldDialog)
       → ours (with_served (λ ack. after) (asked_for content (Prack rseq number) held))
-      ≡ (let done = owed answer.event (Prack rseq number) content held in
+      ≡ (let done = pending_requests answer.event (Prack rseq number) content held in
       let told = told_of_prack answer done.1 in
       theirs (after, insert_entry is_named side.dialogs answer.name done.0, told.0, told.1))
   prack_asked after content rseq number held =
-      let done = owed answer.event (Prack rseq number) content held in
+      let done = pending_requests answer.event (Prack rseq number) content held in
       ap (λ (done : rule.Payment). ours (with_served (λ ack. after) done))
       (owed_same answer.event answer.call_id answer.name (Prack rseq number) content held)
       ∙ prack_put answer.event answer.id side cancel after
@@ -320,24 +320,24 @@ module _ (answer : Answer) (side : Side) (cancel : Option Client) where
   abbrev of_kind : RequestKind → Client → Client
   of_kind kind client = record client { kind = kind }
 
-  other : (client : Client) → Same (of_kind Plain client)
+  other : (client : Client) → Same (of_kind OutOfDialog client)
   other client =
-      by_bool (is_final answer.status) (λ f. rw f (over (of_kind Plain client)))
+      by_bool (is_final answer.status) (λ f. rw f (over (of_kind OutOfDialog client)))
       (λ f. by_bool (is_dialog_response answer)
-      (λ d. rw (f, d) (stays (of_kind Plain client) side.dialogs (notice answer)))
-      (λ d. rw (f, d) (stays (of_kind Plain client) side.dialogs (notice answer))))
+      (λ d. rw (f, d) (stays (of_kind OutOfDialog client) side.dialogs (notice answer)))
+      (λ d. rw (f, d) (stays (of_kind OutOfDialog client) side.dialogs (notice answer))))
 
-  other_inside : (life : DialogLife) (client : Client) → Same (of_kind (Inside life) client)
+  other_inside : (life : DialogReference) (client : Client) → Same (of_kind (InDialog life) client)
   other_inside life client =
-      by_bool (is_final answer.status) (λ f. rw f (over (of_kind (Inside life) client)))
+      by_bool (is_final answer.status) (λ f. rw f (over (of_kind (InDialog life) client)))
       (λ f. by_bool (is_dialog_response answer)
-      (λ d. rw (f, d) (stays (of_kind (Inside life) client) side.dialogs (notice answer)))
-      (λ d. rw (f, d) (stays (of_kind (Inside life) client) side.dialogs (notice answer))))
+      (λ d. rw (f, d) (stays (of_kind (InDialog life) client) side.dialogs (notice answer)))
+      (λ d. rw (f, d) (stays (of_kind (InDialog life) client) side.dialogs (notice answer))))
 
   -- ---- an initial INVITE
 
   abbrev initial : Client → Client
-  initial client = of_kind First client
+  initial client = of_kind InitialInvite client
 
   accepted_first : (client : Client) (found : Option HeldDialog)
       → option_map_or (success_in true answer.response) found (dialog_made_by answer client)
@@ -347,7 +347,7 @@ module _ (answer : Answer) (side : Side) (cancel : Option Client) where
 
   ack_first : (client : Client)
       → ours (with_served (λ ack. held_after_success answer ack (initial client))
-      (asked_for (offer_to client answer.response) (Ack client.id ((client.request).cseq).number)
+      (asked_for (automatic_body client answer.response) (Ack client.id ((client.request).cseq).number)
       (option_map_or (success_in true answer.response) (dialog_at answer.name side.dialogs)
       (dialog_made_by answer client))))
       ≡ theirs (after_dialog answer.name side.dialogs (accepted_by_ack (initial client)
@@ -355,7 +355,7 @@ module _ (answer : Answer) (side : Side) (cancel : Option Client) where
   ack_first client =
       ap (λ (held : HeldDialog).
       ours (with_served (λ ack. held_after_success answer ack (initial client))
-      (asked_for (offer_to client answer.response) (Ack client.id ((client.request).cseq).number)
+      (asked_for (automatic_body client answer.response) (Ack client.id ((client.request).cseq).number)
       held)))
       (accepted_first client (dialog_at answer.name side.dialogs))
       ∙ ack_asked (initial client)
@@ -380,29 +380,29 @@ module _ (answer : Answer) (side : Side) (cancel : Option Client) where
       rw (f, d, at, is) (stays (initial client)
       (insert_entry is_named side.dialogs answer.name held) (notice answer))
   early_of_first client None (Some rseq) f d at is =
-      rw (f, d, at, is) (prack_asked (initial client) (offer_to client answer.response) rseq
+      rw (f, d, at, is) (prack_asked (initial client) (automatic_body client answer.response) rseq
       ((client.request).cseq).number
-      (record (dialog_made_by answer client) { heard = Some rseq }))
+      (record (dialog_made_by answer client) { last_rseq = Some rseq }))
   early_of_first client (Some held) (Some rseq) f d at is =
-      by_next (is_next held.heard rseq) refl (goes held.heard rseq)
+      by_next (is_next held.last_rseq rseq) refl (goes held.last_rseq rseq)
     where
-      by_next : (b : Bool) → is_next held.heard rseq ≡ b
-          → Goes b (offer_case (offered held.heard rseq) rseq) rseq → Same (initial client)
+      by_next : (b : Bool) → is_next held.last_rseq rseq ≡ b
+          → Goes b (offer_case (offered held.last_rseq rseq) rseq) rseq → Same (initial client)
       by_next true n case =
-          let content = offer_to client answer.response in
+          let content = automatic_body client answer.response in
           let number = ((client.request).cseq).number in
-          let heard : HeldDialog = record held { heard = Some rseq } in
+          let last_rseq : HeldDialog = record held { last_rseq = Some rseq } in
           let left : outcome_of answer (initial client) side.dialogs
-          ≡ with_served (λ ack. initial client) (asked_for content (Prack rseq number) heard)
+          ≡ with_served (λ ack. initial client) (asked_for content (Prack rseq number) last_rseq)
           = rw (f, d, at, is, n) refl in
           let right : reply_taken (initial client) side.dialogs answer
           ≡ after_dialog answer.name side.dialogs (reliable rseq (initial client) held answer)
           = rw (f, d, at, is, case) refl in
-          let hears : hearing rseq held ≡ heard =
-          ap (λ (last : Option ℕ). record held { heard = last }) (latest held.heard rseq n) in
-          ap ours left ∙ prack_asked (initial client) content rseq number heard
-          ∙ ap (λ (heard : HeldDialog).
-          let done = owed answer.event (Prack rseq number) content heard in
+          let hears : hearing rseq held ≡ last_rseq =
+          ap (λ (last : Option ℕ). record held { last_rseq = last }) (latest held.last_rseq rseq n) in
+          ap ours left ∙ prack_asked (initial client) content rseq number last_rseq
+          ∙ ap (λ (last_rseq : HeldDialog).
+          let done = pending_requests answer.event (Prack rseq number) content last_rseq in
           let told = told_of_prack answer done.1 in
           theirs (
             initial client,
@@ -438,24 +438,24 @@ module _ (answer : Answer) (side : Side) (cancel : Option Client) where
       (λ s. rw (f, s) (over (initial client)))) (provisional_of_first client)
   -- ---- a re-INVITE: the response is of its dialog
 
-module _ (life : DialogLife) (given : Answer) (side : Side) (cancel : Option Client) where
-  abbrev own : Answer
+module _ (life : DialogReference) (given : ReceivedResponse) (side : Side) (cancel : Option Client) where
+  abbrev own : ReceivedResponse
   own = record given { name = life.name }
 
   abbrev again : Client → Client
-  again client = record client { kind = Again life }
+  again client = record client { kind = ReInvite life }
 
   ack_again_owed : (client : Client) (held : HeldDialog)
       → ours own side cancel
       (with_served own side cancel (λ ack. held_after_success own ack (again client))
-      (asked_for own side cancel (offer_to client own.response)
+      (asked_for own side cancel (automatic_body client own.response)
       (Ack client.id ((client.request).cseq).number) (success_in false own.response held)))
       ≡ theirs own side cancel (after_dialog own.name side.dialogs
       (accepted_by_ack (again client) (accepted (again client) own (Some held)) own))
   ack_again_owed client held =
       ap (λ (held : HeldDialog). ours own side cancel
       (with_served own side cancel (λ ack. held_after_success own ack (again client))
-      (asked_for own side cancel (offer_to client own.response)
+      (asked_for own side cancel (automatic_body client own.response)
       (Ack client.id ((client.request).cseq).number) held)))
       (success_again own.response held)
       ∙ ack_asked own side cancel (again client)
@@ -474,29 +474,29 @@ module _ (life : DialogLife) (given : Answer) (side : Side) (cancel : Option Cli
           rw (f, s, h, at) (stays own side cancel (held_after_success own None (again client))
           side.dialogs (notice own))
       by_answered false (Some held) h at =
-          by_bool (is_id held.born life.born)
+          by_bool (is_id held.created_by life.created_by)
           (λ l. rw (f, s, h, at, l) (ack_again_owed client held))
           (λ l. rw (f, s, h, at, l) (stays own side cancel
           (held_after_success own None (again client)) side.dialogs (notice own)))
 
   early_of_again : (client : Client) (held : HeldDialog) (rseq : Option ℕ)
       → is_final own.status ≡ false → is_dialog_response own ≡ true
-      → is_id held.born life.born ≡ true → dialog_at life.name side.dialogs ≡ Some held
+      → is_id held.created_by life.created_by ≡ true → dialog_at life.name side.dialogs ≡ Some held
       → rseq_of own.response ≡ rseq → Same own side cancel (again client)
   unfolding prack_owed
   early_of_again client held None f d l at is =
       rw (f, at, l, d, is) (stays own side cancel (again client)
       (insert_entry is_named side.dialogs own.name held) (notice own))
   early_of_again client held (Some rseq) f d l at is =
-      by_next (is_next client.heard rseq) refl (goes client.heard rseq)
+      by_next (is_next client.last_rseq rseq) refl (goes client.last_rseq rseq)
     where
-      by_next : (b : Bool) → is_next client.heard rseq ≡ b
-          → Goes b (offer_case (offered client.heard rseq) rseq) rseq
+      by_next : (b : Bool) → is_next client.last_rseq rseq ≡ b
+          → Goes b (offer_case (offered client.last_rseq rseq) rseq) rseq
           → Same own side cancel (again client)
       by_next true n case =
-          let content = offer_to client own.response in
+          let content = automatic_body client own.response in
           let number = ((client.request).cseq).number in
-          let after : Client = record (again client) { heard = Some rseq } in
+          let after : Client = record (again client) { last_rseq = Some rseq } in
           let left : outcome_of own (again client) side.dialogs
           ≡ with_served own side cancel (λ ack. after)
           (asked_for own side cancel content (Prack rseq number) held)
@@ -505,12 +505,12 @@ module _ (life : DialogLife) (given : Answer) (side : Side) (cancel : Option Cli
           ≡ after_dialog own.name side.dialogs (reliable rseq (again client) held own)
           = rw (f, at, l, d, is, case) refl in
           let hears_it : hears rseq (again client) ≡ after =
-          ap (λ (last : Option ℕ). record (again client) { heard = last })
-          (latest client.heard rseq n) in
+          ap (λ (last : Option ℕ). record (again client) { last_rseq = last })
+          (latest client.last_rseq rseq n) in
           ap (ours own side cancel) left
           ∙ prack_asked own side cancel after content rseq number held
           ∙ ap (λ (after : Client).
-          let done = owed own.event (Prack rseq number) content held in
+          let done = pending_requests own.event (Prack rseq number) content held in
           let told = told_of_prack own done.1 in
           theirs own side cancel (
             after,
@@ -552,7 +552,7 @@ module _ (life : DialogLife) (given : Answer) (side : Side) (cancel : Option Cli
   -- it has no dialog, or comes in none, or that has ended
   told_by : (client : Client) (held : HeldDialog) (d l : Bool) → is_final own.status ≡ false
       → dialog_at life.name side.dialogs ≡ Some held → is_dialog_response own ≡ d
-      → is_id held.born life.born ≡ l → (d && l) ≡ false → IsTold (again client)
+      → is_id held.created_by life.created_by ≡ l → (d && l) ≡ false → IsTold (again client)
   told_by client held true true f at d l none = absurd cc
   told_by client held true false f at d l none =
       (rw (f, at, l) refl, rw (f, at, l, d) refl)
@@ -574,10 +574,10 @@ module _ (life : DialogLife) (given : Answer) (side : Side) (cancel : Option Cli
       told_only (again client) (gone client (is_dialog_response own) f at refl)
   provisional_of_again client (Some held) f at =
       by_bool (is_dialog_response own)
-      (λ d. by_bool (is_id held.born life.born)
+      (λ d. by_bool (is_id held.created_by life.created_by)
       (λ l. early_of_again client held (rseq_of own.response) f d l at refl)
       (λ l. told_only (again client) (told_by client held true false f at d l refl)))
-      (λ d. told_only (again client) (told_by client held false (is_id held.born life.born) f at d
+      (λ d. told_only (again client) (told_by client held false (is_id held.created_by life.created_by) f at d
       refl refl))
 
   re_invite : (client : Client) → Same own side cancel (again client)
@@ -591,29 +591,29 @@ module _ (life : DialogLife) (given : Answer) (side : Side) (cancel : Option Cli
 -- ---- any response
 
 -- the response of this name to a request of this kind
-abbrev name_by : RequestKind → Client → Message → DialogName
+abbrev name_by : RequestKind → Client → Message → DialogId
 name_by kind client message =
     option_map_or (λ life. life.name) (rule.life_of kind)
     (name_of_tags (tag_of (client.request).from) (tag_of message.to))
 
 name_same : (kind : RequestKind) (client : Client) (message : Message)
     → name_by kind client message ≡ reply_name kind client message
-name_same First client message = refl
-name_same (Again life) client message = refl
-name_same (Inside life) client message = refl
-name_same Plain client message = refl
+name_same InitialInvite client message = refl
+name_same (ReInvite life) client message = refl
+name_same (InDialog life) client message = refl
+name_same OutOfDialog client message = refl
 
-any_kind : (kind : RequestKind) (answer : Answer) (side : Side) (cancel : Option Client)
+any_kind : (kind : RequestKind) (answer : ReceivedResponse) (side : Side) (cancel : Option Client)
     (client : Client) (message : Message)
     → Same (record answer { name = name_by kind client message }) side cancel
     (record client { kind = kind })
-any_kind First answer side cancel client message =
-    first (record answer { name = name_by First client message }) side cancel client
-any_kind (Again life) answer side cancel client message = re_invite life answer side cancel client
-any_kind (Inside life) answer side cancel client message =
+any_kind InitialInvite answer side cancel client message =
+    first (record answer { name = name_by InitialInvite client message }) side cancel client
+any_kind (ReInvite life) answer side cancel client message = re_invite life answer side cancel client
+any_kind (InDialog life) answer side cancel client message =
     other_inside (record answer { name = life.name }) side cancel life client
-any_kind Plain answer side cancel client message =
-    other (record answer { name = name_by Plain client message }) side cancel client
+any_kind OutOfDialog answer side cancel client message =
+    other (record answer { name = name_by OutOfDialog client message }) side cancel client
 
 cancelling_same : (final : Bool) (cancel : Cancelling)
     → option_map_or (λ by. if final then NotAsked else Sent) (waiting_cancel cancel) cancel
@@ -634,7 +634,7 @@ freed_same false invite (Waits id) = refl
 freed_same false invite Sent = refl
 
 -- one to a request that is held
-taken_same : (answer : Answer) (side : Side) (client : Client)
+taken_same : (answer : ReceivedResponse) (side : Side) (client : Client)
     → (let final = is_final answer.status in
     put answer.id side
     (if final then [] else option_map_or (λ by. rule.cancel_request by client ∷ [])

@@ -14,9 +14,9 @@ use Rattle.sip_dialog.specs.declared.fault.DialogFault.{DialogFault}
 use Rattle.sip_dialog.specs.Fault.{ack_fault, request_fault}
 use Rattle.sip_dialog.specs.Life.{Happening}
 use Rattle.sip_dialog.specs.Request.{ack_in}
-use Rattle.sip_common.specs.declared.debt.Debt.{Debt}
-use Rattle.sip_common.specs.declared.debt.Debt.TheVariants.{Ack, Prack}
-use Rattle.sip_common.specs.declared.held_dialog.DialogName.{DialogName}
+use Rattle.sip_common.specs.declared.pending_request.PendingRequest.{PendingRequest}
+use Rattle.sip_common.specs.declared.pending_request.PendingRequest.TheVariants.{Ack, Prack}
+use Rattle.sip_common.specs.declared.held_dialog.DialogId.{DialogId}
 use Rattle.sip_common.specs.declared.held_dialog.HeldDialog.{HeldDialog}
 use Rattle.sip_common.specs.declared.item.CallOut.{CallOut}
 use Rattle.sip_common.specs.declared.refusal.Refusal.{Refusal}
@@ -30,18 +30,18 @@ use Rattle.sip_common.proofs.Sent.{cseq_for, made_in, numbered}
 use Rattle.sip_common.proofs.Starts.{cseqs_both}
 use Rattle.sip_clients.specs.declared.client.Client.{Client}
 use Rattle.sip_clients.specs.declared.event.Event.{Event}
-use Rattle.sip_clients.specs.declared.service.Sending.{Sending}
-use Rattle.sip_clients.specs.declared.service.Service.{Service}
-use Rattle.sip_clients.specs.declared.service.Service.TheVariants.{Sent, Waits, Refused}
+use Rattle.sip_clients.specs.declared.send_outcome.OutgoingRequest.{OutgoingRequest}
+use Rattle.sip_clients.specs.declared.send_outcome.SendOutcome.{SendOutcome}
+use Rattle.sip_clients.specs.declared.send_outcome.SendOutcome.TheVariants.{Sent, Waits, Refused}
 use Rattle.sip_clients.specs.Cancel.{cancel_client, sent_beside}
 use Rattle.sip_clients.specs.Client.{Clients}
 use Rattle.sip_clients.specs.Clients.{settled}
 use Rattle.sip_clients.specs.Commands.{is_own_kind, request_in_held, request_refusals, sent_unless}
-use Rattle.sip_clients.specs.Debts.{owed, paid}
+use Rattle.sip_clients.specs.Pending.{pending_requests, paid}
 use Rattle.sip_clients.specs.Dialogs.{served_at}
 use Rattle.sip_clients.specs.Event.{branch_of}
 use Rattle.sip_clients.specs.Outputs.{request_said, start_command}
-use Rattle.sip_clients.specs.Service.{Outcome, discharged, sending_in, service_by}
+use Rattle.sip_clients.specs.SendOutcome.{Outcome, discharged, sending_in, service_by}
 use Rattle.sip_clients.proofs.Served.{served_in}
 
 -- ---- one request
@@ -50,7 +50,7 @@ use Rattle.sip_clients.proofs.Served.{served_in}
 abbrev pub next_cseq : List ℕ → Dialog → CSeq
 next_cseq method dialog = cseq_for (dialog.local_cseq + 1) method
 
-module _ (name own : DialogName) where
+module _ (name own : DialogId) where
   as_list : (b : Bool) (one : CSeq)
       → cons_option (if true && b then Some one else None) [] ≡ cond b (one ∷ []) []
   as_list true one = refl
@@ -78,7 +78,7 @@ module _ (name own : DialogName) where
 
 -- ---- what becomes of a request
 
-abbrev pub service_cseqs : DialogName → Service → List CSeq
+abbrev pub service_cseqs : DialogId → SendOutcome → List CSeq
 service_cseqs name (Sent sending) = cons_option (cseq_of_request name sending.message) []
 service_cseqs name Waits = []
 service_cseqs name (Refused refusal) = []
@@ -89,7 +89,7 @@ asks method None dialog = next_cseq method dialog ∷ []
 asks method (Some fault) dialog = []
 
 -- a PRACK takes a number where it is sent
-abbrev pub discharge_cseqs : Debt → Option Content → Dialog → List CSeq
+abbrev pub discharge_cseqs : PendingRequest → Option Content → Dialog → List CSeq
 discharge_cseqs (Ack invite number) offer dialog = []
 discharge_cseqs (Prack rseq number) None dialog = []
 discharge_cseqs (Prack rseq number) (Some content) dialog =
@@ -105,14 +105,14 @@ request_cseqs method dialog =
     unless_refused (first_refusal (request_refusals dialog method) None) method dialog
 
 -- so it happens in the dialog
-abbrev pub discharge_life : Debt → Option Content → Dialog → List Happening
-discharge_life debt offer dialog = requests_made (discharge_cseqs debt offer dialog)
+abbrev pub discharge_life : PendingRequest → Option Content → Dialog → List Happening
+discharge_life pending offer dialog = requests_made (discharge_cseqs pending offer dialog)
 
 abbrev pub request_life : List ℕ → Dialog → List Happening
 request_life method dialog = requests_made (request_cseqs method dialog)
 
-pub discharge_numbered : (debt : Debt) (offer : Option Content) (dialog : Dialog)
-    → NumberedAfter dialog.local_cseq (discharge_cseqs debt offer dialog)
+pub discharge_numbered : (pending : PendingRequest) (offer : Option Content) (dialog : Dialog)
+    → NumberedAfter dialog.local_cseq (discharge_cseqs pending offer dialog)
 discharge_numbered (Ack invite number) offer dialog = tt
 discharge_numbered (Prack rseq number) None dialog = tt
 discharge_numbered (Prack rseq number) (Some content) dialog =
@@ -144,9 +144,9 @@ number_of_user true cancel prack e = absurd cc
 number_of_user false true prack e = absurd cc
 number_of_user false false prack e = refl
 
-module _ (name own : DialogName) (event : Event) (held : HeldDialog)
+module _ (name own : DialogId) (event : Event) (held : HeldDialog)
     (named : is_named own (name_of_dialog held.dialog) ≡ true) where
-  by_ack_fault : (number : ℕ) (content : Content) (fault : Option DialogFault) (sending : Sending)
+  by_ack_fault : (number : ℕ) (content : Content) (fault : Option DialogFault) (sending : OutgoingRequest)
       → cseq_of_request name sending.message ≡ None
       → service_cseqs name (service_by fault sending) ≡ cond (is_named own name) [] []
   by_ack_fault number content None sending none =
@@ -160,9 +160,9 @@ module _ (name own : DialogName) (event : Event) (held : HeldDialog)
       sent_once name own event (codes "PRACK") rack content held named refl
   by_prack_fault rack content (Some fault) = sym (none_either (is_named own name))
 
-  pub discharged_sent : (debt : Debt) (offer : Option Content)
-      → service_cseqs name (discharged event debt offer held).1
-      ≡ cond (is_named own name) (discharge_cseqs debt offer held.dialog) []
+  pub discharged_sent : (pending : PendingRequest) (offer : Option Content)
+      → service_cseqs name (discharged event pending offer held).1
+      ≡ cond (is_named own name) (discharge_cseqs pending offer held.dialog) []
   unfolding discharged
   discharged_sent (Ack invite number) None = sym (none_either (is_named own name))
   discharged_sent (Prack rseq number) None = sym (none_either (is_named own name))
@@ -172,17 +172,17 @@ module _ (name own : DialogName) (event : Event) (held : HeldDialog)
   discharged_sent (Prack rseq number) (Some content) =
       by_prack_fault _ content (request_fault held.dialog (codes "PRACK"))
 
-  pub owed_sent : (debt : Debt) (offer : Option Content)
-      → service_cseqs name (owed event debt offer held).1
-      ≡ cond (is_named own name) (discharge_cseqs debt offer held.dialog) []
-  unfolding owed
-  owed_sent debt offer = discharged_sent debt offer
+  pub owed_sent : (pending : PendingRequest) (offer : Option Content)
+      → service_cseqs name (pending_requests event pending offer held).1
+      ≡ cond (is_named own name) (discharge_cseqs pending offer held.dialog) []
+  unfolding pending_requests
+  owed_sent pending offer = discharged_sent pending offer
 
-  pub paid_sent : (debt : Debt) (content : Content)
-      → service_cseqs name (paid event debt content held).1
-      ≡ cond (is_named own name) (discharge_cseqs debt (Some content) held.dialog) []
+  pub paid_sent : (pending : PendingRequest) (content : Content)
+      → service_cseqs name (paid event pending content held).1
+      ≡ cond (is_named own name) (discharge_cseqs pending (Some content) held.dialog) []
   unfolding paid
-  paid_sent debt content = discharged_sent debt (Some content)
+  paid_sent pending content = discharged_sent pending (Some content)
 
   by_refusal : (method : List ℕ) (content : Content) (refusal : Option Refusal)
       → (refusal ≡ None → numbered method ≡ true)
@@ -206,8 +206,8 @@ module _ (name own : DialogName) (event : Event) (held : HeldDialog)
 -- ---- what is given
 
 -- where a dialog of the name is held
-pub served_sent : (own : DialogName) (serve : HeldDialog → Outcome) (otherwise : Service)
-    (cseqs : HeldDialog → List CSeq) (dialogs : Dialogs) (name : DialogName)
+pub served_sent : (own : DialogId) (serve : HeldDialog → Outcome) (otherwise : SendOutcome)
+    (cseqs : HeldDialog → List CSeq) (dialogs : Dialogs) (name : DialogId)
     → ((held : HeldDialog) → dialog_at own dialogs ≡ Some held
     → service_cseqs name (serve held).1 ≡ cond (is_named own name) (cseqs held) [])
     → service_cseqs name otherwise ≡ [] → (held : HeldDialog) → dialog_at name dialogs ≡ Some held
@@ -232,8 +232,8 @@ served_sent own serve otherwise cseqs dialogs name sends none held at =
         sym (sends held is ∙ ap (λ b. cond b (cseqs held) []) named)
         ∙ ap (λ found. service_cseqs name (served_in own serve otherwise dialogs found).1) (sym is)
 
-pub said_sent : (name : DialogName) (event : Event) (id : Id) (call_id : List ℕ) (own : DialogName)
-    (service : Service) (clients : Clients)
+pub said_sent : (name : DialogId) (event : Event) (id : Id) (call_id : List ℕ) (own : DialogId)
+    (service : SendOutcome) (clients : Clients)
     → cseqs_in name (settled event id (request_said event call_id own service).1 clients).1
     ≡ service_cseqs name service
 unfolding start_command
@@ -242,7 +242,7 @@ said_sent name event id call_id own Waits clients = refl
 said_sent name event id call_id own (Refused refusal) clients = refl
 
 -- a CANCEL that goes out last is sent in no dialog
-pub beside_sent : (name : DialogName) (freed : Option Id) (invite : Client)
+pub beside_sent : (name : DialogId) (freed : Option Id) (invite : Client)
     (done : Clients × List CallOut)
     → cseqs_in name (sent_beside (option_map (λ id. cancel_client id invite) freed) done).1
     ≡ cseqs_in name done.1

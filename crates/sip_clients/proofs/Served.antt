@@ -13,19 +13,19 @@ use Rattle.sip_dialog.specs.Fault.{request_fault}
 use Rattle.sip_dialog.specs.Route.{is_strict}
 use Rattle.sip_common.specs.Dialogs.{dialog_at, dialog_changed, is_named, lived, Dialogs}
 use Rattle.sip_common.specs.Refusal.{first_refusal}
-use Rattle.sip_common.specs.declared.held_dialog.DialogName.{DialogName}
+use Rattle.sip_common.specs.declared.held_dialog.DialogId.{DialogId}
 use Rattle.sip_common.specs.declared.held_dialog.HeldDialog.{HeldDialog}
 use Rattle.sip_common.specs.declared.refusal.Refusal.{Refusal}
 use Rattle.sip_common.specs.declared.refusal.Refusal.TheVariants.{BadMethod, DialogEnded, StrictRoute, SequenceUsedUp}
 use Rattle.sip_clients.specs.Commands.{is_bad_early, is_callee, is_own_kind, request_in_held, sent_unless}
 use Rattle.sip_clients.specs.Dialogs.{served_at}
-use Rattle.sip_clients.specs.Service.{Outcome, refusal_for_fault, requested, sending_in, happens_by_sending, service_by}
+use Rattle.sip_clients.specs.SendOutcome.{Outcome, refusal_for_fault, requested, sending_in, happens_by_sending, service_by}
 use Rattle.sip_clients.specs.declared.event.Event.{Event}
-use Rattle.sip_clients.specs.declared.service.Sending.{Sending}
-use Rattle.sip_clients.specs.declared.service.Service.{Service}
-use Rattle.sip_clients.specs.declared.service.Service.TheVariants.{Refused}
+use Rattle.sip_clients.specs.declared.send_outcome.OutgoingRequest.{OutgoingRequest}
+use Rattle.sip_clients.specs.declared.send_outcome.SendOutcome.{SendOutcome}
+use Rattle.sip_clients.specs.declared.send_outcome.SendOutcome.TheVariants.{Refused}
 use Rattle.sip_common.specs.declared.command.DialogBody.{DialogBody}
-use Rattle.sip_common.specs.declared.debt.Debt.{Debt}
+use Rattle.sip_common.specs.declared.pending_request.PendingRequest.{PendingRequest}
 use Rattle.sip_common.specs.Notices.{refused}
 use Rattle.sip_clients.specs.Client.{Side, ClientTaken}
 use Rattle.sip_clients.specs.Clients.{paid_or_refused}
@@ -34,28 +34,28 @@ use Rattle.sip_clients.specs.Clients.{paid_or_refused}
 
 -- what holds of a refusal and of each payment holds of what becomes of the command
 pub paid_either : (P : ClientTaken → Type 0) (event : Event) (command : DialogBody)
-    (pay : Debt → Side → ClientTaken) (side : Side) (o : Result Debt Refusal)
+    (pay : PendingRequest → Side → ClientTaken) (side : Side) (o : Result PendingRequest Refusal)
     → ((refusal : Refusal) → P (side, refused event.id command.call_id refusal))
-    → ((debt : Debt) → P (pay debt side)) → P (paid_or_refused event command pay o side)
+    → ((pending : PendingRequest) → P (pay pending side)) → P (paid_or_refused event command pay o side)
 paid_either P event command pay side (Err refusal) refuses pays = refuses refusal
-paid_either P event command pay side (Ok debt) refuses pays = pays debt
+paid_either P event command pay side (Ok pending) refuses pays = pays pending
 
-pub found_passes : (p : Debt → Bool) (debts : List Debt) (debt : Debt) → find p debts ≡ Some debt
-    → p debt ≡ true
-found_passes p [] debt is = absurd cc
-found_passes p (first ∷ debts) debt is =
-    by_first (p first) refl is (λ later. found_passes p debts debt later)
+pub found_passes : (p : PendingRequest → Bool) (pending_requests : List PendingRequest) (pending : PendingRequest) → find p pending_requests ≡ Some pending
+    → p pending ≡ true
+found_passes p [] pending is = absurd cc
+found_passes p (first ∷ pending_requests) pending is =
+    by_first (p first) refl is (λ later. found_passes p pending_requests pending later)
   where
-    by_first : (b : Bool) → p first ≡ b → cond b (Some first) (find p debts) ≡ Some debt
-        → (find p debts ≡ Some debt → p debt ≡ true) → p debt ≡ true
-    by_first true passes is rest = let same : first ≡ debt = cc in ap p (sym same) ∙ passes
+    by_first : (b : Bool) → p first ≡ b → cond b (Some first) (find p pending_requests) ≡ Some pending
+        → (find p pending_requests ≡ Some pending → p pending ≡ true) → p pending ≡ true
+    by_first true passes is rest = let same : first ≡ pending = cc in ap p (sym same) ∙ passes
     by_first false fails is rest = rest is
 
 -- ---- the dialogs after it
 
-module _ (name : DialogName) (serve : HeldDialog → Outcome) (otherwise : Service)
+module _ (name : DialogId) (serve : HeldDialog → Outcome) (otherwise : SendOutcome)
     (dialogs : Dialogs) where
-  abbrev pub served_in : Option HeldDialog → Dialogs × Service
+  abbrev pub served_in : Option HeldDialog → Dialogs × SendOutcome
   served_in found =
       option_map_or (λ held. (set_value (is_named name) dialogs (serve held).0, (serve held).1))
       found (dialogs, otherwise)
@@ -114,7 +114,7 @@ by_dialog false false invite bye false true used is = refl
 by_dialog false false invite bye false false true is = refl
 by_dialog false false invite bye false false false is = refl
 
-sent_by : (method : List ℕ) (fault : Option DialogFault) (sending : Sending) (held : HeldDialog)
+sent_by : (method : List ℕ) (fault : Option DialogFault) (sending : OutgoingRequest) (held : HeldDialog)
     → sent_unless (option_map refusal_for_fault fault) sending held
     ≡ (lived (happens_by_sending method fault) held, service_by fault sending)
 sent_by method None sending held = refl

@@ -13,7 +13,7 @@ use Rattle.sip_message.specs.TopVia.{top_branch}
 use Rattle.sip_message.specs.declared.id.Id.{Id}
 use Rattle.sip_message.specs.declared.key.Key.{Key}
 use Rattle.sip_message.specs.declared.key.Key.TheVariants as key
-use Rattle.sip_common.specs.declared.held_dialog.DialogName.{DialogName}
+use Rattle.sip_common.specs.declared.held_dialog.DialogId.{DialogId}
 use Rattle.sip_common.specs.declared.item.CallOut.{CallOut}
 use Rattle.sip_common.specs.Ids.{is_id}
 use Rattle.sip_common.proofs.Starts.{start_in, starts}
@@ -23,8 +23,8 @@ use Rattle.sip_clients.specs.declared.client.Client.{Client}
 use Rattle.sip_clients.specs.declared.event.Event.{Event}
 use Rattle.sip_clients.specs.declared.outputs.ClientChange.{ClientChange}
 use Rattle.sip_clients.specs.declared.outputs.ClientChange.TheVariants.{Stays, Over, Starts}
-use Rattle.sip_clients.specs.declared.service.Service.{Service}
-use Rattle.sip_clients.specs.declared.service.Service.TheVariants.{Sent, Waits, Refused}
+use Rattle.sip_clients.specs.declared.send_outcome.SendOutcome.{SendOutcome}
+use Rattle.sip_clients.specs.declared.send_outcome.SendOutcome.TheVariants.{Sent, Waits, Refused}
 use Rattle.sip_clients.specs.Cancel.{cancel_client, sent_beside}
 use Rattle.sip_clients.specs.Client.{Clients, with_client, without_client}
 use Rattle.sip_clients.specs.Clients.{settled, started}
@@ -204,7 +204,7 @@ started_within event client clients fresh =
 abbrev pub StartsFresh : ClientChange → Type 0
 StartsFresh Stays = Unit {0}
 StartsFresh Over = Unit {0}
-StartsFresh (Starts client) = (client.cancel ≡ cancel.NotAsked) × (client.heard ≡ None)
+StartsFresh (Starts client) = (client.cancel ≡ cancel.NotAsked) × (client.last_rseq ≡ None)
 
 pub settled_within : (event : Event) (id : Id) (change : ClientChange) (clients : Clients)
     → StartsFresh change
@@ -218,7 +218,7 @@ settled_within event id Over clients fresh =
 settled_within event id (Starts client) clients fresh =
     started_within event client clients fresh.0
 
-pub said_fresh : (event : Event) (call_id : List ℕ) (name : DialogName) (service : Service)
+pub said_fresh : (event : Event) (call_id : List ℕ) (name : DialogId) (service : SendOutcome)
     → StartsFresh (request_said event call_id name service).1
 said_fresh event call_id name (Sent sending) = (refl, refl)
 said_fresh event call_id name Waits = tt

@@ -19,7 +19,7 @@ use Rattle.sip_common.specs.Ids.{is_id}
 use Rattle.sip_common.specs.Requests.{is_cancel}
 use Rattle.sip_clients.specs.declared.client.Client.{Client}
 use Rattle.sip_clients.specs.declared.client.RequestKind.{RequestKind}
-use Rattle.sip_clients.specs.declared.client.RequestKind.TheVariants.{Plain}
+use Rattle.sip_clients.specs.declared.client.RequestKind.TheVariants.{OutOfDialog}
 use Rattle.sip_clients.specs.declared.event.Event.{Event}
 use Rattle.sip_clients.specs.declared.outputs.ClientChange.{ClientChange}
 use Rattle.sip_clients.specs.declared.outputs.ClientChange.TheVariants.{Stays, Over, Starts}
@@ -100,7 +100,7 @@ module _ (clients : Clients) (stories : ClientStories) (told : AreTold clients s
       let story : ClientStory =
       record { id = id; kind = kind; request = request; to = to; life = [] } in
       (λ i. insert_entry is_id (told i) id
-      record (client_for id kind request to) { heard = sym (none_heard kind) i })
+      record (client_for id kind request to) { last_rseq = sym (none_heard kind) i })
       ∙ sym (insert_read client_told is_id stories id story)
 
 -- ---- what goes out
@@ -210,14 +210,14 @@ settled_silent event id Over clients = refl
 settled_silent event id (Starts client) clients = start_silent event.id client
 
 pub beside_on : (sent_for : Message → RequestKind) (invite : Client)
-    → sent_for (cancel_of invite.request) ≡ Plain
+    → sent_for (cancel_of invite.request) ≡ OutOfDialog
     → (freed : Option Id) (done : Clients × List CallOut) (stories : ClientStories)
     → AreTold done.0 stories
     → AreTold (beside invite freed done).0
     (fold (begin_story sent_for) stories (freed_out invite freed))
 beside_on sent_for invite plain None done stories told = told
 beside_on sent_for invite plain (Some id) done stories told =
-    begin_on done.0 stories told id Plain (cancel_of invite.request) invite.to
+    begin_on done.0 stories told id OutOfDialog (cancel_of invite.request) invite.to
     ∙ (λ i. map (λ entry. (entry.0, client_told entry.1)) (insert_entry is_id stories id record {
       id = id;
       kind = sym plain i;

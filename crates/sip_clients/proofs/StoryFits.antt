@@ -11,7 +11,7 @@ use Rattle.sip_message.specs.TopVia.{top_via}
 use Rattle.sip_message.specs.declared.id.Id.{Id}
 use Rattle.sip_message.specs.declared.message.Message.{Message}
 use Rattle.sip_message.specs.declared.via.Via.{Via}
-use Rattle.sip_common.specs.declared.held_dialog.DialogName.{DialogName}
+use Rattle.sip_common.specs.declared.held_dialog.DialogId.{DialogId}
 use Rattle.sip_common.specs.Ids.{is_id}
 use Rattle.sip_common.proofs.Each.{each_inserted, each_set, found_one}
 use Rattle.sip_clients.specs.declared.answers.SentAck.{SentAck}
@@ -24,7 +24,7 @@ use Rattle.sip_clients.specs.ClientLife.{ClientHappening, Outgoing, AsksCancel, 
 use Rattle.sip_clients.specs.ClientRules.{AllLive, EachFits, Fits, IsAskedFor, IsCancelOf}
 use Rattle.sip_clients.specs.ClientStory.{ClientStory, asked_first, cancelling_of, client_told, first_success, is_cancel_sent, is_provisional_response, is_success_response, lives_on}
 use Rattle.sip_clients.specs.ClientTelling.{ClientStories, begin_story, happens_to}
-use Rattle.sip_clients.specs.Reply.{is_inviting}
+use Rattle.sip_clients.specs.ReceivedResponse.{is_inviting}
 use Rattle.sip_clients.proofs.ClientRecords.{any_more, asked_by, asked_more}
 use Rattle.sip_clients.proofs.StoryBegins.{freed_out, sent_as}
 
@@ -109,7 +109,7 @@ begin_fit sent_for (one ∷ sent) stories all =
     begin_fit sent_for sent (begin_story sent_for stories one)
     (each_inserted LivesSo is_id one.id _ tt stories all)
 
-pub acks_fit : (story : ClientStory) (before : List ClientHappening) (name : DialogName)
+pub acks_fit : (story : ClientStory) (before : List ClientHappening) (name : DialogId)
     (acks : List SentAck) → EachFits story before (map (SendsAck name) acks)
 acks_fit story before name [] = tt
 acks_fit story before name (ack ∷ acks) =

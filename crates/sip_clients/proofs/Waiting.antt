@@ -10,9 +10,9 @@ use Rattle.sip_common.specs.declared.command.DialogBody.{DialogBody}
 use Rattle.sip_common.specs.declared.command.DialogRequest.{DialogRequest}
 use Rattle.sip_common.specs.declared.command.Invite.{Invite}
 use Rattle.sip_common.specs.declared.command.Plain.{Plain as PlainCommand}
-use Rattle.sip_common.specs.declared.debt.Debt.{Debt}
-use Rattle.sip_common.specs.declared.debt.Debt.TheVariants.{Ack, Prack}
-use Rattle.sip_common.specs.declared.held_dialog.DialogName.{DialogName}
+use Rattle.sip_common.specs.declared.pending_request.PendingRequest.{PendingRequest}
+use Rattle.sip_common.specs.declared.pending_request.PendingRequest.TheVariants.{Ack, Prack}
+use Rattle.sip_common.specs.declared.held_dialog.DialogId.{DialogId}
 use Rattle.sip_common.specs.declared.item.CallOut.{CallOut}
 use Rattle.sip_common.specs.declared.refusal.Refusal.{Refusal}
 use Rattle.sip_common.specs.declared.refusal.Refusal.TheVariants.{AlreadyFinal, BadMethod, NoSuchRequest}
@@ -26,8 +26,8 @@ use Rattle.sip_clients.specs.declared.cancel.CancelCase.TheVariants as ask
 use Rattle.sip_clients.specs.declared.client.Cancelling.{Cancelling}
 use Rattle.sip_clients.specs.declared.client.Cancelling.TheVariants as cancel
 use Rattle.sip_clients.specs.declared.client.Client.{Client}
-use Rattle.sip_clients.specs.declared.client.RequestKind.TheVariants.{First, Plain}
-use Rattle.sip_clients.specs.declared.debts.DebtKind.TheVariants as kind
+use Rattle.sip_clients.specs.declared.client.RequestKind.TheVariants.{InitialInvite, OutOfDialog}
+use Rattle.sip_clients.specs.declared.pending.PendingKind.TheVariants as kind
 use Rattle.sip_clients.specs.declared.event.Event.{Event}
 use Rattle.sip_clients.specs.declared.outputs.ClientChange.{ClientChange}
 use Rattle.sip_clients.specs.declared.outputs.ClientChange.TheVariants.{Stays, Over, Starts}
@@ -35,13 +35,13 @@ use Rattle.sip_clients.specs.Cancel.{after_response, asked, asking_case, cancel_
 use Rattle.sip_clients.specs.Client.{Clients, Side, client_at, client_changed, client_for}
 use Rattle.sip_clients.specs.ClientRules.{AllWait, KeepsWaiting, WaitsForProvisional}
 use Rattle.sip_clients.specs.Clients.{ack_by_user, ack_kept, ack_paid, acked_with, found_taken, invite_taken, lost_of, paid_or_refused, plain_taken, prack_by_user, prack_paid, reply_name, reply_of, reply_settled, request_by_user, request_lost, response_taken, settled, started, status_of}
-use Rattle.sip_clients.specs.Commands.{debt_for, is_bad_outside, name_in, requested_at}
+use Rattle.sip_clients.specs.Commands.{pending_for, is_bad_outside, name_in, requested_at}
 use Rattle.sip_clients.specs.Dialogs.{paid_at}
 use Rattle.sip_clients.specs.OwnCall.{on_side}
 use Rattle.sip_clients.specs.Outputs.{ack_said, request_said}
 use Rattle.sip_clients.specs.Outside.{invite_of, plain_of}
 use Rattle.sip_clients.specs.Replied.{reply_taken}
-use Rattle.sip_clients.specs.Reply.{is_inviting}
+use Rattle.sip_clients.specs.ReceivedResponse.{is_inviting}
 use Rattle.sip_clients.specs.Tick.{clients_ticked, is_over}
 use Rattle.sip_clients.proofs.ReplyStarts.{replies}
 use Rattle.sip_clients.proofs.StartBounds.{StartsFresh, said_fresh}
@@ -147,7 +147,7 @@ started_waits event client clients fresh all =
 pub invite_waits : (event : Event) (invite : Invite)
     → KeepsWaiting (on_side (invite_taken event invite))
 invite_waits event invite side all =
-    started_waits event (client_for event.id First (invite_of event invite) invite.address)
+    started_waits event (client_for event.id InitialInvite (invite_of event invite) invite.address)
     side.clients refl all
 
 pub plain_waits : (event : Event) (plain : PlainCommand)
@@ -156,11 +156,11 @@ plain_waits event plain side all = by_method (is_bad_outside plain.method)
   where
     by_method : (bad : Bool) → AllWait (cond {A = Clients × List CallOut} bad
         (side.clients, refused event.id plain.call_id BadMethod)
-        (started event (client_for event.id Plain (plain_of event plain) plain.address)
+        (started event (client_for event.id OutOfDialog (plain_of event plain) plain.address)
         side.clients)).0
     by_method true = all
     by_method false =
-        started_waits event (client_for event.id Plain (plain_of event plain) plain.address)
+        started_waits event (client_for event.id OutOfDialog (plain_of event plain) plain.address)
         side.clients refl all
 
 pub request_waits : (event : Event) (command : DialogRequest)
@@ -174,21 +174,21 @@ request_waits event command side all =
 
 pub prack_waits : (event : Event) (command : DialogBody)
     → KeepsWaiting (prack_by_user event command)
-prack_waits event command side all = by_debt (debt_for kind.Prack name side.dialogs)
+prack_waits event command side all = by_debt (pending_for kind.Prack name side.dialogs)
   where
-    name : DialogName
+    name : DialogId
     name = name_in command.local_tag command.remote_tag
 
-    by_debt : (o : Result Debt Refusal) → AllWait
+    by_debt : (o : Result PendingRequest Refusal) → AllWait
         ((paid_or_refused event command (prack_paid event command name) o side).0).clients
     by_debt (Err refusal) = all
-    by_debt (Ok debt) =
-        let done = paid_at name event debt command.content side.dialogs in
+    by_debt (Ok pending) =
+        let done = paid_at name event pending command.content side.dialogs in
         settled_waits event event.id (request_said event command.call_id name done.1).1
         side.clients (said_fresh event command.call_id name done.1) all
 
-kept_waits : (debt : Debt) (name : DialogName) (o : Option SentAck) (clients : Clients)
-    → AllWait clients → AllWait (ack_kept debt name o clients)
+kept_waits : (pending : PendingRequest) (name : DialogId) (o : Option SentAck) (clients : Clients)
+    → AllWait clients → AllWait (ack_kept pending name o clients)
 kept_waits (Ack invite number) name None clients all = all
 kept_waits (Ack invite number) name (Some ack) clients all =
     changed_waits invite (acked_with name ack) (λ client waits. waits) clients
@@ -197,17 +197,17 @@ kept_waits (Prack rseq number) name o clients all = all
 
 pub ack_waits : (event : Event) (command : DialogBody)
     → KeepsWaiting (ack_by_user event command)
-ack_waits event command side all = by_debt (debt_for kind.Ack name side.dialogs)
+ack_waits event command side all = by_debt (pending_for kind.Ack name side.dialogs)
   where
-    name : DialogName
+    name : DialogId
     name = name_in command.local_tag command.remote_tag
 
-    by_debt : (o : Result Debt Refusal) → AllWait
+    by_debt : (o : Result PendingRequest Refusal) → AllWait
         ((paid_or_refused event command (ack_paid event command name) o side).0).clients
     by_debt (Err refusal) = all
-    by_debt (Ok debt) =
-        let done = paid_at name event debt command.content side.dialogs in
-        kept_waits debt name (ack_said event command.call_id done.1).1 side.clients all
+    by_debt (Ok pending) =
+        let done = paid_at name event pending command.content side.dialogs in
+        kept_waits pending name (ack_said event command.call_id done.1).1 side.clients all
 
 module _ (event : Event) (command : Cancel) (side : Side) (all : AllWait side.clients)
     (invite : Client) (at : client_at command.id side.clients ≡ Some invite) where

@@ -6,7 +6,7 @@ use Rattle.std.specs.Map.{values_of}
 use Rattle.std.specs.Option.{option_map_or}
 use Rattle.std.specs.Str.{bytes_eq}
 use Rattle.sip_message.specs.declared.id.Id.{Id}
-use Rattle.sip_common.specs.declared.held_dialog.DialogName.{DialogName}
+use Rattle.sip_common.specs.declared.held_dialog.DialogId.{DialogId}
 use Rattle.sip_common.specs.declared.held_dialog.HeldDialog.{HeldDialog}
 use Rattle.sip_common.specs.declared.item.CallOut.{CallOut}
 use Rattle.sip_common.specs.declared.item.CallOut.TheVariants as out
@@ -18,19 +18,19 @@ use Rattle.sip_common.proofs.Starts.{starts}
 use Rattle.sip_common.proofs.ToldRequests.{shown}
 use Rattle.sip_clients.specs.declared.answers.SentAck.{SentAck}
 use Rattle.sip_clients.specs.declared.client.RequestKind.{RequestKind}
-use Rattle.sip_clients.specs.declared.client.RequestKind.TheVariants.{First, Again, Inside, Plain}
+use Rattle.sip_clients.specs.declared.client.RequestKind.TheVariants.{InitialInvite, ReInvite, InDialog, OutOfDialog}
 use Rattle.sip_clients.specs.declared.client.Client.{Client}
-use Rattle.sip_clients.specs.declared.debts.DebtKind.TheVariants as kind
+use Rattle.sip_clients.specs.declared.pending.PendingKind.TheVariants as kind
 use Rattle.sip_clients.specs.declared.event.Event.{Event}
-use Rattle.sip_clients.specs.declared.reply.Reply.{Reply as Answer}
+use Rattle.sip_clients.specs.declared.reply.ReceivedResponse.{ReceivedResponse}
 use Rattle.sip_clients.specs.declared.reply.ReplyCase.{ReplyCase}
 use Rattle.sip_clients.specs.declared.reply.ReplyCase.TheVariants as reply
-use Rattle.sip_clients.specs.declared.service.Service.{Service}
-use Rattle.sip_clients.specs.declared.service.Service.TheVariants.{Sent, Waits, Refused}
+use Rattle.sip_clients.specs.declared.send_outcome.SendOutcome.{SendOutcome}
+use Rattle.sip_clients.specs.declared.send_outcome.SendOutcome.TheVariants.{Sent, Waits, Refused}
 use Rattle.sip_clients.specs.Answers.{ack_of}
 use Rattle.sip_clients.specs.Client.{Clients, Side, without_client}
 use Rattle.sip_clients.specs.Clients.{lost_of, ack_by_user, ack_paid}
-use Rattle.sip_clients.specs.Commands.{bye_ended, debt_for, name_in}
+use Rattle.sip_clients.specs.Commands.{bye_ended, pending_for, name_in}
 use Rattle.sip_clients.specs.Dialogs.{accepted, ended_with, dialog_for_provisional, own_ended, paid_at}
 use Rattle.sip_clients.specs.Outputs.{ack_said, direct, request_said}
 use Rattle.sip_clients.specs.Replied.{ack_owed, by_reply_case, prack_owed}
@@ -65,13 +65,13 @@ none_shown (out.Direct to bytes ∷ outs) quiet = none_shown outs quiet.1
 
 -- ---- what is told beside it
 
-pub request_said_quiet : (event : Event) (call_id : List ℕ) (name : DialogName) (service : Service)
+pub request_said_quiet : (event : Event) (call_id : List ℕ) (name : DialogId) (service : SendOutcome)
     → AreQuiet (request_said event call_id name service).0
 request_said_quiet event call_id name (Sent sending) = tt
 request_said_quiet event call_id name Waits = tt
 request_said_quiet event call_id name (Refused refusal) = (refl, tt)
 
-pub ack_said_quiet : (event : Event) (call_id : List ℕ) (service : Service)
+pub ack_said_quiet : (event : Event) (call_id : List ℕ) (service : SendOutcome)
     → AreQuiet (ack_said event call_id service).0
 ack_said_quiet event call_id (Sent sending) = (tt, tt)
 ack_said_quiet event call_id Waits = tt
@@ -82,11 +82,11 @@ pub ack_quiet : (event : Event) (command : DialogBody) (side : Side)
 ack_quiet event command side =
     let name = name_in command.local_tag command.remote_tag in
     paid_either (λ taken. AreQuiet taken.1) event command (ack_paid event command name) side
-    (debt_for kind.Ack name side.dialogs) (λ refusal. (refl, tt))
-    (λ debt. ack_said_quiet event command.call_id
-    (paid_at name event debt command.content side.dialogs).1)
+    (pending_for kind.Ack name side.dialogs) (λ refusal. (refl, tt))
+    (λ pending. ack_said_quiet event command.call_id
+    (paid_at name event pending command.content side.dialogs).1)
 
-at_or_quiet : (b : Bool) (name : DialogName) (dialogs : Dialogs)
+at_or_quiet : (b : Bool) (name : DialogId) (dialogs : Dialogs)
     → AreQuiet (cond {A = Dialogs × List CallOut} b (ended_at name dialogs) (dialogs, [])).1
 at_or_quiet false name dialogs = tt
 at_or_quiet true name dialogs = by_dialog (dialog_at name dialogs)
@@ -103,7 +103,7 @@ early_quiet invite dialogs = each (filter (is_early_of invite) (values_of dialog
     each [] = tt
     each (held ∷ dialogs) = (refl, each dialogs)
 
-pub bye_quiet : (name : DialogName) (method : List ℕ) (service : Service) (dialogs : Dialogs)
+pub bye_quiet : (name : DialogId) (method : List ℕ) (service : SendOutcome) (dialogs : Dialogs)
     → AreQuiet (bye_ended name method service dialogs).1
 bye_quiet name method (Sent sending) dialogs =
     at_or_quiet (bytes_eq method (codes "BYE")) name dialogs
@@ -112,12 +112,12 @@ bye_quiet name method (Refused refusal) dialogs = tt
 
 own_quiet : (kind : RequestKind) (ends : Bool) (dialogs : Dialogs)
     → AreQuiet (own_ended kind ends dialogs).1
-own_quiet First ends dialogs = tt
-own_quiet (Again life) true dialogs = at_or_quiet (lives dialogs life) life.name dialogs
-own_quiet (Again life) false dialogs = tt
-own_quiet (Inside life) true dialogs = at_or_quiet (lives dialogs life) life.name dialogs
-own_quiet (Inside life) false dialogs = tt
-own_quiet Plain ends dialogs = tt
+own_quiet InitialInvite ends dialogs = tt
+own_quiet (ReInvite life) true dialogs = at_or_quiet (lives dialogs life) life.name dialogs
+own_quiet (ReInvite life) false dialogs = tt
+own_quiet (InDialog life) true dialogs = at_or_quiet (lives dialogs life) life.name dialogs
+own_quiet (InDialog life) false dialogs = tt
+own_quiet OutOfDialog ends dialogs = tt
 
 pub ended_quiet : (client : Client) (ends : Bool) (dialogs : Dialogs)
     → AreQuiet (ended_with client ends dialogs).1
@@ -130,7 +130,7 @@ again_quiet : (o : Option SentAck) → AreQuiet (option_map_or (λ ack. direct a
 again_quiet None = tt
 again_quiet (Some ack) = (tt, tt)
 
-pub case_quiet : (case : ReplyCase) (client : Client) (found : Option HeldDialog) (answer : Answer)
+pub case_quiet : (case : ReplyCase) (client : Client) (found : Option HeldDialog) (answer : ReceivedResponse)
     → AreQuiet (by_reply_case case client found answer).2
 unfolding ack_owed prack_owed
 case_quiet reply.Repeated client found answer = again_quiet (ack_of answer.name client.answers)

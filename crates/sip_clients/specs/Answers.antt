@@ -3,18 +3,18 @@
 use Rattle.std.specs.Prelude.{Bool, List, Option}
 use Rattle.std.specs.Map.{lookup}
 use Rattle.std.specs.Option.{is_some, option_and_then}
-use Rattle.sip_common.specs.declared.held_dialog.DialogName.{DialogName}
+use Rattle.sip_common.specs.declared.held_dialog.DialogId.{DialogId}
 use Rattle.sip_common.specs.Dialogs.{is_named}
 use Rattle.sip_clients.specs.declared.answers.SentAck.{SentAck}
 
 -- each with its ACK once that was sent
 abbrev pub AnswerList : Type 0
-AnswerList = List (DialogName × Option SentAck)
+AnswerList = List (DialogId × Option SentAck)
 
 -- whether a 2xx of this dialog came
-abbrev pub has_answer : DialogName → AnswerList → Bool
+abbrev pub has_answer : DialogId → AnswerList → Bool
 has_answer name answers = is_some (lookup (is_named name) answers)
 
 -- the ACK that was sent for it
-abbrev pub ack_of : DialogName → AnswerList → Option SentAck
+abbrev pub ack_of : DialogId → AnswerList → Option SentAck
 ack_of name answers = option_and_then (λ ack. ack) (lookup (is_named name) answers)

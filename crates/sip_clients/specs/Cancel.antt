@@ -10,21 +10,21 @@ use Rattle.sip_common.specs.declared.refusal.Refusal.TheVariants.{AlreadyFinal, 
 use Rattle.sip_common.specs.Notices.{refused}
 use Rattle.sip_clients.specs.declared.cancel.CancelCase.{CancelCase}
 use Rattle.sip_clients.specs.declared.cancel.CancelCase.TheVariants as case
-use Rattle.sip_clients.specs.declared.client.RequestKind.TheVariants.{Plain}
+use Rattle.sip_clients.specs.declared.client.RequestKind.TheVariants.{OutOfDialog}
 use Rattle.sip_clients.specs.declared.client.Cancelling.{Cancelling}
 use Rattle.sip_clients.specs.declared.client.Cancelling.TheVariants.{NotAsked, Waits, Sent}
 use Rattle.sip_clients.specs.declared.client.Client.{Client}
 use Rattle.sip_clients.specs.declared.event.Event.{Event}
 use Rattle.sip_clients.specs.Client.{Clients, Side, ClientTaken, client_at, client_changed, client_for, with_client}
 use Rattle.sip_clients.specs.Outputs.{start_command}
-use Rattle.sip_clients.specs.Reply.{is_inviting}
+use Rattle.sip_clients.specs.ReceivedResponse.{is_inviting}
 
 -- ---- the CANCEL
 
 -- that of an INVITE, which the event of this id asked for: a request outside of dialogs, with the
 -- branch of the INVITE, to where that was sent
 abbrev pub cancel_client : Id → Client → Client
-cancel_client id invite = client_for id Plain (cancel_of invite.request) invite.to
+cancel_client id invite = client_for id OutOfDialog (cancel_of invite.request) invite.to
 
 -- it is sent: it is held, and its transaction starts after what was told
 abbrev pub sent_beside : Option Client → Clients × List CallOut → Clients × List CallOut

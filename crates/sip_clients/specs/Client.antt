@@ -45,7 +45,7 @@ client_for id kind request to =
       to = to;
       provisional = false;
       cancel = NotAsked;
-      heard = None;
+      last_rseq = None;
       answers = [];
       removal = None;
     }

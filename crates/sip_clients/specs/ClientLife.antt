@@ -6,7 +6,7 @@ use Rattle.sip_message.specs.declared.id.Id.{Id}
 use Rattle.sip_message.specs.declared.message.Message.{Message}
 use Rattle.sip_transactions.specs.declared.input.Command.{Command as Order}
 use Rattle.sip_transactions.specs.declared.input.Command.TheVariants as order
-use Rattle.sip_common.specs.declared.held_dialog.DialogName.{DialogName}
+use Rattle.sip_common.specs.declared.held_dialog.DialogId.{DialogId}
 use Rattle.sip_common.specs.declared.item.CallOut.{CallOut}
 use Rattle.sip_common.specs.declared.item.CallOut.TheVariants as out
 use Rattle.sip_common.specs.Requests.{is_cancel}
@@ -58,13 +58,13 @@ pub data ClientHappening : Type 0 where
   -- the user is told of a reliable one, with this RSeq, of its dialog
   TakesReliable : ℕ → ClientHappening
   -- the first 2xx of this dialog comes, at a moment in ms
-  GetsSuccess : DialogName → ℕ → ClientHappening
+  GetsSuccess : DialogId → ℕ → ClientHappening
   -- a 2xx of this dialog comes again
-  GetsSuccessAgain : DialogName → ClientHappening
+  GetsSuccessAgain : DialogId → ClientHappening
   -- the ACK of the 2xx of this dialog goes out
-  SendsAck : DialogName → SentAck → ClientHappening
+  SendsAck : DialogId → SentAck → ClientHappening
   -- an ACK answers a 2xx of this dialog that came again
-  SendsAckAgain : DialogName → SentAck → ClientHappening
+  SendsAckAgain : DialogId → SentAck → ClientHappening
   -- the user asks to cancel it, by the event of this id
   AsksCancel : Id → ClientHappening
   -- a CANCEL of it goes out

@@ -16,7 +16,7 @@ use Rattle.sip_clients.specs.ClientLife.{ClientHappening, Outgoing, AsksCancel, 
 use Rattle.sip_clients.specs.ClientStory.{ClientStory, answers_of, asked_first, first_success, is_cancel_sent, is_provisional_response}
 use Rattle.sip_clients.specs.ClientTelling.{ClientStories, AreTold}
 use Rattle.sip_clients.specs.Clients.{status_of}
-use Rattle.sip_clients.specs.Reply.{is_inviting}
+use Rattle.sip_clients.specs.ReceivedResponse.{is_inviting}
 
 -- A CANCEL that goes out after this life is the only one, of an INVITE to which a provisional
 -- response came and no 2xx. It goes out under the id of the command that asked for it first, with

@@ -14,7 +14,7 @@ use Rattle.sip_clients.specs.declared.client.Cancelling.{Cancelling}
 use Rattle.sip_clients.specs.declared.client.Cancelling.TheVariants.{NotAsked, Waits, Sent}
 use Rattle.sip_clients.specs.declared.client.Client.{Client}
 use Rattle.sip_clients.specs.declared.client.RequestKind.{RequestKind}
-use Rattle.sip_clients.specs.declared.client.RequestKind.TheVariants.{First}
+use Rattle.sip_clients.specs.declared.client.RequestKind.TheVariants.{InitialInvite}
 use Rattle.sip_clients.specs.Answers.{AnswerList}
 use Rattle.sip_clients.specs.ClientLife.{ClientHappening, AsksCancel, GetsProvisional, GetsSuccess, GetsSuccessAgain, SendsAck, SendsCancel, TakesReliable}
 
@@ -50,7 +50,7 @@ rseq_taken _ = None
 
 -- the last of them; those to the first INVITE of a call stand in the dialogs that it makes
 abbrev pub last_rseq : RequestKind → List ClientHappening → Option ℕ
-last_rseq First life = None
+last_rseq InitialInvite life = None
 last_rseq _ life = last_or None (filter_map rseq_taken life)
 
 -- the moment of the first 2xx
@@ -99,7 +99,7 @@ client_told story = record {
   to = story.to;
   provisional = list_any is_provisional_response story.life;
   cancel = cancelling_of story.life;
-  heard = last_rseq story.kind story.life;
+  last_rseq = last_rseq story.kind story.life;
   answers = answers_of story.life;
   removal = option_map (λ moment. moment + 64 * T1) (first_success story.life);
 }

@@ -9,9 +9,9 @@ use Rattle.sip_message.specs.declared.id.Id.{Id}
 use Rattle.sip_message.specs.declared.message.Message.{Message}
 use Rattle.sip_common.specs.declared.command.Cancel.{Cancel}
 use Rattle.sip_common.specs.declared.command.DialogBody.{DialogBody}
-use Rattle.sip_common.specs.declared.debt.Debt.{Debt}
-use Rattle.sip_common.specs.declared.debt.Debt.TheVariants.{Ack, Prack}
-use Rattle.sip_common.specs.declared.held_dialog.DialogName.{DialogName}
+use Rattle.sip_common.specs.declared.pending_request.PendingRequest.{PendingRequest}
+use Rattle.sip_common.specs.declared.pending_request.PendingRequest.TheVariants.{Ack, Prack}
+use Rattle.sip_common.specs.declared.held_dialog.DialogId.{DialogId}
 use Rattle.sip_common.specs.declared.held_dialog.HeldDialog.{HeldDialog}
 use Rattle.sip_common.specs.declared.item.CallOut.{CallOut}
 use Rattle.sip_common.specs.declared.refusal.Refusal.{Refusal}
@@ -20,19 +20,19 @@ use Rattle.sip_common.specs.Ids.{is_id}
 use Rattle.sip_common.specs.Requests.{is_cancel, is_final}
 use Rattle.sip_clients.specs.declared.client.Client.{Client}
 use Rattle.sip_clients.specs.declared.client.RequestKind.{RequestKind}
-use Rattle.sip_clients.specs.declared.client.RequestKind.TheVariants.{First, Plain}
-use Rattle.sip_clients.specs.declared.debts.DebtKind.TheVariants as kind
+use Rattle.sip_clients.specs.declared.client.RequestKind.TheVariants.{InitialInvite, OutOfDialog}
+use Rattle.sip_clients.specs.declared.pending.PendingKind.TheVariants as kind
 use Rattle.sip_clients.specs.declared.event.Event.{Event}
 use Rattle.sip_clients.specs.Answers.{has_answer}
 use Rattle.sip_clients.specs.Client.{Clients, Side, ClientTaken, client_at}
 use Rattle.sip_clients.specs.ClientLife.{ClientHappening, Outgoing, AsksCancel, GetsProvisional, GetsSuccess, GetsSuccessAgain, SendsAck, SendsAckAgain, SendsCancel, TakesReliable, acks_out, cancels_out, requests_out}
 use Rattle.sip_clients.specs.ClientStory.{ClientStory, client_told, lives_on}
 use Rattle.sip_clients.specs.Clients.{reply_name, status_of}
-use Rattle.sip_clients.specs.Commands.{debt_for, name_in}
+use Rattle.sip_clients.specs.Commands.{pending_for, name_in}
 use Rattle.sip_clients.specs.Outputs.{kind_in}
 use Rattle.sip_clients.specs.Provisionals.{is_response, provisional_number}
 use Rattle.sip_clients.specs.RefusedCommands.{is_refusal}
-use Rattle.sip_clients.specs.Reply.{is_last, is_there}
+use Rattle.sip_clients.specs.ReceivedResponse.{is_last, has_dialog}
 use Rattle.sip_clients.specs.Tick.{is_over}
 
 -- the stories of the requests by the events that sent them, in the order in which they were sent
@@ -67,17 +67,17 @@ abbrev pub begin_stories : (Message → RequestKind) → List CallOut → Client
 begin_stories sent_for outs stories = fold (begin_story sent_for) stories (requests_out outs)
 
 -- in the dialog of a name, which is held or which the event makes
-abbrev pub for_dialog : Event → DialogName → Dialogs → Message → RequestKind
+abbrev pub for_dialog : Event → DialogId → Dialogs → Message → RequestKind
 for_dialog event name dialogs request =
     kind_in record {
       name = name;
-      born = option_map_or (λ held. held.born) (dialog_at name dialogs) event.id;
+      created_by = option_map_or (λ held. held.created_by) (dialog_at name dialogs) event.id;
     } request
 
 -- the same, or a CANCEL, which is outside of dialogs
-abbrev pub for_dialog_or_cancel : Event → DialogName → Dialogs → Message → RequestKind
+abbrev pub for_dialog_or_cancel : Event → DialogId → Dialogs → Message → RequestKind
 for_dialog_or_cancel event name dialogs request =
-    if is_cancel request then Plain else for_dialog event name dialogs request
+    if is_cancel request then OutOfDialog else for_dialog event name dialogs request
 
 -- ---- a response
 
@@ -85,18 +85,18 @@ for_dialog_or_cancel event name dialogs request =
 abbrev pub reliable_taken : ℕ → Client → Message → Option HeldDialog → List CallOut
     → List ClientHappening
 reliable_taken status client response found outs =
-    if is_there client.kind found && list_any is_response outs
+    if has_dialog client.kind found && list_any is_response outs
     then option_map_or (λ rseq. TakesReliable rseq ∷ [])
     (provisional_number (Some status) response) [] else []
 
 -- a 2xx of a dialog, which comes first or again, and the ACKs that go out for it
-abbrev pub success_happens : Bool → DialogName → ℕ → List CallOut → List ClientHappening
+abbrev pub success_happens : Bool → DialogId → ℕ → List CallOut → List ClientHappening
 success_happens again name moment outs =
     if again then GetsSuccessAgain name ∷ map (SendsAckAgain name) (acks_out outs)
     else GetsSuccess name moment ∷ map (SendsAck name) (acks_out outs)
 
 -- what a response of this status makes happen to its request, in the dialog of this name
-abbrev pub response_happens : Event → ℕ → Client → Message → DialogName → Option HeldDialog
+abbrev pub response_happens : Event → ℕ → Client → Message → DialogId → Option HeldDialog
     → List CallOut → List ClientHappening
 response_happens event status client response name found outs =
     if is_final status
@@ -132,20 +132,20 @@ lost_told id stories = remove_entry (is_id id) stories
 
 -- the command Invite
 abbrev pub invite_told : List CallOut → ClientStories → ClientStories
-invite_told outs stories = begin_stories (λ request. First) outs stories
+invite_told outs stories = begin_stories (λ request. InitialInvite) outs stories
 
 -- the command Plain
 abbrev pub plain_told : List CallOut → ClientStories → ClientStories
-plain_told outs stories = begin_stories (λ request. Plain) outs stories
+plain_told outs stories = begin_stories (λ request. OutOfDialog) outs stories
 
 -- the commands Request and Prack, in the dialog of this name
-abbrev pub in_dialog_told : Event → DialogName → Side → List CallOut → ClientStories
+abbrev pub in_dialog_told : Event → DialogId → Side → List CallOut → ClientStories
     → ClientStories
 in_dialog_told event name side outs stories =
     begin_stories (for_dialog event name side.dialogs) outs stories
 
 -- the INVITE that an ACK is owed to
-abbrev pub invite_owed : Result Debt Refusal → Option Id
+abbrev pub invite_owed : Result PendingRequest Refusal → Option Id
 invite_owed (Ok (Ack invite number)) = Some invite
 invite_owed (Ok (Prack rseq number)) = None
 invite_owed (Err refusal) = None
@@ -155,13 +155,13 @@ abbrev pub ack_told : DialogBody → Side → List CallOut → ClientStories →
 ack_told command side outs stories =
     let name = name_in command.local_tag command.remote_tag in
     option_map_or (λ invite. happens_to invite (map (SendsAck name) (acks_out outs)) stories)
-    (invite_owed (debt_for kind.Ack name side.dialogs)) stories
+    (invite_owed (pending_for kind.Ack name side.dialogs)) stories
 
 -- the command Cancel, where it isn't refused
 abbrev pub cancel_told : Event → Cancel → List CallOut → ClientStories → ClientStories
 cancel_told event command outs stories =
     if list_any is_refusal outs then stories
-    else begin_stories (λ request. Plain) outs
+    else begin_stories (λ request. OutOfDialog) outs
     (happens_to command.id (AsksCancel event.id ∷ map SendsCancel (cancels_out outs)) stories)
 
 -- ---- a tick

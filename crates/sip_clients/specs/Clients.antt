@@ -12,9 +12,9 @@ use Rattle.sip_common.specs.declared.command.DialogBody.{DialogBody}
 use Rattle.sip_common.specs.declared.command.DialogRequest.{DialogRequest}
 use Rattle.sip_common.specs.declared.command.Invite.{Invite}
 use Rattle.sip_common.specs.declared.command.Plain.{Plain as PlainCommand}
-use Rattle.sip_common.specs.declared.debt.Debt.{Debt}
-use Rattle.sip_common.specs.declared.debt.Debt.TheVariants.{Ack, Prack}
-use Rattle.sip_common.specs.declared.held_dialog.DialogName.{DialogName}
+use Rattle.sip_common.specs.declared.pending_request.PendingRequest.{PendingRequest}
+use Rattle.sip_common.specs.declared.pending_request.PendingRequest.TheVariants.{Ack, Prack}
+use Rattle.sip_common.specs.declared.held_dialog.DialogId.{DialogId}
 use Rattle.sip_common.specs.declared.item.CallOut.{CallOut}
 use Rattle.sip_common.specs.declared.refusal.Refusal.{Refusal}
 use Rattle.sip_common.specs.declared.refusal.Refusal.TheVariants.{BadMethod}
@@ -24,16 +24,16 @@ use Rattle.sip_common.specs.Requests.{is_final, name_of_tags}
 use Rattle.sip_common.specs.Ids.{is_id}
 use Rattle.sip_clients.specs.declared.answers.SentAck.{SentAck}
 use Rattle.sip_clients.specs.declared.client.RequestKind.{RequestKind}
-use Rattle.sip_clients.specs.declared.client.RequestKind.TheVariants.{First, Again, Inside, Plain}
+use Rattle.sip_clients.specs.declared.client.RequestKind.TheVariants.{InitialInvite, ReInvite, InDialog, OutOfDialog}
 use Rattle.sip_clients.specs.declared.client.Client.{Client}
-use Rattle.sip_clients.specs.declared.debts.DebtKind.TheVariants as kind
+use Rattle.sip_clients.specs.declared.pending.PendingKind.TheVariants as kind
 use Rattle.sip_clients.specs.declared.event.Event.{Event}
 use Rattle.sip_clients.specs.declared.outputs.ClientChange.{ClientChange}
 use Rattle.sip_clients.specs.declared.outputs.ClientChange.TheVariants.{Stays, Over, Starts}
-use Rattle.sip_clients.specs.declared.reply.Reply.{Reply as Answer}
+use Rattle.sip_clients.specs.declared.reply.ReceivedResponse.{ReceivedResponse}
 use Rattle.sip_clients.specs.Cancel.{cancel_freed, after_response, sent_beside}
 use Rattle.sip_clients.specs.Client.{Clients, Side, ClientTaken, client_at, client_changed, client_for, nothing_done, with_client, without_client}
-use Rattle.sip_clients.specs.Commands.{ack_asked, debt_for, is_bad_outside, name_in, prack_asked, request_asked}
+use Rattle.sip_clients.specs.Commands.{ack_asked, pending_for, is_bad_outside, name_in, prack_asked, request_asked}
 use Rattle.sip_clients.specs.Dialogs.{ended_with}
 use Rattle.sip_clients.specs.Outputs.{start_command}
 use Rattle.sip_clients.specs.Outside.{invite_of, plain_of}
@@ -53,11 +53,11 @@ settled event id (Starts client) clients = started event client clients
 -- ---- a response
 
 -- the name of the dialog that it makes, or that its request was sent in
-abbrev pub reply_name : RequestKind → Client → Message → DialogName
-reply_name First client response = name_of_tags (tag_of (client.request).from) (tag_of response.to)
-reply_name (Again life) client response = life.name
-reply_name (Inside life) client response = life.name
-reply_name Plain client response = name_of_tags (tag_of (client.request).from) (tag_of response.to)
+abbrev pub reply_name : RequestKind → Client → Message → DialogId
+reply_name InitialInvite client response = name_of_tags (tag_of (client.request).from) (tag_of response.to)
+reply_name (ReInvite life) client response = life.name
+reply_name (InDialog life) client response = life.name
+reply_name OutOfDialog client response = name_of_tags (tag_of (client.request).from) (tag_of response.to)
 
 -- the status of a response
 abbrev pub status_of : StartLine → Option ℕ
@@ -78,14 +78,14 @@ side_after event id side cancel done =
     (record { dialogs = done.1; clients = after.0 }, after.1)
 
 -- one to this request
-abbrev pub reply_settled : Answer → Client → Side → ClientTaken
+abbrev pub reply_settled : ReceivedResponse → Client → Side → ClientTaken
 reply_settled reply client side =
     let final = is_final reply.status in
     side_after reply.event reply.id side (cancel_freed final client)
     (reply_taken (after_response final client) side.dialogs reply)
 
 -- a response with all that comes up with it
-abbrev pub reply_of : Event → Id → List ℕ → DialogName → ℕ → Message → Answer
+abbrev pub reply_of : Event → Id → List ℕ → DialogId → ℕ → Message → ReceivedResponse
 reply_of event id call_id name status response = record {
   event = event;
   id = id;
@@ -129,13 +129,13 @@ request_lost id timed_out side = lost_of id timed_out (client_at id side.clients
 -- the command Invite: an INVITE goes out and is held
 abbrev pub invite_taken : Event → Invite → Clients → Clients × List CallOut
 invite_taken event invite clients =
-    started event (client_for event.id First (invite_of event invite) invite.address) clients
+    started event (client_for event.id InitialInvite (invite_of event invite) invite.address) clients
 
 -- the command Plain: a request outside of dialogs, unless its method is none of a user's
 abbrev pub plain_taken : Event → PlainCommand → Clients → Clients × List CallOut
 plain_taken event plain clients =
     if is_bad_outside plain.method then (clients, refused event.id plain.call_id BadMethod)
-    else started event (client_for event.id Plain (plain_of event plain) plain.address) clients
+    else started event (client_for event.id OutOfDialog (plain_of event plain) plain.address) clients
 
 -- ---- commands in a dialog
 
@@ -154,48 +154,48 @@ request_by_user event command side =
     (record { dialogs = told.0; clients = after.0 }, after.1)
 
 -- the ACK that the user gave is that of its 2xx
-abbrev pub acked_with : DialogName → SentAck → Client → Client
+abbrev pub acked_with : DialogId → SentAck → Client → Client
 acked_with name ack client =
     record client { answers = insert_entry is_named client.answers name (Some ack) }
 
 -- the ACK is kept, to be sent again where the 2xx comes again
-abbrev pub ack_kept : Debt → DialogName → Option SentAck → Clients → Clients
+abbrev pub ack_kept : PendingRequest → DialogId → Option SentAck → Clients → Clients
 ack_kept (Ack invite number) name None clients = clients
 ack_kept (Ack invite number) name (Some ack) clients =
     client_changed invite (acked_with name ack) clients
 ack_kept (Prack rseq number) name ack clients = clients
 
 -- the user's ACK for a 2xx that is owed one
-abbrev pub ack_paid : Event → DialogBody → DialogName → Debt → Side → ClientTaken
-ack_paid event command name debt side =
-    let told = ack_asked event name debt command side.dialogs in
-    (record { dialogs = told.0; clients = ack_kept debt name told.2 side.clients }, told.1)
+abbrev pub ack_paid : Event → DialogBody → DialogId → PendingRequest → Side → ClientTaken
+ack_paid event command name pending side =
+    let told = ack_asked event name pending command side.dialogs in
+    (record { dialogs = told.0; clients = ack_kept pending name told.2 side.clients }, told.1)
 
 -- the user's PRACK for a response that is owed one
-abbrev pub prack_paid : Event → DialogBody → DialogName → Debt → Side → ClientTaken
-prack_paid event command name debt side =
-    let told = prack_asked event name debt command side.dialogs in
+abbrev pub prack_paid : Event → DialogBody → DialogId → PendingRequest → Side → ClientTaken
+prack_paid event command name pending side =
+    let told = prack_asked event name pending command side.dialogs in
     let after = settled event event.id told.2 side.clients in
     (record { dialogs = told.0; clients = after.0 }, told.1 ++ after.1)
 
 -- where nothing is owed the command is refused
-abbrev pub paid_or_refused : Event → DialogBody → (Debt → Side → ClientTaken) → Result Debt Refusal
+abbrev pub paid_or_refused : Event → DialogBody → (PendingRequest → Side → ClientTaken) → Result PendingRequest Refusal
     → Side
     → ClientTaken
 paid_or_refused event command pay (Err refusal) side =
     (side, refused event.id command.call_id refusal)
-paid_or_refused event command pay (Ok debt) side = pay debt side
+paid_or_refused event command pay (Ok pending) side = pay pending side
 
 -- each serves the oldest response of the dialog that is owed one
 abbrev pub ack_by_user : Event → DialogBody → Side → ClientTaken
 ack_by_user event command side =
     let name = name_in command.local_tag command.remote_tag in
     paid_or_refused event command (ack_paid event command name)
-    (debt_for kind.Ack name side.dialogs) side
+    (pending_for kind.Ack name side.dialogs) side
 
 -- the command Prack, for the oldest response of its dialog that is owed one
 abbrev pub prack_by_user : Event → DialogBody → Side → ClientTaken
 prack_by_user event command side =
     let name = name_in command.local_tag command.remote_tag in
     paid_or_refused event command (prack_paid event command name)
-    (debt_for kind.Prack name side.dialogs) side
+    (pending_for kind.Prack name side.dialogs) side

@@ -12,8 +12,8 @@ use Rattle.sip_dialog.specs.Route.{is_strict}
 use Rattle.sip_dialog.specs.Life.{Requests}
 use Rattle.sip_common.specs.declared.command.DialogBody.{DialogBody}
 use Rattle.sip_common.specs.declared.command.DialogRequest.{DialogRequest}
-use Rattle.sip_common.specs.declared.debt.Debt.{Debt}
-use Rattle.sip_common.specs.declared.held_dialog.DialogName.{DialogName}
+use Rattle.sip_common.specs.declared.pending_request.PendingRequest.{PendingRequest}
+use Rattle.sip_common.specs.declared.held_dialog.DialogId.{DialogId}
 use Rattle.sip_common.specs.declared.held_dialog.HeldDialog.{HeldDialog}
 use Rattle.sip_common.specs.declared.item.CallOut.{CallOut}
 use Rattle.sip_common.specs.declared.refusal.Refusal.{Refusal}
@@ -22,17 +22,17 @@ use Rattle.sip_common.specs.Dialogs.{dialog_at, ended_at, lived, tag_text, Dialo
 use Rattle.sip_common.specs.Refusal.{first_refusal}
 use Rattle.sip_common.specs.Requests.{name_of_tags}
 use Rattle.sip_clients.specs.declared.answers.SentAck.{SentAck}
-use Rattle.sip_clients.specs.declared.debts.DebtKind.{DebtKind}
-use Rattle.sip_clients.specs.declared.debts.DebtKind.TheVariants as kind
+use Rattle.sip_clients.specs.declared.pending.PendingKind.{PendingKind}
+use Rattle.sip_clients.specs.declared.pending.PendingKind.TheVariants as kind
 use Rattle.sip_clients.specs.declared.event.Event.{Event}
 use Rattle.sip_clients.specs.declared.outputs.ClientChange.{ClientChange}
-use Rattle.sip_clients.specs.declared.service.Sending.{Sending}
-use Rattle.sip_clients.specs.declared.service.Service.{Service}
-use Rattle.sip_clients.specs.declared.service.Service.TheVariants.{Sent, Waits, Refused}
-use Rattle.sip_clients.specs.Debts.{is_of}
+use Rattle.sip_clients.specs.declared.send_outcome.OutgoingRequest.{OutgoingRequest}
+use Rattle.sip_clients.specs.declared.send_outcome.SendOutcome.{SendOutcome}
+use Rattle.sip_clients.specs.declared.send_outcome.SendOutcome.TheVariants.{Sent, Waits, Refused}
+use Rattle.sip_clients.specs.Pending.{is_of}
 use Rattle.sip_clients.specs.Dialogs.{paid_at, served_at}
 use Rattle.sip_clients.specs.Outputs.{ack_said, request_said}
-use Rattle.sip_clients.specs.Service.{Outcome, sending_in}
+use Rattle.sip_clients.specs.SendOutcome.{Outcome, sending_in}
 
 -- ---- methods
 
@@ -70,7 +70,7 @@ request_refusals dialog method =
     ∷ []
 
 -- it is refused, or sent and takes the next number
-abbrev pub sent_unless : Option Refusal → Sending → HeldDialog → Outcome
+abbrev pub sent_unless : Option Refusal → OutgoingRequest → HeldDialog → Outcome
 sent_unless (Some refusal) sending held = (held, Refused refusal)
 sent_unless None sending held =
     (lived (Requests ((sending.message).cseq).method ∷ []) held, Sent sending)
@@ -82,20 +82,20 @@ request_in_held event method content held =
     (sending_in event method None content held) held
 
 -- in the dialog of this name
-unfoldable pub requested_at : DialogName → Event → DialogRequest → Dialogs → Dialogs × Service
+unfoldable pub requested_at : DialogId → Event → DialogRequest → Dialogs → Dialogs × SendOutcome
 requested_at name event command dialogs =
     served_at name (request_in_held event command.method command.content) (Refused NoSuchDialog)
     dialogs
 
 -- a BYE that is sent ends its dialog at once
-abbrev pub bye_ended : DialogName → List ℕ → Service → Dialogs → Dialogs × List CallOut
+abbrev pub bye_ended : DialogId → List ℕ → SendOutcome → Dialogs → Dialogs × List CallOut
 bye_ended name method (Sent sending) dialogs =
     if bytes_eq method (codes "BYE") then ended_at name dialogs else (dialogs, [])
 bye_ended name method Waits dialogs = (dialogs, [])
 bye_ended name method (Refused refusal) dialogs = (dialogs, [])
 
 -- the dialogs after it, what is told, the request that is sent, and the end that is told last
-abbrev pub request_asked : Event → DialogName → DialogRequest → Dialogs
+abbrev pub request_asked : Event → DialogId → DialogRequest → Dialogs
     → Dialogs × List CallOut × ClientChange × List CallOut
 request_asked event name command dialogs =
     let done = requested_at name event command dialogs in
@@ -106,40 +106,40 @@ request_asked event name command dialogs =
 -- ---- an ACK or a PRACK
 
 -- the refusal where nothing of a kind is owed
-abbrev pub nothing_owed : DebtKind → Refusal
-nothing_owed kind.Ack = NothingToAck
-nothing_owed kind.Prack = NothingToPrack
+abbrev pub nothing_pending : PendingKind → Refusal
+nothing_pending kind.Ack = NothingToAck
+nothing_pending kind.Prack = NothingToPrack
 
 -- the debt, or that refusal
-abbrev pub debt_or_refusal : DebtKind → Option Debt → Result Debt Refusal
-debt_or_refusal kind None = Err (nothing_owed kind)
-debt_or_refusal kind (Some debt) = Ok debt
+abbrev pub debt_or_refusal : PendingKind → Option PendingRequest → Result PendingRequest Refusal
+debt_or_refusal kind None = Err (nothing_pending kind)
+debt_or_refusal kind (Some pending) = Ok pending
 
 -- the oldest debt of a kind
-abbrev pub oldest_debt : DebtKind → HeldDialog → Result Debt Refusal
-oldest_debt kind held = debt_or_refusal kind (find (is_of kind) held.owed)
+abbrev pub oldest_pending : PendingKind → HeldDialog → Result PendingRequest Refusal
+oldest_pending kind held = debt_or_refusal kind (find (is_of kind) held.pending_requests)
 
 -- the oldest debt of a kind in the dialog of this name, or why there is none
-abbrev pub debt_for : DebtKind → DialogName → Dialogs → Result Debt Refusal
-debt_for kind name dialogs =
-    option_map_or (oldest_debt kind) (dialog_at name dialogs) (Err NoSuchDialog)
+abbrev pub pending_for : PendingKind → DialogId → Dialogs → Result PendingRequest Refusal
+pending_for kind name dialogs =
+    option_map_or (oldest_pending kind) (dialog_at name dialogs) (Err NoSuchDialog)
 
 -- the dialogs after the ACK, what is told or sent, and the ACK where it is sent
-abbrev pub ack_asked : Event → DialogName → Debt → DialogBody → Dialogs
+abbrev pub ack_asked : Event → DialogId → PendingRequest → DialogBody → Dialogs
     → Dialogs × List CallOut × Option SentAck
-ack_asked event name debt command dialogs =
-    let done = paid_at name event debt command.content dialogs in
+ack_asked event name pending command dialogs =
+    let done = paid_at name event pending command.content dialogs in
     let said = ack_said event command.call_id done.1 in
     (done.0, said.0, said.1)
 
 -- the dialogs after the PRACK, what is told, and the request that is sent
-abbrev pub prack_asked : Event → DialogName → Debt → DialogBody → Dialogs
+abbrev pub prack_asked : Event → DialogId → PendingRequest → DialogBody → Dialogs
     → Dialogs × List CallOut × ClientChange
-prack_asked event name debt command dialogs =
-    let done = paid_at name event debt command.content dialogs in
+prack_asked event name pending command dialogs =
+    let done = paid_at name event pending command.content dialogs in
     let said = request_said event command.call_id name done.1 in
     (done.0, said.0, said.1)
 
 -- the name of the dialog that a command is for
-abbrev pub name_in : Option (List ℕ) → Option (List ℕ) → DialogName
+abbrev pub name_in : Option (List ℕ) → Option (List ℕ) → DialogId
 name_in local remote = name_of_tags (tag_text local) (tag_text remote)

@@ -7,38 +7,38 @@ use Rattle.sip_dialog.specs.Opening.{contact_uri, opened_by_response}
 use Rattle.sip_message.specs.Content.{Content}
 use Rattle.sip_message.specs.declared.message.Message.{Message}
 use Rattle.sip_reliable.specs.Inbound.{latest_after, offered}
-use Rattle.sip_common.specs.declared.debt.Debt.{Debt}
-use Rattle.sip_common.specs.declared.held_dialog.DialogLife.{DialogLife}
-use Rattle.sip_common.specs.declared.held_dialog.DialogName.{DialogName}
+use Rattle.sip_common.specs.declared.pending_request.PendingRequest.{PendingRequest}
+use Rattle.sip_common.specs.declared.held_dialog.DialogReference.{DialogReference}
+use Rattle.sip_common.specs.declared.held_dialog.DialogId.{DialogId}
 use Rattle.sip_common.specs.declared.held_dialog.HeldDialog.{HeldDialog}
 use Rattle.sip_common.specs.declared.item.CallOut.{CallOut}
 use Rattle.sip_common.specs.Dialogs.{confirmed, dialog_at, early_ended, ended_at, is_named, lives, retargeted, Dialogs}
 use Rattle.sip_clients.specs.declared.client.RequestKind.{RequestKind}
-use Rattle.sip_clients.specs.declared.client.RequestKind.TheVariants.{First, Again, Inside, Plain}
+use Rattle.sip_clients.specs.declared.client.RequestKind.TheVariants.{InitialInvite, ReInvite, InDialog, OutOfDialog}
 use Rattle.sip_clients.specs.declared.client.Client.{Client}
 use Rattle.sip_clients.specs.declared.event.Event.{Event}
-use Rattle.sip_clients.specs.declared.reply.Reply.{Reply as Answer}
-use Rattle.sip_clients.specs.declared.service.Service.{Service}
-use Rattle.sip_clients.specs.declared.service.Service.TheVariants.{Waits}
-use Rattle.sip_clients.specs.Debts.{paid}
-use Rattle.sip_clients.specs.Service.{Outcome}
+use Rattle.sip_clients.specs.declared.reply.ReceivedResponse.{ReceivedResponse}
+use Rattle.sip_clients.specs.declared.send_outcome.SendOutcome.{SendOutcome}
+use Rattle.sip_clients.specs.declared.send_outcome.SendOutcome.TheVariants.{Waits}
+use Rattle.sip_clients.specs.Pending.{paid}
+use Rattle.sip_clients.specs.SendOutcome.{Outcome}
 
 -- ---- how a dialog is made (RFC 3261, section 12.1.2)
 
 -- the dialog that a response makes (RFC 3261, section 12.1.2)
-abbrev pub dialog_by_response : Client → Answer → HeldDialog
+abbrev pub dialog_by_response : Client → ReceivedResponse → HeldDialog
 dialog_by_response client reply = record {
   dialog = opened_by_response client.request reply.response;
   address = client.to;
-  made_by = client.id;
-  born = reply.event.id;
-  heard = None;
-  owed = [];
+  invite = client.id;
+  created_by = reply.event.id;
+  last_rseq = None;
+  pending_requests = [];
 }
 
 -- the dialog that a provisional response comes in, by the held one of its name: that, or one that
 -- it makes
-abbrev pub dialog_for_provisional : Client → Answer → Option HeldDialog → HeldDialog
+abbrev pub dialog_for_provisional : Client → ReceivedResponse → Option HeldDialog → HeldDialog
 dialog_for_provisional client reply None = dialog_by_response client reply
 dialog_for_provisional client reply (Some held) = held
 
@@ -50,13 +50,13 @@ refreshed response held = retargeted (contact_uri response) held
 
 -- that to the first INVITE confirms the dialog of its name, or makes it
 abbrev pub accepted_in : RequestKind → Message → HeldDialog → HeldDialog
-accepted_in First response held = confirmed response held
-accepted_in (Again life) response held = refreshed response held
-accepted_in (Inside life) response held = held
-accepted_in Plain response held = held
+accepted_in InitialInvite response held = confirmed response held
+accepted_in (ReInvite life) response held = refreshed response held
+accepted_in (InDialog life) response held = held
+accepted_in OutOfDialog response held = held
 
 -- the dialog after the first 2xx of its name
-abbrev pub accepted : Client → Answer → Option HeldDialog → HeldDialog
+abbrev pub accepted : Client → ReceivedResponse → Option HeldDialog → HeldDialog
 accepted client reply None = dialog_by_response client reply
 accepted client reply (Some held) = accepted_in client.kind reply.response held
 
@@ -64,31 +64,31 @@ accepted client reply (Some held) = accepted_in client.kind reply.response held
 
 -- a reliable provisional response with this RSeq came
 abbrev pub hearing : ℕ → HeldDialog → HeldDialog
-hearing rseq held = record held { heard = latest_after (offered held.heard rseq) held.heard rseq }
+hearing rseq held = record held { last_rseq = latest_after (offered held.last_rseq rseq) held.last_rseq rseq }
 
 -- something is to be sent in the dialog of this name, if it is held: the dialogs after it, and what
 -- becomes of it
-abbrev pub served_at : DialogName → (HeldDialog → Outcome) → Service → Dialogs → Dialogs × Service
+abbrev pub served_at : DialogId → (HeldDialog → Outcome) → SendOutcome → Dialogs → Dialogs × SendOutcome
 served_at name serve otherwise dialogs =
     option_map_or (λ held. (set_value (is_named name) dialogs (serve held).0, (serve held).1))
     (dialog_at name dialogs) (dialogs, otherwise)
 
 -- what is owed in it
-abbrev pub paid_at : DialogName → Event → Debt → Content → Dialogs → Dialogs × Service
-paid_at name event debt content dialogs = served_at name (paid event debt content) Waits dialogs
+abbrev pub paid_at : DialogId → Event → PendingRequest → Content → Dialogs → Dialogs × SendOutcome
+paid_at name event pending content dialogs = served_at name (paid event pending content) Waits dialogs
 
 -- ---- what ends with a client request
 
 -- this dialog life ends
-abbrev pub life_ended : DialogLife → Dialogs → Dialogs × List CallOut
+abbrev pub life_ended : DialogReference → Dialogs → Dialogs × List CallOut
 life_ended life dialogs = if lives dialogs life then ended_at life.name dialogs else (dialogs, [])
 
 -- the dialog that it was sent in, where it ends that
 abbrev pub own_ended : RequestKind → Bool → Dialogs → Dialogs × List CallOut
-own_ended First ends dialogs = (dialogs, [])
-own_ended (Again life) ends dialogs = if ends then life_ended life dialogs else (dialogs, [])
-own_ended (Inside life) ends dialogs = if ends then life_ended life dialogs else (dialogs, [])
-own_ended Plain ends dialogs = (dialogs, [])
+own_ended InitialInvite ends dialogs = (dialogs, [])
+own_ended (ReInvite life) ends dialogs = if ends then life_ended life dialogs else (dialogs, [])
+own_ended (InDialog life) ends dialogs = if ends then life_ended life dialogs else (dialogs, [])
+own_ended OutOfDialog ends dialogs = (dialogs, [])
 
 -- the early dialogs that it made, and then that one
 abbrev pub ended_with : Client → Bool → Dialogs → Dialogs × List CallOut

@@ -7,39 +7,39 @@ use Rattle.sip_message.specs.declared.id.Id.{Id}
 use Rattle.sip_message.specs.declared.message.Message.{Message}
 use Rattle.sip_dialog.specs.Life.{Happening}
 use Rattle.sip_dialog.specs.Opening.{Opening, ByResponse, contact_uri}
-use Rattle.sip_common.specs.declared.held_dialog.DialogName.{DialogName}
+use Rattle.sip_common.specs.declared.held_dialog.DialogId.{DialogId}
 use Rattle.sip_common.specs.declared.held_dialog.HeldDialog.{HeldDialog}
 use Rattle.sip_common.specs.Dialogs.{confirms, is_named, retargets}
 use Rattle.sip_common.specs.Requests.{is_success}
 use Rattle.sip_clients.specs.declared.client.Client.{Client}
 use Rattle.sip_clients.specs.declared.client.RequestKind.{RequestKind}
-use Rattle.sip_clients.specs.declared.client.RequestKind.TheVariants.{First, Again, Inside, Plain}
+use Rattle.sip_clients.specs.declared.client.RequestKind.TheVariants.{InitialInvite, ReInvite, InDialog, OutOfDialog}
 use Rattle.sip_clients.specs.Answers.{has_answer}
 use Rattle.sip_clients.specs.Client.{Clients, client_at}
 use Rattle.sip_clients.specs.Clients.{reply_name, status_of}
-use Rattle.sip_clients.specs.Reply.{is_there}
+use Rattle.sip_clients.specs.ReceivedResponse.{has_dialog}
 
 -- the 2xx to the first INVITE confirms the dialog, and that to a re-INVITE gives it another target
 -- where it has a Contact
 abbrev pub success_brings : RequestKind → Message → HeldDialog → List Happening
-success_brings First response held = confirms response held
-success_brings (Again life) response held = retargets (contact_uri response) held
-success_brings (Inside life) response held = []
-success_brings Plain response held = []
+success_brings InitialInvite response held = confirms response held
+success_brings (ReInvite life) response held = retargets (contact_uri response) held
+success_brings (InDialog life) response held = []
+success_brings OutOfDialog response held = []
 
 -- a response to this request is the first 2xx of the dialog
-abbrev pub is_first_success : ℕ → Client → DialogName → Bool
+abbrev pub is_first_success : ℕ → Client → DialogId → Bool
 is_first_success status client name = is_success status && not (has_answer name client.answers)
 
 -- it does something in the dialog that it is of, where that is the dialog of the request
-abbrev pub reply_brings : ℕ → Client → Message → DialogName → HeldDialog → List Happening
+abbrev pub reply_brings : ℕ → Client → Message → DialogId → HeldDialog → List Happening
 reply_brings status client response name held =
     let own = reply_name client.kind client response in
-    if is_named own name && is_first_success status client own && is_there client.kind (Some held)
+    if is_named own name && is_first_success status client own && has_dialog client.kind (Some held)
     then success_brings client.kind response held else []
 
 -- the response to the request of this id
-abbrev pub response_brings : Id → Message → Clients → DialogName → HeldDialog → List Happening
+abbrev pub response_brings : Id → Message → Clients → DialogId → HeldDialog → List Happening
 response_brings id response clients name held =
     option_map_or
     (λ client. option_map_or (λ status. reply_brings status client response name held)

@@ -7,7 +7,7 @@ pub mod ClientTelling
 pub mod ClientRules
 pub mod Clients
 pub mod Commands
-pub mod Debts
+pub mod Pending
 pub mod Dialogs
 pub mod Event
 pub mod Happenings
@@ -18,8 +18,8 @@ pub mod Outside
 pub mod Owing
 pub mod Provisionals
 pub mod Replied
-pub mod Reply
+pub mod ReceivedResponse
 pub mod Rules
-pub mod Service
+pub mod SendOutcome
 pub mod Tick
 pub mod RefusedCommands

@@ -6,8 +6,8 @@ use Rattle.sip_message.specs.TopVia.{top_branch}
 use Rattle.sip_message.specs.Written.{written}
 use Rattle.sip_message.specs.declared.id.Id.{Id}
 use Rattle.sip_message.specs.declared.message.Message.{Message}
-use Rattle.sip_common.specs.declared.held_dialog.DialogLife.{DialogLife}
-use Rattle.sip_common.specs.declared.held_dialog.DialogName.{DialogName}
+use Rattle.sip_common.specs.declared.held_dialog.DialogReference.{DialogReference}
+use Rattle.sip_common.specs.declared.held_dialog.DialogId.{DialogId}
 use Rattle.sip_common.specs.declared.item.CallOut.{CallOut}
 use Rattle.sip_common.specs.declared.item.CallOut.TheVariants as out
 use Rattle.sip_common.specs.declared.notice.Notice.TheVariants as notice
@@ -16,19 +16,19 @@ use Rattle.sip_common.specs.Requests.{is_invite}
 use Rattle.sip_transactions.specs.declared.input.Command.TheVariants.{Start}
 use Rattle.sip_clients.specs.declared.answers.SentAck.{SentAck}
 use Rattle.sip_clients.specs.declared.client.RequestKind.{RequestKind}
-use Rattle.sip_clients.specs.declared.client.RequestKind.TheVariants.{Again, Inside}
+use Rattle.sip_clients.specs.declared.client.RequestKind.TheVariants.{ReInvite, InDialog}
 use Rattle.sip_clients.specs.declared.client.Client.{Client}
 use Rattle.sip_clients.specs.declared.event.Event.{Event}
 use Rattle.sip_clients.specs.declared.outputs.ClientChange.{ClientChange}
 use Rattle.sip_clients.specs.declared.outputs.ClientChange.TheVariants.{Stays, Starts}
-use Rattle.sip_clients.specs.declared.reply.Reply.{Reply as Answer}
-use Rattle.sip_clients.specs.declared.service.Sending.{Sending}
-use Rattle.sip_clients.specs.declared.service.Service.{Service}
-use Rattle.sip_clients.specs.declared.service.Service.TheVariants.{Sent, Waits, Refused}
+use Rattle.sip_clients.specs.declared.reply.ReceivedResponse.{ReceivedResponse}
+use Rattle.sip_clients.specs.declared.send_outcome.OutgoingRequest.{OutgoingRequest}
+use Rattle.sip_clients.specs.declared.send_outcome.SendOutcome.{SendOutcome}
+use Rattle.sip_clients.specs.declared.send_outcome.SendOutcome.TheVariants.{Sent, Waits, Refused}
 use Rattle.sip_clients.specs.Client.{client_for}
 
 -- the user is told of a response
-abbrev pub response_notice : Answer → CallOut
+abbrev pub response_notice : ReceivedResponse → CallOut
 response_notice reply =
     out.Notice (notice.Response reply.call_id reply.id reply.status (tag_of reply.response.from)
     (tag_of reply.response.to) reply.response.body)
@@ -36,17 +36,17 @@ response_notice reply =
 -- ---- a request in a dialog
 
 -- what a request in a dialog is for
-abbrev pub kind_in : DialogLife → Message → RequestKind
-kind_in life message = if is_invite message then Again life else Inside life
+abbrev pub kind_in : DialogReference → Message → RequestKind
+kind_in life message = if is_invite message then ReInvite life else InDialog life
 
 -- the request that is held from then on
-abbrev pub client_of : Event → DialogName → Sending → Client
+abbrev pub client_of : Event → DialogId → OutgoingRequest → Client
 client_of event name sending =
-    client_for event.id (kind_in record { name = name; born = sending.born } sending.message)
+    client_for event.id (kind_in record { name = name; created_by = sending.created_by } sending.message)
     sending.message sending.to
 
 -- what is told of it, and the request that is sent
-abbrev pub request_said : Event → List ℕ → DialogName → Service → List CallOut × ClientChange
+abbrev pub request_said : Event → List ℕ → DialogId → SendOutcome → List CallOut × ClientChange
 request_said event call_id name (Sent sending) = ([], Starts (client_of event name sending))
 request_said event call_id name Waits = ([], Stays)
 request_said event call_id name (Refused refusal) =
@@ -63,7 +63,7 @@ start_command id client =
 -- ---- an ACK
 
 -- an ACK as it goes out
-abbrev pub sent_ack : Sending → SentAck
+abbrev pub sent_ack : OutgoingRequest → SentAck
 sent_ack sending = record { to = sending.to; bytes = written sending.message }
 
 -- an ACK goes out without a transaction (RFC 3261, section 13.2.2.4)
@@ -71,7 +71,7 @@ abbrev pub direct : SentAck → CallOut
 direct ack = out.Direct ack.to ack.bytes
 
 -- what is told of it or sent for it, and the ACK where it is sent
-abbrev pub ack_said : Event → List ℕ → Service → List CallOut × Option SentAck
+abbrev pub ack_said : Event → List ℕ → SendOutcome → List CallOut × Option SentAck
 ack_said event call_id (Sent sending) = (direct (sent_ack sending) ∷ [], Some (sent_ack sending))
 ack_said event call_id Waits = ([], None)
 ack_said event call_id (Refused refusal) = (refused event.id call_id refusal, None)

@@ -3,18 +3,18 @@
 use Rattle.std.specs.Prelude.{ℕ, Bool, true, false, ◌&&◌, not, ◌==◌, List, [], Option, None, Some, filter, map, if◌then◌else◌}
 use Rattle.sip_message.specs.declared.id.Id.{Id}
 use Rattle.sip_message.specs.declared.message.Message.{Message}
-use Rattle.sip_common.specs.declared.held_dialog.DialogLife.{DialogLife}
+use Rattle.sip_common.specs.declared.held_dialog.DialogReference.{DialogReference}
 use Rattle.sip_common.specs.declared.item.CallOut.{CallOut}
 use Rattle.sip_common.specs.declared.item.CallOut.TheVariants.{Notice}
 use Rattle.sip_common.specs.declared.notice.Notice.TheVariants as notice
 use Rattle.sip_common.specs.Dialogs.{is_named}
-use Rattle.sip_common.specs.Requests.{is_final, is_inside}
+use Rattle.sip_common.specs.Requests.{is_final, has_to_tag}
 use Rattle.sip_common.specs.Ids.{is_id}
 use Rattle.sip_clients.specs.declared.client.RequestKind.{RequestKind}
-use Rattle.sip_clients.specs.declared.client.RequestKind.TheVariants.{First, Again}
+use Rattle.sip_clients.specs.declared.client.RequestKind.TheVariants.{InitialInvite, ReInvite}
 use Rattle.sip_clients.specs.declared.client.Client.{Client}
 use Rattle.sip_clients.specs.Clients.{reply_name, status_of}
-use Rattle.sip_clients.specs.Reply.{rseq_of}
+use Rattle.sip_clients.specs.ReceivedResponse.{rseq_of}
 
 -- an INVITE: the first one of the call, or one that the event of this id sent in a dialog
 pub data AnInvite : Type 0 where
@@ -23,11 +23,11 @@ pub data AnInvite : Type 0 where
 
 -- A request of this id, which asks so, is that INVITE, and this response to it is of this life of a
 -- dialog.
-abbrev pub is_for : AnInvite → DialogLife → Id → Client → RequestKind → Message → Bool
-is_for OfTheCall life id client First response =
-    is_named life.name (reply_name First client response)
-is_for (InTheDialog invite) life id client (Again own) response =
-    is_id id invite && (is_named life.name own.name && is_id own.born life.born)
+abbrev pub is_for : AnInvite → DialogReference → Id → Client → RequestKind → Message → Bool
+is_for OfTheCall life id client InitialInvite response =
+    is_named life.name (reply_name InitialInvite client response)
+is_for (InTheDialog invite) life id client (ReInvite own) response =
+    is_id id invite && (is_named life.name own.name && is_id own.created_by life.created_by)
 is_for _ life id client _ response = false
 
 -- the RSeq of a reliable provisional response of a dialog: it isn't final and no 100, and has a To
@@ -36,11 +36,11 @@ abbrev pub provisional_number : Option ℕ → Message → Option ℕ
 provisional_number None response = None
 provisional_number (Some status) response =
     if is_final status then None
-    else (if not (status == 100) && is_inside response then rseq_of response
+    else (if not (status == 100) && has_to_tag response then rseq_of response
     else None)
 
 -- the RSeq of such a response to the request that is held
-abbrev pub number_for : AnInvite → DialogLife → Id → Message → Client → Option ℕ
+abbrev pub number_for : AnInvite → DialogReference → Id → Message → Client → Option ℕ
 number_for invite life id response client =
     if is_for invite life id client client.kind response
     then provisional_number (status_of response.start) response else None

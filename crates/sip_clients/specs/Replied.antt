@@ -6,27 +6,27 @@ use Rattle.indexmap.specs.IndexMap.{insert_entry}
 use Rattle.sip_message.specs.Content.{Content, content_of_body}
 use Rattle.sip_message.specs.declared.message.Message.{Message}
 use Rattle.sip_reliable.specs.Inbound.{latest_after, offered}
-use Rattle.sip_common.specs.declared.debt.Debt.TheVariants.{Ack, Prack}
-use Rattle.sip_common.specs.declared.held_dialog.DialogName.{DialogName}
+use Rattle.sip_common.specs.declared.pending_request.PendingRequest.TheVariants.{Ack, Prack}
+use Rattle.sip_common.specs.declared.held_dialog.DialogId.{DialogId}
 use Rattle.sip_common.specs.declared.held_dialog.HeldDialog.{HeldDialog}
 use Rattle.sip_common.specs.declared.item.CallOut.{CallOut}
 use Rattle.sip_common.specs.Dialogs.{dialog_at, is_named, Dialogs}
 use Rattle.sip_timers.specs.declared.estimate.TheConstants.{LIFETIME}
 use Rattle.sip_clients.specs.declared.answers.SentAck.{SentAck}
 use Rattle.sip_clients.specs.declared.client.RequestKind.{RequestKind}
-use Rattle.sip_clients.specs.declared.client.RequestKind.TheVariants.{First, Again, Inside, Plain}
+use Rattle.sip_clients.specs.declared.client.RequestKind.TheVariants.{InitialInvite, ReInvite, InDialog, OutOfDialog}
 use Rattle.sip_clients.specs.declared.client.Client.{Client}
 use Rattle.sip_clients.specs.declared.outputs.ClientChange.{ClientChange}
 use Rattle.sip_clients.specs.declared.outputs.ClientChange.TheVariants.{Stays, Over}
-use Rattle.sip_clients.specs.declared.reply.Reply.{Reply as Answer}
+use Rattle.sip_clients.specs.declared.reply.ReceivedResponse.{ReceivedResponse}
 use Rattle.sip_clients.specs.declared.reply.ReplyCase.{ReplyCase}
 use Rattle.sip_clients.specs.declared.reply.ReplyCase.TheVariants as reply
-use Rattle.sip_clients.specs.declared.service.Service.{Service}
+use Rattle.sip_clients.specs.declared.send_outcome.SendOutcome.{SendOutcome}
 use Rattle.sip_clients.specs.Answers.{ack_of}
-use Rattle.sip_clients.specs.Debts.{owed}
+use Rattle.sip_clients.specs.Pending.{pending_requests}
 use Rattle.sip_clients.specs.Dialogs.{accepted, ended_with, hearing, dialog_for_provisional}
 use Rattle.sip_clients.specs.Outputs.{ack_said, direct, request_said, response_notice}
-use Rattle.sip_clients.specs.Reply.{is_last, reply_case}
+use Rattle.sip_clients.specs.ReceivedResponse.{is_last, reply_case}
 
 -- the client request and the dialogs after a response, what is told, and what becomes of the
 -- requests
@@ -38,7 +38,7 @@ abbrev pub InDialog : Type 0
 InDialog = Client × Option HeldDialog × List CallOut × ClientChange
 
 -- the user is told of it
-abbrev pub notice : Answer → List CallOut
+abbrev pub notice : ReceivedResponse → List CallOut
 notice answer = response_notice answer ∷ []
 
 -- ---- a final response
@@ -48,7 +48,7 @@ abbrev pub ends_dialog : ℕ → Bool
 ends_dialog status = (status == 481) || (status == 408)
 
 -- the request is over, and what ends with it ends
-abbrev pub request_over : Client → Dialogs → Answer → Replied
+abbrev pub request_over : Client → Dialogs → ReceivedResponse → Replied
 request_over client dialogs answer =
     let ended = ended_with client (ends_dialog answer.status) dialogs in
     (client, ended.0, notice answer ++ ended.1, Over)
@@ -58,86 +58,86 @@ request_over client dialogs answer =
 -- the dialog of a first INVITE keeps what came in it, and an INVITE in a dialog keeps itself what
 -- came for it
 abbrev pub heard_first : RequestKind → ℕ → HeldDialog → HeldDialog
-heard_first First rseq held = hearing rseq held
-heard_first (Again life) rseq held = held
-heard_first (Inside life) rseq held = held
-heard_first Plain rseq held = held
+heard_first InitialInvite rseq held = hearing rseq held
+heard_first (ReInvite life) rseq held = held
+heard_first (InDialog life) rseq held = held
+heard_first OutOfDialog rseq held = held
 
 -- of the responses to the request this RSeq is the latest
 abbrev pub hears : ℕ → Client → Client
 hears rseq client =
-    record client { heard = latest_after (offered client.heard rseq) client.heard rseq }
+    record client { last_rseq = latest_after (offered client.last_rseq rseq) client.last_rseq rseq }
 
 -- the same, unless it opens a call: then the dialog keeps it
 abbrev pub heard_again : RequestKind → ℕ → Client → Client
-heard_again First rseq client = client
-heard_again (Again life) rseq client = hears rseq client
-heard_again (Inside life) rseq client = hears rseq client
-heard_again Plain rseq client = hears rseq client
+heard_again InitialInvite rseq client = client
+heard_again (ReInvite life) rseq client = hears rseq client
+heard_again (InDialog life) rseq client = hears rseq client
+heard_again OutOfDialog rseq client = hears rseq client
 
 -- What a response asks for has no body where the INVITE had an offer or the response has none.
 -- Otherwise it has to carry the answer to the offer in the response, which the user gives (RFC
 -- 3261, section 13.2.1; RFC 3262, section 5).
-abbrev pub offer_to : Client → Message → Option Content
-offer_to client response =
+abbrev pub automatic_body : Client → Message → Option Content
+automatic_body client response =
     if not (length (client.request).body == 0) || (length response.body == 0)
     then Some (content_of_body []) else None
 
 -- its PRACK is owed, or sent
-unfoldable pub prack_owed : ℕ → Client → HeldDialog → Answer → HeldDialog × Service
+unfoldable pub prack_owed : ℕ → Client → HeldDialog → ReceivedResponse → HeldDialog × SendOutcome
 prack_owed rseq client held answer =
-    owed answer.event (Prack rseq ((client.request).cseq).number)
-    (offer_to client answer.response) (heard_first client.kind rseq held)
+    pending_requests answer.event (Prack rseq ((client.request).cseq).number)
+    (automatic_body client answer.response) (heard_first client.kind rseq held)
 
 -- what is told and sent, and the PRACK's request
-abbrev pub told_of_prack : Answer → Service → List CallOut × ClientChange
+abbrev pub told_of_prack : ReceivedResponse → SendOutcome → List CallOut × ClientChange
 told_of_prack answer service =
     let said = request_said answer.event answer.call_id answer.name service in
     (notice answer ++ said.0, said.1)
 
 -- a reliable one that is the next of its dialog is told, and its PRACK is owed
-abbrev pub reliable : ℕ → Client → HeldDialog → Answer → InDialog
+abbrev pub reliable : ℕ → Client → HeldDialog → ReceivedResponse → InDialog
 reliable rseq client held answer =
-    let owed = prack_owed rseq client held answer in
-    let told = told_of_prack answer owed.1 in
-    (heard_again client.kind rseq client, Some owed.0, told.0, told.1)
+    let pending_requests = prack_owed rseq client held answer in
+    let told = told_of_prack answer pending_requests.1 in
+    (heard_again client.kind rseq client, Some pending_requests.0, told.0, told.1)
 
 -- ---- a 2xx to an INVITE
 
 -- the ACK of its 2xx goes out again, the same bytes to the same address
-abbrev pub ack_again : Client → Answer → List CallOut
+abbrev pub ack_again : Client → ReceivedResponse → List CallOut
 ack_again client answer =
     option_map_or (λ ack. direct ack ∷ []) (ack_of answer.name client.answers) []
 
 -- the INVITE is held for 64*T1 after its first 2xx
-abbrev pub held_after_success : Answer → Option SentAck → Client → Client
+abbrev pub held_after_success : ReceivedResponse → Option SentAck → Client → Client
 held_after_success answer ack client = record client {
   answers = insert_entry is_named client.answers answer.name ack;
   removal = Some (unwrap_or client.removal ((answer.event).moment + LIFETIME));
 }
 
 -- its ACK is owed, or sent
-unfoldable pub ack_owed : Client → HeldDialog → Answer → HeldDialog × Service
+unfoldable pub ack_owed : Client → HeldDialog → ReceivedResponse → HeldDialog × SendOutcome
 ack_owed client held answer =
-    owed answer.event (Ack client.id ((client.request).cseq).number)
-    (offer_to client answer.response) held
+    pending_requests answer.event (Ack client.id ((client.request).cseq).number)
+    (automatic_body client answer.response) held
 
 -- what is told and sent, and the ACK
-abbrev pub told_of_ack : Answer → Service → List CallOut × Option SentAck
+abbrev pub told_of_ack : ReceivedResponse → SendOutcome → List CallOut × Option SentAck
 told_of_ack answer service =
     let said = ack_said answer.event answer.call_id service in (notice answer ++ said.0, said.1)
 
 -- the first 2xx of a dialog is told, and its ACK is owed
-abbrev pub accepted_by_ack : Client → HeldDialog → Answer → InDialog
+abbrev pub accepted_by_ack : Client → HeldDialog → ReceivedResponse → InDialog
 accepted_by_ack client held answer =
-    let owed = ack_owed client held answer in
-    let told = told_of_ack answer owed.1 in
-    (held_after_success answer told.1 client, Some owed.0, told.0, Stays)
+    let pending_requests = ack_owed client held answer in
+    let told = told_of_ack answer pending_requests.1 in
+    (held_after_success answer told.1 client, Some pending_requests.0, told.0, Stays)
 
 -- ---- all of it
 
 -- by the held dialog of its name, if there is one
-abbrev pub by_reply_case : ReplyCase → Client → Option HeldDialog → Answer → InDialog
+abbrev pub by_reply_case : ReplyCase → Client → Option HeldDialog → ReceivedResponse → InDialog
 by_reply_case reply.Repeated client found answer = (client, None, ack_again client answer, Stays)
 by_reply_case reply.Accepted client found answer =
     accepted_by_ack client (accepted client answer found) answer
@@ -151,20 +151,20 @@ by_reply_case reply.Early client found answer =
 by_reply_case reply.Told client found answer = (client, None, notice answer, Stays)
 
 -- case by case, in the dialog of its name where it is held
-abbrev pub replied_in : Client → Option HeldDialog → Answer → InDialog
+abbrev pub replied_in : Client → Option HeldDialog → ReceivedResponse → InDialog
 replied_in client found answer = by_reply_case (reply_case client found answer) client found answer
 
 -- the dialogs with that one
-abbrev pub dialogs_with : DialogName → Option HeldDialog → Dialogs → Dialogs
+abbrev pub dialogs_with : DialogId → Option HeldDialog → Dialogs → Dialogs
 dialogs_with name None dialogs = dialogs
 dialogs_with name (Some held) dialogs = insert_entry is_named dialogs name held
 
 -- the dialogs with that one after it
-abbrev pub after_dialog : DialogName → Dialogs → InDialog → Replied
+abbrev pub after_dialog : DialogId → Dialogs → InDialog → Replied
 after_dialog name dialogs done = (done.0, dialogs_with name done.1 dialogs, done.2, done.3)
 
 -- the last response ends its request; any other is taken case by case
-abbrev pub reply_taken : Client → Dialogs → Answer → Replied
+abbrev pub reply_taken : Client → Dialogs → ReceivedResponse → Replied
 reply_taken client dialogs answer =
     if is_last client.kind answer.status then request_over client dialogs answer
     else after_dialog answer.name dialogs

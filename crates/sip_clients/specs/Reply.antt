@@ -6,14 +6,14 @@ use Rattle.sip_message.specs.declared.message.Message.{Message}
 use Rattle.sip_reliable.specs.declared.offer.Offer.{Offer}
 use Rattle.sip_reliable.specs.declared.offer.Offer.TheVariants.{Taken, Repeat, Gap}
 use Rattle.sip_reliable.specs.Inbound.{offered}
-use Rattle.sip_common.specs.declared.held_dialog.DialogName.{DialogName}
+use Rattle.sip_common.specs.declared.held_dialog.DialogId.{DialogId}
 use Rattle.sip_common.specs.declared.held_dialog.HeldDialog.{HeldDialog}
-use Rattle.sip_common.specs.Requests.{is_final, is_inside, is_success, requires_100rel}
+use Rattle.sip_common.specs.Requests.{is_final, has_to_tag, is_success, requires_100rel}
 use Rattle.sip_common.specs.Ids.{is_id}
 use Rattle.sip_clients.specs.declared.client.RequestKind.{RequestKind}
-use Rattle.sip_clients.specs.declared.client.RequestKind.TheVariants.{First, Again, Inside, Plain}
+use Rattle.sip_clients.specs.declared.client.RequestKind.TheVariants.{InitialInvite, ReInvite, InDialog, OutOfDialog}
 use Rattle.sip_clients.specs.declared.client.Client.{Client}
-use Rattle.sip_clients.specs.declared.reply.Reply.{Reply as Answer}
+use Rattle.sip_clients.specs.declared.reply.ReceivedResponse.{ReceivedResponse}
 use Rattle.sip_clients.specs.declared.reply.ReplyCase.{ReplyCase}
 use Rattle.sip_clients.specs.declared.reply.ReplyCase.TheVariants.{Repeated, Accepted, Late, Reliable, Passed, Early, Told}
 use Rattle.sip_clients.specs.Answers.{has_answer}
@@ -22,45 +22,45 @@ use Rattle.sip_clients.specs.Answers.{has_answer}
 
 -- an INVITE
 abbrev pub is_inviting : RequestKind → Bool
-is_inviting First = true
-is_inviting (Again life) = true
-is_inviting (Inside life) = false
-is_inviting Plain = false
+is_inviting InitialInvite = true
+is_inviting (ReInvite life) = true
+is_inviting (InDialog life) = false
+is_inviting OutOfDialog = false
 
 -- the final response of its request, or one that rejects an INVITE
 abbrev pub is_last : RequestKind → ℕ → Bool
 is_last kind status = is_final status && not (is_inviting kind && is_success status)
 
 -- by the held dialog of its name, if there is one: the dialog of an INVITE is held, or may be made
-abbrev pub is_there : RequestKind → Option HeldDialog → Bool
-is_there First found = true
-is_there (Again life) found =
-    option_map_or (λ (held : HeldDialog). is_id held.born life.born) found false
-is_there (Inside life) found = false
-is_there Plain found = false
+abbrev pub has_dialog : RequestKind → Option HeldDialog → Bool
+has_dialog InitialInvite found = true
+has_dialog (ReInvite life) found =
+    option_map_or (λ (held : HeldDialog). is_id held.created_by life.created_by) found false
+has_dialog (InDialog life) found = false
+has_dialog OutOfDialog found = false
 
 -- the last RSeq that was taken in the same dialog for the same INVITE
 abbrev pub heard_of : RequestKind → Client → Option HeldDialog → Option ℕ
-heard_of First client found = option_and_then (λ held. held.heard) found
-heard_of (Again life) client found = client.heard
-heard_of (Inside life) client found = client.heard
-heard_of Plain client found = client.heard
+heard_of InitialInvite client found = option_and_then (λ held. held.last_rseq) found
+heard_of (ReInvite life) client found = client.last_rseq
+heard_of (InDialog life) client found = client.last_rseq
+heard_of OutOfDialog client found = client.last_rseq
 
 -- a provisional response is reliable where it requires `100rel` and has an RSeq
 abbrev pub rseq_of : Message → Option ℕ
 rseq_of response = if requires_100rel response then response.rseq else None
 
 -- the response is of a dialog: no 100, and with a To tag
-abbrev pub is_dialog_response : Answer → Bool
-is_dialog_response reply = not (reply.status == 100) && is_inside reply.response
+abbrev pub is_dialog_response : ReceivedResponse → Bool
+is_dialog_response reply = not (reply.status == 100) && has_to_tag reply.response
 
 -- ---- which case it is
 
 -- a 2xx to an INVITE: it came before; its dialog stands or begins; or it comes late
-abbrev pub success_case : Client → Option HeldDialog → DialogName → ReplyCase
+abbrev pub success_case : Client → Option HeldDialog → DialogId → ReplyCase
 success_case client found name =
     if has_answer name client.answers then Repeated
-    else (if is_there client.kind found then Accepted
+    else (if has_dialog client.kind found then Accepted
     else Late)
 
 -- by its RSeq it is the next one, or it is passed over (RFC 3262, section 4)
@@ -71,13 +71,13 @@ offer_case Gap rseq = Passed
 
 -- by the latest RSeq and its own, where it has one
 abbrev pub reliable_case : Option ℕ → Option ℕ → ReplyCase
-reliable_case heard None = Early
-reliable_case heard (Some rseq) = offer_case (offered heard rseq) rseq
+reliable_case last_rseq None = Early
+reliable_case last_rseq (Some rseq) = offer_case (offered last_rseq rseq) rseq
 
 -- of a response that isn't the last: the first case that fits
-abbrev pub reply_case : Client → Option HeldDialog → Answer → ReplyCase
+abbrev pub reply_case : Client → Option HeldDialog → ReceivedResponse → ReplyCase
 reply_case client found reply =
     if is_final reply.status then success_case client found reply.name
-    else (if is_dialog_response reply && is_there client.kind found
+    else (if is_dialog_response reply && has_dialog client.kind found
     then reliable_case (heard_of client.kind client found) (rseq_of reply.response)
     else Told)

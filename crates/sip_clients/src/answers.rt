@@ -7,7 +7,7 @@ ghost use Rattle.sip_common.specs.Dialogs.{is_named};
 ghost use Rattle.sip_clients.specs.Answers as spec;
 
 use indexmap::IndexMap;
-use sip_common::DialogName;
+use sip_common::DialogId;
 use sip_message::Addr;
 use sip_text::Text;
 use std::alloc::{AllocError, Global};
@@ -29,15 +29,15 @@ impl Drop for SentAck {
 /// The dialogs of the 2xx responses that came, each with the ACK of its 2xx once one was sent. A
 /// contract sees their list.
 pub struct Answers {
-    acks: IndexMap<DialogName, Option<SentAck>>,
+    acks: IndexMap<DialogId, Option<SentAck>>,
 }
 
 impl Model for Answers {
     ghost use Rattle.std.specs.Prelude.{List, Option};
-    ghost use Rattle.sip_common.specs.declared.held_dialog.DialogName.{DialogName};
+    ghost use Rattle.sip_common.specs.declared.held_dialog.DialogId.{DialogId};
     ghost use Rattle.sip_clients.specs.declared.answers.SentAck.{SentAck};
 
-    ghost Value = { List (DialogName × Option SentAck) };
+    ghost Value = { List (DialogId × Option SentAck) };
 
     ghost view = { λ a. a.acks.entries };
 }
@@ -53,14 +53,14 @@ impl Answers {
     }
 
     /// Whether one of this dialog came.
-    pub(crate) fn contains(&self, name: &DialogName) -> bool
+    pub(crate) fn contains(&self, name: &DialogId) -> bool
         ensures { result ≡ spec.has_answer name.now self.now }
     {
         self.acks.get(name).is_some()
     }
 
     /// The ACK that was sent for that of this dialog, if one was.
-    pub(crate) fn ack(&self, name: &DialogName) -> Option<&SentAck>
+    pub(crate) fn ack(&self, name: &DialogId) -> Option<&SentAck>
         ensures { option_copied result ≡ spec.ack_of name.now self.now }
     {
         match self.acks.get(name) {
@@ -70,7 +70,7 @@ impl Answers {
     }
 
     /// Notes one of this dialog, with its ACK where one was sent.
-    pub(crate) fn note(&mut self, name: DialogName, ack: Option<SentAck>) -> Result<(), AllocError>
+    pub(crate) fn note(&mut self, name: DialogId, ack: Option<SentAck>) -> Result<(), AllocError>
         ensures { OnOk result (self.new ≡ insert_entry is_named self.old name ack) }
     {
         self.acks.insert(name, ack)?;

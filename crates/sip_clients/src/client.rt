@@ -4,7 +4,7 @@ ghost use Rattle.std.specs.Prelude.{◌≡◌};
 ghost use Rattle.sip_clients.specs.Client as spec;
 
 use crate::answers::Answers;
-use sip_common::DialogLife;
+use sip_common::DialogReference;
 use sip_message::{Addr, Id, Message};
 use sip_reliable::Inbound;
 use std::alloc::Global;
@@ -12,13 +12,13 @@ use std::alloc::Global;
 /// What a client request is for.
 pub enum RequestKind {
     /// The INVITE of a call, whose responses make dialogs (RFC 3261, section 13.2).
-    First,
+    InitialInvite,
     /// An INVITE in this dialog (RFC 3261, section 14.1).
-    Again(DialogLife),
+    ReInvite(DialogReference),
     /// Any other request in this dialog (RFC 3261, section 12.2.1).
-    Inside(DialogLife),
+    InDialog(DialogReference),
     /// Any other request outside of dialogs.
-    Plain,
+    OutOfDialog,
 }
 
 /// Whether a CANCEL of an INVITE was asked for.
@@ -42,7 +42,7 @@ pub struct Client {
     pub provisional: bool,
     pub cancel: Cancelling,
     /// The reliable provisional responses to an INVITE in a dialog.
-    pub heard: Inbound,
+    pub last_rseq: Inbound,
     /// The 2xx responses to an INVITE.
     pub answers: Answers,
     /// After the first of them: the moment in ms at which it is removed.
@@ -66,7 +66,7 @@ pub(crate) fn client_for(
         to,
         provisional: false,
         cancel: Cancelling::NotAsked,
-        heard: Inbound::new(),
+        last_rseq: Inbound::new(),
         answers: Answers::new(alloc),
         removal: None,
     }
@@ -75,9 +75,9 @@ pub(crate) fn client_for(
 impl Drop for RequestKind {
     fn drop(self) {
         match self {
-            RequestKind::First | RequestKind::Plain => {}
-            RequestKind::Again(_) => {}
-            RequestKind::Inside(_) => {}
+            RequestKind::InitialInvite | RequestKind::OutOfDialog => {}
+            RequestKind::ReInvite(_) => {}
+            RequestKind::InDialog(_) => {}
         }
     }
 }
@@ -91,7 +91,7 @@ impl Drop for Client {
             to: _,
             provisional: _,
             cancel: _,
-            heard: _,
+            last_rseq: _,
             answers: _,
             removal: _,
         } = self;

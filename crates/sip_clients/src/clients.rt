@@ -9,8 +9,8 @@ ghost use Rattle.sip_clients.specs.Rules.Responses.{response_rule};
 
 use crate::cancel::take_cancel;
 use crate::client::{RequestKind, client_for};
-use crate::commands::{ack_told, debt_for, is_bad_outside, name_in, prack_told, request_told};
-use crate::debts::DebtKind;
+use crate::commands::{ack_told, pending_for, is_bad_outside, name_in, prack_told, request_told};
+use crate::pending::PendingKind;
 use crate::event::Event;
 use crate::held::{ClientMap, fail_request, note_ack, settle, start, take_response};
 use crate::outputs::ClientChange;
@@ -19,7 +19,7 @@ use crate::tick::{drop_clients, drop_dialogs, next_due, over_notices};
 use indexmap::IndexMap;
 use sip_common::outputs::refused;
 use sip_common::{
-    CallOut, Cancel, Debt, DialogBody, DialogName, DialogRequest, Dialogs, Invite, Plain, Refusal,
+    CallOut, Cancel, PendingRequest, DialogBody, DialogId, DialogRequest, Dialogs, Invite, Plain, Refusal,
 };
 use sip_message::{CallId, Id, Message};
 use std::alloc::{AllocError, Global};
@@ -157,7 +157,7 @@ impl Clients {
         let alloc = self.alloc;
         let mut requests = self.take();
         let message = invite_of(alloc, event, invite)?;
-        let client = client_for(alloc, event.id, RequestKind::First, message, invite.address);
+        let client = client_for(alloc, event.id, RequestKind::InitialInvite, message, invite.address);
         let outs = start(alloc, &mut requests, event, client)?;
         self.requests = requests;
         Ok(outs)
@@ -276,7 +276,7 @@ fn plain_told(
         return refused(alloc, event.id, plain.call_id.clone()?, Refusal::BadMethod);
     }
     let message = plain_of(alloc, event, plain)?;
-    let client = client_for(alloc, event.id, RequestKind::Plain, message, plain.address);
+    let client = client_for(alloc, event.id, RequestKind::OutOfDialog, message, plain.address);
     start(alloc, requests, event, client)
 }
 
@@ -310,9 +310,9 @@ fn take_ack(
         record { dialogs = dialogs.old.entries; clients = requests.old.entries }) }
 {
     let name = name_in(alloc, &command.local_tag, &command.remote_tag)?;
-    match debt_for(dialogs, &name, DebtKind::Ack) {
+    match pending_for(dialogs, &name, PendingKind::Ack) {
         Err(refusal) => refused(alloc, event.id, command.call_id.clone()?, refusal),
-        Ok(debt) => pay_ack(alloc, requests, dialogs, event, name, command, debt),
+        Ok(pending) => pay_ack(alloc, requests, dialogs, event, name, command, pending),
     }
 }
 
@@ -321,17 +321,17 @@ fn pay_ack(
     requests: &mut ClientMap,
     dialogs: &mut Dialogs,
     event: Event,
-    name: DialogName,
+    name: DialogId,
     command: &DialogBody,
-    debt: Debt,
+    pending: PendingRequest,
 ) -> Result<Vec<CallOut>, AllocError>
     ensures { IfOk result (λ outs.
         (record { dialogs = dialogs.new.entries; clients = requests.new.entries }, outs.items)
-        ≡ spec.ack_paid event command.now name debt
+        ≡ spec.ack_paid event command.now name pending
         record { dialogs = dialogs.old.entries; clients = requests.old.entries }) }
 {
-    let (outs, ack) = ack_told(alloc, dialogs, event, &name, command, debt)?;
-    note_ack(requests, debt, name, ack)?;
+    let (outs, ack) = ack_told(alloc, dialogs, event, &name, command, pending)?;
+    note_ack(requests, pending, name, ack)?;
     Ok(outs)
 }
 
@@ -349,9 +349,9 @@ fn take_prack(
         record { dialogs = dialogs.old.entries; clients = requests.old.entries }) }
 {
     let name = name_in(alloc, &command.local_tag, &command.remote_tag)?;
-    match debt_for(dialogs, &name, DebtKind::Prack) {
+    match pending_for(dialogs, &name, PendingKind::Prack) {
         Err(refusal) => refused(alloc, event.id, command.call_id.clone()?, refusal),
-        Ok(debt) => pay_prack(alloc, requests, dialogs, event, name, command, debt),
+        Ok(pending) => pay_prack(alloc, requests, dialogs, event, name, command, pending),
     }
 }
 
@@ -360,16 +360,16 @@ fn pay_prack(
     requests: &mut ClientMap,
     dialogs: &mut Dialogs,
     event: Event,
-    name: DialogName,
+    name: DialogId,
     command: &DialogBody,
-    debt: Debt,
+    pending: PendingRequest,
 ) -> Result<Vec<CallOut>, AllocError>
     ensures { IfOk result (λ outs.
         (record { dialogs = dialogs.new.entries; clients = requests.new.entries }, outs.items)
-        ≡ spec.prack_paid event command.now name debt
+        ≡ spec.prack_paid event command.now name pending
         record { dialogs = dialogs.old.entries; clients = requests.old.entries }) }
 {
-    let (mut outs, change) = prack_told(alloc, dialogs, event, &name, command, debt)?;
+    let (mut outs, change) = prack_told(alloc, dialogs, event, &name, command, pending)?;
     outs.append(&mut settle(alloc, requests, event, event.id, change)?)?;
     Ok(outs)
 }

@@ -6,17 +6,17 @@ ghost use Rattle.sip_common.specs.Dialogs.{tag_text};
 ghost use Rattle.sip_common.specs.declared.refusal.Refusal.TheVariants.{NoSuchDialog};
 ghost use Rattle.sip_clients.specs.Commands as spec;
 ghost use Rattle.sip_clients.specs.Dialogs.{served_at};
-ghost use Rattle.sip_clients.specs.declared.service.Service.TheVariants.{Refused};
+ghost use Rattle.sip_clients.specs.declared.send_outcome.SendOutcome.TheVariants.{Refused};
 
 use crate::answers::SentAck;
-use crate::debts::{DebtKind, oldest};
+use crate::pending::{PendingKind, oldest};
 use crate::dialogs::pay_at;
 use crate::event::Event;
 use crate::outputs::{ClientChange, ack_said, request_said};
-use crate::service::{Service, request};
+use crate::send_outcome::{SendOutcome, request};
 use sip_common::dialogs::end;
 use sip_common::{
-    CallOut, Debt, DialogBody, DialogName, DialogRequest, Dialogs, HeldDialog, Refusal,
+    CallOut, PendingRequest, DialogBody, DialogId, DialogRequest, Dialogs, HeldDialog, Refusal,
 };
 use sip_dialog::{DialogState, Side};
 use sip_message::{Content, Token};
@@ -27,10 +27,10 @@ pub(crate) fn name_in(
     alloc: Global,
     local: &Option<Token>,
     remote: &Option<Token>,
-) -> Result<DialogName, AllocError>
+) -> Result<DialogId, AllocError>
     ensures { IfOk result (λ name. name ≡ spec.name_in local.now remote.now) }
 {
-    DialogName::of_tags(alloc, tag_bytes(local), tag_bytes(remote))
+    DialogId::of_tags(alloc, tag_bytes(local), tag_bytes(remote))
 }
 
 // The bytes of a tag, none where it is absent.
@@ -51,7 +51,7 @@ pub(crate) fn request_told(
     alloc: Global,
     dialogs: &mut Dialogs,
     event: Event,
-    name: &DialogName,
+    name: &DialogId,
     command: &DialogRequest,
 ) -> Result<(Vec<CallOut>, ClientChange, Vec<CallOut>), AllocError>
     ensures dialogs { OnOk result (dialogs.new.entries
@@ -73,10 +73,10 @@ pub(crate) fn request_told(
 fn request_by(
     alloc: Global,
     dialogs: &mut Dialogs,
-    name: &DialogName,
+    name: &DialogId,
     event: Event,
     command: &DialogRequest,
-) -> Result<Service, AllocError>
+) -> Result<SendOutcome, AllocError>
     ensures service { IfOk result (λ service. service
         ≡ (spec.requested_at name.now event command.now dialogs.old.entries).1) }
     ensures dialogs { OnOk result (dialogs.new.entries
@@ -90,11 +90,11 @@ fn request_by(
 fn request_at(
     alloc: Global,
     dialogs: &mut Dialogs,
-    name: &DialogName,
+    name: &DialogId,
     event: Event,
     method: Token,
     content: Content,
-) -> Result<Service, AllocError>
+) -> Result<SendOutcome, AllocError>
     ensures service { IfOk result (λ service. service
         ≡ (served_at name.now (spec.request_in_held event method content) (Refused NoSuchDialog)
         dialogs.old.entries).1) }
@@ -103,7 +103,7 @@ fn request_at(
         dialogs.old.entries).0) }
 {
     let Some(held) = dialogs.get_mut(name) else {
-        return Ok(Service::Refused(Refusal::NoSuchDialog));
+        return Ok(SendOutcome::Refused(Refusal::NoSuchDialog));
     };
     request_in(alloc, held, event, method, content)
 }
@@ -114,13 +114,13 @@ fn request_in(
     event: Event,
     method: Token,
     content: Content,
-) -> Result<Service, AllocError>
+) -> Result<SendOutcome, AllocError>
     ensures service { IfOk result (λ service. service
         ≡ (spec.request_in_held event method content held.old).1) }
     ensures held { OnOk result (held.new ≡ (spec.request_in_held event method content held.old).0) }
 {
     if is_bad_in(held, &method) {
-        return Ok(Service::Refused(Refusal::BadMethod));
+        return Ok(SendOutcome::Refused(Refusal::BadMethod));
     }
     request(alloc, held, event, method, None, content)
 }
@@ -162,15 +162,15 @@ pub(crate) fn is_bad_outside(method: &Token) -> bool
 fn bye_end(
     alloc: Global,
     dialogs: &mut Dialogs,
-    name: &DialogName,
+    name: &DialogId,
     method: &Token,
-    service: &Service,
+    service: &SendOutcome,
 ) -> Result<Vec<CallOut>, AllocError>
     ensures { IfOk result (λ outs. (dialogs.new.entries, outs.items)
         ≡ spec.bye_ended name.now method.now service.now dialogs.old.entries) }
 {
     match service {
-        Service::Sent(_) if method.as_slice() == b"BYE".as_slice() => end(alloc, dialogs, name),
+        SendOutcome::Sent(_) if method.as_slice() == b"BYE".as_slice() => end(alloc, dialogs, name),
         _ => Ok(Vec::new(alloc)),
     }
 }
@@ -178,34 +178,34 @@ fn bye_end(
 // ---- an ACK or a PRACK
 
 /// The debt of a kind that is the oldest of the dialog of this name, or why there is none.
-pub(crate) fn debt_for(
+pub(crate) fn pending_for(
     dialogs: &Dialogs,
-    name: &DialogName,
-    kind: DebtKind,
-) -> Result<Debt, Refusal>
-    ensures { result ≡ spec.debt_for kind name.now dialogs.now.entries }
+    name: &DialogId,
+    kind: PendingKind,
+) -> Result<PendingRequest, Refusal>
+    ensures { result ≡ spec.pending_for kind name.now dialogs.now.entries }
 {
     match dialogs.get(name) {
         None => Err(Refusal::NoSuchDialog),
-        Some(held) => oldest_debt(held, kind),
+        Some(held) => oldest_pending(held, kind),
     }
 }
 
-fn oldest_debt(held: &HeldDialog, kind: DebtKind) -> Result<Debt, Refusal>
-    ensures { result ≡ spec.oldest_debt kind held.now }
+fn oldest_pending(held: &HeldDialog, kind: PendingKind) -> Result<PendingRequest, Refusal>
+    ensures { result ≡ spec.oldest_pending kind held.now }
 {
-    match oldest(held.owed.as_slice(), kind) {
-        Some(debt) => Ok(*debt),
-        None => Err(nothing_owed(kind)),
+    match oldest(held.pending_requests.as_slice(), kind) {
+        Some(pending) => Ok(*pending),
+        None => Err(nothing_pending(kind)),
     }
 }
 
-fn nothing_owed(kind: DebtKind) -> Refusal
-    ensures { result ≡ spec.nothing_owed kind }
+fn nothing_pending(kind: PendingKind) -> Refusal
+    ensures { result ≡ spec.nothing_pending kind }
 {
     match kind {
-        DebtKind::Ack => Refusal::NothingToAck,
-        DebtKind::Prack => Refusal::NothingToPrack,
+        PendingKind::Ack => Refusal::NothingToAck,
+        PendingKind::Prack => Refusal::NothingToPrack,
     }
 }
 
@@ -214,19 +214,19 @@ pub(crate) fn ack_told(
     alloc: Global,
     dialogs: &mut Dialogs,
     event: Event,
-    name: &DialogName,
+    name: &DialogId,
     command: &DialogBody,
-    debt: Debt,
+    pending: PendingRequest,
 ) -> Result<(Vec<CallOut>, Option<SentAck>), AllocError>
     ensures dialogs { OnOk result (dialogs.new.entries
-        ≡ (spec.ack_asked event name.now debt command.now dialogs.old.entries).0) }
+        ≡ (spec.ack_asked event name.now pending command.now dialogs.old.entries).0) }
     ensures outs { IfOk result (λ told. told.0.items
-        ≡ (spec.ack_asked event name.now debt command.now dialogs.old.entries).1) }
+        ≡ (spec.ack_asked event name.now pending command.now dialogs.old.entries).1) }
     ensures ack { IfOk result (λ told. told.1
-        ≡ (spec.ack_asked event name.now debt command.now dialogs.old.entries).2) }
+        ≡ (spec.ack_asked event name.now pending command.now dialogs.old.entries).2) }
 {
     let content = command.content.clone()?;
-    let service = pay_at(alloc, dialogs, name, event, debt, content)?;
+    let service = pay_at(alloc, dialogs, name, event, pending, content)?;
     ack_said(alloc, event, &command.call_id, service)
 }
 
@@ -235,18 +235,18 @@ pub(crate) fn prack_told(
     alloc: Global,
     dialogs: &mut Dialogs,
     event: Event,
-    name: &DialogName,
+    name: &DialogId,
     command: &DialogBody,
-    debt: Debt,
+    pending: PendingRequest,
 ) -> Result<(Vec<CallOut>, ClientChange), AllocError>
     ensures dialogs { OnOk result (dialogs.new.entries
-        ≡ (spec.prack_asked event name.now debt command.now dialogs.old.entries).0) }
+        ≡ (spec.prack_asked event name.now pending command.now dialogs.old.entries).0) }
     ensures outs { IfOk result (λ told. told.0.items
-        ≡ (spec.prack_asked event name.now debt command.now dialogs.old.entries).1) }
+        ≡ (spec.prack_asked event name.now pending command.now dialogs.old.entries).1) }
     ensures change { IfOk result (λ told. told.1
-        ≡ (spec.prack_asked event name.now debt command.now dialogs.old.entries).2) }
+        ≡ (spec.prack_asked event name.now pending command.now dialogs.old.entries).2) }
 {
     let content = command.content.clone()?;
-    let service = pay_at(alloc, dialogs, name, event, debt, content)?;
+    let service = pay_at(alloc, dialogs, name, event, pending, content)?;
     request_said(alloc, event, &command.call_id, name, service)
 }

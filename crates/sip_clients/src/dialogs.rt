@@ -6,12 +6,12 @@ ghost use Rattle.sip_common.specs.Dialogs.{is_named};
 ghost use Rattle.sip_clients.specs.Dialogs as spec;
 
 use crate::client::{Client, RequestKind};
-use crate::debts::pay;
+use crate::pending::pay;
 use crate::event::Event;
-use crate::reply::Reply;
-use crate::service::Service;
+use crate::reply::ReceivedResponse;
+use crate::send_outcome::SendOutcome;
 use sip_common::dialogs::{confirm_dialog, end, end_early, lives};
-use sip_common::{CallOut, Debt, DialogLife, DialogName, Dialogs, HeldDialog};
+use sip_common::{CallOut, PendingRequest, DialogReference, DialogId, Dialogs, HeldDialog};
 use sip_dialog::Dialog;
 use sip_message::{Content, Message};
 use sip_reliable::Inbound;
@@ -22,24 +22,24 @@ use std::alloc::{AllocError, Global};
 pub(crate) fn made_dialog(
     alloc: Global,
     client: &Client,
-    reply: &Reply,
+    reply: &ReceivedResponse,
 ) -> Result<HeldDialog, AllocError>
     ensures { IfOk result (λ made. made ≡ spec.dialog_by_response client.now reply.now) }
 {
     Ok(HeldDialog {
         dialog: Dialog::from_response(alloc, &client.request, &reply.response)?,
         address: client.to,
-        made_by: client.id,
-        born: reply.event.id,
-        heard: Inbound::new(),
-        owed: Series::new(alloc),
+        invite: client.id,
+        created_by: reply.event.id,
+        last_rseq: Inbound::new(),
+        pending_requests: Series::new(alloc),
     })
 }
 
 /// A dialog that was made is held by this name.
 pub(crate) fn hold(
     dialogs: &mut Dialogs,
-    name: DialogName,
+    name: DialogId,
     made: HeldDialog,
 ) -> Result<(), AllocError>
     ensures { OnOk result (dialogs.new.entries
@@ -59,9 +59,9 @@ pub(crate) fn accept(
     ensures { OnOk result (held.new ≡ spec.accepted_in kind.now response.now held.old) }
 {
     match kind {
-        RequestKind::First => confirm_dialog(held, response),
-        RequestKind::Again(_) => refresh_dialog(held, response),
-        RequestKind::Inside(_) | RequestKind::Plain => Ok(()),
+        RequestKind::InitialInvite => confirm_dialog(held, response),
+        RequestKind::ReInvite(_) => refresh_dialog(held, response),
+        RequestKind::InDialog(_) | RequestKind::OutOfDialog => Ok(()),
     }
 }
 
@@ -80,27 +80,27 @@ fn refresh_dialog(held: &mut HeldDialog, response: &Message) -> Result<(), Alloc
 pub(crate) fn hear(held: &mut HeldDialog, rseq: u32)
     ensures { held.new ≡ spec.hearing rseq held.old }
 {
-    let _ = held.heard.offer(rseq);
+    let _ = held.last_rseq.offer(rseq);
 }
 
 /// Serves what is owed in the dialog of this name by the user's command.
 pub(crate) fn pay_at(
     alloc: Global,
     dialogs: &mut Dialogs,
-    name: &DialogName,
+    name: &DialogId,
     event: Event,
-    debt: Debt,
+    pending: PendingRequest,
     content: Content,
-) -> Result<Service, AllocError>
+) -> Result<SendOutcome, AllocError>
     ensures service { IfOk result (λ service. service
-        ≡ (spec.paid_at name.now event debt content dialogs.old.entries).1) }
+        ≡ (spec.paid_at name.now event pending content dialogs.old.entries).1) }
     ensures dialogs { OnOk result (dialogs.new.entries
-        ≡ (spec.paid_at name.now event debt content dialogs.old.entries).0) }
+        ≡ (spec.paid_at name.now event pending content dialogs.old.entries).0) }
 {
     let Some(held) = dialogs.get_mut(name) else {
-        return Ok(Service::Waits);
+        return Ok(SendOutcome::Waits);
     };
-    pay(alloc, held, event, debt, content)
+    pay(alloc, held, event, pending, content)
 }
 
 /// What ends with a client request: the early dialogs that it made, and the dialog that it was sent
@@ -129,7 +129,7 @@ fn end_own(
         ≡ spec.own_ended kind.now ends dialogs.old.entries) }
 {
     match kind {
-        RequestKind::Again(life) | RequestKind::Inside(life) if ends => end_life(
+        RequestKind::ReInvite(life) | RequestKind::InDialog(life) if ends => end_life(
             alloc, dialogs, life,
         ),
         _ => Ok(Vec::new(alloc)),
@@ -139,7 +139,7 @@ fn end_own(
 fn end_life(
     alloc: Global,
     dialogs: &mut Dialogs,
-    life: &DialogLife,
+    life: &DialogReference,
 ) -> Result<Vec<CallOut>, AllocError>
     ensures { IfOk result (λ outs. (dialogs.new.entries, outs.items)
         ≡ spec.life_ended life.now dialogs.old.entries) }

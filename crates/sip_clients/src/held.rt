@@ -14,11 +14,11 @@ use crate::dialogs::end_with;
 use crate::event::Event;
 use crate::outputs::{ClientChange, start_command};
 use crate::replied::take_reply;
-use crate::reply::{Reply, reply_name, status_of};
+use crate::reply::{ReceivedResponse, reply_name, status_of};
 use indexmap::IndexMap;
 use sip_common::outputs::one;
 use sip_common::request::is_final;
-use sip_common::{CallOut, Debt, DialogName, Dialogs};
+use sip_common::{CallOut, PendingRequest, DialogId, Dialogs};
 use sip_message::{CallId, Id, Message};
 use std::alloc::{AllocError, Global};
 
@@ -50,7 +50,7 @@ pub(crate) fn take_response(
         return Ok(Vec::new(alloc));
     };
     let name = reply_name(alloc, client, &response)?;
-    let reply = Reply {
+    let reply = ReceivedResponse {
         event,
         id,
         call_id,
@@ -69,7 +69,7 @@ fn reply_to(
     alloc: Global,
     client: &mut Client,
     dialogs: &mut Dialogs,
-    reply: &Reply,
+    reply: &ReceivedResponse,
 ) -> Result<Told, AllocError>
     requires { reply.now.event.moment ≤ 2 ^ 62 }
     ensures told { IfOk result (λ told. (client.new, dialogs.new.entries, told.0.items, told.1)
@@ -174,14 +174,14 @@ pub(crate) fn fail_request(
 /// The ACK that the user gave is that of its 2xx, and goes out again each time this comes again.
 pub(crate) fn note_ack(
     clients: &mut ClientMap,
-    debt: Debt,
-    name: DialogName,
+    pending: PendingRequest,
+    name: DialogId,
     ack: Option<SentAck>,
 ) -> Result<(), AllocError>
-    ensures { OnOk result (clients.new.entries ≡ spec.ack_kept debt name ack clients.old.entries) }
+    ensures { OnOk result (clients.new.entries ≡ spec.ack_kept pending name ack clients.old.entries) }
 {
-    match (debt, ack) {
-        (Debt::Ack { invite, .. }, Some(ack)) => note_ack_at(clients, invite, name, ack),
+    match (pending, ack) {
+        (PendingRequest::Ack { invite, .. }, Some(ack)) => note_ack_at(clients, invite, name, ack),
         _ => Ok(()),
     }
 }
@@ -189,7 +189,7 @@ pub(crate) fn note_ack(
 fn note_ack_at(
     clients: &mut ClientMap,
     invite: Id,
-    name: DialogName,
+    name: DialogId,
     ack: SentAck,
 ) -> Result<(), AllocError>
     ensures { OnOk result (clients.new.entries
@@ -201,7 +201,7 @@ fn note_ack_at(
     note_ack_in(client, name, ack)
 }
 
-fn note_ack_in(client: &mut Client, name: DialogName, ack: SentAck) -> Result<(), AllocError>
+fn note_ack_in(client: &mut Client, name: DialogId, ack: SentAck) -> Result<(), AllocError>
     ensures { OnOk result (client.new ≡ spec.acked_with name ack client.old) }
 {
     client.answers.note(name, Some(ack))

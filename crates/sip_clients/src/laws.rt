@@ -25,7 +25,7 @@ ghost use Rattle.sip_clients.specs.Commands.{name_in};
 ghost use Rattle.sip_clients.specs.Event.{branch_of};
 ghost use Rattle.sip_clients.specs.Name.{NamesDiffer};
 ghost use Rattle.sip_clients.specs.Outside.{invite_of, plain_of};
-ghost use Rattle.sip_clients.specs.Service.{sending_in};
+ghost use Rattle.sip_clients.specs.SendOutcome.{sending_in};
 ghost use Rattle.sip_clients.specs.OwnCall.{KeepsTo, on_side};
 ghost use Rattle.sip_clients.specs.Tick.{next_removal, clients_ticked};
 

@@ -7,7 +7,7 @@ mod cancel;
 mod client;
 mod clients;
 mod commands;
-mod debts;
+mod pending;
 mod dialogs;
 mod event;
 mod held;
@@ -18,7 +18,7 @@ mod outside;
 mod replied;
 mod reply;
 mod rules;
-mod service;
+mod send_outcome;
 mod tick;
 
 pub use answers::{Answers, SentAck};

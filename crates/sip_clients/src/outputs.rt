@@ -6,11 +6,11 @@ ghost use Rattle.sip_clients.specs.Outputs as spec;
 use crate::answers::SentAck;
 use crate::client::{Client, RequestKind, client_for};
 use crate::event::Event;
-use crate::reply::Reply;
-use crate::service::{Sending, Service};
+use crate::reply::ReceivedResponse;
+use crate::send_outcome::{OutgoingRequest, SendOutcome};
 use sip_common::outputs::{one, refused};
 use sip_common::request::is_invite;
-use sip_common::{CallOut, DialogLife, DialogName, Notice};
+use sip_common::{CallOut, DialogReference, DialogId, Notice};
 use sip_message::{CallId, Id, Key, Message, write};
 use sip_text::{Boxed, Text};
 use sip_transactions::Command;
@@ -27,7 +27,7 @@ pub(crate) enum ClientChange {
 }
 
 /// How the user is told of a response.
-pub(crate) fn response_notice(alloc: Global, reply: &Reply) -> Result<CallOut, AllocError>
+pub(crate) fn response_notice(alloc: Global, reply: &ReceivedResponse) -> Result<CallOut, AllocError>
     ensures { IfOk result (λ out. out ≡ spec.response_notice reply.now) }
 {
     Ok(CallOut::Notice(Notice::Response {
@@ -45,8 +45,8 @@ pub(crate) fn request_said(
     alloc: Global,
     event: Event,
     call_id: &CallId,
-    name: &DialogName,
-    service: Service,
+    name: &DialogId,
+    service: SendOutcome,
 ) -> Result<(Vec<CallOut>, ClientChange), AllocError>
     ensures outs { IfOk result (λ said. said.0.items
         ≡ (spec.request_said event call_id.now name.now service).0) }
@@ -54,12 +54,12 @@ pub(crate) fn request_said(
         ≡ (spec.request_said event call_id.now name.now service).1) }
 {
     match service {
-        Service::Sent(sending) => {
+        SendOutcome::Sent(sending) => {
             let client = client_of(alloc, event, name, sending)?;
             Ok((Vec::new(alloc), ClientChange::Starts(client)))
         }
-        Service::Waits => Ok((Vec::new(alloc), ClientChange::Stays)),
-        Service::Refused(refusal) => {
+        SendOutcome::Waits => Ok((Vec::new(alloc), ClientChange::Stays)),
+        SendOutcome::Refused(refusal) => {
             let outs = refused(alloc, event.id, call_id.clone()?, refusal)?;
             Ok((outs, ClientChange::Stays))
         }
@@ -69,27 +69,27 @@ pub(crate) fn request_said(
 fn client_of(
     alloc: Global,
     event: Event,
-    name: &DialogName,
-    sending: Sending,
+    name: &DialogId,
+    sending: OutgoingRequest,
 ) -> Result<Client, AllocError>
     ensures { IfOk result (λ client. client ≡ spec.client_of event name.now sending) }
 {
-    let life = DialogLife {
+    let life = DialogReference {
         name: name.clone()?,
-        born: sending.born,
+        created_by: sending.created_by,
     };
     let (message, to) = sending.into_parts();
     let kind = kind_in(life, &message);
     Ok(client_for(alloc, event.id, kind, message, to))
 }
 
-fn kind_in(life: DialogLife, message: &Message) -> RequestKind
+fn kind_in(life: DialogReference, message: &Message) -> RequestKind
     ensures { result ≡ spec.kind_in life message.now }
 {
     if is_invite(message) {
-        RequestKind::Again(life)
+        RequestKind::ReInvite(life)
     } else {
-        RequestKind::Inside(life)
+        RequestKind::InDialog(life)
     }
 }
 
@@ -98,25 +98,25 @@ pub(crate) fn ack_said(
     alloc: Global,
     event: Event,
     call_id: &CallId,
-    service: Service,
+    service: SendOutcome,
 ) -> Result<(Vec<CallOut>, Option<SentAck>), AllocError>
     ensures outs { IfOk result (λ said. said.0.items
         ≡ (spec.ack_said event call_id.now service).0) }
     ensures ack { IfOk result (λ said. said.1 ≡ (spec.ack_said event call_id.now service).1) }
 {
     match service {
-        Service::Sent(sending) => {
+        SendOutcome::Sent(sending) => {
             let ack = sent_ack(alloc, &sending)?;
             Ok((one(alloc, direct(&ack)?)?, Some(ack)))
         }
-        Service::Waits => Ok((Vec::new(alloc), None)),
-        Service::Refused(refusal) => {
+        SendOutcome::Waits => Ok((Vec::new(alloc), None)),
+        SendOutcome::Refused(refusal) => {
             Ok((refused(alloc, event.id, call_id.clone()?, refusal)?, None))
         }
     }
 }
 
-fn sent_ack(alloc: Global, sending: &Sending) -> Result<SentAck, AllocError>
+fn sent_ack(alloc: Global, sending: &OutgoingRequest) -> Result<SentAck, AllocError>
     ensures { IfOk result (λ ack. ack ≡ spec.sent_ack sending.now) }
 {
     Ok(SentAck {

@@ -5,13 +5,13 @@ ghost use Rattle.sip_clients.specs.Replied as spec;
 
 use crate::answers::SentAck;
 use crate::client::{Client, RequestKind};
-use crate::debts::owe;
+use crate::pending::owe;
 use crate::dialogs::{accept, end_with, hear, hold, made_dialog};
 use crate::outputs::{ClientChange, ack_said, direct, request_said, response_notice};
-use crate::reply::{Reply, ReplyCase, is_last, reply_case};
-use crate::service::Service;
+use crate::reply::{ReceivedResponse, ReplyCase, is_last, reply_case};
+use crate::send_outcome::SendOutcome;
 use sip_common::outputs::one;
-use sip_common::{CallOut, Debt, Dialogs, HeldDialog};
+use sip_common::{CallOut, PendingRequest, Dialogs, HeldDialog};
 use sip_message::{Content, Message};
 use sip_text::Text;
 use sip_timers::LIFETIME;
@@ -28,7 +28,7 @@ pub(crate) fn take_reply(
     alloc: Global,
     client: &mut Client,
     dialogs: &mut Dialogs,
-    reply: &Reply,
+    reply: &ReceivedResponse,
 ) -> Result<(Vec<CallOut>, ClientChange), AllocError>
     requires { reply.now.event.moment ≤ 2 ^ 62 }
     ensures { IfOk result (λ told. (client.new, dialogs.new.entries, told.0.items, told.1)
@@ -48,7 +48,7 @@ fn take_in(
     alloc: Global,
     client: &mut Client,
     held: &mut HeldDialog,
-    reply: &Reply,
+    reply: &ReceivedResponse,
 ) -> Result<(Vec<CallOut>, ClientChange), AllocError>
     requires { reply.now.event.moment ≤ 2 ^ 62 }
     ensures { IfOk result (λ told. (client.new, held.new, told.0.items, told.1)
@@ -73,7 +73,7 @@ fn take_new(
     alloc: Global,
     client: &mut Client,
     dialogs: &mut Dialogs,
-    reply: &Reply,
+    reply: &ReceivedResponse,
 ) -> Result<(Vec<CallOut>, ClientChange), AllocError>
     requires { reply.now.event.moment ≤ 2 ^ 62 }
     ensures { IfOk result (λ told. (client.new, dialogs.new.entries, told.0.items, told.1)
@@ -105,7 +105,7 @@ fn take_new(
     }
 }
 
-fn told(alloc: Global, reply: &Reply) -> Result<(Vec<CallOut>, ClientChange), AllocError>
+fn told(alloc: Global, reply: &ReceivedResponse) -> Result<(Vec<CallOut>, ClientChange), AllocError>
     ensures outs { IfOk result (λ told. told.0.items ≡ spec.notice reply.now) }
     ensures change { IfOk result (λ told. told.1 ≡ ClientChange.Stays) }
 {
@@ -120,7 +120,7 @@ fn finish(
     alloc: Global,
     client: &Client,
     dialogs: &mut Dialogs,
-    reply: &Reply,
+    reply: &ReceivedResponse,
 ) -> Result<(Vec<CallOut>, ClientChange), AllocError>
     ensures { IfOk result (λ told. (client.now, dialogs.new.entries, told.0.items, told.1)
         ≡ spec.request_over client.now dialogs.old.entries reply.now) }
@@ -141,7 +141,7 @@ fn ends_dialog(status: u16) -> bool
 fn repeat(
     alloc: Global,
     client: &Client,
-    reply: &Reply,
+    reply: &ReceivedResponse,
 ) -> Result<(Vec<CallOut>, ClientChange), AllocError>
     ensures outs { IfOk result (λ told. told.0.items ≡ spec.ack_again client.now reply.now) }
     ensures change { IfOk result (λ told. told.1 ≡ ClientChange.Stays) }
@@ -159,7 +159,7 @@ fn reliable(
     alloc: Global,
     client: &mut Client,
     held: &mut HeldDialog,
-    reply: &Reply,
+    reply: &ReceivedResponse,
     rseq: u32,
 ) -> Result<(Vec<CallOut>, ClientChange), AllocError>
     ensures { IfOk result (λ told. (client.new, Some held.new, told.0.items, told.1)
@@ -172,8 +172,8 @@ fn reliable(
 
 fn told_of_prack(
     alloc: Global,
-    reply: &Reply,
-    service: Service,
+    reply: &ReceivedResponse,
+    service: SendOutcome,
 ) -> Result<(Vec<CallOut>, ClientChange), AllocError>
     ensures outs { IfOk result (λ told. told.0.items ≡ (spec.told_of_prack reply.now service).0) }
     ensures change { IfOk result (λ told. told.1 ≡ (spec.told_of_prack reply.now service).1) }
@@ -190,21 +190,21 @@ fn owe_prack(
     alloc: Global,
     client: &Client,
     held: &mut HeldDialog,
-    reply: &Reply,
+    reply: &ReceivedResponse,
     rseq: u32,
-) -> Result<Service, AllocError>
+) -> Result<SendOutcome, AllocError>
     ensures service { IfOk result (λ service. service
         ≡ (spec.prack_owed rseq client.now held.old reply.now).1) }
     ensures held { OnOk result (held.new
         ≡ (spec.prack_owed rseq client.now held.old reply.now).0) }
 {
     hear_first(held, &client.kind, rseq);
-    let debt = Debt::Prack {
+    let pending = PendingRequest::Prack {
         rseq,
         number: client.request.cseq.number,
     };
-    let offer = offer_to(alloc, client, &reply.response);
-    owe(alloc, held, reply.event, debt, offer)
+    let offer = automatic_body(alloc, client, &reply.response);
+    owe(alloc, held, reply.event, pending, offer)
 }
 
 // The dialog of a first INVITE keeps what came in it.
@@ -212,8 +212,8 @@ fn hear_first(held: &mut HeldDialog, kind: &RequestKind, rseq: u32)
     ensures { held.new ≡ spec.heard_first kind.now rseq held.old }
 {
     match kind {
-        RequestKind::First => hear(held, rseq),
-        RequestKind::Again(_) | RequestKind::Inside(_) | RequestKind::Plain => {}
+        RequestKind::InitialInvite => hear(held, rseq),
+        RequestKind::ReInvite(_) | RequestKind::InDialog(_) | RequestKind::OutOfDialog => {}
     }
 }
 
@@ -222,9 +222,9 @@ fn hear_again(client: &mut Client, rseq: u32)
     ensures { client.new ≡ spec.heard_again client.old.kind rseq client.old }
 {
     match &client.kind {
-        RequestKind::First => {}
-        RequestKind::Again(_) | RequestKind::Inside(_) | RequestKind::Plain => {
-            let _ = client.heard.offer(rseq);
+        RequestKind::InitialInvite => {}
+        RequestKind::ReInvite(_) | RequestKind::InDialog(_) | RequestKind::OutOfDialog => {
+            let _ = client.last_rseq.offer(rseq);
         }
     }
 }
@@ -232,8 +232,8 @@ fn hear_again(client: &mut Client, rseq: u32)
 // The content of what a response asks for: without a body where the INVITE had an offer or the
 // response has none. Otherwise it has to be the answer to the offer in the response, which the user
 // gives (RFC 3261, section 13.2.1; RFC 3262, section 5).
-fn offer_to(alloc: Global, client: &Client, response: &Message) -> Option<Content>
-    ensures { result ≡ spec.offer_to client.now response.now }
+fn automatic_body(alloc: Global, client: &Client, response: &Message) -> Option<Content>
+    ensures { result ≡ spec.automatic_body client.now response.now }
 {
     if !client.request.body.is_empty() || response.body.is_empty() {
         let no_body = Text::from_vec(Vec::new(alloc));
@@ -249,7 +249,7 @@ fn accepted(
     alloc: Global,
     client: &mut Client,
     held: &mut HeldDialog,
-    reply: &Reply,
+    reply: &ReceivedResponse,
 ) -> Result<(Vec<CallOut>, ClientChange), AllocError>
     requires { reply.now.event.moment ≤ 2 ^ 62 }
     ensures { IfOk result (λ told. (client.new, Some held.new, told.0.items, told.1)
@@ -267,24 +267,24 @@ fn owe_ack(
     alloc: Global,
     client: &Client,
     held: &mut HeldDialog,
-    reply: &Reply,
-) -> Result<Service, AllocError>
+    reply: &ReceivedResponse,
+) -> Result<SendOutcome, AllocError>
     ensures service { IfOk result (λ service. service
         ≡ (spec.ack_owed client.now held.old reply.now).1) }
     ensures held { OnOk result (held.new ≡ (spec.ack_owed client.now held.old reply.now).0) }
 {
-    let debt = Debt::Ack {
+    let pending = PendingRequest::Ack {
         invite: client.id,
         number: client.request.cseq.number,
     };
-    let offer = offer_to(alloc, client, &reply.response);
-    owe(alloc, held, reply.event, debt, offer)
+    let offer = automatic_body(alloc, client, &reply.response);
+    owe(alloc, held, reply.event, pending, offer)
 }
 
 fn told_of_ack(
     alloc: Global,
-    reply: &Reply,
-    service: Service,
+    reply: &ReceivedResponse,
+    service: SendOutcome,
 ) -> Result<(Vec<CallOut>, Option<SentAck>), AllocError>
     ensures outs { IfOk result (λ told. told.0.items ≡ (spec.told_of_ack reply.now service).0) }
     ensures ack { IfOk result (λ told. told.1 ≡ (spec.told_of_ack reply.now service).1) }
@@ -298,7 +298,7 @@ fn told_of_ack(
 fn late(
     alloc: Global,
     client: &mut Client,
-    reply: &Reply,
+    reply: &ReceivedResponse,
 ) -> Result<(Vec<CallOut>, ClientChange), AllocError>
     requires { reply.now.event.moment ≤ 2 ^ 62 }
     ensures client { OnOk result (client.new ≡ spec.held_after_success reply.now None client.old) }
@@ -310,7 +310,7 @@ fn late(
 }
 
 // The INVITE is held for 64*T1 after its first 2xx (RFC 6026, section 7.2).
-fn note_answer(client: &mut Client, reply: &Reply, ack: Option<SentAck>) -> Result<(), AllocError>
+fn note_answer(client: &mut Client, reply: &ReceivedResponse, ack: Option<SentAck>) -> Result<(), AllocError>
     requires { reply.now.event.moment ≤ 2 ^ 62 }
     ensures { OnOk result (client.new ≡ spec.held_after_success reply.now ack client.old) }
 {

@@ -4,12 +4,12 @@ ghost use Rattle.std.specs.Prelude.{◌≡◌, IfOk};
 ghost use Rattle.std.specs.Option.{is_some, option_copied};
 ghost use Rattle.sip_reliable.specs.Inbound.{offered};
 ghost use Rattle.sip_clients.specs.Clients.{reply_name, status_of};
-ghost use Rattle.sip_clients.specs.Reply as spec;
+ghost use Rattle.sip_clients.specs.ReceivedResponse as spec;
 
 use crate::client::{Client, RequestKind};
 use crate::event::Event;
-use sip_common::request::{is_final, is_inside, is_success, requires_100rel};
-use sip_common::{DialogName, HeldDialog};
+use sip_common::request::{is_final, has_to_tag, is_success, requires_100rel};
+use sip_common::{DialogId, HeldDialog};
 use sip_message::{CallId, Id, Message, StartLine, StatusCode};
 use sip_reliable::{Inbound, Offer};
 use std::alloc::{AllocError, Global};
@@ -18,20 +18,20 @@ use std::alloc::{AllocError, Global};
 const TRYING: u16 = 100;
 
 /// A response that came up.
-pub(crate) struct Reply {
+pub(crate) struct ReceivedResponse {
     pub(crate) event: Event,
     /// The request that it answers.
     pub(crate) id: Id,
     pub(crate) call_id: CallId,
     /// The dialog that it makes, or that its request was sent in.
-    pub(crate) name: DialogName,
+    pub(crate) name: DialogId,
     pub(crate) status: StatusCode,
     pub(crate) response: Message,
 }
 
-impl Drop for Reply {
+impl Drop for ReceivedResponse {
     fn drop(self) {
-        let Reply {
+        let ReceivedResponse {
             event: _,
             id: _,
             call_id: _,
@@ -57,14 +57,14 @@ pub(crate) fn reply_name(
     alloc: Global,
     client: &Client,
     response: &Message,
-) -> Result<DialogName, AllocError>
+) -> Result<DialogId, AllocError>
     ensures { IfOk result (λ name. name ≡ reply_name client.now.kind client.now response.now) }
 {
     match &client.kind {
-        RequestKind::First | RequestKind::Plain => {
-            DialogName::of_tags(alloc, client.request.from.tag(), response.to.tag())
+        RequestKind::InitialInvite | RequestKind::OutOfDialog => {
+            DialogId::of_tags(alloc, client.request.from.tag(), response.to.tag())
         }
-        RequestKind::Again(life) | RequestKind::Inside(life) => life.name.clone(),
+        RequestKind::ReInvite(life) | RequestKind::InDialog(life) => life.name.clone(),
     }
 }
 
@@ -96,38 +96,38 @@ pub(crate) fn is_last(kind: &RequestKind, status: u16) -> bool
 }
 
 /// The first case that fits, by the held dialog of its name.
-pub(crate) fn reply_case(client: &Client, found: Option<&HeldDialog>, reply: &Reply) -> ReplyCase
+pub(crate) fn reply_case(client: &Client, found: Option<&HeldDialog>, reply: &ReceivedResponse) -> ReplyCase
     ensures { result ≡ spec.reply_case client.now (option_copied found.entry) reply.now }
 {
     if is_final(reply.status.code()) {
         return success_case(client, found, &reply.name);
     }
-    if is_of_dialog(reply) && is_there(&client.kind, found) {
+    if makes_or_confirms_dialog(reply) && has_dialog(&client.kind, found) {
         return reliable_case(heard_of(client, found), rseq_of(&reply.response));
     }
     ReplyCase::Told
 }
 
-fn success_case(client: &Client, found: Option<&HeldDialog>, name: &DialogName) -> ReplyCase
+fn success_case(client: &Client, found: Option<&HeldDialog>, name: &DialogId) -> ReplyCase
     ensures { result ≡ spec.success_case client.now (option_copied found.entry) name.now }
 {
     if client.answers.contains(name) {
         ReplyCase::Repeated
-    } else if is_there(&client.kind, found) {
+    } else if has_dialog(&client.kind, found) {
         ReplyCase::Accepted
     } else {
         ReplyCase::Late
     }
 }
 
-fn reliable_case(heard: Inbound, rseq: Option<u32>) -> ReplyCase
-    ensures { result ≡ spec.reliable_case heard rseq }
+fn reliable_case(last_rseq: Inbound, rseq: Option<u32>) -> ReplyCase
+    ensures { result ≡ spec.reliable_case last_rseq rseq }
 {
     let Some(rseq) = rseq else {
         return ReplyCase::Early;
     };
-    let mut heard = heard;
-    match heard.offer(rseq) {
+    let mut last_rseq = last_rseq;
+    match last_rseq.offer(rseq) {
         Offer::Taken => ReplyCase::Reliable(rseq),
         Offer::Repeat | Offer::Gap => ReplyCase::Passed,
     }
@@ -138,19 +138,19 @@ pub(crate) fn is_inviting(kind: &RequestKind) -> bool
     ensures { result ≡ spec.is_inviting kind.now }
 {
     match kind {
-        RequestKind::First | RequestKind::Again(_) => true,
-        RequestKind::Inside(_) | RequestKind::Plain => false,
+        RequestKind::InitialInvite | RequestKind::ReInvite(_) => true,
+        RequestKind::InDialog(_) | RequestKind::OutOfDialog => false,
     }
 }
 
 // Whether the dialog of an INVITE is there, or may be made.
-fn is_there(kind: &RequestKind, found: Option<&HeldDialog>) -> bool
-    ensures { result ≡ spec.is_there kind.now (option_copied found.entry) }
+fn has_dialog(kind: &RequestKind, found: Option<&HeldDialog>) -> bool
+    ensures { result ≡ spec.has_dialog kind.now (option_copied found.entry) }
 {
     match (kind, found) {
-        (RequestKind::First, _) => true,
-        (RequestKind::Again(life), Some(held)) => held.born == life.born,
-        (RequestKind::Again(_), None) | (RequestKind::Inside(_) | RequestKind::Plain, _) => false,
+        (RequestKind::InitialInvite, _) => true,
+        (RequestKind::ReInvite(life), Some(held)) => held.created_by == life.created_by,
+        (RequestKind::ReInvite(_), None) | (RequestKind::InDialog(_) | RequestKind::OutOfDialog, _) => false,
     }
 }
 
@@ -159,9 +159,9 @@ fn heard_of(client: &Client, found: Option<&HeldDialog>) -> Inbound
     ensures { result ≡ spec.heard_of client.now.kind client.now (option_copied found.entry) }
 {
     match (&client.kind, found) {
-        (RequestKind::First, Some(held)) => held.heard,
-        (RequestKind::First, None) => Inbound::new(),
-        (RequestKind::Again(_) | RequestKind::Inside(_) | RequestKind::Plain, _) => client.heard,
+        (RequestKind::InitialInvite, Some(held)) => held.last_rseq,
+        (RequestKind::InitialInvite, None) => Inbound::new(),
+        (RequestKind::ReInvite(_) | RequestKind::InDialog(_) | RequestKind::OutOfDialog, _) => client.last_rseq,
     }
 }
 
@@ -176,8 +176,8 @@ fn rseq_of(response: &Message) -> Option<u32>
     }
 }
 
-fn is_of_dialog(reply: &Reply) -> bool
+fn makes_or_confirms_dialog(reply: &ReceivedResponse) -> bool
     ensures { result ≡ spec.is_dialog_response reply.now }
 {
-    reply.status.code() != TRYING && is_inside(&reply.response)
+    reply.status.code() != TRYING && has_to_tag(&reply.response)
 }

@@ -18,7 +18,7 @@ use Rattle.sip_dialog.specs.declared.dialog.Side.TheVariants.{Caller, Callee}
 use Rattle.sip_dialog.specs.Life.{Happening, Requests, Acknowledges, Accepts, Refreshes, Confirms, Ends}
 use Rattle.sip_dialog.specs.Step.{confirmed_at}
 use Rattle.sip_message.specs.declared.id.Id.{Id}
-use Rattle.sip_common.specs.declared.held_dialog.DialogName.{DialogName}
+use Rattle.sip_common.specs.declared.held_dialog.DialogId.{DialogId}
 use Rattle.sip_common.specs.declared.held_dialog.HeldDialog.{HeldDialog}
 use Rattle.sip_common.specs.declared.item.CallOut.{CallOut}
 use Rattle.sip_common.specs.declared.item.CallOut.TheVariants.{Notice}
@@ -32,16 +32,16 @@ use Rattle.sip_common.proofs.Heard.{AreApart, name_laws}
 -- ---- what is told
 
 -- the dialog of whose end an output tells the user
-abbrev pub name_ended_by : CallOut → Option DialogName
+abbrev pub name_ended_by : CallOut → Option DialogId
 name_ended_by (Notice (Ended call_id local_tag remote_tag)) =
     Some (name_of_tags local_tag remote_tag)
 name_ended_by _ = None
 
-abbrev pub names_ended : List CallOut → List DialogName
+abbrev pub names_ended : List CallOut → List DialogId
 names_ended outs = filter_map name_ended_by outs
 
 -- how often outputs tell of the end of the dialog of a name
-abbrev pub ends_told : DialogName → List CallOut → ℕ
+abbrev pub ends_told : DialogId → List CallOut → ℕ
 ends_told name outs = count_by (is_named name) (names_ended outs)
 
 abbrev pub once : Bool → ℕ
@@ -52,17 +52,17 @@ pub silent_both : (xs ys : List CallOut) → names_ended xs ≡ [] → names_end
 silent_both xs ys no_x no_y =
     filter_map-append name_ended_by xs ys ∙ (λ i. no_x i ++ no_y i)
 
-pub none_told : (name : DialogName) (outs : List CallOut) → names_ended outs ≡ []
+pub none_told : (name : DialogId) (outs : List CallOut) → names_ended outs ≡ []
     → ends_told name outs ≡ 0
 none_told name outs none = ap (λ names. count_by (is_named name) names) none
 
-pub told_both : (name : DialogName) (xs ys : List CallOut)
+pub told_both : (name : DialogId) (xs ys : List CallOut)
     → ends_told name (xs ++ ys) ≡ ends_told name xs + ends_told name ys
 told_both name xs ys =
     ap (λ names. count_by (is_named name) names) (filter_map-append name_ended_by xs ys)
     ∙ sum_by-append (λ other. cond (is_named name other) 1 0) (names_ended xs) (names_ended ys)
 
-pub told_one : (name own : DialogName) (held : HeldDialog)
+pub told_one : (name own : DialogId) (held : HeldDialog)
     → is_named own (name_of_dialog held.dialog) ≡ true
     → ends_told name (ended_notice held ∷ []) ≡ once (is_named own name)
 told_one name own held named =
@@ -128,7 +128,7 @@ ended_alike b (Some held) (Some other) same = refl
 
 -- each dialog is held under the name of its tags
 abbrev pub AreNamed : Dialogs → Type 0
-AreNamed dialogs = (name : DialogName) (held : HeldDialog) → dialog_at name dialogs ≡ Some held
+AreNamed dialogs = (name : DialogId) (held : HeldDialog) → dialog_at name dialogs ≡ Some held
     → is_named name (name_of_dialog held.dialog) ≡ true
 
 confirmed_name : (side : Side) (dialog : Dialog) (response : Message)
@@ -153,7 +153,7 @@ lived_name dialog (one ∷ life) =
     lived_name (happened dialog one) life ∙ happened_name dialog one
 
 -- so a change that leaves each its name
-pub changed_named : (own : DialogName) (change : HeldDialog → HeldDialog)
+pub changed_named : (own : DialogId) (change : HeldDialog → HeldDialog)
     → ((held : HeldDialog) → name_of_dialog (change held).dialog ≡ name_of_dialog held.dialog)
     → (dialogs : Dialogs) → AreNamed dialogs → AreNamed (dialog_changed own change dialogs)
 changed_named own change same dialogs named name held at =
@@ -190,11 +190,11 @@ filtered_named p dialogs apart named name held at =
 -- the same, of the entries
 abbrev pub EachNamed : Dialogs → Type 0
 EachNamed dialogs = AllByRecursion
-    (λ (entry : DialogName × HeldDialog). is_named entry.0 (name_of_dialog entry.1.dialog) ≡ true)
+    (λ (entry : DialogId × HeldDialog). is_named entry.0 (name_of_dialog entry.1.dialog) ≡ true)
     dialogs
 
 -- no later entry has the name of the first
-none_later : (own name : DialogName) (dialogs : Dialogs) → is_named own name ≡ true
+none_later : (own name : DialogId) (dialogs : Dialogs) → is_named own name ≡ true
     → AllByRecursion (λ key. is_named own key ≡ false) (keys_of dialogs)
     → dialog_at name dialogs ≡ None
 none_later own name [] same others = refl
@@ -217,13 +217,13 @@ each_named (entry ∷ dialogs) apart named = (
       (ap (λ b. cond b (Some entry.1) (dialog_at name dialogs)) other ∙ at))),
 )
   where
-    never : (name : DialogName) (held : HeldDialog) → dialog_at name dialogs ≡ None
+    never : (name : DialogId) (held : HeldDialog) → dialog_at name dialogs ≡ None
         → dialog_at name dialogs ≡ Some held → ⊥
     never name held none at = let wrong : None ≡ Some held = sym none ∙ at in absurd cc
 
 -- ---- the dialogs that pass a test are told of, each once
 
-told_first : (name own : DialogName) (held : HeldDialog) (rest : List HeldDialog) (b : Bool)
+told_first : (name own : DialogId) (held : HeldDialog) (rest : List HeldDialog) (b : Bool)
     → is_named own (name_of_dialog held.dialog) ≡ true
     → ends_told name (map ended_notice (cond b (held ∷ rest) rest))
     ≡ once (b && is_named own name) + ends_told name (map ended_notice rest)
@@ -246,7 +246,7 @@ and_none : (b c : Bool) → c ≡ false → once (b && c) ≡ 0
 and_none true c e = ap once e
 and_none false c e = refl
 
-pub told_filtered : (p : HeldDialog → Bool) (name : DialogName) (dialogs : Dialogs)
+pub told_filtered : (p : HeldDialog → Bool) (name : DialogId) (dialogs : Dialogs)
     → AreApart dialogs → EachNamed dialogs
     → ends_told name (map ended_notice (filter p (values_of dialogs)))
     ≡ once (ended_of p (dialog_at name dialogs))
@@ -276,25 +276,25 @@ told_filtered p name (entry ∷ dialogs) apart named =
 
 -- in the dialogs of which names something is so
 abbrev pub Which : Type 0
-Which = DialogName → HeldDialog → Bool
+Which = DialogId → HeldDialog → Bool
 
-abbrev pub no_name : DialogName → Bool
+abbrev pub no_name : DialogId → Bool
 no_name name = false
 
 abbrev pub none_ends : Which
 none_ends name held = false
 
 -- a dialog is held then where it is opened, or was held and isn't ended; each end is told once
-pub record Goes (opens : DialogName → Bool) (ends : Which) (before after : Dialogs)
+pub record Goes (opens : DialogId → Bool) (ends : Which) (before after : Dialogs)
     (outs : List CallOut) : Type 0 where
-  pub held : (name : DialogName) → is_some (dialog_at name after)
+  pub held : (name : DialogId) → is_some (dialog_at name after)
       ≡ (opens name || left_of (ends name) (dialog_at name before))
-  pub told : (name : DialogName) → ends_told name outs
+  pub told : (name : DialogId) → ends_told name outs
       ≡ once (ended_of (ends name) (dialog_at name before))
 
-pub goes_as : (opens others : DialogName → Bool) (ends other_ends : Which) (before after : Dialogs)
-    (outs : List CallOut) → ((name : DialogName) → opens name ≡ others name)
-    → ((name : DialogName) (held : HeldDialog) → dialog_at name before ≡ Some held
+pub goes_as : (opens others : DialogId → Bool) (ends other_ends : Which) (before after : Dialogs)
+    (outs : List CallOut) → ((name : DialogId) → opens name ≡ others name)
+    → ((name : DialogId) (held : HeldDialog) → dialog_at name before ≡ Some held
     → ends name held ≡ other_ends name held)
     → Goes opens ends before after outs → Goes others other_ends before after outs
 goes_as opens others ends other_ends before after outs same_opens same goes = record {
@@ -307,7 +307,7 @@ goes_as opens others ends other_ends before after outs same_opens same goes = re
 
 -- the same dialogs are held
 pub goes_kept : (before after : Dialogs) (outs : List CallOut)
-    → ((name : DialogName) → is_some (dialog_at name after) ≡ is_some (dialog_at name before))
+    → ((name : DialogId) → is_some (dialog_at name after) ≡ is_some (dialog_at name before))
     → names_ended outs ≡ [] → Goes no_name none_ends before after outs
 goes_kept before after outs same none = record {
   held = λ name. same name ∙ left_none (dialog_at name before);
@@ -318,8 +318,8 @@ pub goes_same : (dialogs : Dialogs) (outs : List CallOut) → names_ended outs �
     → Goes no_name none_ends dialogs dialogs outs
 goes_same dialogs outs none = goes_kept dialogs dialogs outs (λ name. refl) none
 
-pub changed_held : (own : DialogName) (change : HeldDialog → HeldDialog) (dialogs : Dialogs)
-    (name : DialogName)
+pub changed_held : (own : DialogId) (change : HeldDialog → HeldDialog) (dialogs : Dialogs)
+    (name : DialogId)
     → is_some (dialog_at name (dialog_changed own change dialogs))
     ≡ is_some (dialog_at name dialogs)
 changed_held own change dialogs name =
@@ -332,7 +332,7 @@ changed_held own change dialogs name =
     by_name true (Some held) = refl
     by_name false o = refl
 
-pub goes_changed : (own : DialogName) (change : HeldDialog → HeldDialog) (dialogs : Dialogs)
+pub goes_changed : (own : DialogId) (change : HeldDialog → HeldDialog) (dialogs : Dialogs)
     (outs : List CallOut) → names_ended outs ≡ []
     → Goes no_name none_ends dialogs (dialog_changed own change dialogs) outs
 goes_changed own change dialogs outs none =
@@ -340,7 +340,7 @@ goes_changed own change dialogs outs none =
     none
 
 -- something more is given, that tells of no end
-pub goes_before : (opens : DialogName → Bool) (ends : Which) (before after : Dialogs)
+pub goes_before : (opens : DialogId → Bool) (ends : Which) (before after : Dialogs)
     (xs ys : List CallOut) → names_ended xs ≡ [] → Goes opens ends before after ys
     → Goes opens ends before after (xs ++ ys)
 goes_before opens ends before after xs ys none goes = record {
@@ -351,7 +351,7 @@ goes_before opens ends before after xs ys none goes = record {
       omega (arith, both, no, now);
 }
 
-pub goes_beside : (opens : DialogName → Bool) (ends : Which) (before after : Dialogs)
+pub goes_beside : (opens : DialogId → Bool) (ends : Which) (before after : Dialogs)
     (xs ys : List CallOut) → names_ended ys ≡ [] → Goes opens ends before after xs
     → Goes opens ends before after (xs ++ ys)
 goes_beside opens ends before after xs ys none goes = record {
@@ -365,7 +365,7 @@ goes_beside opens ends before after xs ys none goes = record {
 -- ---- what ends dialogs
 
 -- the dialog of a name ends, which has the name of its tags
-pub goes_removed : (own : DialogName) (dialogs : Dialogs) → AreApart dialogs → AreNamed dialogs
+pub goes_removed : (own : DialogId) (dialogs : Dialogs) → AreApart dialogs → AreNamed dialogs
     → Goes no_name (λ name held. is_named own name) dialogs (ended_at own dialogs).0
     (ended_at own dialogs).1
 goes_removed own dialogs apart named = record {
@@ -376,7 +376,7 @@ goes_removed own dialogs apart named = record {
   told = λ name. by_own name (dialog_at own dialogs) refl;
 }
   where
-    by_own : (name : DialogName) (o : Option HeldDialog) → dialog_at own dialogs ≡ o
+    by_own : (name : DialogId) (o : Option HeldDialog) → dialog_at own dialogs ≡ o
         → ends_told name (option_map_or (λ held. ended_notice held ∷ []) o [])
         ≡ once (ended_of (λ held. is_named own name) (dialog_at name dialogs))
     by_own name None is =
@@ -405,7 +405,7 @@ left_filtered p (Some held) = by_test (not (p held))
 
 pub goes_filtered : (p : HeldDialog → Bool) (dialogs : Dialogs) (outs : List CallOut)
     → AreApart dialogs
-    → ((name : DialogName) → ends_told name outs ≡ once (ended_of p (dialog_at name dialogs)))
+    → ((name : DialogId) → ends_told name outs ≡ once (ended_of p (dialog_at name dialogs)))
     → Goes no_name (λ name held. p held) dialogs (filter (λ entry. not (p entry.1)) dialogs) outs
 goes_filtered p dialogs outs apart told = record {
   held = λ name. ap (λ o. is_some o)
@@ -415,7 +415,7 @@ goes_filtered p dialogs outs apart told = record {
 }
 
 pub early_told : (invite : Id) (dialogs : Dialogs) → AreApart dialogs → AreNamed dialogs
-    → (name : DialogName) → ends_told name (early_ended invite dialogs).1
+    → (name : DialogId) → ends_told name (early_ended invite dialogs).1
     ≡ once (ended_of (is_early_of invite) (dialog_at name dialogs))
 early_told invite dialogs apart named name =
     told_filtered (is_early_of invite) name dialogs apart (each_named dialogs apart named)
@@ -430,9 +430,9 @@ goes_early invite dialogs apart named =
 -- ---- one after the other
 
 -- the dialogs change, and then those of some names end
-pub goes_named_then : (ends : DialogName → Bool) (before middle after : Dialogs)
+pub goes_named_then : (ends : DialogId → Bool) (before middle after : Dialogs)
     (outs : List CallOut)
-    → ((name : DialogName) → is_some (dialog_at name middle) ≡ is_some (dialog_at name before))
+    → ((name : DialogId) → is_some (dialog_at name middle) ≡ is_some (dialog_at name before))
     → Goes no_name (λ name held. ends name) middle after outs
     → Goes no_name (λ name held. ends name) before after outs
 goes_named_then ends before middle after outs same goes = record {
@@ -479,11 +479,11 @@ ended_then p e (Some held) n m first second = by_test (p held) refl
 
 pub goes_filtered_then : (p : HeldDialog → Bool) (ends : Which) (before after : Dialogs)
     (xs ys : List CallOut) → AreApart before
-    → ((name : DialogName) → ends_told name xs ≡ once (ended_of p (dialog_at name before)))
+    → ((name : DialogId) → ends_told name xs ≡ once (ended_of p (dialog_at name before)))
     → Goes no_name ends (filter (λ entry. not (p entry.1)) before) after ys
     → Goes no_name (λ name held. p held || ends name held) before after (xs ++ ys)
 goes_filtered_then p ends before after xs ys apart told goes =
-    let found = λ (name : DialogName).
+    let found = λ (name : DialogId).
     lookup-filter-values name_laws (λ held. not (p held)) name before apart in
     record {
       held = λ name. goes.held name ∙ ap (λ o. left_of (ends name) o) (found name)

@@ -14,7 +14,7 @@ use Rattle.sip_dialog.specs.Endpoint.{some_unless_empty}
 use Rattle.sip_dialog.specs.Life.{Happening}
 use Rattle.sip_dialog.specs.Opening.{Opening, opened}
 use Rattle.sip_reliable.specs.Inbound.{latest_after, offered}
-use Rattle.sip_common.specs.declared.held_dialog.DialogName.{DialogName}
+use Rattle.sip_common.specs.declared.held_dialog.DialogId.{DialogId}
 use Rattle.sip_common.specs.declared.held_dialog.HeldDialog.{HeldDialog}
 use Rattle.sip_common.specs.Dialogs.{dialog_at, dialog_changed, happened, is_named, tag_text, Dialogs}
 use Rattle.sip_common.specs.Ids.{is_id}
@@ -72,12 +72,12 @@ Grows before life after = AllFit before life × (after ≡ fold happened before 
 
 -- what was heard last, where this number may have come
 abbrev pub heard_with : Option ℕ → Option ℕ → Option ℕ
-heard_with None heard = heard
-heard_with (Some number) heard = latest_after (offered heard number) heard number
+heard_with None last_rseq = last_rseq
+heard_with (Some number) last_rseq = latest_after (offered last_rseq number) last_rseq number
 
 abbrev pub Keeps : Option ℕ → List Happening → HeldDialog → HeldDialog → Type 0
-Keeps came life before after = (after.born ≡ before.born)
-    × (after.heard ≡ heard_with came before.heard) × Grows before.dialog life after.dialog
+Keeps came life before after = (after.created_by ≡ before.created_by)
+    × (after.last_rseq ≡ heard_with came before.last_rseq) × Grows before.dialog life after.dialog
 
 -- what happens in a dialog
 abbrev pub Life : Type 0
@@ -101,7 +101,7 @@ abbrev pub Begins : Option Id → (Opening → Type 0) → Option ℕ → List H
     → Option HeldDialog → Type 0
 Begins event Opens came life before None = ⊥
 Begins event Opens came life before (Some held) =
-    (event ≡ Some held.born) × (held.heard ≡ heard_with came None)
+    (event ≡ Some held.created_by) × (held.last_rseq ≡ heard_with came None)
     × ((opening : Opening) × Opens opening × Grows (opened opening) life held.dialog)
     × ((before ≡ None) ⊎ (life ≡ []))
 
@@ -148,19 +148,19 @@ AreApart dialogs = entries.Apart name_laws dialogs
 
 -- what happens in the dialog of each name
 abbrev pub Lives : Type 0
-Lives = DialogName → Life
+Lives = DialogId → Life
 
 abbrev pub quiet : Lives
 quiet name held = []
 
 -- this in the dialog of this name alone
-abbrev pub in_one : DialogName → Life → Lives
+abbrev pub in_one : DialogId → Life → Lives
 in_one name life other held = cond (is_named name other) (life held) []
 
 -- their names differ still, and of each name the dialog stays, or is over
 pub record Leads (lives : Lives) (before after : Dialogs) : Type 0 where
   pub apart : AreApart after
-  pub stays : (name : DialogName)
+  pub stays : (name : DialogId)
       → Stays None (lives name) (dialog_at name before) (dialog_at name after)
 
 pub leads_same : (dialogs : Dialogs) → AreApart dialogs → Leads quiet dialogs dialogs
@@ -180,7 +180,7 @@ leads_then lives x y z first second =
 
 -- the same lives, of what is held
 pub leads_as : (lives others : Lives) (before after : Dialogs)
-    → ((name : DialogName) (held : HeldDialog) → dialog_at name before ≡ Some held
+    → ((name : DialogId) (held : HeldDialog) → dialog_at name before ≡ Some held
     → lives name held ≡ others name held)
     → Leads lives before after → Leads others before after
 leads_as lives others before after same leads = record {
@@ -189,7 +189,7 @@ leads_as lives others before after same leads = record {
       (leads.stays name);
 }
   where
-    stays_as : (name : DialogName) (x y : Option HeldDialog)
+    stays_as : (name : DialogId) (x y : Option HeldDialog)
         → ((held : HeldDialog) → x ≡ Some held → lives name held ≡ others name held)
         → Stays None (lives name) x y → Stays None (others name) x y
     stays_as name x None same stays = tt
@@ -197,7 +197,7 @@ leads_as lives others before after same leads = record {
     stays_as name (Some x) (Some y) same stays =
         subst (λ (life : List Happening). Keeps None life x y) (same x refl) stays
 
-pub leads_changed : (name : DialogName) (change : HeldDialog → HeldDialog) (life : Life)
+pub leads_changed : (name : DialogId) (change : HeldDialog → HeldDialog) (life : Life)
     → ((held : HeldDialog) → Keeps None (life held) held (change held))
     → (dialogs : Dialogs) → AreApart dialogs
     → Leads (in_one name life) dialogs (dialog_changed name change dialogs)
@@ -214,7 +214,7 @@ leads_changed name change life keeps dialogs apart = record {
     changed_so true (Some held) = keeps held
     changed_so false o = stays_same o
 
-pub leads_removed : (name : DialogName) (dialogs : Dialogs) → AreApart dialogs
+pub leads_removed : (name : DialogId) (dialogs : Dialogs) → AreApart dialogs
     → Leads quiet dialogs (remove_entry (is_named name) dialogs)
 leads_removed name dialogs apart = record {
   apart = entries.apart_removed name_laws (is_named name) dialogs apart;
@@ -234,33 +234,33 @@ leads_filtered p dialogs apart = record {
 -- ---- where dialogs may be made
 
 -- the dialog of a name is made by this opening, which has its tags
-abbrev pub OpensBy : Option Opening → DialogName → Opening → Type 0
+abbrev pub OpensBy : Option Opening → DialogId → Opening → Type 0
 OpensBy start name opening =
     (start ≡ Some opening) × (is_named name (name_of_dialog (opened opening)) ≡ true)
 
 -- of each name the dialog stays, is over, or was made by the event; a number may have come in it
-pub record Moves (event : Option Id) (start : Option Opening) (came : DialogName → Option ℕ)
-    (lives : Lives) (begun : DialogName → List Happening) (before after : Dialogs) : Type 0 where
+pub record Moves (event : Option Id) (start : Option Opening) (came : DialogId → Option ℕ)
+    (lives : Lives) (begun : DialogId → List Happening) (before after : Dialogs) : Type 0 where
   pub apart : AreApart after
-  pub goes : (name : DialogName)
+  pub goes : (name : DialogId)
       → Goes event (OpensBy start name) (came name) (lives name) (begun name)
       (dialog_at name before) (dialog_at name after)
 
-abbrev pub none_came : DialogName → Option ℕ
+abbrev pub none_came : DialogId → Option ℕ
 none_came name = None
 
-pub moves_led : (event : Option Id) (start : Option Opening) (begun : DialogName → List Happening)
+pub moves_led : (event : Option Id) (start : Option Opening) (begun : DialogId → List Happening)
     (lives : Lives) (before after : Dialogs) → Leads lives before after
     → Moves event start none_came lives begun before after
 moves_led event start begun lives before after leads =
     record { apart = leads.apart; goes = λ name. inl (leads.stays name) }
 
 -- the same lives, of what is held, and of what is made
-pub moves_as : (event : Option Id) (start : Option Opening) (came : DialogName → Option ℕ)
-    (lives others : Lives) (begun later : DialogName → List Happening) (before after : Dialogs)
-    → ((name : DialogName) (held : HeldDialog) → dialog_at name before ≡ Some held
+pub moves_as : (event : Option Id) (start : Option Opening) (came : DialogId → Option ℕ)
+    (lives others : Lives) (begun later : DialogId → List Happening) (before after : Dialogs)
+    → ((name : DialogId) (held : HeldDialog) → dialog_at name before ≡ Some held
     → lives name held ≡ others name held)
-    → ((name : DialogName) → begun name ≡ later name)
+    → ((name : DialogId) → begun name ≡ later name)
     → Moves event start came lives begun before after
     → Moves event start came others later before after
 moves_as event start came lives others begun later before after same same_begun moves = record {
@@ -269,7 +269,7 @@ moves_as event start came lives others begun later before after same same_begun 
       (moves.goes name);
 }
   where
-    goes_as : (name : DialogName) (x y : Option HeldDialog)
+    goes_as : (name : DialogId) (x y : Option HeldDialog)
         → ((held : HeldDialog) → x ≡ Some held → lives name held ≡ others name held)
         → Goes event (OpensBy start name) (came name) (lives name) (begun name) x y
         → Goes event (OpensBy start name) (came name) (others name) (later name) x y
@@ -282,19 +282,19 @@ moves_as event start came lives others begun later before after same same_begun 
         Begins event (OpensBy start name) (came name) life x (Some y)) (same_begun name) begins)
 
 -- what has the tags of a dialog of the name has the name
-pub same_name : (name other tags : DialogName) → is_named name tags ≡ true
+pub same_name : (name other tags : DialogId) → is_named name tags ≡ true
     → is_named name other ≡ true → is_named other tags ≡ true
 same_name name other tags own same = sym (name_laws.congr name other tags same) ∙ own
 
-pub moves_made : (event : Id) (lives : Lives) (name : DialogName) (held : HeldDialog)
+pub moves_made : (event : Id) (lives : Lives) (name : DialogId) (held : HeldDialog)
     (opening : Opening) → is_named name (name_of_dialog (opened opening)) ≡ true
-    → ((other : DialogName) (held : HeldDialog) → is_named name other ≡ false
+    → ((other : DialogId) (held : HeldDialog) → is_named name other ≡ false
     → lives other held ≡ [])
-    → held.born ≡ event → held.heard ≡ None → held.dialog ≡ opened opening
+    → held.created_by ≡ event → held.last_rseq ≡ None → held.dialog ≡ opened opening
     → (dialogs : Dialogs) → AreApart dialogs
     → Moves (Some event) (Some opening) none_came lives (λ other. []) dialogs
     (insert_entry is_named dialogs name held)
-moves_made event lives name held opening own still born none is dialogs apart = record {
+moves_made event lives name held opening own still created_by none is dialogs apart = record {
   apart = entries.apart_inserted name_laws name held dialogs apart;
   goes = λ other. subst (Goes (Some event) (OpensBy (Some opening) other) None (lives other) []
       (dialog_at other dialogs))
@@ -302,20 +302,20 @@ moves_made event lives name held opening own still born none is dialogs apart = 
       (by_name other (is_named name other) refl (dialog_at other dialogs));
 }
   where
-    still_there : (other : DialogName) → is_named name other ≡ false → (o : Option HeldDialog)
+    still_there : (other : DialogId) → is_named name other ≡ false → (o : Option HeldDialog)
         → Stays None (lives other) o o
     still_there other apart None = tt
     still_there other apart (Some there) =
         subst (λ (life : List Happening). Keeps None life there there)
         (sym (still other there apart)) (keeps_same there)
 
-    by_name : (other : DialogName) (b : Bool) → is_named name other ≡ b → (o : Option HeldDialog)
+    by_name : (other : DialogId) (b : Bool) → is_named name other ≡ b → (o : Option HeldDialog)
         → Goes (Some event) (OpensBy (Some opening) other) None (lives other) [] o
         (cond b (Some held) o)
     by_name other true named o =
         let tags = name_of_dialog (opened opening) in
         inr (
-          ap (λ id. Some id) (sym born),
+          ap (λ id. Some id) (sym created_by),
           none,
           (opening, (refl, same_name name other tags own named), (tt, is)),
           inr refl,

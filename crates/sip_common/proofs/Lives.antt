@@ -73,7 +73,7 @@ refreshes_fit false uri held dialog = tt
 
 pub cases_fit : (held : HeldDialog) → CasesFit held
 cases_fit held = record {
-  visits = λ request.
+  happenings_by_request = λ request.
       let number = request.cseq.number in
       let invite = is_invite request in
       let uri = contact_uri request in

@@ -10,7 +10,7 @@ use Rattle.sip_dialog.specs.declared.dialog.Side.{Side}
 use Rattle.sip_dialog.specs.declared.dialog.Side.TheVariants.{Caller, Callee}
 use Rattle.sip_dialog.specs.Life.{Happening, Requests, Acknowledges, Accepts, Refreshes, Confirms, Ends}
 use Rattle.sip_dialog.specs.Step.{confirmed_at}
-use Rattle.sip_common.specs.declared.held_dialog.DialogName.{DialogName}
+use Rattle.sip_common.specs.declared.held_dialog.DialogId.{DialogId}
 use Rattle.sip_common.specs.declared.held_dialog.HeldDialog.{HeldDialog}
 use Rattle.sip_common.specs.declared.item.CallOut.{CallOut}
 use Rattle.sip_common.specs.Dialogs.{Dialogs, dialog_at, dialog_changed, early_ended, ended_at, ended_notice, happened, is_early_of, is_named}
@@ -42,7 +42,7 @@ lived_keeps dialog (one ∷ life) =
 
 module _ (call_id : List ℕ) where
   -- the dialog of a name, changed so that it keeps its Call-ID
-  pub changed_dialog : (name : DialogName) (change : HeldDialog → HeldDialog)
+  pub changed_dialog : (name : DialogId) (change : HeldDialog → HeldDialog)
       → ((held : HeldDialog) → (change held).dialog.call_id ≡ held.dialog.call_id)
       → (dialogs : Dialogs) → AreDialogsOf call_id dialogs
       → AreDialogsOf call_id (dialog_changed name change dialogs)
@@ -50,7 +50,7 @@ module _ (call_id : List ℕ) where
       each.each_changed (IsDialogOf call_id) (is_named name) change
       (λ held is. same held ∙ is) dialogs all
 
-  pub dialog_own : (name : DialogName) (dialogs : Dialogs) → AreDialogsOf call_id dialogs
+  pub dialog_own : (name : DialogId) (dialogs : Dialogs) → AreDialogsOf call_id dialogs
       → IfSome (dialog_at name dialogs) (IsDialogOf call_id)
   dialog_own name dialogs all = each.found_one (IsDialogOf call_id) (is_named name) dialogs all
 
@@ -64,7 +64,7 @@ module _ (call_id : List ℕ) where
   notice_own (Some held) own = (own, tt)
 
   -- the dialog of a name ends
-  pub ended_own : (name : DialogName) (dialogs : Dialogs) → AreDialogsOf call_id dialogs
+  pub ended_own : (name : DialogId) (dialogs : Dialogs) → AreDialogsOf call_id dialogs
       → AreEndedOf (ended_at name dialogs)
   ended_own name dialogs all = (
     each.each_but_one (IsDialogOf call_id) (is_named name) dialogs all,

@@ -10,13 +10,13 @@ use Rattle.sip_message.specs.Content.{Content, with_content_of}
 use Rattle.sip_message.specs.Party.{party_of, tag_of}
 use Rattle.sip_dialog.specs.declared.dialog.Dialog.{Dialog}
 use Rattle.sip_dialog.specs.Request.{bare_request_in, request_in}
-use Rattle.sip_common.specs.declared.held_dialog.DialogName.{DialogName}
+use Rattle.sip_common.specs.declared.held_dialog.DialogId.{DialogId}
 use Rattle.sip_common.specs.Dialogs.{is_named, tag_text}
 use Rattle.sip_common.specs.Requests.{name_of_tags}
 use Rattle.sip_common.specs.Sent.{cseq_of_request, name_of_dialog}
 use Rattle.sip_common.proofs.Heard.{name_laws}
 
-content_kept : (name : DialogName) (message : Message) (content : Content)
+content_kept : (name : DialogId) (message : Message) (content : Content)
     → cseq_of_request name (with_content_of message content) ≡ cseq_of_request name message
 unfolding with_content_of
 content_kept name message content = refl
@@ -33,7 +33,7 @@ numbered method = not (bytes_eq method (codes "ACK") || bytes_eq method (codes "
 abbrev pub cseq_for : ℕ → List ℕ → CSeq
 cseq_for number method = record { number = number; method = method }
 
-pub made_in : (name own : DialogName) (dialog : Dialog) (method : List ℕ) (number : ℕ)
+pub made_in : (name own : DialogId) (dialog : Dialog) (method : List ℕ) (number : ℕ)
     (content : Content) (branch : List ℕ) (local : Addr)
     → is_named own (name_of_dialog dialog) ≡ true
     → cseq_of_request name (request_in dialog method number content branch local)

@@ -9,7 +9,7 @@ use Rattle.sip_message.specs.declared.id.Id.{Id}
 use Rattle.sip_message.specs.declared.key.Key.{Key}
 use Rattle.sip_transactions.specs.declared.input.Command.{Command as Order}
 use Rattle.sip_transactions.specs.declared.input.Command.TheVariants as order
-use Rattle.sip_common.specs.declared.held_dialog.DialogName.{DialogName}
+use Rattle.sip_common.specs.declared.held_dialog.DialogId.{DialogId}
 use Rattle.sip_common.specs.declared.held_dialog.HeldDialog.{HeldDialog}
 use Rattle.sip_common.specs.declared.item.CallOut.{CallOut}
 use Rattle.sip_common.specs.declared.item.CallOut.TheVariants as out
@@ -51,7 +51,7 @@ pub early_starts : (invite : Id) (dialogs : Dialogs) → starts (early_ended inv
 early_starts invite dialogs =
     none_of_map ended_notice (λ held. refl) (filter (is_early_of invite) (values_of dialogs))
 
-pub ended_starts : (name : DialogName) (dialogs : Dialogs) → starts (ended_at name dialogs).1 ≡ []
+pub ended_starts : (name : DialogId) (dialogs : Dialogs) → starts (ended_at name dialogs).1 ≡ []
 ended_starts name dialogs = by_dialog (dialog_at name dialogs)
   where
     by_dialog : (o : Option HeldDialog)
@@ -64,7 +64,7 @@ ended_starts name dialogs = by_dialog (dialog_at name dialogs)
 started : (start : Id × Key) (rest : List (Id × Key)) → start ∷ rest ≡ [] → ⊥
 started start rest e = absurd cc
 
-pub none_numbered : (name : DialogName) (outs : List CallOut) → starts outs ≡ []
+pub none_numbered : (name : DialogId) (outs : List CallOut) → starts outs ≡ []
     → cseqs_in name outs ≡ []
 none_numbered name [] none = refl
 none_numbered name (out.Notice notice ∷ outs) none = none_numbered name outs none
@@ -74,11 +74,11 @@ none_numbered name (out.Command id (order.Answer key message) ∷ outs) none =
 none_numbered name (out.Command id (order.Start key call_id message to) ∷ outs) none =
     absurd (started (id, key) (starts outs) none)
 
-pub none_sent : (name : DialogName) (outs : List CallOut) → starts outs ≡ [] → sent_in name outs
+pub none_sent : (name : DialogId) (outs : List CallOut) → starts outs ≡ [] → sent_in name outs
     ≡ []
 none_sent name outs none = ap requests_made (none_numbered name outs none)
 
-pub cseqs_both : (name : DialogName) (xs ys : List CallOut)
+pub cseqs_both : (name : DialogId) (xs ys : List CallOut)
     → cseqs_in name (xs ++ ys) ≡ cseqs_in name xs ++ cseqs_in name ys
 cseqs_both name xs ys = filter_map-append (cseq_of_output name) xs ys
 
@@ -88,7 +88,7 @@ pub numbered_none : (o : Option ℕ) → NumberedFrom o []
 numbered_none None = tt
 numbered_none (Some last) = tt
 
-pub numbered_silent : (o : Option ℕ) (name : DialogName) (outs : List CallOut) → starts outs ≡ []
+pub numbered_silent : (o : Option ℕ) (name : DialogId) (outs : List CallOut) → starts outs ≡ []
     → NumberedFrom o (cseqs_in name outs)
 numbered_silent o name outs none =
     subst (NumberedFrom o) (sym (none_numbered name outs none)) (numbered_none o)

@@ -5,7 +5,7 @@ use Rattle.std.specs.Map.{values_of}
 use Rattle.std.specs.Option.{option_map_or}
 use Rattle.std.proofs.lemmas.List.Elements.{filter_map-append}
 use Rattle.sip_message.specs.declared.id.Id.{Id}
-use Rattle.sip_common.specs.declared.held_dialog.DialogName.{DialogName}
+use Rattle.sip_common.specs.declared.held_dialog.DialogId.{DialogId}
 use Rattle.sip_common.specs.declared.held_dialog.HeldDialog.{HeldDialog}
 use Rattle.sip_common.specs.declared.item.CallOut.{CallOut}
 use Rattle.sip_common.specs.Dialogs.{Dialogs, dialog_at, early_ended, ended_at, ended_notice, is_early_of}
@@ -22,7 +22,7 @@ pub ends_shown : (dialogs : List HeldDialog) → shown (map ended_notice dialogs
 ends_shown [] = refl
 ends_shown (held ∷ dialogs) = ends_shown dialogs
 
-pub end_shown : (name : DialogName) (dialogs : Dialogs) → shown (ended_at name dialogs).1 ≡ []
+pub end_shown : (name : DialogId) (dialogs : Dialogs) → shown (ended_at name dialogs).1 ≡ []
 end_shown name dialogs = by_dialog (dialog_at name dialogs)
   where
     by_dialog : (found : Option HeldDialog)

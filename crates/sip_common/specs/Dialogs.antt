@@ -12,47 +12,47 @@ use Rattle.sip_dialog.specs.Opening.{contact_uri}
 use Rattle.sip_dialog.specs.declared.dialog.Dialog.{Dialog}
 use Rattle.sip_dialog.specs.Life.{Happening, Requests, Acknowledges, Accepts, Refreshes, Confirms, Ends}
 use Rattle.sip_dialog.specs.Step.{confirmed_by, ended_now, with_accepted, with_next_number, with_target}
-use Rattle.sip_common.specs.declared.held_dialog.DialogLife.{DialogLife}
-use Rattle.sip_common.specs.declared.held_dialog.DialogName.{DialogName}
+use Rattle.sip_common.specs.declared.held_dialog.DialogReference.{DialogReference}
+use Rattle.sip_common.specs.declared.held_dialog.DialogId.{DialogId}
 use Rattle.sip_common.specs.declared.held_dialog.HeldDialog.{HeldDialog}
 use Rattle.sip_common.specs.declared.item.CallOut.{CallOut}
 use Rattle.sip_common.specs.declared.item.CallOut.TheVariants.{Notice}
 use Rattle.sip_common.specs.declared.notice.Notice.TheVariants.{Ended}
-use Rattle.sip_common.specs.Requests.{is_inside, is_invite}
+use Rattle.sip_common.specs.Requests.{has_to_tag, is_invite}
 use Rattle.sip_common.specs.Ids.{is_id}
 
 -- the held dialogs by name, in the order in which they were made
 abbrev pub Dialogs : Type 0
-Dialogs = List (DialogName × HeldDialog)
+Dialogs = List (DialogId × HeldDialog)
 
 -- the name of a dialog is this one
-abbrev pub is_named : DialogName → DialogName → Bool
+abbrev pub is_named : DialogId → DialogId → Bool
 is_named name other =
     pointwise nat_eq name.local other.local && pointwise nat_eq name.remote other.remote
 
 -- the held dialog of a name
-abbrev pub dialog_at : DialogName → Dialogs → Option HeldDialog
+abbrev pub dialog_at : DialogId → Dialogs → Option HeldDialog
 dialog_at name dialogs = lookup (is_named name) dialogs
 
 -- the held dialog of a name is changed so
-abbrev pub dialog_changed : DialogName → (HeldDialog → HeldDialog) → Dialogs → Dialogs
+abbrev pub dialog_changed : DialogId → (HeldDialog → HeldDialog) → Dialogs → Dialogs
 dialog_changed name change dialogs =
     option_map_or (λ held. set_value (is_named name) dialogs (change held))
     (dialog_at name dialogs) dialogs
 
 -- a dialog that was made so is still held
-abbrev pub lives : Dialogs → DialogLife → Bool
+abbrev pub lives : Dialogs → DialogReference → Bool
 lives dialogs life =
-    option_map_or (λ held. is_id held.born life.born) (dialog_at life.name dialogs) false
+    option_map_or (λ held. is_id held.created_by life.created_by) (dialog_at life.name dialogs) false
 
 -- the dialog of this name, as it is now
-abbrev pub dialog_life_at : DialogName → Dialogs → Option DialogLife
+abbrev pub dialog_life_at : DialogId → Dialogs → Option DialogReference
 dialog_life_at name dialogs =
-    option_map (λ held. record { name = name; born = held.born }) (dialog_at name dialogs)
+    option_map (λ held. record { name = name; created_by = held.created_by }) (dialog_at name dialogs)
 
 -- the life of the held dialog that a request with a To tag is in
-abbrev pub own_dialog : Message → DialogName → Dialogs → Option DialogLife
-own_dialog request name dialogs = if is_inside request then dialog_life_at name dialogs else None
+abbrev pub own_dialog : Message → DialogId → Dialogs → Option DialogReference
+own_dialog request name dialogs = if has_to_tag request then dialog_life_at name dialogs else None
 
 -- ---- what happens in a dialog
 
@@ -87,8 +87,8 @@ abbrev pub refreshes : Message → HeldDialog → List Happening
 refreshes request held = if is_invite request then retargets (contact_uri request) held else []
 
 -- a request in it: its number is noted, and it refreshes the target where its method does
-abbrev pub visits : Message → HeldDialog → List Happening
-visits request held = numbers request.cseq.number held ++ refreshes request held
+abbrev pub happenings_by_request : Message → HeldDialog → List Happening
+happenings_by_request request held = numbers request.cseq.number held ++ refreshes request held
 
 -- a 2xx confirms a dialog that isn't over
 abbrev pub confirms : Message → HeldDialog → List Happening
@@ -96,7 +96,7 @@ confirms response held = if is_some (ended_fault held.dialog) then [] else Confi
 
 -- the dialog after a request in it
 abbrev pub visited : Message → HeldDialog → HeldDialog
-visited request held = lived (visits request held) held
+visited request held = lived (happenings_by_request request held) held
 
 -- with another target
 abbrev pub retargeted : Option (List ℕ) → HeldDialog → HeldDialog
@@ -119,7 +119,7 @@ ended_notice held =
     (Ended held.dialog.call_id (tag_text held.dialog.local.tag) (tag_text held.dialog.remote.tag))
 
 -- the dialog of a name ends
-abbrev pub ended_at : DialogName → Dialogs → Dialogs × List CallOut
+abbrev pub ended_at : DialogId → Dialogs → Dialogs × List CallOut
 ended_at name dialogs = (
   remove_entry (is_named name) dialogs,
   option_map_or (λ held. ended_notice held ∷ []) (dialog_at name dialogs) [],
@@ -127,7 +127,7 @@ ended_at name dialogs = (
 
 -- an early dialog that a response to this INVITE made
 abbrev pub is_early_of : Id → HeldDialog → Bool
-is_early_of invite held = is_early held.dialog.state && is_id held.made_by invite
+is_early_of invite held = is_early held.dialog.state && is_id held.invite invite
 
 -- the early dialogs that an INVITE made end, in the order in which they were made
 abbrev pub early_ended : Id → Dialogs → Dialogs × List CallOut

@@ -7,7 +7,7 @@ use Rattle.sip_dialog.specs.Fault.{accept_fault, ended_fault}
 use Rattle.sip_dialog.specs.Life.{Happening, Requests, Acknowledges, Accepts, Refreshes, Confirms, Ends, dialog_after}
 use Rattle.sip_dialog.specs.Opening.{Opening}
 use Rattle.sip_common.specs.declared.held_dialog.HeldDialog.{HeldDialog}
-use Rattle.sip_common.specs.Dialogs.{confirms, happened, retargets, visits}
+use Rattle.sip_common.specs.Dialogs.{confirms, happened, retargets, happenings_by_request}
 
 -- something that the dialog doesn't refuse
 abbrev pub Fits : Dialog → Happening → Type 0
@@ -25,7 +25,7 @@ AllFit dialog (one ∷ life) = Fits dialog one × AllFit (happened dialog one) l
 
 -- what a request of the peer, a 2xx and a Contact make happen fits
 pub record CasesFit (held : HeldDialog) : Type 0 where
-  pub visits : (request : Message) → AllFit held.dialog (visits request held)
+  pub happenings_by_request : (request : Message) → AllFit held.dialog (happenings_by_request request held)
   pub confirms : (response : Message) → AllFit held.dialog (confirms response held)
   pub retargets : (uri : Option (List ℕ)) → AllFit held.dialog (retargets uri held)
 

@@ -5,7 +5,7 @@ use Rattle.std.specs.List.{list_any}
 use Rattle.std.specs.Str.{bytes_eq, str_eq_ignore_ascii_case, str_to_ascii_lowercase}
 use Rattle.sip_message.specs.declared.message.Message.{Message}
 use Rattle.sip_message.specs.Party.{tag_of}
-use Rattle.sip_common.specs.declared.held_dialog.DialogName.{DialogName}
+use Rattle.sip_common.specs.declared.held_dialog.DialogId.{DialogId}
 
 -- the method is this one
 abbrev pub is_method : List ℕ → Message → Bool
@@ -28,8 +28,8 @@ abbrev pub is_prack : Message → Bool
 is_prack request = is_method (codes "PRACK") request
 
 -- it has a To tag: it was sent inside a dialog
-abbrev pub is_inside : Message → Bool
-is_inside request = not (length (tag_of request.to) == 0)
+abbrev pub has_to_tag : Message → Bool
+has_to_tag request = not (length (tag_of request.to) == 0)
 
 -- the option of reliable provisional responses
 abbrev pub is_100rel : List ℕ → Bool
@@ -53,12 +53,12 @@ abbrev pub local_tag_of : Message → List ℕ → List ℕ
 local_tag_of request made = if length (tag_of request.to) == 0 then made else tag_of request.to
 
 -- the name of a dialog of these tags
-abbrev pub name_of_tags : List ℕ → List ℕ → DialogName
+abbrev pub name_of_tags : List ℕ → List ℕ → DialogId
 name_of_tags local remote =
     record { local = str_to_ascii_lowercase local; remote = str_to_ascii_lowercase remote }
 
 -- the name of the dialog that a request is in, or that its answer makes
-abbrev pub dialog_name : Message → List ℕ → DialogName
+abbrev pub dialog_name : Message → List ℕ → DialogId
 dialog_name request made = name_of_tags (local_tag_of request made) (tag_of request.from)
 
 -- classes of status codes; 101 to 199 are the provisional ones that a user gives

@@ -10,7 +10,7 @@ use Rattle.sip_dialog.specs.Life.{Happening, Requests}
 use Rattle.sip_dialog.specs.Opening.{Opening, opened}
 use Rattle.sip_transactions.specs.declared.input.Command.{Command as Order}
 use Rattle.sip_transactions.specs.declared.input.Command.TheVariants as order
-use Rattle.sip_common.specs.declared.held_dialog.DialogName.{DialogName}
+use Rattle.sip_common.specs.declared.held_dialog.DialogId.{DialogId}
 use Rattle.sip_common.specs.declared.held_dialog.HeldDialog.{HeldDialog}
 use Rattle.sip_common.specs.declared.item.CallOut.{CallOut}
 use Rattle.sip_common.specs.declared.item.CallOut.TheVariants as out
@@ -18,7 +18,7 @@ use Rattle.sip_common.specs.Dialogs.{is_named, tag_text}
 use Rattle.sip_common.specs.Requests.{is_cancel, is_method, name_of_tags}
 
 -- the name of a dialog, by its tags
-abbrev pub name_of_dialog : Dialog → DialogName
+abbrev pub name_of_dialog : Dialog → DialogId
 name_of_dialog dialog = name_of_tags (tag_text dialog.local.tag) (tag_text dialog.remote.tag)
 
 -- an ACK and a CANCEL have the number of the request that they are for
@@ -26,25 +26,25 @@ abbrev pub has_own_number : Message → Bool
 has_own_number request = not (is_method (codes "ACK") request || is_cancel request)
 
 -- the CSeq of a request that has the tags of the dialog
-abbrev pub cseq_of_request : DialogName → Message → Option CSeq
+abbrev pub cseq_of_request : DialogId → Message → Option CSeq
 cseq_of_request name request =
     if has_own_number request
     && is_named name (name_of_tags (tag_of request.from) (tag_of request.to))
     then Some request.cseq else None
 
 -- by what is asked of a transaction
-abbrev pub cseq_of_order : DialogName → Order → Option CSeq
+abbrev pub cseq_of_order : DialogId → Order → Option CSeq
 cseq_of_order name (order.Start key call_id request to) = cseq_of_request name request
 cseq_of_order name (order.Answer key response) = None
 
 -- an ACK alone goes out without a transaction
-abbrev pub cseq_of_output : DialogName → CallOut → Option CSeq
+abbrev pub cseq_of_output : DialogId → CallOut → Option CSeq
 cseq_of_output name (out.Notice notice) = None
 cseq_of_output name (out.Command id order) = cseq_of_order name order
 cseq_of_output name (out.Direct to bytes) = None
 
 -- the CSeqs of the requests that outputs send in it
-abbrev pub cseqs_in : DialogName → List CallOut → List CSeq
+abbrev pub cseqs_in : DialogId → List CallOut → List CSeq
 cseqs_in name outs = filter_map (cseq_of_output name) outs
 
 -- requests with these CSeqs are made in it
@@ -52,7 +52,7 @@ abbrev pub requests_made : List CSeq → List Happening
 requests_made cseqs = map (λ cseq. Requests cseq.method) cseqs
 
 -- what outputs make happen in it
-abbrev pub sent_in : DialogName → List CallOut → List Happening
+abbrev pub sent_in : DialogId → List CallOut → List Happening
 sent_in name outs = requests_made (cseqs_in name outs)
 
 -- each has the number after that of the one before it

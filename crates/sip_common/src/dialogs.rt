@@ -3,10 +3,10 @@
 ghost use Rattle.std.specs.Prelude.{◌≡◌, IfOk, OnOk, not};
 ghost use Rattle.sip_common.specs.Dialogs as spec;
 
-use crate::held_dialog::{DialogLife, DialogName, HeldDialog};
+use crate::held_dialog::{DialogReference, DialogId, HeldDialog};
 use crate::item::CallOut;
 use crate::notice::Notice;
-use crate::request::{is_inside, is_invite};
+use crate::request::{has_to_tag, is_invite};
 use indexmap::IndexMap;
 use sip_dialog::{DialogFault, DialogState, Endpoint};
 use sip_message::{Id, Message};
@@ -14,7 +14,7 @@ use sip_text::Text;
 use std::alloc::{AllocError, Global};
 
 /// The held dialogs by name, in the order in which they were made.
-pub type Dialogs = IndexMap<DialogName, HeldDialog>;
+pub type Dialogs = IndexMap<DialogId, HeldDialog>;
 
 /// Whether a number is above those that came in the dialog before.
 pub fn takes(held: &HeldDialog, number: u32) -> bool
@@ -29,11 +29,11 @@ pub fn takes(held: &HeldDialog, number: u32) -> bool
 }
 
 /// Whether the dialog that was made so is still held.
-pub fn lives(dialogs: &Dialogs, life: &DialogLife) -> bool
+pub fn lives(dialogs: &Dialogs, life: &DialogReference) -> bool
     ensures { result ≡ spec.lives dialogs.now.entries life.now }
 {
     match dialogs.get(&life.name) {
-        Some(held) => held.born == life.born,
+        Some(held) => held.created_by == life.created_by,
         None => false,
     }
 }
@@ -42,32 +42,32 @@ pub fn lives(dialogs: &Dialogs, life: &DialogLife) -> bool
 pub fn own_dialog(
     dialogs: &Dialogs,
     request: &Message,
-    name: &DialogName,
-) -> Result<Option<DialogLife>, AllocError>
+    name: &DialogId,
+) -> Result<Option<DialogReference>, AllocError>
     ensures { IfOk result (λ dialog. dialog
         ≡ spec.own_dialog request.now name.now dialogs.now.entries) }
 {
-    if is_inside(request) {
+    if has_to_tag(request) {
         life_at(dialogs, name)
     } else {
         Ok(None)
     }
 }
 
-fn life_at(dialogs: &Dialogs, name: &DialogName) -> Result<Option<DialogLife>, AllocError>
+fn life_at(dialogs: &Dialogs, name: &DialogId) -> Result<Option<DialogReference>, AllocError>
     ensures { IfOk result (λ dialog. dialog ≡ spec.dialog_life_at name.now dialogs.now.entries) }
 {
     let Some(held) = dialogs.get(name) else {
         return Ok(None);
     };
-    Ok(Some(DialogLife {
+    Ok(Some(DialogReference {
         name: name.clone()?,
-        born: held.born,
+        created_by: held.created_by,
     }))
 }
 
 /// Notes a request in the dialog of this name: its number and its target.
-pub fn visit(dialogs: &mut Dialogs, name: &DialogName, request: &Message) -> Result<(), AllocError>
+pub fn visit(dialogs: &mut Dialogs, name: &DialogId, request: &Message) -> Result<(), AllocError>
     ensures { OnOk result (dialogs.new.entries
         ≡ spec.dialog_changed name.now (spec.visited request.now) dialogs.old.entries) }
 {
@@ -109,7 +109,7 @@ fn refresh(held: &mut HeldDialog, request: &Message) -> Result<(), AllocError>
 /// A 2xx confirms the dialog of this name.
 pub fn confirm(
     dialogs: &mut Dialogs,
-    name: &DialogName,
+    name: &DialogId,
     response: &Message,
 ) -> Result<(), AllocError>
     ensures { OnOk result (dialogs.new.entries
@@ -135,7 +135,7 @@ pub fn confirm_dialog(held: &mut HeldDialog, response: &Message) -> Result<(), A
 pub fn end(
     alloc: Global,
     dialogs: &mut Dialogs,
-    name: &DialogName,
+    name: &DialogId,
 ) -> Result<Vec<CallOut>, AllocError>
     ensures { IfOk result (λ outs. (dialogs.new.entries, outs.items)
         ≡ spec.ended_at name.now dialogs.old.entries) }
@@ -194,7 +194,7 @@ pub fn is_early_of(held: &HeldDialog, invite: Id) -> bool
     ensures { result ≡ spec.is_early_of invite held.now }
 {
     match held.dialog.state() {
-        DialogState::Early => held.made_by == invite,
+        DialogState::Early => held.invite == invite,
         DialogState::Confirmed | DialogState::Ended => false,
     }
 }

@@ -3,7 +3,7 @@
 ghost use Rattle.std.specs.Prelude.{◌≡◌, IfOk};
 ghost use Rattle.sip_common.specs.Requests.{name_of_tags};
 
-use crate::debt::Debt;
+use crate::pending_request::PendingRequest;
 use sip_dialog::Dialog;
 use sip_message::{Addr, Id};
 use sip_parts::LowerText;
@@ -14,17 +14,17 @@ use std::alloc::{AllocError, Global};
 /// What a dialog is found by: its local and its remote tag in lower case, since tags are compared
 /// without case (RFC 3261, sections 7.3.1 and 12). A tag that isn't there is empty.
 #[derive(PartialEq, Eq, Hash)]
-pub struct DialogName {
+pub struct DialogId {
     pub local: Text,
     pub remote: Text,
 }
 
-impl DialogName {
+impl DialogId {
     /// The name of the dialog of these tags.
-    pub fn of_tags(alloc: Global, local: &[u8], remote: &[u8]) -> Result<DialogName, AllocError>
+    pub fn of_tags(alloc: Global, local: &[u8], remote: &[u8]) -> Result<DialogId, AllocError>
         ensures { IfOk result (λ name. name ≡ name_of_tags local.now remote.now) }
     {
-        Ok(DialogName {
+        Ok(DialogId {
             local: LowerText::of(alloc, local)?.into_text(),
             remote: LowerText::of(alloc, remote)?.into_text(),
         })
@@ -37,35 +37,35 @@ pub struct HeldDialog {
     /// Where its requests go when the URI of their next hop names no address.
     pub address: Addr,
     /// The INVITE that made it.
-    pub made_by: Id,
+    pub invite: Id,
     /// The event that made it. It tells this dialog from another under the same name.
-    pub born: Id,
+    pub created_by: Id,
     /// The reliable provisional responses of that INVITE that came in it.
-    pub heard: Inbound,
+    pub last_rseq: Inbound,
     /// The requests that are owed in it, the oldest first.
-    pub owed: Series<Debt>,
+    pub pending_requests: Series<PendingRequest>,
 }
 
 /// A dialog that a request belongs to: its name, and the event that made it.
-pub struct DialogLife {
-    pub name: DialogName,
-    pub born: Id,
+pub struct DialogReference {
+    pub name: DialogId,
+    pub created_by: Id,
 }
 
-impl Drop for DialogName {
+impl Drop for DialogId {
     fn drop(self) {
-        let DialogName {
+        let DialogId {
             local: _,
             remote: _,
         } = self;
     }
 }
 
-impl Clone for DialogName {
+impl Clone for DialogId {
     ghost is_clone = { λ original copy. copy ≡ original };
 
-    fn clone(&self) -> Result<DialogName, AllocError> {
-        Ok(DialogName {
+    fn clone(&self) -> Result<DialogId, AllocError> {
+        Ok(DialogId {
             local: self.local.clone()?,
             remote: self.remote.clone()?,
         })
@@ -77,16 +77,16 @@ impl Drop for HeldDialog {
         let HeldDialog {
             dialog: _,
             address: _,
-            made_by: _,
-            born: _,
-            heard: _,
-            owed: _,
+            invite: _,
+            created_by: _,
+            last_rseq: _,
+            pending_requests: _,
         } = self;
     }
 }
 
-impl Drop for DialogLife {
+impl Drop for DialogReference {
     fn drop(self) {
-        let DialogLife { name: _, born: _ } = self;
+        let DialogReference { name: _, created_by: _ } = self;
     }
 }

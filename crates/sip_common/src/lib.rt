@@ -3,7 +3,7 @@
 #![tactic(auto)]
 
 mod command;
-mod debt;
+mod pending_request;
 pub mod dialogs;
 mod held_dialog;
 mod item;
@@ -17,9 +17,9 @@ pub use command::{
     Cancel, DialogBody, DialogRequest, Invite, Plain, ProvisionalSupport, Reliability, Respond,
     UserCommand,
 };
-pub use debt::Debt;
+pub use pending_request::PendingRequest;
 pub use dialogs::Dialogs;
-pub use held_dialog::{DialogLife, DialogName, HeldDialog};
+pub use held_dialog::{DialogReference, DialogId, HeldDialog};
 pub use item::{CallOut, Item};
 pub use laws::a_dialog_stands_for_its_story;
 pub use notice::Notice;

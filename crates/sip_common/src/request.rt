@@ -4,7 +4,7 @@ ghost use Rattle.std.specs.Prelude.{◌≡◌, ℕ, List, IfOk, unwrap_or};
 ghost use Rattle.std.specs.List.{list_any};
 ghost use Rattle.sip_common.specs.Requests as requests;
 
-use crate::held_dialog::DialogName;
+use crate::held_dialog::DialogId;
 use sip_message::{Message, StatusCode, Token};
 use sip_text::token_eq;
 use std::alloc::{AllocError, Global};
@@ -38,8 +38,8 @@ pub fn is_prack(request: &Message) -> bool
 }
 
 /// Whether it has a To tag, and so was sent inside a dialog.
-pub fn is_inside(request: &Message) -> bool
-    ensures { result ≡ requests.is_inside request.now }
+pub fn has_to_tag(request: &Message) -> bool
+    ensures { result ≡ requests.has_to_tag request.now }
 {
     !request.to.tag().is_empty()
 }
@@ -99,10 +99,10 @@ pub fn own_tag(alloc: Global, request: &Message) -> Result<Option<Token>, AllocE
 }
 
 /// The name of the dialog that a request is in, or that its answer makes.
-pub fn dialog_name(alloc: Global, request: &Message, made: &Token) -> Result<DialogName, AllocError>
+pub fn dialog_name(alloc: Global, request: &Message, made: &Token) -> Result<DialogId, AllocError>
     ensures { IfOk result (λ name. name ≡ requests.dialog_name request.now made.now) }
 {
-    DialogName::of_tags(alloc, local_tag(request, made), request.from.tag())
+    DialogId::of_tags(alloc, local_tag(request, made), request.from.tag())
 }
 
 /// Whether a status is that of a provisional response.

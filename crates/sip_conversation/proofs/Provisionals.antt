@@ -14,7 +14,7 @@ use Rattle.sip_model.specs.Machine.{Timed, tick_at}
 use Rattle.sip_transactions.specs.declared.output.Kind.{Kind}
 use Rattle.sip_transactions.specs.declared.output.Kind.TheVariants as kind
 use Rattle.sip_transactions.specs.Machine.{transaction_machine}
-use Rattle.sip_common.specs.declared.held_dialog.DialogLife.{DialogLife}
+use Rattle.sip_common.specs.declared.held_dialog.DialogReference.{DialogReference}
 use Rattle.sip_common.specs.declared.item.CallOut.{CallOut}
 use Rattle.sip_common.specs.declared.item.CallOut.TheVariants as out
 use Rattle.sip_common.specs.declared.item.Item.TheVariants.{Up, User}
@@ -24,7 +24,7 @@ use Rattle.sip_common.specs.Dialogs.{lives}
 use Rattle.sip_common.proofs.Each.{both}
 use Rattle.sip_served.specs.declared.held_request.HeldRequest.{HeldRequest}
 use Rattle.sip_served.specs.declared.held_request.Success.{Success}
-use Rattle.sip_served.specs.declared.provisionals.NumberedResponse.{NumberedResponse}
+use Rattle.sip_served.specs.declared.provisionals.ReliableResponse.{ReliableResponse}
 use Rattle.sip_served.proofs.ServedOuts.{KeepsGiven}
 use Rattle.sip_clients.specs.declared.client.Client.{Client}
 use Rattle.sip_clients.specs.Client.{Side as Held, client_at}
@@ -64,7 +64,7 @@ with_rseqs : (o : Option ℕ) (outs : List CallOut)
 with_rseqs None outs = refl
 with_rseqs (Some rseq) outs = same_rseqs rseq (filter is_response outs)
 
-rseqs_shown : (calls : Calls) (invite : AnInvite) (life : DialogLife) (call : Option Call)
+rseqs_shown : (calls : Calls) (invite : AnInvite) (life : DialogReference) (call : Option Call)
     (inputs : List (Timed CallItem))
     → map first_of (told_from calls invite life call inputs)
     ≡ shown_from calls invite life call inputs
@@ -84,7 +84,7 @@ any_success : (o : Option Success) → IfSome o (λ success. Any success.respons
 any_success None = tt
 any_success (Some success) = tt
 
-any_provisionals : (responses : List NumberedResponse)
+any_provisionals : (responses : List ReliableResponse)
     → AllByRecursion (λ one. Any one.response) responses
 any_provisionals [] = tt
 any_provisionals (one ∷ responses) = (tt, any_provisionals responses)
@@ -130,7 +130,7 @@ module _ (configs : Side → Config)
             ∙ (ap (λ o. provisional_number o response) (sym is) ∙ number);
       }
 
-  module _ (calls : Calls) (invite : AnInvite) (life : DialogLife) where
+  module _ (calls : Calls) (invite : AnInvite) (life : DialogReference) where
     chosen : (b : Bool) (response : Message) → Came response → (rseq : ℕ)
         → cond b (provisional_number (status_of response.start) response) None ≡ Some rseq
         → ResponseTells (Said rseq) Any any_own response

@@ -3,7 +3,7 @@
 use Rattle.std.specs.Prelude.{◌≡◌, ◌≢◌, ℕ, List, [], ◌∷◌, ◌++◌, AllPairs, Option, None, Some, filter, map}
 use Rattle.std.specs.List.{AllByRecursion}
 use Rattle.sip_model.specs.Machine.{Timed}
-use Rattle.sip_common.specs.declared.held_dialog.DialogLife.{DialogLife}
+use Rattle.sip_common.specs.declared.held_dialog.DialogReference.{DialogReference}
 use Rattle.sip_common.specs.declared.item.CallOut.{CallOut}
 use Rattle.sip_common.specs.declared.item.CallOut.TheVariants.{Notice}
 use Rattle.sip_common.specs.declared.notice.Notice.TheVariants.{Response}
@@ -26,7 +26,7 @@ told_with None outs = []
 told_with (Some rseq) outs = map (λ out. (rseq, out)) (filter is_response outs)
 
 -- those of the reliable provisional responses to an INVITE in a life of a dialog, in order
-abbrev pub told_from : Calls → AnInvite → DialogLife → Option Call → List (Timed CallItem)
+abbrev pub told_from : Calls → AnInvite → DialogReference → Option Call → List (Timed CallItem)
     → List (ℕ × CallOut)
 told_from calls invite life call [] = []
 told_from calls invite life call (input ∷ inputs) =
@@ -54,14 +54,14 @@ IsSaidReliably configs turns side rseq _ = ⊥
 module _ (configs : Side → Config) (before : List Turn) (turn : Turn) where
   -- what its user is told by its end of those to an INVITE in a life of a dialog, each with its
   -- RSeq
-  abbrev pub told_reliably : List ℕ → AnInvite → DialogLife → List (ℕ × CallOut)
+  abbrev pub told_reliably : List ℕ → AnInvite → DialogReference → List (ℕ × CallOut)
   told_reliably call_id invite life = told_from (calls_of (configs turn.side)) invite life None
       (call_inputs_of (configs turn.side) (rounds_of turn.side (before ++ turn ∷ [])) call_id)
 
-  abbrev pub rseqs_told : List ℕ → AnInvite → DialogLife → List ℕ
+  abbrev pub rseqs_told : List ℕ → AnInvite → DialogReference → List ℕ
   rseqs_told call_id invite life = map (λ told. told.0) (told_reliably call_id invite life)
 
-  pub record ToldAsSaid (call_id : List ℕ) (invite : AnInvite) (life : DialogLife)
+  pub record ToldAsSaid (call_id : List ℕ) (invite : AnInvite) (life : DialogReference)
       : Type 0 where
     pub consecutive : IsConsecutive (rseqs_told call_id invite life)
     pub once : AllPairs (λ x y. x ≢ y) (rseqs_told call_id invite life)
@@ -72,5 +72,5 @@ module _ (configs : Side → Config) (before : List Turn) (turn : Turn) where
 abbrev pub ProvisionalsToldAsSaid : (Side → Config) → List Turn → Type 0
 ProvisionalsToldAsSaid configs turns =
     (before after : List Turn) (turn : Turn) → turns ≡ before ++ turn ∷ after
-    → (call_id : List ℕ) (invite : AnInvite) (life : DialogLife)
+    → (call_id : List ℕ) (invite : AnInvite) (life : DialogReference)
     → ToldAsSaid configs before turn call_id invite life

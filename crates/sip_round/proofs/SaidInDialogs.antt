@@ -6,7 +6,7 @@ use Rattle.sip_message.specs.declared.cseq.CSeq.{CSeq}
 use Rattle.sip_model.specs.Machine.{Timed, outputs_from}
 use Rattle.sip_dialog.specs.Life.{Happening}
 use Rattle.sip_dialog.specs.Opening.{Opening}
-use Rattle.sip_common.specs.declared.held_dialog.DialogName.{DialogName}
+use Rattle.sip_common.specs.declared.held_dialog.DialogId.{DialogId}
 use Rattle.sip_common.specs.Dialogs.{dialog_at}
 use Rattle.sip_common.specs.Sent.{cseqs_in}
 use Rattle.sip_common.proofs.Starts.{cseqs_both}
@@ -22,9 +22,9 @@ abbrev EndsSo : List CSeq → Option History → Type 0
 EndsSo said None = Unit {0}
 EndsSo said (Some history) = (earlier : List CSeq) × (said ≡ earlier ++ history.sent)
 
-ends_on : (said cseqs : List CSeq) (born : Bool) (start : Option Opening) (more : List Happening)
+ends_on : (said cseqs : List CSeq) (created_by : Bool) (start : Option Opening) (more : List Happening)
     (history : Option History) → EndsSo said history
-    → EndsSo (said ++ cseqs) (if born then option_map (begun_with cseqs) start
+    → EndsSo (said ++ cseqs) (if created_by then option_map (begun_with cseqs) start
     else option_map (with_more more cseqs) history)
 ends_on said cseqs true None more history ends = tt
 ends_on said cseqs true (Some opening) more history ends = (said, refl)
@@ -34,7 +34,7 @@ ends_on said cseqs false start more (Some history) ends = (
   ap (λ all. all ++ cseqs) ends.1 ∙ append_assoc ends.0 history.sent cseqs,
 )
 
-module _ (calls : Calls) (key : List ℕ) (name : DialogName) where
+module _ (calls : Calls) (key : List ℕ) (name : DialogId) where
   ends_from : (inputs : List (Timed CallItem)) (call : Option Call) (history : Option History)
       (said : List CSeq) → EndsSo said history
       → EndsSo (said ++ cseqs_in name (outputs_from (call_machine calls) key call inputs))

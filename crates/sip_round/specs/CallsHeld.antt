@@ -10,7 +10,7 @@ use Rattle.sip_dialog.specs.declared.dialog.Dialog.{Dialog}
 use Rattle.sip_dialog.specs.Life.{accepted_number, dialog_after, greater, routes_by, target_by}
 use Rattle.sip_dialog.specs.Opening.{opened}
 use Rattle.sip_transactions.specs.Ids.{IdsRise}
-use Rattle.sip_common.specs.declared.held_dialog.DialogName.{DialogName}
+use Rattle.sip_common.specs.declared.held_dialog.DialogId.{DialogId}
 use Rattle.sip_common.specs.declared.held_dialog.HeldDialog.{HeldDialog}
 use Rattle.sip_common.specs.Dialogs.{dialog_at, is_named}
 use Rattle.sip_common.specs.Sent.{NumberedAfter, NumberedFrom, cseqs_in, name_of_dialog, number_before}
@@ -45,7 +45,7 @@ call_after config rounds call_id =
 -- CSeq is the greatest that was accepted, its route set and its target are those that came last.
 -- What the phases say to send in it, up to the end, ends with those requests.
 pub record HasItsHistory (config : Config) (rounds : List Round) (call_id : List ℕ)
-    (name : DialogName) (dialog : Dialog) : Type 0 where
+    (name : DialogId) (dialog : Dialog) : Type 0 where
   pub history : History
   pub of_its_inputs : history_of (calls_of config) name (call_inputs_of config rounds call_id)
       ≡ Some history
@@ -66,7 +66,7 @@ pub record HasItsHistory (config : Config) (rounds : List Round) (call_id : List
 
 -- every dialog that is held after rounds
 abbrev pub DialogsHaveTheirHistory : Config → List Round → Type 0
-DialogsHaveTheirHistory config rounds = (call_id : List ℕ) (name : DialogName) (held : HeldDialog)
+DialogsHaveTheirHistory config rounds = (call_id : List ℕ) (name : DialogId) (held : HeldDialog)
     → dialog_at name (side_held (call_after config rounds call_id)).dialogs ≡ Some held
     → HasItsHistory config rounds call_id name held.dialog
 
@@ -75,7 +75,7 @@ DialogsHaveTheirHistory config rounds = (call_id : List ℕ) (name : DialogName)
 abbrev pub InputsNumberOn : Config → List Round → Type 0
 InputsNumberOn config rounds =
     (call_id : List ℕ) (before after : List (Timed CallItem)) (input : Timed CallItem)
-    → call_inputs_of config rounds call_id ≡ before ++ (input ∷ after) → (name : DialogName)
+    → call_inputs_of config rounds call_id ≡ before ++ (input ∷ after) → (name : DialogId)
     → let call = call_from (calls_of config) None before in
     NumberedFrom
     (number_before (opening_in call input.input) (dialog_at name (side_held call).dialogs))
@@ -108,9 +108,9 @@ EachInviteAwaitsAsTold = (config : Config) (rounds : List Round) → InvitesAwai
 -- in a dialog that is held after rounds the ACKs and PRACKs are owed that were asked for since it
 -- was made, and didn't go out
 abbrev pub DialogsOweAsTold : Config → List Round → Type 0
-DialogsOweAsTold config rounds = (call_id : List ℕ) (name : DialogName) (held : HeldDialog)
+DialogsOweAsTold config rounds = (call_id : List ℕ) (name : DialogId) (held : HeldDialog)
     → dialog_at name (side_held (call_after config rounds call_id)).dialogs ≡ Some held
-    → held.owed
+    → held.pending_requests
     ≡ owed_from (calls_of config) name None [] (call_inputs_of config rounds call_id)
 
 -- so in any rounds

@@ -16,7 +16,7 @@ use Rattle.sip_transactions.specs.declared.output.Out.TheVariants as out
 use Rattle.sip_transactions.specs.Ids.{IdsRise}
 use Rattle.sip_transactions.specs.Laws.{id_of}
 use Rattle.sip_transactions.specs.Machine.{transaction_machine}
-use Rattle.sip_common.specs.declared.held_dialog.DialogLife.{DialogLife}
+use Rattle.sip_common.specs.declared.held_dialog.DialogReference.{DialogReference}
 use Rattle.sip_common.specs.declared.item.CallOut.{CallOut}
 use Rattle.sip_common.specs.declared.item.CallOut.TheVariants as call_out
 use Rattle.sip_common.specs.declared.item.Item.TheVariants.{Up}
@@ -124,7 +124,7 @@ GivesRequestsById given = IdsRise (filter_map told_request (all_given given))
 -- responses that came among these to an INVITE in a life of a dialog the user is told of those in
 -- order, so of each once.
 pub record TellsProvisionals (config : Config) (rounds : List Round) (given : List (List Output))
-    (call_id : List ℕ) (invite : AnInvite) (life : DialogLife) : Type 0 where
+    (call_id : List ℕ) (invite : AnInvite) (life : DialogReference) : Type 0 where
   pub told : notices_of call_id (all_given given) ≡ flat_map notice_in
       (outputs_from (call_machine (calls_of config)) call_id None
       (call_inputs_of config rounds call_id))
@@ -138,7 +138,7 @@ pub record TellsProvisionals (config : Config) (rounds : List Round) (given : Li
 -- of each INVITE, in each life of a dialog
 abbrev pub GivesProvisionalsInOrder : Config → List Round → List (List Output) → Type 0
 GivesProvisionalsInOrder config rounds given =
-    (call_id : List ℕ) (invite : AnInvite) (life : DialogLife)
+    (call_id : List ℕ) (invite : AnInvite) (life : DialogReference)
     → TellsProvisionals config rounds given call_id invite life
 
 -- ---- requests that go out

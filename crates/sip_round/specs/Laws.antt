@@ -11,7 +11,7 @@ use Rattle.sip_transactions.specs.declared.input.Input.{Input}
 use Rattle.sip_transactions.specs.declared.output.Out.{Out}
 use Rattle.sip_transactions.specs.Laws.{IsServer, carries, id_of, requests_in}
 use Rattle.sip_transactions.specs.Machine.{transaction_machine}
-use Rattle.sip_common.specs.declared.held_dialog.DialogLife.{DialogLife}
+use Rattle.sip_common.specs.declared.held_dialog.DialogReference.{DialogReference}
 use Rattle.sip_common.specs.declared.item.CallOut.{CallOut}
 use Rattle.sip_calls.specs.Call.{call_machine, CallItem}
 use Rattle.sip_calls.specs.CallShard.{call_cmp}
@@ -77,7 +77,7 @@ said_of_call config rounds call_id =
 -- responses that came among these to an
 -- INVITE in a life of a dialog those in order are shown, so each once.
 pub record ProvisionalsShown (config : Config) (rounds : List Round) (call_id : List ℕ)
-    (invite : AnInvite) (life : DialogLife) : Type 0 where
+    (invite : AnInvite) (life : DialogReference) : Type 0 where
   pub said_in_order : said_of_call config rounds call_id
       ≡ outputs_from (call_machine (calls_of config)) call_id None
       (call_inputs_of config rounds call_id)
@@ -91,5 +91,5 @@ pub record ProvisionalsShown (config : Config) (rounds : List Round) (call_id : 
 -- of every call, INVITE and life of a dialog
 abbrev pub ProvisionalsInLives : Config → List Round → Type 0
 ProvisionalsInLives config rounds =
-    (call_id : List ℕ) (invite : AnInvite) (life : DialogLife)
+    (call_id : List ℕ) (invite : AnInvite) (life : DialogReference)
     → ProvisionalsShown config rounds call_id invite life

@@ -14,13 +14,13 @@ use Rattle.sip_transactions.specs.declared.output.Kind.{Kind}
 use Rattle.sip_transactions.specs.declared.output.Kind.TheVariants as kind
 use Rattle.sip_transactions.specs.declared.output.Up.{Up}
 use Rattle.sip_common.specs.declared.command.UserCommand.TheVariants as command
-use Rattle.sip_common.specs.declared.held_dialog.DialogName.{DialogName}
+use Rattle.sip_common.specs.declared.held_dialog.DialogId.{DialogId}
 use Rattle.sip_common.specs.declared.held_dialog.HeldDialog.{HeldDialog}
 use Rattle.sip_common.specs.declared.item.CallOut.{CallOut}
 use Rattle.sip_common.specs.declared.item.Item.{Item}
 use Rattle.sip_common.specs.declared.item.Item.TheVariants as item
 use Rattle.sip_common.specs.Dialogs.{Dialogs, dialog_at, dialog_changed, early_ended, ended_at, takes, visited}
-use Rattle.sip_common.specs.Requests.{dialog_name, is_bye, is_cancel, is_inside, is_invite, is_prack, is_unknown_option}
+use Rattle.sip_common.specs.Requests.{dialog_name, is_bye, is_cancel, has_to_tag, is_invite, is_prack, is_unknown_option}
 use Rattle.sip_served.specs.declared.arrival.Arrival.{Arrival}
 use Rattle.sip_served.specs.declared.arrival.ArrivalCase.TheVariants.{Merged, BadExtension, Acknowledges, AcknowledgesNothing, ForUser}
 use Rattle.sip_served.specs.declared.held_request.HeldRequest.{HeldRequest}
@@ -61,17 +61,17 @@ bye_same : (b : Bool) (state : State) (outs : List CallOut) (ended : Dialogs × 
 bye_same true state outs ended = refl
 bye_same false state outs ended = refl
 
-for_user_same : (state : State) (call_id : List ℕ) (name : DialogName) (arrival : Arrival)
+for_user_same : (state : State) (call_id : List ℕ) (name : DialogId) (arrival : Arrival)
     → for_user state call_id name arrival ≡ request_for_user state call_id name arrival
 for_user_same state call_id name arrival =
-    bye_same (is_inside arrival.request && is_bye arrival.request)
+    bye_same (has_to_tag arrival.request && is_bye arrival.request)
     (request_held state call_id name arrival).0 (request_held state call_id name arrival).1
     (ended_at name state.dialogs)
 
 -- ---- a request in a dialog
 
-module _ (state : State) (call_id : List ℕ) (name : DialogName) (arrival : Arrival)
-    (inside : is_inside arrival.request ≡ true) where
+module _ (state : State) (call_id : List ℕ) (name : DialogId) (arrival : Arrival)
+    (inside : has_to_tag arrival.request ≡ true) where
   abbrev noted_so : State
   noted_so = record state {
     dialogs = dialog_changed name (visited arrival.request) state.dialogs;
@@ -80,11 +80,11 @@ module _ (state : State) (call_id : List ℕ) (name : DialogName) (arrival : Arr
   is_noted : noted state name arrival.request ≡ noted_so
   is_noted = ap (λ b. if b then noted_so else state) inside
 
-  prack_same : (born : Id) (rack : Option RAck)
-      → by_case (prack_case state.requests name born rack) state call_id name arrival
-      ≡ prack_rule noted_so call_id name born arrival rack
-  prack_same born None = ap (λ later. (later, no_such_dialog arrival)) is_noted
-  prack_same born (Some rack) =
+  prack_same : (created_by : Id) (rack : Option RAck)
+      → by_case (prack_case state.requests name created_by rack) state call_id name arrival
+      ≡ prack_rule noted_so call_id name created_by arrival rack
+  prack_same created_by None = ap (λ later. (later, no_such_dialog arrival)) is_noted
+  prack_same created_by (Some rack) =
       (λ i. by_rack (find (λ held. same_invite held i) state.requests))
       ∙ found by_rack_id (λ held. held.id) _ _ _
       (ap (λ later. (later, no_such_dialog arrival)) is_noted)
@@ -99,12 +99,12 @@ module _ (state : State) (call_id : List ℕ) (name : DialogName) (arrival : Arr
       by_rack o = by_rack_id (option_map (λ held. held.id) o)
 
       same_invite : (held : HeldRequest)
-          → (is_in_dialog name born held && is_named_by rack held)
-          ≡ (is_in_dialog name born held && is_invite held.request
+          → (is_in_dialog name created_by held && is_named_by rack held)
+          ≡ (is_in_dialog name created_by held && is_invite held.request
           && bytes_eq rack.method held.request.cseq.method
           && (held.request.cseq.number == rack.cseq) && waits_for rack.rseq held.ledger)
       same_invite held =
-          and_four (is_in_dialog name born held) (is_invite held.request)
+          and_four (is_in_dialog name created_by held) (is_invite held.request)
           (bytes_eq rack.method held.request.cseq.method)
           (held.request.cseq.number == rack.cseq) (waits_for rack.rseq held.ledger)
 
@@ -196,14 +196,14 @@ arrival_same state call_id arrival now =
     let request = arrival.request in
     let name = dialog_name request arrival.tag in
     first (λ one. by_case one state call_id name arrival) (is_cancel request)
-    (not (is_inside request) && list_any (is_merged request) state.requests)
-    (list_any is_unknown_option request.require) (is_inside request)
+    (not (has_to_tag request) && list_any (is_merged request) state.requests)
+    (list_any is_unknown_option request.require) (has_to_tag request)
     _ _ Merged BadExtension (case_inside state.requests name request (dialog_at name state.dialogs))
     (case_outside request) _ _ _ _ (cancel_same state call_id arrival now) refl refl
     (λ inside. in_dialog state call_id name arrival inside _ (dialog_at name state.dialogs)
     (λ held. two (λ one. by_case one state call_id name arrival)
     (not (takes held request.cseq.number)) (is_prack request) _ _ _ _ _ _ refl
-    (prack_same state call_id name arrival inside held.born request.rack)
+    (prack_same state call_id name arrival inside held.created_by request.rack)
     (for_user_noted state call_id name arrival inside)))
     (λ outside. either (λ one. by_case one state call_id name arrival)
     (is_bye request || is_prack request) _ _ _ _ refl

@@ -17,7 +17,7 @@ use Rattle.sip_reliable.specs.declared.tick.Tick.TheVariants as tick
 use Rattle.sip_reliable.specs.Ledger.{send_answer, tick_answer}
 use Rattle.sip_transactions.specs.declared.input.Command.TheVariants as order
 use Rattle.sip_common.specs.declared.command.Respond.{Respond as Answer}
-use Rattle.sip_common.specs.declared.held_dialog.DialogLife.{DialogLife}
+use Rattle.sip_common.specs.declared.held_dialog.DialogReference.{DialogReference}
 use Rattle.sip_common.specs.declared.item.CallOut.{CallOut}
 use Rattle.sip_common.specs.declared.item.CallOut.TheVariants as out
 use Rattle.sip_common.specs.Ids.{is_id}
@@ -26,7 +26,7 @@ use Rattle.sip_served.specs.declared.held_request.HeldRequest.{HeldRequest}
 use Rattle.sip_served.specs.declared.held_request.Success.{Success}
 use Rattle.sip_served.specs.declared.held_request.SuccessEnd.{SuccessEnd}
 use Rattle.sip_served.specs.declared.held_request.SuccessEnd.TheVariants.{Acknowledged, GivenUp}
-use Rattle.sip_served.specs.declared.provisionals.NumberedResponse.{NumberedResponse}
+use Rattle.sip_served.specs.declared.provisionals.ReliableResponse.{ReliableResponse}
 use Rattle.sip_served.specs.declared.tick.SuccessDue.{SuccessDue}
 use Rattle.sip_served.specs.declared.tick.SuccessDue.TheVariants as repeat
 use Rattle.sip_served.specs.Acknowledgment.{awaits_ack, success_ended}
@@ -34,7 +34,7 @@ use Rattle.sip_served.specs.Awaiting.{awaits_by, has_success}
 use Rattle.sip_served.specs.Cancel.{request_terminated}
 use Rattle.sip_served.specs.Provisionals.{of_numbers}
 use Rattle.sip_served.specs.RequestLife.{Finishes, MakesDialog, RepeatsSuccess, request_happened, success_sent, went_on}
-use Rattle.sip_served.specs.Respond.{after_answer, answer_to, answered, finished, if_so, is_of_dialog, is_reliable, is_sent_reliably, makes_dialog, may_be_reliable, sends_as, sent_as, sent_reliably, with_routes, with_rseq}
+use Rattle.sip_served.specs.Respond.{after_answer, answer_to, answered, finished, if_so, makes_or_confirms_dialog, is_reliable, is_sent_reliably, makes_dialog, may_be_reliable, sends_as, sent_as, sent_reliably, with_routes, with_rseq}
 use Rattle.sip_served.specs.Tick.{provisionals_told, provisionals_ticked, request_ticked, success_answer, success_at_tick, success_goes, success_ticked, success_told}
 use Rattle.sip_served.specs.Unacknowledged.{at_tick}
 use Rattle.sip_served.proofs.Reading as reading
@@ -106,11 +106,11 @@ answer_as : (local : Addr) (held : HeldRequest) (r : Answer)
     ≡ (is_invite held.request && is_success r.status)
 answer_as local held r =
     let plain = response_of held.request r.status r.reason held.tag in
-    let routed = if_so (is_of_dialog held r.status) (with_routes local held.request) plain in
+    let routed = if_so (makes_or_confirms_dialog held r.status) (with_routes local held.request) plain in
     let numbered = with_rseq (result_ok (send_answer held.ledger)) in
     content_as (if_so (is_sent_reliably held r.status r.reliability) numbered routed) r.content
     ∙ so_as (is_sent_reliably held r.status r.reliability) numbered (λ response. refl) routed
-    ∙ so_as (is_of_dialog held r.status) (with_routes local held.request) (λ response. refl) plain
+    ∙ so_as (makes_or_confirms_dialog held r.status) (with_routes local held.request) (λ response. refl) plain
 
 never_both : (status : ℕ) → nat_lt status 200 ≡ true → nat_le 200 status ≡ false
 never_both status e = grind (arith, common_steps)
@@ -183,7 +183,7 @@ given_waits : (response : Message) (event : Id) (r : Answer) (now : ℕ) (held :
     → awaits_ack (after_answer event r response now held)
     ≡ waits_now r response now held (is_success r.status)
 given_waits response event r now held =
-    let made : DialogLife = record { name = dialog_name held.request held.tag; born = event } in
+    let made : DialogReference = record { name = dialog_name held.request held.tag; created_by = event } in
     elim (makes_dialog held r.status) as (λ b. awaits_ack (answered r.status r.reliability response
     now (went_on (if b then MakesDialog made ∷ [] else []) held))
     ≡ waits_now r response now held (is_success r.status)) [
@@ -197,7 +197,7 @@ module _ (invite : Id) where
   abbrev Quiet : List CallOut → Type 0
   Quiet outs = reading.Quiet (awaiting invite) outs
 
-  repeats_quiet : (held : HeldRequest) (responses : List NumberedResponse)
+  repeats_quiet : (held : HeldRequest) (responses : List ReliableResponse)
       → Quiet (map (λ one. out.Command held.id (order.Answer held.key one.response)) responses)
   repeats_quiet held [] awaits = refl
   repeats_quiet held (one ∷ responses) awaits = repeats_quiet held responses awaits

@@ -21,7 +21,7 @@ use Rattle.sip_served.specs.declared.arrival.Arrival.{Arrival}
 use Rattle.sip_served.specs.declared.arrival.ArrivalCase.{ArrivalCase}
 use Rattle.sip_served.specs.declared.arrival.ArrivalCase.TheVariants.{Merged, BadExtension, NoDialog, OutOfOrder, Acknowledges, AcknowledgesNothing, ForUser}
 use Rattle.sip_common.specs.declared.command.Respond.{Respond as Answer}
-use Rattle.sip_common.specs.declared.held_dialog.DialogName.{DialogName}
+use Rattle.sip_common.specs.declared.held_dialog.DialogId.{DialogId}
 use Rattle.sip_common.specs.declared.held_dialog.HeldDialog.{HeldDialog}
 use Rattle.sip_served.specs.declared.held_request.HeldRequest.{HeldRequest}
 use Rattle.sip_common.specs.declared.item.CallOut.{CallOut}
@@ -31,10 +31,10 @@ use Rattle.sip_served.specs.Acknowledgment.{ack_noted, ack_taken, acknowledged_i
 use Rattle.sip_served.specs.Arrival.{arrival_of, by_case, bye_taken, case_inside, case_of, case_outside, is_merged, named_invite, noted, prack_case, request_held}
 use Rattle.sip_served.specs.Cancel.{by_cancelled, cancelled_request, is_unanswered_invite}
 use Rattle.sip_served.specs.Happenings.{accepts, answer_confirms, answer_opens, is_of_name, success_confirms}
-use Rattle.sip_common.specs.Dialogs.{confirmed, confirms, dialog_at, dialog_changed, early_ended, ended_at, is_early_of, is_named, takes, visited, visits, Dialogs}
-use Rattle.sip_common.specs.Requests.{dialog_name, is_bye, is_cancel, is_inside, is_prack, is_unknown_option, name_of_tags}
+use Rattle.sip_common.specs.Dialogs.{confirmed, confirms, dialog_at, dialog_changed, early_ended, ended_at, is_early_of, is_named, takes, visited, happenings_by_request, Dialogs}
+use Rattle.sip_common.specs.Requests.{dialog_name, is_bye, is_cancel, has_to_tag, is_prack, is_unknown_option, name_of_tags}
 use Rattle.sip_common.specs.Sent.{name_of_dialog, responses_out}
-use Rattle.sip_served.specs.Respond.{answer_to, by_refusal, by_request, confirms_dialog, is_of_dialog, made_dialog, makes_dialog, refusal_for, rejects, respond_taken}
+use Rattle.sip_served.specs.Respond.{answer_to, by_refusal, by_request, confirms_dialog, makes_or_confirms_dialog, made_dialog, makes_dialog, refusal_for, rejects, respond_taken}
 use Rattle.sip_served.specs.State.{State, ServedTaken, has_id}
 use Rattle.sip_served.specs.Step.{arrival_taken, kind_taken}
 use Rattle.sip_common.proofs.Entries.{same_key}
@@ -44,9 +44,9 @@ use Rattle.sip_common.proofs.Lives.{cases_fit}
 -- ---- a request that comes up, and an ACK
 
 -- a request in a dialog is noted there
-abbrev noted_life : Message → DialogName → Lives
+abbrev noted_life : Message → DialogId → Lives
 noted_life request name other held =
-    cond (is_inside request) (in_one name (visits request) other held) []
+    cond (has_to_tag request) (in_one name (happenings_by_request request) other held) []
 
 -- where the case is one of those
 abbrev notes : ArrivalCase → Bool
@@ -58,30 +58,30 @@ notes (Acknowledges invite rseq) = true
 notes AcknowledgesNothing = true
 notes ForUser = true
 
-abbrev case_life : ArrivalCase → Message → DialogName → Lives
+abbrev case_life : ArrivalCase → Message → DialogId → Lives
 case_life case request name other held = cond (notes case) (noted_life request name other held) []
 
-noted_leads : (state : State) (name : DialogName) (request : Message) → AreApart state.dialogs
+noted_leads : (state : State) (name : DialogId) (request : Message) → AreApart state.dialogs
     → Leads (noted_life request name) state.dialogs (noted state name request).dialogs
 noted_leads state name request apart =
-    elim (is_inside request) as (λ b.
-    Leads (λ other held. cond b (in_one name (visits request) other held) []) state.dialogs
+    elim (has_to_tag request) as (λ b.
+    Leads (λ other held. cond b (in_one name (happenings_by_request request) other held) []) state.dialogs
     (if b
     then record state { dialogs = dialog_changed name (visited request) state.dialogs }
     else state).dialogs) [
-      | true ↦ leads_changed name (visited request) (visits request)
-          (λ held. (refl, refl, ((cases_fit held).visits request, refl))) state.dialogs apart
+      | true ↦ leads_changed name (visited request) (happenings_by_request request)
+          (λ held. (refl, refl, ((cases_fit held).happenings_by_request request, refl))) state.dialogs apart
       | false ↦ leads_same state.dialogs apart
     ]
 
-bye_leads : (b : Bool) (state : State) (name : DialogName) (outs : List CallOut)
+bye_leads : (b : Bool) (state : State) (name : DialogId) (outs : List CallOut)
     → AreApart state.dialogs
     → Leads quiet state.dialogs ((cond {A = ServedTaken} b
     (record state { dialogs = (ended_at name state.dialogs).0 }, outs) (state, [])).0).dialogs
 bye_leads true state name outs apart = leads_removed name state.dialogs apart
 bye_leads false state name outs apart = leads_same state.dialogs apart
 
-case_leads : (case : ArrivalCase) (state : State) (call_id : List ℕ) (name : DialogName)
+case_leads : (case : ArrivalCase) (state : State) (call_id : List ℕ) (name : DialogId)
     (arrival : Arrival)
     → AreApart state.dialogs → Leads (case_life case arrival.request name) state.dialogs
     ((by_case case state call_id name arrival).0).dialogs
@@ -99,7 +99,7 @@ case_leads ForUser state call_id name arrival apart =
     leads_then (noted_life arrival.request name) state.dialogs before.dialogs
     ((bye_taken arrival.request name held).0).dialogs
     (noted_leads state name arrival.request apart)
-    (λ later. bye_leads (is_inside arrival.request && is_bye arrival.request) held name
+    (λ later. bye_leads (has_to_tag arrival.request && is_bye arrival.request) held name
     (ended_at name held.dialogs).1 later)
 
 cancel_leads : (state : State) (call_id : List ℕ) (arrival : Arrival) (now : ℕ)
@@ -124,20 +124,20 @@ module _ (requests : List HeldRequest) (request : Message) (held : HeldDialog)
   by_invite rseq None = refl
   by_invite rseq (Some invite) = refl
 
-  by_rack : (name : DialogName) (o : Option RAck)
-      → noted_if (prack_case requests name held.born o) ≡ life
+  by_rack : (name : DialogId) (o : Option RAck)
+      → noted_if (prack_case requests name held.created_by o) ≡ life
   by_rack name None = refl
-  by_rack name (Some rack) = by_invite rack.rseq (named_invite requests name held.born rack)
+  by_rack name (Some rack) = by_invite rack.rseq (named_invite requests name held.created_by rack)
 
-  by_number : (name : DialogName) (in_order prack : Bool)
+  by_number : (name : DialogId) (in_order prack : Bool)
       → noted_if (if not in_order then OutOfOrder
-      else (if prack then prack_case requests name held.born request.rack else ForUser))
+      else (if prack then prack_case requests name held.created_by request.rack else ForUser))
       ≡ cond in_order life []
   by_number name true true = by_rack name request.rack
   by_number name true false = refl
   by_number name false prack = refl
 
-  by_options : (name : DialogName) (unknown : Bool) (o : Option HeldDialog) → o ≡ Some held
+  by_options : (name : DialogId) (unknown : Bool) (o : Option HeldDialog) → o ≡ Some held
       → noted_if (if unknown then BadExtension else case_inside requests name request o)
       ≡ cond (not unknown && takes held request.cseq.number) life []
   by_options name true o is = refl
@@ -146,9 +146,9 @@ module _ (requests : List HeldRequest) (request : Message) (held : HeldDialog)
       ∙ by_number name (takes held request.cseq.number) (is_prack request)
 
 module _ (requests : List HeldRequest) (dialogs : Dialogs) (request : Message) (tag : List ℕ)
-    (other : DialogName) (held : HeldDialog) (at : dialog_at other dialogs ≡ Some held) where
+    (other : DialogId) (held : HeldDialog) (at : dialog_at other dialogs ≡ Some held) where
   -- by whether it has a To tag
-  abbrev name_by : Bool → DialogName
+  abbrev name_by : Bool → DialogId
   name_by outside = name_of_tags (if outside then tag else tag_of request.to) (tag_of request.from)
 
   abbrev case_by : Bool → Bool → ArrivalCase
@@ -160,20 +160,20 @@ module _ (requests : List HeldRequest) (dialogs : Dialogs) (request : Message) (
       else case_outside request))
 
   by_name : (unknown named : Bool) → is_named (name_by false) other ≡ named
-      → cond (notes (case_by false unknown)) (cond named (visits request held) []) []
+      → cond (notes (case_by false unknown)) (cond named (happenings_by_request request held) []) []
       ≡ (if named && true && not unknown && takes held request.cseq.number
-      then visits request held else [])
+      then happenings_by_request request held else [])
   by_name unknown true is =
-      by_options requests request held (visits request held) (name_by false) unknown
+      by_options requests request held (happenings_by_request request held) (name_by false) unknown
       (dialog_at (name_by false) dialogs)
       (sym (same_key name_laws (name_by false) other dialogs is) ∙ at)
   by_name unknown false is = none_either (notes (case_by false unknown))
 
   by_outside : (outside unknown : Bool)
       → cond (notes (case_by outside unknown))
-      (cond (not outside) (in_one (name_by outside) (visits request) other held) []) []
+      (cond (not outside) (in_one (name_by outside) (happenings_by_request request) other held) []) []
       ≡ (if (not outside && is_named (name_by false) other) && true && not unknown
-      && takes held request.cseq.number then visits request held else [])
+      && takes held request.cseq.number then happenings_by_request request held else [])
   by_outside true unknown = none_either (notes (case_by true unknown))
   by_outside false unknown =
       by_name unknown (is_named (name_by false) other) refl
@@ -185,19 +185,19 @@ module _ (requests : List HeldRequest) (dialogs : Dialogs) (request : Message) (
       by_outside (length (tag_of request.to) == 0) (list_any is_unknown_option request.require)
       ∙ ap (λ b. if is_of_name request other && not b
       && not (list_any is_unknown_option request.require)
-      && takes held request.cseq.number then visits request held else []) (sym none)
+      && takes held request.cseq.number then happenings_by_request request held else []) (sym none)
 
-cancel_accepts : (request : Message) (other : DialogName) (held : HeldDialog)
+cancel_accepts : (request : Message) (other : DialogId) (held : HeldDialog)
     → is_cancel request ≡ true → [] ≡ accepts request other held
 cancel_accepts request other held cancel =
     by_name (is_of_name request other)
     ∙ ap (λ b. if is_of_name request other && not b
     && not (list_any is_unknown_option request.require)
-    && takes held request.cseq.number then visits request held else []) (sym cancel)
+    && takes held request.cseq.number then happenings_by_request request held else []) (sym cancel)
   where
     by_name : (named : Bool) → [] ≡ (if named && false
         && not (list_any is_unknown_option request.require)
-        && takes held request.cseq.number then visits request held else [])
+        && takes held request.cseq.number then happenings_by_request request held else [])
     by_name true = refl
     by_name false = refl
 
@@ -251,8 +251,8 @@ made_name request status makes =
     let message = request.request in
     let tags = name_of_dialog (opened (ByRequest message request.tag status)) in
     let outside = both_not (length (tag_of message.to) == 0)
-    (second_so (is_of_dialog request status) (not (is_inside message))
-    (first_so (is_of_dialog request status && not (is_inside message)) (is_none request.dialog)
+    (second_so (makes_or_confirms_dialog request status) (not (has_to_tag message))
+    (first_so (makes_or_confirms_dialog request status && not (has_to_tag message)) (is_none request.dialog)
     makes)) in
     let same : dialog_name message request.tag ≡ tags =
     λ i. name_of_tags (if outside i then request.tag else tag_of message.to)
@@ -270,7 +270,7 @@ neither false xs = refl
 
 module _ (event : Id) (request : HeldRequest) (r : Answer) (response : Message)
     (dialogs : Dialogs) (apart : AreApart dialogs) where
-  abbrev name : DialogName
+  abbrev name : DialogId
   name = dialog_name request.request request.tag
 
   abbrev start : Opening

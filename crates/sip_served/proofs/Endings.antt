@@ -24,24 +24,24 @@ use Rattle.sip_served.specs.declared.arrival.ArrivalCase.{ArrivalCase}
 use Rattle.sip_served.specs.declared.arrival.ArrivalCase.TheVariants.{Merged, BadExtension, NoDialog, OutOfOrder, Acknowledges, AcknowledgesNothing, ForUser}
 use Rattle.sip_served.specs.declared.held_request.HeldRequest.{HeldRequest}
 use Rattle.sip_served.specs.declared.held_request.Success.{Success}
-use Rattle.sip_served.specs.declared.provisionals.NumberedResponse.{NumberedResponse}
+use Rattle.sip_served.specs.declared.provisionals.ReliableResponse.{ReliableResponse}
 use Rattle.sip_served.specs.declared.tick.SuccessDue.{SuccessDue}
 use Rattle.sip_served.specs.declared.tick.SuccessDue.TheVariants as repeat
 use Rattle.sip_common.specs.declared.command.Respond.{Respond as Answer}
-use Rattle.sip_common.specs.declared.held_dialog.DialogName.{DialogName}
+use Rattle.sip_common.specs.declared.held_dialog.DialogId.{DialogId}
 use Rattle.sip_common.specs.declared.held_dialog.HeldDialog.{HeldDialog}
 use Rattle.sip_common.specs.declared.item.CallOut.{CallOut}
 use Rattle.sip_common.specs.declared.item.CallOut.TheVariants as out
 use Rattle.sip_common.specs.declared.refusal.Refusal.{Refusal}
-use Rattle.sip_common.specs.Dialogs.{Dialogs, confirmed, dialog_at, dialog_changed, early_ended, ended_at, is_early_of, is_named, takes, visited, visits}
-use Rattle.sip_common.specs.Requests.{dialog_name, is_bye, is_cancel, is_inside, is_invite, is_prack, is_provisional, is_success, is_unknown_option, name_of_tags}
+use Rattle.sip_common.specs.Dialogs.{Dialogs, confirmed, dialog_at, dialog_changed, early_ended, ended_at, is_early_of, is_named, takes, visited, happenings_by_request}
+use Rattle.sip_common.specs.Requests.{dialog_name, is_bye, is_cancel, has_to_tag, is_invite, is_prack, is_provisional, is_success, is_unknown_option, name_of_tags}
 use Rattle.sip_served.specs.Acknowledgment.{ack_noted, ack_taken, acknowledged_invite}
 use Rattle.sip_served.specs.Arrival.{arrival_of, by_case, bye_taken, case_inside, case_of, case_outside, is_merged, noted, prack_case, request_held, request_taken}
 use Rattle.sip_served.specs.Cancel.{by_cancelled, cancel_taken, cancelled_request, is_unanswered_invite, request_terminated, termination_told}
 use Rattle.sip_common.specs.Sent.{response_in}
 use Rattle.sip_served.specs.Endings.{ended_by_answer, ended_by_bye, ended_by_cancel, ended_by_request, opened_by_answer}
 use Rattle.sip_served.specs.Provisionals.{of_numbers}
-use Rattle.sip_served.specs.Respond.{answer_to, by_refusal, by_request, confirms_dialog, is_of_dialog, made_dialog, makes_dialog, refusal_for, rejects, respond_taken}
+use Rattle.sip_served.specs.Respond.{answer_to, by_refusal, by_request, confirms_dialog, makes_or_confirms_dialog, made_dialog, makes_dialog, refusal_for, rejects, respond_taken}
 use Rattle.sip_served.specs.State.{State, ServedTaken, has_id}
 use Rattle.sip_served.specs.Step.{arrival_taken, kind_taken}
 use Rattle.sip_served.specs.Tick.{provisionals_ticked, provisionals_told, request_ticked, success_answer, success_at_tick, success_ticked, success_told, tick_taken}
@@ -56,21 +56,21 @@ Closes ends state taken = Goes no_name ends state.dialogs (taken.0).dialogs take
 -- ---- a request that comes up
 
 -- a request in a dialog is noted there
-noted_held : (state : State) (name : DialogName) (request : Message) (other : DialogName)
+noted_held : (state : State) (name : DialogId) (request : Message) (other : DialogId)
     → is_some (dialog_at other (noted state name request).dialogs)
     ≡ is_some (dialog_at other state.dialogs)
 noted_held state name request other =
-    elim (is_inside request) as (λ b. is_some (dialog_at other (if b
+    elim (has_to_tag request) as (λ b. is_some (dialog_at other (if b
     then record state { dialogs = dialog_changed name (visited request) state.dialogs }
     else state).dialogs) ≡ is_some (dialog_at other state.dialogs)) [
       | true ↦ changed_held name (visited request) state.dialogs other
       | false ↦ refl
     ]
 
-noted_apart : (state : State) (name : DialogName) (request : Message) → AreApart state.dialogs
+noted_apart : (state : State) (name : DialogId) (request : Message) → AreApart state.dialogs
     → AreApart (noted state name request).dialogs
 noted_apart state name request apart =
-    elim (is_inside request) as (λ b. AreApart (if b
+    elim (has_to_tag request) as (λ b. AreApart (if b
     then record state { dialogs = dialog_changed name (visited request) state.dialogs }
     else state).dialogs) [
       | true ↦ entries.apart_changed name_laws name (visited request) state.dialogs
@@ -78,14 +78,14 @@ noted_apart state name request apart =
       | false ↦ apart
     ]
 
-noted_named : (state : State) (name : DialogName) (request : Message) → AreNamed state.dialogs
+noted_named : (state : State) (name : DialogId) (request : Message) → AreNamed state.dialogs
     → AreNamed (noted state name request).dialogs
 noted_named state name request named =
-    elim (is_inside request) as (λ b. AreNamed (if b
+    elim (has_to_tag request) as (λ b. AreNamed (if b
     then record state { dialogs = dialog_changed name (visited request) state.dialogs }
     else state).dialogs) [
       | true ↦ changed_named name (visited request)
-          (λ held. lived_name held.dialog (visits request held)) state.dialogs named
+          (λ held. lived_name held.dialog (happenings_by_request request held)) state.dialogs named
       | false ↦ named
     ]
 
@@ -99,11 +99,11 @@ is_user (Acknowledges invite rseq) = false
 is_user AcknowledgesNothing = false
 is_user ForUser = true
 
-abbrev case_ends : ArrivalCase → Message → DialogName → Which
+abbrev case_ends : ArrivalCase → Message → DialogId → Which
 case_ends case request own name held =
-    (is_user case && (is_inside request && is_bye request)) && is_named own name
+    (is_user case && (has_to_tag request && is_bye request)) && is_named own name
 
-bye_goes : (b : Bool) (state : State) (name : DialogName) → AreApart state.dialogs
+bye_goes : (b : Bool) (state : State) (name : DialogId) → AreApart state.dialogs
     → AreNamed state.dialogs
     → Closes (λ other held. b && is_named name other) state (cond {A = ServedTaken} b
     (record state { dialogs = (ended_at name state.dialogs).0 }, (ended_at name state.dialogs).1)
@@ -111,7 +111,7 @@ bye_goes : (b : Bool) (state : State) (name : DialogName) → AreApart state.dia
 bye_goes true state name apart named = goes_removed name state.dialogs apart named
 bye_goes false state name apart named = goes_same state.dialogs [] refl
 
-case_goes : (case : ArrivalCase) (state : State) (call_id : List ℕ) (name : DialogName)
+case_goes : (case : ArrivalCase) (state : State) (call_id : List ℕ) (name : DialogId)
     (arrival : Arrival) → AreApart state.dialogs → AreNamed state.dialogs
     → Closes (case_ends case arrival.request name) state (by_case case state call_id name arrival)
 case_goes Merged state call_id name arrival apart named = goes_same state.dialogs _ refl
@@ -128,7 +128,7 @@ case_goes ForUser state call_id name arrival apart named =
     let request = arrival.request in
     let before = noted state name request in
     let held = request_held before call_id name arrival in
-    let bye = is_inside request && is_bye request in
+    let bye = has_to_tag request && is_bye request in
     let done = bye_taken request name held.0 in
     goes_before no_name (case_ends ForUser request name) state.dialogs (done.0).dialogs held.1
     done.1 refl
@@ -172,9 +172,9 @@ bye_is_no_prack request is =
     ap (λ method. bytes_eq method (codes "PRACK")) method
 
 module _ (requests : List HeldRequest) (dialogs : Dialogs) (request : Message) (tag : List ℕ)
-    (name : DialogName) (held : HeldDialog) (at : dialog_at name dialogs ≡ Some held) where
+    (name : DialogId) (held : HeldDialog) (at : dialog_at name dialogs ≡ Some held) where
   -- by whether it has a To tag
-  abbrev own : Bool → DialogName
+  abbrev own : Bool → DialogId
   own outside = name_of_tags (if outside then tag else tag_of request.to) (tag_of request.from)
 
   abbrev case_by : Bool → Bool → ArrivalCase
@@ -187,7 +187,7 @@ module _ (requests : List HeldRequest) (dialogs : Dialogs) (request : Message) (
 
   by_number : (in_order prack : Bool) → prack ≡ false
       → is_user (if not in_order then OutOfOrder
-      else (if prack then prack_case requests (own false) held.born request.rack else ForUser))
+      else (if prack then prack_case requests (own false) held.created_by request.rack else ForUser))
       ≡ in_order
   by_number in_order true none = absurd cc
   by_number true false none = refl
@@ -280,7 +280,7 @@ below_300 : (status : ℕ) → (nat_lt status 200 || (nat_le 200 status && nat_l
 below_300 status e = grind (arith, common_steps)
 
 -- one that is of a dialog rejects nothing
-not_both : (request : HeldRequest) (status : ℕ) → is_of_dialog request status ≡ true
+not_both : (request : HeldRequest) (status : ℕ) → makes_or_confirms_dialog request status ≡ true
     → rejects request status ≡ false
 not_both request status is =
     ap (λ b. is_invite request.request && b)
@@ -291,27 +291,27 @@ not_both request status is =
 makes_not_rejects : (request : HeldRequest) (status : ℕ) → makes_dialog request status ≡ true
     → rejects request status ≡ false
 makes_not_rejects request status is =
-    not_both request status (first_so (is_of_dialog request status) (not (is_inside request.request))
-    (first_so (is_of_dialog request status && not (is_inside request.request))
+    not_both request status (first_so (makes_or_confirms_dialog request status) (not (has_to_tag request.request))
+    (first_so (makes_or_confirms_dialog request status && not (has_to_tag request.request))
     (is_none request.dialog) is))
 
 confirms_not_rejects : (request : HeldRequest) (status : ℕ)
     → confirms_dialog request status ≡ true → rejects request status ≡ false
 confirms_not_rejects request status is =
-    not_both request status (first_so (is_of_dialog request status) (is_success status)
-    (first_so (is_of_dialog request status && is_success status)
-    (not (is_inside request.request)) is))
+    not_both request status (first_so (makes_or_confirms_dialog request status) (is_success status)
+    (first_so (makes_or_confirms_dialog request status && is_success status)
+    (not (has_to_tag request.request)) is))
 
 module _ (event : Id) (request : HeldRequest) (r : Answer) (response : Message)
     (dialogs : Dialogs) (apart : AreApart dialogs) (named : AreNamed dialogs) where
-  abbrev its_name : DialogName
+  abbrev its_name : DialogId
   its_name = dialog_name request.request request.tag
 
   abbrev Given : Bool → Bool → Dialogs × List CallOut → Type 0
   Given makes rejected done = Goes (λ name. makes && is_named its_name name)
       (λ name held. rejected && is_early_of request.id held) dialogs done.0 done.1
 
-  put_held : (made : HeldDialog) (name : DialogName) (b : Bool) (o : Option HeldDialog)
+  put_held : (made : HeldDialog) (name : DialogId) (b : Bool) (o : Option HeldDialog)
       → is_some (cond {A = Option HeldDialog} b (Some made) o) ≡ (b || left_of (none_ends name) o)
   put_held made name true o = refl
   put_held made name false None = refl
@@ -388,7 +388,7 @@ success_silent now held None = refl
 success_silent now held (Some success) =
     told_silent (success_answer now success) held success.response
 
-repeats_silent : (held : HeldRequest) (responses : List NumberedResponse)
+repeats_silent : (held : HeldRequest) (responses : List ReliableResponse)
     → names_ended (map (λ one. out.Command held.id (order.Answer held.key one.response)) responses)
     ≡ []
 repeats_silent held [] = refl

@@ -21,7 +21,7 @@ use Rattle.sip_served.specs.declared.arrival.ArrivalCase.TheVariants.{Merged, Ba
 use Rattle.sip_common.specs.declared.command.Respond.{Respond as Answer}
 use Rattle.sip_common.specs.declared.command.UserCommand.{UserCommand}
 use Rattle.sip_common.specs.declared.command.UserCommand.TheVariants as command
-use Rattle.sip_common.specs.declared.held_dialog.DialogName.{DialogName}
+use Rattle.sip_common.specs.declared.held_dialog.DialogId.{DialogId}
 use Rattle.sip_served.specs.declared.held_request.HeldRequest.{HeldRequest}
 use Rattle.sip_served.specs.declared.held_request.Success.{Success}
 use Rattle.sip_common.specs.declared.item.Item.TheVariants as item
@@ -30,7 +30,7 @@ use Rattle.sip_served.specs.Acknowledgment.{ack_noted, acknowledged_invite, succ
 use Rattle.sip_served.specs.declared.held_request.SuccessEnd.TheVariants.{Acknowledged}
 use Rattle.sip_served.specs.Arrival.{arrival_of, by_case, bye_taken, case_of, first_rseq, noted, pracked}
 use Rattle.sip_served.specs.Cancel.{by_cancelled, cancelled_request, is_unanswered_invite, request_terminated}
-use Rattle.sip_common.specs.Requests.{dialog_name, is_bye, is_cancel, is_inside, is_final}
+use Rattle.sip_common.specs.Requests.{dialog_name, is_bye, is_cancel, has_to_tag, is_final}
 use Rattle.sip_served.specs.Respond.{after_answer, answered, by_refusal, by_request, finished, is_sent_reliably, makes_dialog, refusal_for, sent_as, with_dialog}
 use Rattle.sip_served.specs.Run.{Event, Takes, Ticks, FewWaitEach, event_taken, server_state_after}
 use Rattle.sip_served.specs.State.{State, empty_at, has_id}
@@ -95,18 +95,18 @@ request_keeps now held kept = let first = (success_ticked now held).0 in
 
 -- ---- each case
 
-noted_keeps : (state : State) (name : DialogName) (request : Message) → IsKeptEach state
+noted_keeps : (state : State) (name : DialogId) (request : Message) → IsKeptEach state
     → IsKeptEach (noted state name request)
-noted_keeps state name request all = by_bool (is_inside request) (λ e. rw e all) (λ e. rw e all)
+noted_keeps state name request all = by_bool (has_to_tag request) (λ e. rw e all) (λ e. rw e all)
 
-bye_keeps : (request : Message) (name : DialogName) (state : State) → IsKeptEach state
+bye_keeps : (request : Message) (name : DialogId) (state : State) → IsKeptEach state
     → IsKeptEach (bye_taken request name state).0
 bye_keeps request name state all =
-    by_bool (is_inside request)
+    by_bool (has_to_tag request)
     (λ e. by_bool (is_bye request) (λ f. rw (e, f) all) (λ f. rw (e, f) all))
     (λ e. rw e all)
 
-case_keeps : (case : ArrivalCase) (state : State) (call_id : List ℕ) (name : DialogName)
+case_keeps : (case : ArrivalCase) (state : State) (call_id : List ℕ) (name : DialogId)
     (arrival : Arrival) → IsKeptEach state
     → IsKeptEach (by_case case state call_id name arrival).0
 case_keeps Merged state call_id name arrival all = all

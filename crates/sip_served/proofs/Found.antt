@@ -6,11 +6,11 @@ use Rattle.sip_message.specs.declared.id.Id.{Id}
 use Rattle.sip_message.specs.declared.message.Message.{Message}
 use Rattle.sip_reliable.specs.Ledger.{tick_answer}
 use Rattle.sip_common.specs.declared.command.Respond.{Respond as Answer}
-use Rattle.sip_common.specs.declared.held_dialog.DialogName.{DialogName}
+use Rattle.sip_common.specs.declared.held_dialog.DialogId.{DialogId}
 use Rattle.sip_common.specs.declared.item.CallOut.{CallOut}
 use Rattle.sip_common.specs.Dialogs.{Dialogs, dialog_changed, visited}
 use Rattle.sip_common.specs.Ids.{is_id}
-use Rattle.sip_common.specs.Requests.{is_inside}
+use Rattle.sip_common.specs.Requests.{has_to_tag}
 use Rattle.sip_common.proofs.Heard.{id_laws}
 use Rattle.sip_served.specs.declared.held_request.HeldRequest.{HeldRequest}
 use Rattle.sip_served.specs.Arrival.{noted}
@@ -114,10 +114,10 @@ found_id q (first ∷ requests) held is =
 
 -- ---- what no step changes
 
-pub noted_requests : (state : State) (name : DialogName) (request : Message)
+pub noted_requests : (state : State) (name : DialogId) (request : Message)
     → (noted state name request).requests ≡ state.requests
 noted_requests state name request =
-    elim (is_inside request) as (λ b. (if b
+    elim (has_to_tag request) as (λ b. (if b
     then record state { dialogs = dialog_changed name (visited request) state.dialogs }
     else state).requests ≡ state.requests) [ true ↦ refl | false ↦ refl ]
 

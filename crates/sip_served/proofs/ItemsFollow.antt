@@ -11,7 +11,7 @@ use Rattle.sip_message.specs.declared.key.Key.{Key}
 use Rattle.sip_message.specs.declared.message.Message.{Message}
 use Rattle.sip_transactions.specs.declared.input.Command.TheVariants as order
 use Rattle.sip_common.specs.declared.command.Respond.{Respond as Answer}
-use Rattle.sip_common.specs.declared.held_dialog.DialogName.{DialogName}
+use Rattle.sip_common.specs.declared.held_dialog.DialogId.{DialogId}
 use Rattle.sip_common.specs.declared.held_dialog.HeldDialog.{HeldDialog}
 use Rattle.sip_common.specs.declared.item.CallOut.{CallOut}
 use Rattle.sip_common.specs.declared.item.CallOut.TheVariants as out
@@ -21,7 +21,7 @@ use Rattle.sip_common.specs.declared.refusal.Refusal.TheVariants.{NoSuchRequest}
 use Rattle.sip_common.specs.Dialogs.{Dialogs, confirmed, dialog_at, dialog_changed, early_ended, ended_at, ended_notice, is_early_of, is_named, own_dialog}
 use Rattle.sip_common.specs.Ids.{is_id}
 use Rattle.sip_common.specs.Notices.{refused}
-use Rattle.sip_common.specs.Requests.{dialog_name, is_bye, is_cancel, is_inside}
+use Rattle.sip_common.specs.Requests.{dialog_name, is_bye, is_cancel, has_to_tag}
 use Rattle.sip_common.proofs.Heard.{id_laws}
 use Rattle.sip_served.specs.declared.arrival.Arrival.{Arrival}
 use Rattle.sip_served.specs.declared.arrival.ArrivalCase.{ArrivalCase}
@@ -46,11 +46,11 @@ module _ {X : Type 0} (reading : Reading X) (invite : Id) (told : IsTold X readi
       ap (λ x. fold reading.by x (map ended_notice dialogs)) (told.ended dialog x)
       ∙ ends_silent dialogs x
 
-  early_silent : (made_by : Id) (dialogs : Dialogs)
-      → Silent reading (early_ended made_by dialogs).1
-  early_silent made_by dialogs = ends_silent (filter (is_early_of made_by) (values_of dialogs))
+  early_silent : (invite : Id) (dialogs : Dialogs)
+      → Silent reading (early_ended invite dialogs).1
+  early_silent invite dialogs = ends_silent (filter (is_early_of invite) (values_of dialogs))
 
-  ended_silent : (name : DialogName) (dialogs : Dialogs) → Silent reading (ended_at name dialogs).1
+  ended_silent : (name : DialogId) (dialogs : Dialogs) → Silent reading (ended_at name dialogs).1
   ended_silent name dialogs = by_found (dialog_at name dialogs)
     where
       by_found : (o : Option HeldDialog)
@@ -126,7 +126,7 @@ module _ {X : Type 0} (reading : Reading X) (invite : Id) (told : IsTold X readi
         by_found None = by_new (is_id held.id invite)
         by_found (Some there) = sym (silent (reading.read there))
 
-  case_follows : (case : ArrivalCase) (state : State) (call_id : List ℕ) (name : DialogName)
+  case_follows : (case : ArrivalCase) (state : State) (call_id : List ℕ) (name : DialogId)
       (arrival : Arrival) → find (has_id arrival.id) state.requests ≡ None
       → Follows reading invite state.requests
       ((by_case case state call_id name arrival).0).requests
@@ -162,7 +162,7 @@ module _ {X : Type 0} (reading : Reading X) (invite : Id) (told : IsTold X readi
       let first = request_held before call_id name arrival in
       let held = first.0 in
       let bye = bye_taken arrival.request name held in
-      let of_bye = is_inside arrival.request && is_bye arrival.request in
+      let of_bye = has_to_tag arrival.request && is_bye arrival.request in
       let ended = ended_at name held.dialogs in
       let outs = first.1 ++ bye.1 in
       let own = own_dialog arrival.request name before.dialogs in

@@ -18,12 +18,12 @@ use Rattle.sip_served.specs.declared.arrival.Arrival.{Arrival}
 use Rattle.sip_served.specs.declared.arrival.ArrivalCase.{ArrivalCase}
 use Rattle.sip_served.specs.declared.arrival.ArrivalCase.TheVariants.{Merged, BadExtension, NoDialog, OutOfOrder, Acknowledges, AcknowledgesNothing, ForUser}
 use Rattle.sip_common.specs.declared.command.Respond.{Respond as Answer}
-use Rattle.sip_common.specs.declared.held_dialog.DialogName.{DialogName}
+use Rattle.sip_common.specs.declared.held_dialog.DialogId.{DialogId}
 use Rattle.sip_served.specs.declared.held_request.HeldRequest.{HeldRequest}
 use Rattle.sip_served.specs.declared.held_request.Success.{Success}
 use Rattle.sip_common.specs.declared.item.CallOut.{CallOut}
 use Rattle.sip_common.specs.declared.item.CallOut.TheVariants as out
-use Rattle.sip_served.specs.declared.provisionals.NumberedResponse.{NumberedResponse}
+use Rattle.sip_served.specs.declared.provisionals.ReliableResponse.{ReliableResponse}
 use Rattle.sip_common.specs.declared.refusal.Refusal.{Refusal}
 use Rattle.sip_served.specs.declared.tick.SuccessDue.{SuccessDue}
 use Rattle.sip_served.specs.declared.tick.SuccessDue.TheVariants as repeat
@@ -32,7 +32,7 @@ use Rattle.sip_served.specs.Acknowledgment.{ack_noted, acknowledged_invite}
 use Rattle.sip_served.specs.Arrival.{arrival_of, by_case, case_of, noted, request_held}
 use Rattle.sip_served.specs.Cancel.{by_cancelled, cancelled_request, is_unanswered_invite}
 use Rattle.sip_common.specs.Dialogs.{confirmed, dialog_changed, early_ended, ended_at, is_named, Dialogs}
-use Rattle.sip_common.specs.Requests.{dialog_name, is_bye, is_cancel, is_inside}
+use Rattle.sip_common.specs.Requests.{dialog_name, is_bye, is_cancel, has_to_tag}
 use Rattle.sip_served.specs.Respond.{answer_to, by_refusal, by_request, confirms_dialog, made_dialog, makes_dialog, refusal_for, rejects, respond_taken}
 use Rattle.sip_served.specs.State.{State, ServedTaken, has_id}
 use Rattle.sip_served.specs.Step.{arrival_taken, kind_taken}
@@ -45,7 +45,7 @@ bye_starts : (b : Bool) (state : State) (outs : List CallOut) (after : State) �
 bye_starts true state outs after none = none
 bye_starts false state outs after none = refl
 
-case_starts : (case : ArrivalCase) (state : State) (call_id : List ℕ) (name : DialogName)
+case_starts : (case : ArrivalCase) (state : State) (call_id : List ℕ) (name : DialogId)
     (arrival : Arrival) → starts (by_case case state call_id name arrival).1 ≡ []
 case_starts Merged state call_id name arrival = refl
 case_starts BadExtension state call_id name arrival = refl
@@ -55,7 +55,7 @@ case_starts (Acknowledges invite rseq) state call_id name arrival = refl
 case_starts AcknowledgesNothing state call_id name arrival = refl
 case_starts ForUser state call_id name arrival =
     let before = (request_held (noted state name arrival.request) call_id name arrival).0 in
-    bye_starts (is_inside arrival.request && is_bye arrival.request) before
+    bye_starts (has_to_tag arrival.request && is_bye arrival.request) before
     (ended_at name before.dialogs).1
     (record before { dialogs = (ended_at name before.dialogs).0 })
     (ended_starts name before.dialogs)
@@ -138,7 +138,7 @@ success_starts now held None = refl
 success_starts now held (Some success) =
     told_starts (success_answer now success) held success.response
 
-repeats_start : (held : HeldRequest) (responses : List NumberedResponse)
+repeats_start : (held : HeldRequest) (responses : List ReliableResponse)
     → starts (map (λ one. out.Command held.id (order.Answer held.key one.response)) responses) ≡ []
 repeats_start held [] = refl
 repeats_start held (one ∷ responses) = repeats_start held responses

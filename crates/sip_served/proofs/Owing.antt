@@ -9,12 +9,12 @@ use Rattle.sip_message.specs.declared.message.Message.{Message}
 use Rattle.sip_transactions.specs.declared.output.Kind.TheVariants.{Request}
 use Rattle.sip_transactions.specs.declared.output.Up.{Up}
 use Rattle.sip_common.specs.declared.command.Respond.{Respond as Answer}
-use Rattle.sip_common.specs.declared.held_dialog.DialogName.{DialogName}
+use Rattle.sip_common.specs.declared.held_dialog.DialogId.{DialogId}
 use Rattle.sip_common.specs.declared.held_dialog.HeldDialog.{HeldDialog}
 use Rattle.sip_common.specs.declared.item.CallOut.{CallOut}
 use Rattle.sip_common.specs.declared.refusal.Refusal.{Refusal}
 use Rattle.sip_common.specs.Dialogs.{Dialogs, confirmed, dialog_at, dialog_changed, early_ended, ended_at, is_early_of, is_named, visited}
-use Rattle.sip_common.specs.Requests.{dialog_name, is_bye, is_cancel, is_inside}
+use Rattle.sip_common.specs.Requests.{dialog_name, is_bye, is_cancel, has_to_tag}
 use Rattle.sip_common.proofs.Entries as entries
 use Rattle.sip_common.proofs.Heard.{AreApart, name_laws}
 use Rattle.sip_served.specs.declared.arrival.Arrival.{Arrival}
@@ -31,10 +31,10 @@ use Rattle.sip_common.proofs.Owing.{OweSame, Owes, changed_same, filtered_same, 
 
 -- ---- a request that comes up, and an ACK
 
-noted_apart : (state : State) (name : DialogName) (request : Message) → AreApart state.dialogs
+noted_apart : (state : State) (name : DialogId) (request : Message) → AreApart state.dialogs
     → AreApart (noted state name request).dialogs
 noted_apart state name request apart =
-    elim (is_inside request) as (λ b. AreApart (if b
+    elim (has_to_tag request) as (λ b. AreApart (if b
     then record state { dialogs = dialog_changed name (visited request) state.dialogs }
     else state).dialogs) [
       | true ↦ entries.apart_changed name_laws name (visited request) state.dialogs
@@ -42,24 +42,24 @@ noted_apart state name request apart =
       | false ↦ apart
     ]
 
-noted_same : (state : State) (name : DialogName) (request : Message)
+noted_same : (state : State) (name : DialogId) (request : Message)
     → OweSame state.dialogs (noted state name request).dialogs
 noted_same state name request =
-    elim (is_inside request) as (λ b. OweSame state.dialogs (if b
+    elim (has_to_tag request) as (λ b. OweSame state.dialogs (if b
     then record state { dialogs = dialog_changed name (visited request) state.dialogs }
     else state).dialogs) [
       | true ↦ changed_same name (visited request) (λ held. (refl, refl)) state.dialogs
       | false ↦ same_owed state.dialogs
     ]
 
-bye_same : (b : Bool) (state : State) (name : DialogName) (outs : List CallOut)
+bye_same : (b : Bool) (state : State) (name : DialogId) (outs : List CallOut)
     → AreApart state.dialogs
     → OweSame state.dialogs ((cond {A = ServedTaken} b
     (record state { dialogs = (ended_at name state.dialogs).0 }, outs) (state, [])).0).dialogs
 bye_same true state name outs apart = removed_same name state.dialogs apart
 bye_same false state name outs apart = same_owed state.dialogs
 
-case_same : (case : ArrivalCase) (state : State) (call_id : List ℕ) (name : DialogName)
+case_same : (case : ArrivalCase) (state : State) (call_id : List ℕ) (name : DialogId)
     (arrival : Arrival) → AreApart state.dialogs
     → OweSame state.dialogs ((by_case case state call_id name arrival).0).dialogs
 case_same Merged state call_id name arrival apart = same_owed state.dialogs
@@ -75,7 +75,7 @@ case_same ForUser state call_id name arrival apart =
     let held = (request_held before call_id name arrival).0 in
     same_then state.dialogs before.dialogs ((bye_taken arrival.request name held).0).dialogs
     (noted_same state name arrival.request)
-    (bye_same (is_inside arrival.request && is_bye arrival.request) held name
+    (bye_same (has_to_tag arrival.request && is_bye arrival.request) held name
     (ended_at name held.dialogs).1 (noted_apart state name arrival.request apart))
 
 cancel_same : (state : State) (call_id : List ℕ) (arrival : Arrival) (now : ℕ)
@@ -117,19 +117,19 @@ ack_same state call_id ack = by_invite (acknowledged_invite ack state.requests)
 
 module _ (event : Id) where
   abbrev Owe : Dialogs → Dialogs → Type 0
-  Owe before after = (name : DialogName)
+  Owe before after = (name : DialogId)
       → Owes (Some event) unchanged (dialog_at name before) (dialog_at name after)
 
-  made_owes : (own : DialogName) (held : HeldDialog) → held.born ≡ event → held.owed ≡ []
+  made_owes : (own : DialogId) (held : HeldDialog) → held.created_by ≡ event → held.pending_requests ≡ []
       → (dialogs : Dialogs) → Owe dialogs (insert_entry is_named dialogs own held)
-  made_owes own held born none dialogs name =
+  made_owes own held created_by none dialogs name =
       subst (Owes (Some event) unchanged (dialog_at name dialogs))
       (sym (entries.found_inserted name_laws own name held dialogs))
       (by_name (is_named own name))
     where
       by_name : (b : Bool) → Owes (Some event) unchanged (dialog_at name dialogs)
           (cond b (Some held) (dialog_at name dialogs))
-      by_name true = inr (λ i. Some (sym born i), none)
+      by_name true = inr (λ i. Some (sym created_by i), none)
       by_name false = inl (still_same (dialog_at name dialogs))
 
   dialogs_owe : (request : HeldRequest) (status : ℕ) (response : Message) (dialogs : Dialogs)

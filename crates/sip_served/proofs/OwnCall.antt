@@ -19,13 +19,13 @@ use Rattle.sip_served.specs.declared.arrival.ArrivalCase.TheVariants.{Merged, Ba
 use Rattle.sip_common.specs.declared.command.Respond.{Respond as Answer}
 use Rattle.sip_common.specs.declared.command.UserCommand.{UserCommand}
 use Rattle.sip_common.specs.declared.command.UserCommand.TheVariants as command
-use Rattle.sip_common.specs.declared.held_dialog.DialogName.{DialogName}
+use Rattle.sip_common.specs.declared.held_dialog.DialogId.{DialogId}
 use Rattle.sip_served.specs.declared.held_request.HeldRequest.{HeldRequest}
 use Rattle.sip_served.specs.declared.held_request.Success.{Success}
 use Rattle.sip_common.specs.declared.item.CallOut.TheVariants.{Command}
 use Rattle.sip_common.specs.declared.item.Item.{Item}
 use Rattle.sip_common.specs.declared.item.Item.TheVariants as item
-use Rattle.sip_served.specs.declared.provisionals.NumberedResponse.{NumberedResponse}
+use Rattle.sip_served.specs.declared.provisionals.ReliableResponse.{ReliableResponse}
 use Rattle.sip_common.specs.declared.refusal.Refusal.{Refusal}
 use Rattle.sip_served.specs.declared.tick.SuccessDue.{SuccessDue}
 use Rattle.sip_served.specs.declared.tick.SuccessDue.TheVariants as repeat
@@ -33,11 +33,11 @@ use Rattle.sip_served.specs.Acknowledgment.{ack_noted, acknowledged_invite, succ
 use Rattle.sip_served.specs.declared.held_request.SuccessEnd.TheVariants.{Acknowledged}
 use Rattle.sip_served.specs.Arrival.{arrival_of, by_case, bye_taken, case_of, noted, pracked, request_held}
 use Rattle.sip_served.specs.Cancel.{by_cancelled, cancelled_request, invite_terminated, is_unanswered_invite, request_terminated}
-use Rattle.sip_common.specs.Dialogs.{confirmed, confirms, is_named, visited, visits, Dialogs}
+use Rattle.sip_common.specs.Dialogs.{confirmed, confirms, is_named, visited, happenings_by_request, Dialogs}
 use Rattle.sip_common.specs.OwnCall.{AreDialogsOf, AreNoticesOf, IsDialogOf, IsItemOf, IsKindOf, IsNoticeOf}
 use Rattle.sip_served.specs.OwnCall.{AreRequestsOf, IsEventOf, IsStateOf}
 use Rattle.sip_served.specs.Provisionals.{of_numbers}
-use Rattle.sip_common.specs.Requests.{dialog_name, is_bye, is_cancel, is_inside}
+use Rattle.sip_common.specs.Requests.{dialog_name, is_bye, is_cancel, has_to_tag}
 use Rattle.sip_served.specs.Respond.{after_answer, answer_to, answers, by_refusal, by_request, confirms_dialog, dialogs_answered, finished, made_dialog, makes, makes_dialog, refusal_for, rejects, respond_taken, with_dialog}
 use Rattle.sip_served.specs.Run.{Event, Takes, Ticks, event_taken}
 use Rattle.sip_served.specs.State.{State, ServedTaken, changed_at, empty_at, followed, has_id}
@@ -93,27 +93,27 @@ module _ (call_id : List ℕ) where
       let later = second done.0 first.0 in
       (later.0, each.both (IsNoticeOf call_id) done.1 (more done.0).1 first.1 later.1)
 
-  noted_is : (state : State) (name : DialogName) (request : Message) → IsStateOf call_id state
+  noted_is : (state : State) (name : DialogId) (request : Message) → IsStateOf call_id state
       → IsStateOf call_id (noted state name request)
   noted_is state name request its =
-      by_bool (is_inside request)
+      by_bool (has_to_tag request)
       (λ e. rw e record {
         requests = its.requests;
         dialogs = changed_dialog call_id name (visited request)
-            (λ held. lived_keeps held.dialog (visits request held))
+            (λ held. lived_keeps held.dialog (happenings_by_request request held))
             state.dialogs its.dialogs;
       })
       (λ e. rw e its)
 
-  bye_is : (request : Message) (name : DialogName) (state : State) → IsStateOf call_id state
+  bye_is : (request : Message) (name : DialogId) (state : State) → IsStateOf call_id state
       → IsTakenOf (bye_taken request name state)
   bye_is request name state its =
       let ended = ended_own call_id name state.dialogs its.dialogs in
-      by_bool (is_inside request && is_bye request)
+      by_bool (has_to_tag request && is_bye request)
       (λ e. rw e (record { requests = its.requests; dialogs = ended.0 }, ended.1))
       (λ e. rw e (its, tt))
 
-  held_is : (state : State) (its_call : List ℕ) (name : DialogName) (arrival : Arrival)
+  held_is : (state : State) (its_call : List ℕ) (name : DialogId) (arrival : Arrival)
       → its_call ≡ call_id → arrival.request.call_id ≡ call_id → IsStateOf call_id state
       → IsTakenOf (request_held state its_call name arrival)
   held_is state its_call name arrival of_call of_request its = (
@@ -124,7 +124,7 @@ module _ (call_id : List ℕ) where
     (of_call, tt),
   )
 
-  case_is : (case : ArrivalCase) (state : State) (its_call : List ℕ) (name : DialogName)
+  case_is : (case : ArrivalCase) (state : State) (its_call : List ℕ) (name : DialogId)
       (arrival : Arrival) → its_call ≡ call_id → arrival.request.call_id ≡ call_id
       → IsStateOf call_id state
       → IsTakenOf (by_case case state its_call name arrival)
@@ -266,7 +266,7 @@ module _ (call_id : List ℕ) where
   success_is now held (Some success) of_request =
       success_told_is (success_answer now success) held success.response of_request
 
-  repeats_are : (held : HeldRequest) (responses : List NumberedResponse)
+  repeats_are : (held : HeldRequest) (responses : List ReliableResponse)
       → AreNoticesOf call_id
       (map (λ one. Command held.id (ByAnswer held.key one.response)) responses)
   repeats_are held [] = tt

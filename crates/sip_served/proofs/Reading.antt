@@ -8,7 +8,7 @@ use Rattle.sip_message.specs.declared.key.Key.{Key}
 use Rattle.sip_message.specs.declared.message.Message.{Message}
 use Rattle.sip_transactions.specs.declared.input.Command.TheVariants as order
 use Rattle.sip_common.specs.declared.command.Respond.{Respond as Answer}
-use Rattle.sip_common.specs.declared.held_dialog.DialogLife.{DialogLife}
+use Rattle.sip_common.specs.declared.held_dialog.DialogReference.{DialogReference}
 use Rattle.sip_common.specs.declared.held_dialog.HeldDialog.{HeldDialog}
 use Rattle.sip_common.specs.declared.item.CallOut.{CallOut}
 use Rattle.sip_common.specs.declared.item.CallOut.TheVariants as out
@@ -53,7 +53,7 @@ pub record IsTold (X : Type 0) (reading : Reading X) (invite : Id) : Type 0 wher
   pub cancel : (call_id : List ℕ) (id : Id) (x : X)
       → reading.by x (out.Notice (notice.Cancel call_id id)) ≡ x
   -- of a request that comes up nothing is said yet
-  pub new : (arrival : Arrival) (dialog : Option DialogLife)
+  pub new : (arrival : Arrival) (dialog : Option DialogReference)
       → reading.read (held_first dialog arrival) ≡ reading.none
   -- a PRACK and an ACK
   pub prack : (call_id : List ℕ) (id : Id) (rseq : ℕ) (body : List ℕ) → is_id id invite ≡ true

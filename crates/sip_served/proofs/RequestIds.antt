@@ -8,11 +8,11 @@ use Rattle.sip_model.proofs.Ordered.{by_bool}
 use Rattle.sip_message.specs.declared.id.Id.{Id}
 use Rattle.sip_message.specs.declared.message.Message.{Message}
 use Rattle.sip_common.specs.declared.command.Respond.{Respond as Answer}
-use Rattle.sip_common.specs.declared.held_dialog.DialogName.{DialogName}
+use Rattle.sip_common.specs.declared.held_dialog.DialogId.{DialogId}
 use Rattle.sip_common.specs.declared.refusal.Refusal.{Refusal}
 use Rattle.sip_common.specs.Dialogs.{ended_at}
 use Rattle.sip_common.specs.Ids.{is_id}
-use Rattle.sip_common.specs.Requests.{dialog_name, is_bye, is_cancel, is_inside}
+use Rattle.sip_common.specs.Requests.{dialog_name, is_bye, is_cancel, has_to_tag}
 use Rattle.sip_served.specs.declared.arrival.Arrival.{Arrival}
 use Rattle.sip_served.specs.declared.arrival.ArrivalCase.{ArrivalCase}
 use Rattle.sip_served.specs.declared.arrival.ArrivalCase.TheVariants.{Merged, BadExtension, NoDialog, OutOfOrder, Acknowledges, AcknowledgesNothing, ForUser}
@@ -46,7 +46,7 @@ abbrev pub Adds : Id → List HeldRequest → List HeldRequest → Type 0
 Adds id before after =
     (ids_of after ≡ ids_of before) ⊎ (ids_of after ≡ ids_of before ++ id ∷ [])
 
-case_adds : (case : ArrivalCase) (state : State) (call_id : List ℕ) (name : DialogName)
+case_adds : (case : ArrivalCase) (state : State) (call_id : List ℕ) (name : DialogId)
     (arrival : Arrival)
     → Adds arrival.id state.requests ((by_case case state call_id name arrival).0).requests
 case_adds Merged state call_id name arrival = inl refl
@@ -61,7 +61,7 @@ case_adds AcknowledgesNothing state call_id name arrival =
 case_adds ForUser state call_id name arrival =
     let before = noted state name arrival.request in
     let held = (request_held before call_id name arrival).0 in
-    inr (ap ids_of (bye_requests (is_inside arrival.request && is_bye arrival.request) held
+    inr (ap ids_of (bye_requests (has_to_tag arrival.request && is_bye arrival.request) held
     (ended_at name held.dialogs).0 (ended_at name held.dialogs).1)
     ∙ map-append (λ (held : HeldRequest). held.id) before.requests _
     ∙ ap (λ requests. ids_of requests ++ arrival.id ∷ [])

@@ -17,7 +17,7 @@ use Rattle.sip_reliable.specs.declared.send_fault.SendFault.TheVariants as send
 use Rattle.sip_reliable.specs.Ledger.{must_wait, ok_unless, send_answer, send_fault}
 use Rattle.sip_transactions.specs.declared.input.Command.TheVariants.{Answer}
 use Rattle.sip_common.specs.declared.command.Respond.{Respond}
-use Rattle.sip_common.specs.declared.held_dialog.DialogLife.{DialogLife}
+use Rattle.sip_common.specs.declared.held_dialog.DialogReference.{DialogReference}
 use Rattle.sip_common.specs.declared.item.CallOut.{CallOut}
 use Rattle.sip_common.specs.declared.item.CallOut.TheVariants.{Command}
 use Rattle.sip_common.specs.declared.refusal.Refusal.{Refusal}
@@ -25,10 +25,10 @@ use Rattle.sip_common.specs.declared.refusal.Refusal.TheVariants.{AlreadyFinal, 
 use Rattle.sip_common.specs.Dialogs.{Dialogs, confirmed, dialog_changed, early_ended, is_named}
 use Rattle.sip_common.specs.Notices.{refused}
 use Rattle.sip_common.specs.Refusal.{first_refusal}
-use Rattle.sip_common.specs.Requests.{dialog_name, is_final, is_inside, is_invite, is_provisional, is_success, supports_100rel}
+use Rattle.sip_common.specs.Requests.{dialog_name, is_final, has_to_tag, is_invite, is_provisional, is_success, supports_100rel}
 use Rattle.sip_served.specs.declared.held_request.HeldRequest.{HeldRequest}
 use Rattle.sip_served.specs.RequestLife.{MakesDialog, went_on}
-use Rattle.sip_served.specs.Respond.{after_answer, answer_given, answer_to, answered, by_refusal, by_request, dialogs_answered, has_ended, if_so, is_of_dialog, is_reliable, is_sent_reliably, is_user_status, makes_dialog, made_dialog, may_be_reliable, refusal_for, refusal_of_fault, rejects, reliable_refusal, respond_taken, sends_as, with_routes, with_rseq}
+use Rattle.sip_served.specs.Respond.{after_answer, answer_given, answer_to, answered, by_refusal, by_request, dialogs_answered, has_ended, if_so, makes_or_confirms_dialog, is_reliable, is_sent_reliably, is_user_status, makes_dialog, made_dialog, may_be_reliable, refusal_for, refusal_of_fault, rejects, reliable_refusal, respond_taken, sends_as, with_routes, with_rseq}
 use Rattle.sip_served.specs.Rules.Responses as rule
 use Rattle.sip_served.specs.Rules.Responses.{answer_refusal, answer_sent, dialogs_after, held_after, respond_rule}
 use Rattle.sip_served.specs.State.{State, ServedTaken, changed_at, has_id}
@@ -43,13 +43,13 @@ apart : (status : ℕ) → is_provisional status ≡ true → is_success status 
 apart status e = grind (arith, nat_tests)
 
 of_dialog_same : (held : HeldRequest) (status : ℕ)
-    → is_of_dialog held status ≡ rule.is_of_dialog held status
+    → makes_or_confirms_dialog held status ≡ rule.makes_or_confirms_dialog held status
 of_dialog_same held status = ap (λ b. is_invite held.request && b) (below status)
 
 makes_same : (held : HeldRequest) (status : ℕ)
     → makes_dialog held status ≡ rule.makes_dialog held status
 makes_same held status =
-    ap (λ b. b && not (is_inside held.request) && is_none held.dialog) (of_dialog_same held status)
+    ap (λ b. b && not (has_to_tag held.request) && is_none held.dialog) (of_dialog_same held status)
 
 inner : (a b c : Bool) → ((a && b && c) ≡ true) → b ≡ true
 inner true true c e = refl
@@ -121,7 +121,7 @@ number_sent dialogs held respond unrefused reliable =
     (unfaulted (rule.is_sent_reliably held respond) (send_fault held.ledger) _
     (past_four (not (is_user_status respond.status)) (is_some held.removal)
     (is_reliable respond.reliability && not (may_be_reliable held respond.status))
-    (is_of_dialog held respond.status && has_ended dialogs held) BadStatus AlreadyFinal
+    (makes_or_confirms_dialog held respond.status && has_ended dialogs held) BadStatus AlreadyFinal
     NotSupported DialogEnded (reliable_refusal held respond) unrefused) reliable)
 
 where_so : {X : Type 0} (b : Bool) (x y z : X) → (b ≡ true → x ≡ y) → cond b x z ≡ cond b y z
@@ -141,7 +141,7 @@ response_same local held respond number =
     ∙ ap (λ message. with_content_of message respond.content)
     (where_so (rule.is_sent_reliably held respond) _ _ _
     (λ e. ap (λ sent. with_rseq (result_ok sent)
-    (cond (rule.is_of_dialog held respond.status) routed plain)) (number e)))
+    (cond (rule.makes_or_confirms_dialog held respond.status) routed plain)) (number e)))
 
 -- ---- the dialogs
 
@@ -161,17 +161,17 @@ dialogs_same event held status response dialogs =
     λ i. cond (makes_same held status i)
     (insert_entry is_named dialogs name (made_dialog event held status), [])
     (cond (confirms_same (is_invite held.request) (is_provisional status) (is_success status)
-    (is_inside held.request) i) (dialog_changed name (confirmed response) dialogs, [])
+    (has_to_tag held.request) i) (dialog_changed name (confirmed response) dialogs, [])
     (cond (rejects held status) (early_ended held.id dialogs) (dialogs, [])))
 
 -- ---- the held request
 
 module _ (event : Id) (held : HeldRequest) (respond : Respond) (response : Message) (now : ℕ)
   where
-    abbrev life : DialogLife
-    life = record { name = dialog_name held.request held.tag; born = event }
+    abbrev life : DialogReference
+    life = record { name = dialog_name held.request held.tag; created_by = event }
 
-    abbrev in_dialog : Option DialogLife → HeldRequest
+    abbrev in_dialog : Option DialogReference → HeldRequest
     in_dialog dialog = record held { dialog = dialog }
 
     placed : (b : Bool) → went_on (cond b (MakesDialog life ∷ []) []) held

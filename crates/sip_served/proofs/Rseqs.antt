@@ -17,19 +17,19 @@ use Rattle.sip_reliable.specs.Provisional.{Provisional, after_repeat, given_up, 
 use Rattle.sip_transactions.specs.declared.input.Command.{Command as Order}
 use Rattle.sip_transactions.specs.declared.input.Command.TheVariants as order
 use Rattle.sip_common.specs.declared.command.Respond.{Respond as Answer}
-use Rattle.sip_common.specs.declared.held_dialog.DialogLife.{DialogLife}
+use Rattle.sip_common.specs.declared.held_dialog.DialogReference.{DialogReference}
 use Rattle.sip_common.specs.declared.item.CallOut.TheVariants as out
 use Rattle.sip_common.specs.declared.notice.Notice.TheVariants as notice
 use Rattle.sip_common.specs.Ids.{is_id}
 use Rattle.sip_common.specs.Requests.{dialog_name, is_final}
 use Rattle.sip_served.specs.declared.held_request.HeldRequest.{HeldRequest}
 use Rattle.sip_served.specs.declared.held_request.Success.{Success}
-use Rattle.sip_served.specs.declared.provisionals.NumberedResponse.{NumberedResponse}
+use Rattle.sip_served.specs.declared.provisionals.ReliableResponse.{ReliableResponse}
 use Rattle.sip_served.specs.declared.tick.SuccessDue.{SuccessDue}
 use Rattle.sip_served.specs.declared.tick.SuccessDue.TheVariants as repeat
 use Rattle.sip_served.specs.Arrival.{pracked}
 use Rattle.sip_served.specs.RequestLife.{Finishes, MakesDialog, went_on}
-use Rattle.sip_served.specs.Respond.{after_answer, answer_to, answered, if_so, is_of_dialog, is_sent_reliably, makes_dialog, sends_as, sent_as, with_routes, with_rseq}
+use Rattle.sip_served.specs.Respond.{after_answer, answer_to, answered, if_so, makes_or_confirms_dialog, is_sent_reliably, makes_dialog, sends_as, sent_as, with_routes, with_rseq}
 use Rattle.sip_served.specs.Tick.{provisionals_by, provisionals_ticked, provisionals_told, request_ticked, success_answer, success_at_tick, success_ticked, success_told}
 use Rattle.sip_served.specs.Unacknowledged.{awaited_rseqs, kept_rseqs, repeated_rseqs, with_number}
 use Rattle.sip_served.proofs.Awaiting.{reliable_not_final}
@@ -43,7 +43,7 @@ pub answer_start : (local : Addr) (held : HeldRequest) (r : Answer)
     → (answer_to local held r).start ≡ start.Response r.status r.reason
 unfolding with_content_of
 answer_start local held r =
-    by_case (is_sent_reliably held r.status r.reliability) (is_of_dialog held r.status)
+    by_case (is_sent_reliably held r.status r.reliability) (makes_or_confirms_dialog held r.status)
   where
     by_case : (reliable routed : Bool)
         → (if_so reliable (with_rseq (result_ok (send_answer held.ledger)))
@@ -65,7 +65,7 @@ pub answer_rseq : (local : Addr) (held : HeldRequest) (r : Answer)
     → (answer_to local held r).rseq ≡ next_rseq held r
 unfolding with_content_of
 answer_rseq local held r =
-    by_case (is_sent_reliably held r.status r.reliability) (is_of_dialog held r.status)
+    by_case (is_sent_reliably held r.status r.reliability) (makes_or_confirms_dialog held r.status)
   where
     by_case : (reliable routed : Bool)
         → (if_so reliable (with_rseq (result_ok (send_answer held.ledger)))
@@ -92,7 +92,7 @@ module _ (r : Answer) (response : Message) (now : ℕ) (held : HeldRequest) wher
       → kept_rseqs (sent_as (ok_unless o held.ledger.next) response now held)
       ≡ with_number (result_ok (ok_unless o held.ledger.next)) (kept_rseqs held)
   keeps_sent None =
-      append_mapped (λ (one : NumberedResponse). one.number) held.provisionals _
+      append_mapped (λ (one : ReliableResponse). one.number) held.provisionals _
   keeps_sent (Some fault) = refl
 
   awaits_sent : (o : Option SendFault)
@@ -194,7 +194,7 @@ module _ (r : Answer) (response : Message) (now : ℕ) (held : HeldRequest) wher
 
 -- whether it makes a dialog or not
 pub given_as : (read : HeldRequest → List ℕ) (by : HeldRequest → List ℕ → List ℕ)
-    → ((held : HeldRequest) (dialog : Option DialogLife)
+    → ((held : HeldRequest) (dialog : Option DialogReference)
     → by record held { dialog = dialog } (read record held { dialog = dialog })
     ≡ by held (read held))
     → (response : Message) (event : Id) (r : Answer) (now : ℕ)
@@ -203,7 +203,7 @@ pub given_as : (read : HeldRequest → List ℕ) (by : HeldRequest → List ℕ 
     → (held : HeldRequest)
     → read (after_answer event r response now held) ≡ by held (read held)
 given_as read by same response event r now answers held =
-    let made : DialogLife = record { name = dialog_name held.request held.tag; born = event } in
+    let made : DialogReference = record { name = dialog_name held.request held.tag; created_by = event } in
     elim (makes_dialog held r.status) as (λ b. read (answered r.status r.reliability response now
     (went_on (if b then MakesDialog made ∷ [] else []) held)) ≡ by held (read held)) [
       | true ↦ answers record held { dialog = Some made } ∙ same held (Some made)
@@ -239,7 +239,7 @@ module _ (reading : Reading (List ℕ)) (invite : Id)
       → ((success_at_tick now held o).0).id ≡ held.id
   success_id now held o = ap (λ (held : HeldRequest). held.id) (success_alone now held o).1
 
-  pub again_quiet : (held : HeldRequest) (responses : List NumberedResponse)
+  pub again_quiet : (held : HeldRequest) (responses : List ReliableResponse)
       → Quiet reading
       (map (λ one. out.Command held.id (order.Answer held.key one.response)) responses)
   again_quiet held [] numbers = refl

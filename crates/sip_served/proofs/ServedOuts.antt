@@ -3,10 +3,10 @@
 use Rattle.indexmap.specs.IndexMap.{insert_entry}
 use Rattle.sip_common.proofs.Each.{both, filtered}
 use Rattle.sip_common.specs.Dialogs.{Dialogs, confirmed, dialog_changed, early_ended, is_named, dialog_at, ended_at, ended_notice, is_early_of, tag_text}
-use Rattle.sip_common.specs.Requests.{dialog_name, is_bye, is_cancel, is_final, is_inside, is_invite, is_success, is_unknown_option}
+use Rattle.sip_common.specs.Requests.{dialog_name, is_bye, is_cancel, is_final, has_to_tag, is_invite, is_success, is_unknown_option}
 use Rattle.sip_common.specs.declared.command.Respond.{Respond as RespondCommand}
-use Rattle.sip_common.specs.declared.held_dialog.DialogLife.{DialogLife}
-use Rattle.sip_common.specs.declared.held_dialog.DialogName.{DialogName}
+use Rattle.sip_common.specs.declared.held_dialog.DialogReference.{DialogReference}
+use Rattle.sip_common.specs.declared.held_dialog.DialogId.{DialogId}
 use Rattle.sip_common.specs.declared.item.CallOut.{CallOut}
 use Rattle.sip_common.specs.declared.notice.Notice.{Notice}
 use Rattle.sip_common.specs.declared.refusal.Refusal.{Refusal}
@@ -34,7 +34,7 @@ use Rattle.sip_served.specs.declared.arrival.ArrivalCase.{ArrivalCase}
 use Rattle.sip_served.specs.declared.held_request.HeldRequest.{HeldRequest}
 use Rattle.sip_served.specs.declared.held_request.Success.{Success}
 use Rattle.sip_served.specs.declared.held_request.SuccessEnd.TheVariants.{Acknowledged}
-use Rattle.sip_served.specs.declared.provisionals.NumberedResponse.{NumberedResponse}
+use Rattle.sip_served.specs.declared.provisionals.ReliableResponse.{ReliableResponse}
 use Rattle.sip_served.specs.declared.tick.SuccessDue.{SuccessDue}
 use Rattle.sip_transactions.specs.declared.input.Command.{Command}
 use Rattle.sip_transactions.specs.declared.output.Kind.{Kind}
@@ -111,7 +111,7 @@ module _ (P : CallOut → Type 0) (Given : Message → Type 0) (allows : AllowsS
   by_dialog None = tt
   by_dialog (Some held) = (ended_fits held, tt)
 
-  end_told : (name : DialogName) (dialogs : Dialogs) → Fit (ended_at name dialogs).1
+  end_told : (name : DialogId) (dialogs : Dialogs) → Fit (ended_at name dialogs).1
   end_told name dialogs = by_dialog (dialog_at name dialogs)
 
   -- ---- a held request keeps answers that were given
@@ -196,18 +196,18 @@ module _ (P : CallOut → Type 0) (Given : Message → Type 0) (allows : AllowsS
   module _ (own : OwnAnswers Given) where
     -- ---- a request that comes up
 
-    noted_given : (state : State) (name : DialogName) (request : Message) → StateGiven state
+    noted_given : (state : State) (name : DialogId) (request : Message) → StateGiven state
         → StateGiven (noted state name request)
     noted_given state name request given =
-        by_bool (is_inside request) (λ e. rw e given) (λ e. rw e given)
+        by_bool (has_to_tag request) (λ e. rw e given) (λ e. rw e given)
 
-    bye_given : (state : State) (name : DialogName) (request : Message) → StateGiven state
+    bye_given : (state : State) (name : DialogId) (request : Message) → StateGiven state
         → ServedFits (bye_taken request name state)
     bye_given state name request given =
-        by_bool (is_inside request && is_bye request)
+        by_bool (has_to_tag request && is_bye request)
         (λ e. rw e (given, end_told name state.dialogs)) (λ e. rw e (given, tt))
 
-    case_fits : (one : ArrivalCase) (state : State) (call_id : List ℕ) (name : DialogName)
+    case_fits : (one : ArrivalCase) (state : State) (call_id : List ℕ) (name : DialogId)
         (arrival : Arrival) → StateGiven state
         → ServedFits (by_case one state call_id name arrival)
     case_fits case.Merged state call_id name arrival given =
@@ -323,7 +323,7 @@ module _ (P : CallOut → Type 0) (Given : Message → Type 0) (allows : AllowsS
     answers_given false true number status response now here = (here, tt)
     answers_given false false number status response now here = tt
 
-    makes_given : (so : Bool) (life : DialogLife)
+    makes_given : (so : Bool) (life : DialogReference)
         → AllByRecursion HappensGiven (cond so (happens.MakesDialog life ∷ []) [])
     makes_given true life = (tt, tt)
     makes_given false life = tt
@@ -336,7 +336,7 @@ module _ (P : CallOut → Type 0) (Given : Message → Type 0) (allows : AllowsS
         went_given (answers made r.status r.reliability response now) made
         (went_given (makes event held r.status) held keeps
         (makes_given (makes_dialog held r.status)
-        (record { name = dialog_name held.request held.tag; born = event })))
+        (record { name = dialog_name held.request held.tag; created_by = event })))
         (answers_given (is_sent_reliably made r.status r.reliability) (is_final r.status)
         (send_answer made.ledger) r.status response now here)
 
@@ -403,7 +403,7 @@ module _ (P : CallOut → Type 0) (Given : Message → Type 0) (allows : AllowsS
       success_due (success_answer now success) held success.response here,
     )
 
-    repeats_fit : (held : HeldRequest) (responses : List NumberedResponse)
+    repeats_fit : (held : HeldRequest) (responses : List ReliableResponse)
         → AllByRecursion (λ one. Given one.response) responses
         → Fit (map (λ one. out.Command held.id (order.Answer held.key one.response)) responses)
     repeats_fit held [] all = tt

@@ -20,12 +20,12 @@ use Rattle.sip_served.specs.declared.arrival.ArrivalCase.TheVariants.{Merged, Ba
 use Rattle.sip_common.specs.declared.command.Respond.{Respond as Answer}
 use Rattle.sip_common.specs.declared.command.UserCommand.{UserCommand}
 use Rattle.sip_common.specs.declared.command.UserCommand.TheVariants as command
-use Rattle.sip_common.specs.declared.held_dialog.DialogName.{DialogName}
+use Rattle.sip_common.specs.declared.held_dialog.DialogId.{DialogId}
 use Rattle.sip_served.specs.declared.held_request.HeldRequest.{HeldRequest}
 use Rattle.sip_served.specs.declared.held_request.Success.{Success}
 use Rattle.sip_common.specs.declared.item.CallOut.TheVariants.{Command}
 use Rattle.sip_common.specs.declared.item.Item.TheVariants as item
-use Rattle.sip_served.specs.declared.provisionals.NumberedResponse.{NumberedResponse}
+use Rattle.sip_served.specs.declared.provisionals.ReliableResponse.{ReliableResponse}
 use Rattle.sip_common.specs.declared.refusal.Refusal.{Refusal}
 use Rattle.sip_served.specs.declared.tick.SuccessDue.{SuccessDue}
 use Rattle.sip_served.specs.declared.tick.SuccessDue.TheVariants as repeat
@@ -33,7 +33,7 @@ use Rattle.sip_served.specs.Acknowledgment.{ack_noted, acknowledged_invite}
 use Rattle.sip_served.specs.Arrival.{arrival_of, by_case, bye_taken, case_of}
 use Rattle.sip_served.specs.Cancel.{by_cancelled, cancelled_request, is_unanswered_invite}
 use Rattle.sip_common.specs.Dialogs.{Dialogs}
-use Rattle.sip_common.specs.Requests.{dialog_name, is_bye, is_cancel, is_inside}
+use Rattle.sip_common.specs.Requests.{dialog_name, is_bye, is_cancel, has_to_tag}
 use Rattle.sip_served.specs.Provisionals.{of_numbers}
 use Rattle.sip_served.specs.Respond.{answer_to, by_refusal, by_request, confirms_dialog, dialogs_answered, makes_dialog, refusal_for, rejects}
 use Rattle.sip_served.specs.Run.{Event, Takes, Ticks, event_taken}
@@ -55,7 +55,7 @@ success_shows now held (Some success) = told (success_answer now success)
     told repeat.Again = refl
     told repeat.GivenUp = refl
 
-repeats_show : (held : HeldRequest) (responses : List NumberedResponse)
+repeats_show : (held : HeldRequest) (responses : List ReliableResponse)
     → shown (map (λ one. Command held.id (ByAnswer held.key one.response)) responses) ≡ []
 repeats_show held [] = refl
 repeats_show held (one ∷ responses) = repeats_show held responses
@@ -80,14 +80,14 @@ ticks_show now (held ∷ requests) =
 
 -- ---- each case
 
-bye_shows : (request : Message) (name : DialogName) (state : State)
+bye_shows : (request : Message) (name : DialogId) (state : State)
     → shown (bye_taken request name state).1 ≡ []
 bye_shows request name state =
-    by_bool (is_inside request && is_bye request)
+    by_bool (has_to_tag request && is_bye request)
     (λ e. rw e (end_shown name state.dialogs))
     (λ e. rw e refl)
 
-case_shows : (case : ArrivalCase) (state : State) (call_id : List ℕ) (name : DialogName)
+case_shows : (case : ArrivalCase) (state : State) (call_id : List ℕ) (name : DialogId)
     (arrival : Arrival)
     → shown (by_case case state call_id name arrival).1 ≡ if_for_user arrival.id case
 case_shows Merged state call_id name arrival = refl

@@ -13,11 +13,11 @@ use Rattle.sip_transactions.specs.declared.output.Up.{Up}
 use Rattle.sip_common.specs.declared.command.Respond.{Respond as Answer}
 use Rattle.sip_common.specs.declared.command.UserCommand.{UserCommand}
 use Rattle.sip_common.specs.declared.command.UserCommand.TheVariants as command
-use Rattle.sip_common.specs.declared.held_dialog.DialogName.{DialogName}
+use Rattle.sip_common.specs.declared.held_dialog.DialogId.{DialogId}
 use Rattle.sip_common.specs.declared.item.Item.TheVariants as item
 use Rattle.sip_common.specs.declared.refusal.Refusal.{Refusal}
 use Rattle.sip_common.specs.Dialogs.{ended_at}
-use Rattle.sip_common.specs.Requests.{dialog_name, is_bye, is_cancel, is_inside}
+use Rattle.sip_common.specs.Requests.{dialog_name, is_bye, is_cancel, has_to_tag}
 use Rattle.sip_served.specs.declared.arrival.Arrival.{Arrival}
 use Rattle.sip_served.specs.declared.arrival.ArrivalCase.{ArrivalCase}
 use Rattle.sip_served.specs.declared.arrival.ArrivalCase.TheVariants.{Merged, BadExtension, NoDialog, OutOfOrder, Acknowledges, AcknowledgesNothing, ForUser}
@@ -52,7 +52,7 @@ one_happens id more fits requests stories told =
     (λ story. all_happen more story (fits (request_of story))) stories)
 
 module _ (state : State) (stories : Stories) (told : AreTold state.requests stories) where
-  case_told : (case : ArrivalCase) (call_id : List ℕ) (name : DialogName) (arrival : Arrival)
+  case_told : (case : ArrivalCase) (call_id : List ℕ) (name : DialogId) (arrival : Arrival)
       → AreTold ((by_case case state call_id name arrival).0).requests
       (told_by_case case state name arrival stories)
   case_told Merged call_id name arrival = told
@@ -68,7 +68,7 @@ module _ (state : State) (stories : Stories) (told : AreTold state.requests stor
   case_told ForUser call_id name arrival =
       let before = noted state name arrival.request in
       let held = (request_held before call_id name arrival).0 in
-      bye_requests (is_inside arrival.request && is_bye arrival.request) held
+      bye_requests (has_to_tag arrival.request && is_bye arrival.request) held
       (ended_at name held.dialogs).0 (ended_at name held.dialogs).1
       ∙ (λ i. (noted_requests state name arrival.request ∙ told) i
       ++ in_its_dialog before.dialogs name arrival ∷ [])

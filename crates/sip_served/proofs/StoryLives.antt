@@ -22,7 +22,7 @@ use Rattle.sip_transactions.specs.declared.timers.TheConstants.{T2}
 use Rattle.sip_transactions.specs.Timers.{interval}
 use Rattle.sip_timers.specs.declared.estimate.TheConstants.{LIFETIME}
 use Rattle.sip_common.specs.declared.command.Respond.{Respond as Answer}
-use Rattle.sip_common.specs.declared.held_dialog.DialogLife.{DialogLife}
+use Rattle.sip_common.specs.declared.held_dialog.DialogReference.{DialogReference}
 use Rattle.sip_common.specs.declared.refusal.Refusal.{Refusal}
 use Rattle.sip_common.specs.declared.refusal.Refusal.TheVariants as bad
 use Rattle.sip_common.specs.Dialogs.{Dialogs}
@@ -30,13 +30,13 @@ use Rattle.sip_common.specs.Requests.{dialog_name, is_final, is_invite, is_succe
 use Rattle.sip_served.specs.declared.held_request.HeldRequest.{HeldRequest}
 use Rattle.sip_served.specs.declared.held_request.Success.{Success}
 use Rattle.sip_served.specs.declared.held_request.SuccessEnd.TheVariants.{GivenUp}
-use Rattle.sip_served.specs.declared.provisionals.NumberedResponse.{NumberedResponse}
+use Rattle.sip_served.specs.declared.provisionals.ReliableResponse.{ReliableResponse}
 use Rattle.sip_served.specs.declared.tick.SuccessDue.{SuccessDue}
 use Rattle.sip_served.specs.declared.tick.SuccessDue.TheVariants as repeat
 use Rattle.sip_served.specs.Arrival.{first_rseq}
 use Rattle.sip_served.specs.Provisionals.{without_rseq}
 use Rattle.sip_served.specs.RequestLife.{RequestHappening, EndsSuccess, Finishes, GivesUpProvisionals, MakesDialog, RepeatsProvisionals, RepeatsSuccess, SendsReliably, TakesPrack, next_retransmission, request_happened, success_sent, went_on}
-use Rattle.sip_served.specs.Respond.{after_answer, answers, has_ended, is_of_dialog, is_reliable, is_sent_reliably, is_user_status, makes, makes_dialog, may_be_reliable, refusal_for, refusal_of_fault, sends_as, with_dialog}
+use Rattle.sip_served.specs.Respond.{after_answer, answers, has_ended, makes_or_confirms_dialog, is_reliable, is_sent_reliably, is_user_status, makes, makes_dialog, may_be_reliable, refusal_for, refusal_of_fault, sends_as, with_dialog}
 use Rattle.sip_served.specs.Story.{RequestStory, SuccessStory, dialog_by, goes_on, is_prack_of, next_sending, removal_by, request_of, success_by, success_of, to_provisionals, unacknowledged}
 use Rattle.sip_served.specs.Tick.{provisionals_go, provisionals_ticked, request_passes, request_ticked, success_answer, success_at_tick, success_goes, success_passes}
 use Rattle.sip_served.proofs.FewWait.{IsKept}
@@ -82,15 +82,15 @@ any_last test (y ∷ xs) x =
     ≡ ((b || list_any test xs) || test x))
     [ true ↦ refl | false ↦ any_last test xs x ]
 
-keep_all : (xs : List NumberedResponse) → filter (λ _. true) xs ≡ xs
+keep_all : (xs : List ReliableResponse) → filter (λ _. true) xs ≡ xs
 keep_all [] = refl
 keep_all (x ∷ xs) = ap (λ ys. x ∷ ys) (keep_all xs)
 
 module _ (h : RequestHappening) where
-  abbrev left : List NumberedResponse → List NumberedResponse
+  abbrev left : List ReliableResponse → List ReliableResponse
   left responses = filter (λ one. not (is_prack_of one.number h)) responses
 
-  left_step : (one : NumberedResponse) (before later : List NumberedResponse) (a b : Bool)
+  left_step : (one : ReliableResponse) (before later : List ReliableResponse) (a b : Bool)
       → is_prack_of one.number h ≡ b → later ≡ left before ++ unacknowledged (h ∷ [])
       → cond (a || b) later (one ∷ later)
       ≡ left (cond a before (one ∷ before)) ++ unacknowledged (h ∷ [])
@@ -108,7 +108,7 @@ module _ (h : RequestHappening) where
       ≡ left (unacknowledged life) ++ unacknowledged (h ∷ [])
   one_more [] = refl
   one_more (SendsReliably number response now ∷ life) =
-      let one : NumberedResponse = record { number = number; response = response } in
+      let one : ReliableResponse = record { number = number; response = response } in
       ap (λ b. cond b (unacknowledged (life ++ h ∷ [])) (one ∷ unacknowledged (life ++ h ∷ [])))
       (any_last (is_prack_of number) life h)
       ∙ left_step one (unacknowledged life) (unacknowledged (life ++ h ∷ []))
@@ -145,7 +145,7 @@ module _ (story : RequestStory) where
   abbrev success_before : Option SuccessStory
   success_before = fold (success_by story.arrival) None story.life
 
-  abbrev held_so : Option DialogLife → Ledger → List NumberedResponse → Option Success → Option ℕ
+  abbrev held_so : Option DialogReference → Ledger → List ReliableResponse → Option Success → Option ℕ
       → HeldRequest
   held_so dialog ledger provisionals success removal = record story.arrival {
     dialog = dialog;
@@ -156,7 +156,7 @@ module _ (story : RequestStory) where
   }
 
   -- where the ledger and the responses that wait are these
-  after : (h : RequestHappening) (ledger : Ledger) (provisionals : List NumberedResponse)
+  after : (h : RequestHappening) (ledger : Ledger) (provisionals : List ReliableResponse)
       → ledger_after first_rseq has_100rel (happened_before ++ filter_map to_provisionals (h ∷ []))
       ≡ ledger → left h (unacknowledged story.life) ++ unacknowledged (h ∷ []) ≡ provisionals
       → request_of (goes_on (h ∷ []) story)
@@ -283,7 +283,7 @@ pub numbered_by : (dialogs : Dialogs) (r : Answer) (held : HeldRequest)
     → refusal_for dialogs r held ≡ None → Numbered r held
 numbered_by dialogs r held none =
     unused (not (is_user_status r.status)) (is_some held.removal) (is_reliable r.reliability
-    && not (may_be_reliable held r.status)) (is_of_dialog held r.status
+    && not (may_be_reliable held r.status)) (makes_or_confirms_dialog held r.status
     && has_ended dialogs held)
     (is_sent_reliably held r.status r.reliability) (send_fault held.ledger) _ none
 
@@ -304,8 +304,8 @@ module _ (event : Id) (r : Answer) (response : Message) (now : ℕ) (held : Held
       (λ e. rw e (sends_fit one same (has_number e)))
       (λ e. by_bool (is_final r.status) (λ f. rw (e, f) (tt, tt)) (λ f. rw (e, f) tt))
 
-  abbrev made : DialogLife
-  made = record { name = dialog_name held.request held.tag; born = event }
+  abbrev made : DialogReference
+  made = record { name = dialog_name held.request held.tag; created_by = event }
 
   pub answer_fits : Numbered r held → AllFit held answer_happens
   answer_fits has_number =

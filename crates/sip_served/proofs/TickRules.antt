@@ -12,7 +12,7 @@ use Rattle.sip_common.specs.declared.item.CallOut.{CallOut}
 use Rattle.sip_common.specs.declared.item.CallOut.TheVariants.{Command}
 use Rattle.sip_served.specs.declared.held_request.HeldRequest.{HeldRequest}
 use Rattle.sip_served.specs.declared.held_request.Success.{Success}
-use Rattle.sip_served.specs.declared.provisionals.NumberedResponse.{NumberedResponse}
+use Rattle.sip_served.specs.declared.provisionals.ReliableResponse.{ReliableResponse}
 use Rattle.sip_served.specs.declared.tick.SuccessDue.TheVariants as repeat
 use Rattle.sip_served.specs.RequestLife.{went_on}
 use Rattle.sip_served.specs.Rules.Ticks.{due_rule, provisionals_tick, success_tick, tick_rule}
@@ -143,7 +143,7 @@ none_repeated now (p ∷ ps) none =
       λ i. cond (parts.0 i) (sent_again now p) p ∷ rest.1 i,
     )
 
-none_kept : (responses : List NumberedResponse) → filter (λ _. false) responses ≡ []
+none_kept : (responses : List ReliableResponse) → filter (λ _. false) responses ≡ []
 none_kept [] = refl
 none_kept (one ∷ responses) = none_kept responses
 

@@ -13,7 +13,7 @@ use Rattle.sip_common.specs.declared.item.CallOut.TheVariants as out
 use Rattle.sip_common.specs.Ids.{is_id}
 use Rattle.sip_common.specs.Requests.{is_final}
 use Rattle.sip_served.specs.declared.held_request.HeldRequest.{HeldRequest}
-use Rattle.sip_served.specs.declared.provisionals.NumberedResponse.{NumberedResponse}
+use Rattle.sip_served.specs.declared.provisionals.ReliableResponse.{ReliableResponse}
 use Rattle.sip_served.specs.Provisionals.{of_numbers}
 use Rattle.sip_served.specs.Arrival.{pracked}
 use Rattle.sip_served.specs.Respond.{answer_to, answered}
@@ -50,7 +50,7 @@ repeating invite = record {
 -- ---- those that are kept, and those whose PRACK gets a 200
 
 -- numbers of what awaits its PRACK, which go by answers and by PRACKs alone
-module _ (invite : Id) (numbers : List NumberedResponse → List Provisional → List ℕ) where
+module _ (invite : Id) (numbers : List ReliableResponse → List Provisional → List ℕ) where
   abbrev read : HeldRequest → List ℕ
   read held = numbers held.provisionals held.ledger.waiting
 
@@ -111,7 +111,7 @@ module _ (invite : Id) where
   pub told_kept : IsTold (List ℕ) (keeping invite) invite
   told_kept =
       told_until_pracked invite (λ kept waiting. map (λ one. one.number) kept) refl
-      (λ rseq held. filter_mapped (λ (one : NumberedResponse). one.number)
+      (λ rseq held. filter_mapped (λ (one : ReliableResponse). one.number)
       (λ one. not (one == rseq)) held.provisionals)
       keeps_answered (λ t now held. ap kept_rseqs (provisionals_alone t now held))
 
@@ -157,7 +157,7 @@ module _ (invite : Id) where
         (λ call_id id numbers. refl) (λ held success. refl) other_quiet;
   }
     where
-      again : (held : HeldRequest) (responses : List NumberedResponse) → Quiet (repeating invite)
+      again : (held : HeldRequest) (responses : List ReliableResponse) → Quiet (repeating invite)
           (map (λ one. out.Command held.id (order.Answer held.key one.response)) responses)
       again held responses =
           again_quiet (repeating invite) invite (λ id command numbers. refl)

@@ -17,8 +17,8 @@ use Rattle.sip_transactions.specs.declared.output.Up.{Up}
 use Rattle.sip_served.specs.declared.arrival.Arrival.{Arrival}
 use Rattle.sip_served.specs.declared.arrival.ArrivalCase.{ArrivalCase}
 use Rattle.sip_served.specs.declared.arrival.ArrivalCase.TheVariants.{Merged, BadExtension, NoDialog, OutOfOrder, Acknowledges, AcknowledgesNothing, ForUser}
-use Rattle.sip_common.specs.declared.held_dialog.DialogLife.{DialogLife}
-use Rattle.sip_common.specs.declared.held_dialog.DialogName.{DialogName}
+use Rattle.sip_common.specs.declared.held_dialog.DialogReference.{DialogReference}
+use Rattle.sip_common.specs.declared.held_dialog.DialogId.{DialogId}
 use Rattle.sip_common.specs.declared.held_dialog.HeldDialog.{HeldDialog}
 use Rattle.sip_served.specs.declared.held_request.HeldRequest.{HeldRequest}
 use Rattle.sip_common.specs.declared.item.CallOut.{CallOut}
@@ -26,7 +26,7 @@ use Rattle.sip_common.specs.declared.item.CallOut.TheVariants.{Notice, Command}
 use Rattle.sip_common.specs.declared.notice.Notice.{Notice as ANotice}
 use Rattle.sip_common.specs.declared.notice.Notice.TheVariants.{Prack, Request}
 use Rattle.sip_common.specs.Dialogs.{dialog_at, dialog_changed, ended_at, is_named, own_dialog, takes, visited, Dialogs}
-use Rattle.sip_common.specs.Requests.{dialog_name, is_bye, is_inside, is_invite, is_prack, is_unknown_option, local_tag_of, supports_100rel}
+use Rattle.sip_common.specs.Requests.{dialog_name, is_bye, has_to_tag, is_invite, is_prack, is_unknown_option, local_tag_of, supports_100rel}
 use Rattle.sip_common.specs.Ids.{is_id}
 use Rattle.sip_served.specs.RequestLife.{TakesPrack, went_on}
 use Rattle.sip_served.specs.State.{State, ServedTaken, changed_at, followed, quiet}
@@ -48,7 +48,7 @@ arrival_of up request reply_to tag = record {
 }
 
 -- as it is held first: no answer to it was sent
-abbrev pub held_first : Option DialogLife → Arrival → HeldRequest
+abbrev pub held_first : Option DialogReference → Arrival → HeldRequest
 held_first dialog arrival = record {
   id = arrival.id;
   key = arrival.key;
@@ -72,9 +72,9 @@ is_merged request held =
     && bytes_eq held.request.cseq.method request.cseq.method
 
 -- the request belongs to this dialog
-abbrev pub is_in_dialog : DialogName → Id → HeldRequest → Bool
-is_in_dialog name born held =
-    option_map_or (λ life. is_named life.name name && is_id life.born born) held.dialog false
+abbrev pub is_in_dialog : DialogId → Id → HeldRequest → Bool
+is_in_dialog name created_by held =
+    option_map_or (λ life. is_named life.name name && is_id life.created_by created_by) held.dialog false
 
 -- the RAck of a PRACK names a reliable provisional response to this INVITE that waits for one
 abbrev pub is_named_by : RAck → HeldRequest → Bool
@@ -84,24 +84,24 @@ is_named_by rack held =
     && waits_for rack.rseq held.ledger
 
 -- of several such INVITEs of the dialog it is the first
-abbrev pub named_invite : List HeldRequest → DialogName → Id → RAck → Option Id
-named_invite requests name born rack =
+abbrev pub named_invite : List HeldRequest → DialogId → Id → RAck → Option Id
+named_invite requests name created_by rack =
     option_map (λ held. held.id)
-    (find (λ held. is_in_dialog name born held && is_named_by rack held) requests)
+    (find (λ held. is_in_dialog name created_by held && is_named_by rack held) requests)
 
 -- a PRACK: the response that its RAck names waits, or it acknowledges nothing (RFC 3262, section 3)
-abbrev pub prack_case : List HeldRequest → DialogName → Id → Option RAck → ArrivalCase
-prack_case requests name born None = AcknowledgesNothing
-prack_case requests name born (Some rack) =
-    option_map_or (λ id. Acknowledges id rack.rseq) (named_invite requests name born rack)
+abbrev pub prack_case : List HeldRequest → DialogId → Id → Option RAck → ArrivalCase
+prack_case requests name created_by None = AcknowledgesNothing
+prack_case requests name created_by (Some rack) =
+    option_map_or (λ id. Acknowledges id rack.rseq) (named_invite requests name created_by rack)
     AcknowledgesNothing
 
 -- a request in a dialog that is held, or isn't
-abbrev pub case_inside : List HeldRequest → DialogName → Message → Option HeldDialog → ArrivalCase
+abbrev pub case_inside : List HeldRequest → DialogId → Message → Option HeldDialog → ArrivalCase
 case_inside requests name request None = NoDialog
 case_inside requests name request (Some held) =
     if not (takes held request.cseq.number) then OutOfOrder
-    else (if is_prack request then prack_case requests name held.born request.rack
+    else (if is_prack request then prack_case requests name held.created_by request.rack
     else ForUser)
 
 -- a request outside of any dialog
@@ -109,11 +109,11 @@ abbrev pub case_outside : Message → ArrivalCase
 case_outside request = if is_bye request || is_prack request then NoDialog else ForUser
 
 -- the first case that fits
-abbrev pub case_of : List HeldRequest → Dialogs → DialogName → Message → ArrivalCase
+abbrev pub case_of : List HeldRequest → Dialogs → DialogId → Message → ArrivalCase
 case_of requests dialogs name request =
-    if not (is_inside request) && list_any (is_merged request) requests then Merged
+    if not (has_to_tag request) && list_any (is_merged request) requests then Merged
     else (if list_any is_unknown_option request.require then BadExtension
-    else (if is_inside request then case_inside requests name request (dialog_at name dialogs)
+    else (if has_to_tag request then case_inside requests name request (dialog_at name dialogs)
     else case_outside request))
 
 -- ---- what the agent answers by itself
@@ -171,21 +171,21 @@ request_notice call_id arrival =
     (tag_of arrival.request.from) arrival.request.body
 
 -- a request in the dialog of this name, where it came in one
-abbrev pub in_its_dialog : Dialogs → DialogName → Arrival → HeldRequest
+abbrev pub in_its_dialog : Dialogs → DialogId → Arrival → HeldRequest
 in_its_dialog dialogs name arrival =
     held_first (own_dialog arrival.request name dialogs) arrival
 
 -- it is held so
-abbrev pub request_held : State → List ℕ → DialogName → Arrival → ServedTaken
+abbrev pub request_held : State → List ℕ → DialogId → Arrival → ServedTaken
 request_held state call_id name arrival = (
   record state { requests = state.requests ++ in_its_dialog state.dialogs name arrival ∷ [] },
   Notice (request_notice call_id arrival) ∷ [],
 )
 
 -- a BYE ends its dialog (RFC 3261, section 15.1.2)
-abbrev pub bye_taken : Message → DialogName → State → ServedTaken
+abbrev pub bye_taken : Message → DialogId → State → ServedTaken
 bye_taken request name state =
-    if is_inside request && is_bye request
+    if has_to_tag request && is_bye request
     then (
       record state { dialogs = (ended_at name state.dialogs).0 },
       (ended_at name state.dialogs).1,
@@ -193,21 +193,21 @@ bye_taken request name state =
     else quiet state
 
 -- a request for the user is held; a BYE ends its dialog
-abbrev pub for_user : State → List ℕ → DialogName → Arrival → ServedTaken
+abbrev pub for_user : State → List ℕ → DialogId → Arrival → ServedTaken
 for_user state call_id name arrival =
     followed (request_held state call_id name arrival) (bye_taken arrival.request name)
 
 -- ---- all of it
 
 -- a request in a dialog is noted there
-abbrev pub noted : State → DialogName → Message → State
+abbrev pub noted : State → DialogId → Message → State
 noted state name request =
-    if is_inside request
+    if has_to_tag request
     then record state { dialogs = dialog_changed name (visited request) state.dialogs }
     else state
 
 -- what becomes of it, case by case
-abbrev pub by_case : ArrivalCase → State → List ℕ → DialogName → Arrival → ServedTaken
+abbrev pub by_case : ArrivalCase → State → List ℕ → DialogId → Arrival → ServedTaken
 by_case Merged state call_id name arrival =
     (state, answered_with arrival 482 (codes "Loop Detected"))
 by_case BadExtension state call_id name arrival = (state, refused_extension arrival)

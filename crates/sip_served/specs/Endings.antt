@@ -6,7 +6,7 @@ use Rattle.std.specs.Option.{option_map_or}
 use Rattle.sip_message.specs.declared.key.Key.{Key}
 use Rattle.sip_message.specs.declared.message.Message.{Message}
 use Rattle.sip_common.specs.declared.command.Respond.{Respond}
-use Rattle.sip_common.specs.declared.held_dialog.DialogName.{DialogName}
+use Rattle.sip_common.specs.declared.held_dialog.DialogId.{DialogId}
 use Rattle.sip_common.specs.declared.held_dialog.HeldDialog.{HeldDialog}
 use Rattle.sip_common.specs.declared.item.CallOut.{CallOut}
 use Rattle.sip_common.specs.Dialogs.{is_early_of, is_named, takes}
@@ -25,7 +25,7 @@ gives_response outs = list_any (λ out. is_some (response_in out)) outs
 
 -- The first response of 101 to 299 to an INVITE outside of dialogs opens the dialog of their tags
 -- (RFC 3261, section 12.1.1).
-abbrev pub opened_by_answer : State → Respond → List CallOut → DialogName → Bool
+abbrev pub opened_by_answer : State → Respond → List CallOut → DialogId → Bool
 opened_by_answer state respond outs name =
     option_map_or (λ request. gives_response outs && makes_dialog request respond.status
     && is_named (dialog_name request.request request.tag) name)
@@ -41,7 +41,7 @@ ended_by_answer state respond outs held =
 -- ---- a request that comes up
 
 -- a BYE in the dialog ends it, where it is accepted (RFC 3261, sections 12.2.2 and 15.1.2)
-abbrev pub ended_by_bye : Message → DialogName → HeldDialog → Bool
+abbrev pub ended_by_bye : Message → DialogId → HeldDialog → Bool
 ended_by_bye request name held = is_bye request && is_of_name request name
     && not (list_any is_unknown_option request.require)
     && takes held request.cseq.number
@@ -53,6 +53,6 @@ ended_by_cancel state key held =
     (cancelled_request key state.requests) false
 
 -- no other request ends any
-abbrev pub ended_by_request : State → Key → Message → DialogName → HeldDialog → Bool
+abbrev pub ended_by_request : State → Key → Message → DialogId → HeldDialog → Bool
 ended_by_request state key request name held =
     if is_cancel request then ended_by_cancel state key held else ended_by_bye request name held

@@ -8,39 +8,39 @@ use Rattle.sip_message.specs.Party.{tag_of}
 use Rattle.sip_dialog.specs.Life.{Happening}
 use Rattle.sip_dialog.specs.Opening.{Opening, ByRequest}
 use Rattle.sip_common.specs.declared.command.Respond.{Respond}
-use Rattle.sip_common.specs.declared.held_dialog.DialogName.{DialogName}
+use Rattle.sip_common.specs.declared.held_dialog.DialogId.{DialogId}
 use Rattle.sip_common.specs.declared.held_dialog.HeldDialog.{HeldDialog}
 use Rattle.sip_common.specs.declared.item.CallOut.{CallOut}
-use Rattle.sip_common.specs.Dialogs.{confirms, is_named, takes, visits}
-use Rattle.sip_common.specs.Requests.{dialog_name, is_cancel, is_inside, is_unknown_option, name_of_tags}
+use Rattle.sip_common.specs.Dialogs.{confirms, is_named, takes, happenings_by_request}
+use Rattle.sip_common.specs.Requests.{dialog_name, is_cancel, has_to_tag, is_unknown_option, name_of_tags}
 use Rattle.sip_common.specs.Sent.{responses_out}
 use Rattle.sip_served.specs.declared.held_request.HeldRequest.{HeldRequest}
 use Rattle.sip_served.specs.Respond.{confirms_dialog}
 use Rattle.sip_served.specs.State.{State, has_id}
 
 -- a request of the peer has the tags of the dialog
-abbrev pub is_of_name : Message → DialogName → Bool
+abbrev pub is_of_name : Message → DialogId → Bool
 is_of_name request name =
-    is_inside request && is_named (name_of_tags (tag_of request.to) (tag_of request.from)) name
+    has_to_tag request && is_named (name_of_tags (tag_of request.to) (tag_of request.from)) name
 
 -- one whose options the agent knows is accepted where its number is above those before it; a CANCEL
 -- never is
-abbrev pub accepts : Message → DialogName → HeldDialog → List Happening
+abbrev pub accepts : Message → DialogId → HeldDialog → List Happening
 accepts request name held =
     if is_of_name request name && not (is_cancel request)
     && not (list_any is_unknown_option request.require)
     && takes held request.cseq.number
-    then visits request held else []
+    then happenings_by_request request held else []
 
 -- a 2xx that goes out to an INVITE outside of dialogs confirms the dialog of their tags
-abbrev pub success_confirms : HeldRequest → ℕ → List Message → DialogName → HeldDialog
+abbrev pub success_confirms : HeldRequest → ℕ → List Message → DialogId → HeldDialog
     → List Happening
 success_confirms request status responses name held =
     if is_named (dialog_name request.request request.tag) name && confirms_dialog request status
     then flat_map (λ response. confirms response held) responses else []
 
 -- so does the user's answer to the request of its id, where it isn't refused
-abbrev pub answer_confirms : State → Respond → List CallOut → DialogName → HeldDialog
+abbrev pub answer_confirms : State → Respond → List CallOut → DialogId → HeldDialog
     → List Happening
 answer_confirms state respond outs name held =
     option_map_or

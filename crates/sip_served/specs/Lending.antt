@@ -9,7 +9,7 @@ use Rattle.std.specs.contracts.prelude.BuildHasherDefaultBuildHasher.TheImpl as 
 use Rattle.std.specs.contracts.prelude.FoldHasherHasher.TheImpl as hasher
 use Rattle.std.below.core.specs.contracts.clone.Clone+copy.TheImpl as copied
 use Rattle.indexmap.specs.contracts.map.IndexMap as index_map
-use Rattle.sip_common.specs.contracts.held_dialog.DialogName as dialog_name
+use Rattle.sip_common.specs.contracts.held_dialog.DialogId as dialog_name
 use Rattle.sip_common.specs.contracts.held_dialog.DialogNameHash.TheImpl as name_hash
 use Rattle.sip_common.specs.contracts.held_dialog.DialogNamePartialEq.TheImpl as name_eq
 use Rattle.sip_common.specs.contracts.held_dialog.HeldDialog as held_dialog

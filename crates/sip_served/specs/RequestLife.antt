@@ -7,7 +7,7 @@ use Rattle.sip_reliable.specs.declared.tick.Tick.TheVariants as tick
 use Rattle.sip_reliable.specs.Ledger.{acknowledged, closed_now, ticked, with_sent}
 use Rattle.sip_timers.specs.declared.estimate.TheConstants.{LIFETIME, T1}
 use Rattle.sip_transactions.specs.declared.timers.TheConstants.{T2}
-use Rattle.sip_common.specs.declared.held_dialog.DialogLife.{DialogLife}
+use Rattle.sip_common.specs.declared.held_dialog.DialogReference.{DialogReference}
 use Rattle.sip_common.specs.Requests.{is_invite, is_success}
 use Rattle.sip_served.specs.declared.held_request.HeldRequest.{HeldRequest}
 use Rattle.sip_served.specs.declared.held_request.Retransmission.{Retransmission}
@@ -18,7 +18,7 @@ use Rattle.sip_served.specs.Provisionals.{without_rseq}
 -- what happens to a request that is held
 pub data RequestHappening : Type 0 where
   -- its answer makes this dialog
-  MakesDialog : DialogLife → RequestHappening
+  MakesDialog : DialogReference → RequestHappening
   -- a reliable provisional response goes out, with this RSeq, at a moment
   SendsReliably : ℕ → Message → ℕ → RequestHappening
   -- the PRACK of the response of this RSeq comes

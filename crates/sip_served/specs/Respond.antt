@@ -28,7 +28,7 @@ use Rattle.sip_common.specs.declared.refusal.Refusal.TheVariants.{NoSuchRequest,
 use Rattle.sip_common.specs.Notices.{refused}
 use Rattle.sip_common.specs.Refusal.{first_refusal}
 use Rattle.sip_common.specs.Dialogs.{confirmed, dialog_changed, early_ended, is_named, lives, Dialogs}
-use Rattle.sip_common.specs.Requests.{dialog_name, is_final, is_inside, is_invite, is_provisional, is_success, requires_100rel, supports_100rel}
+use Rattle.sip_common.specs.Requests.{dialog_name, is_final, has_to_tag, is_invite, is_provisional, is_success, requires_100rel, supports_100rel}
 use Rattle.sip_served.specs.RequestLife.{RequestHappening, Finishes, MakesDialog, SendsReliably, went_on}
 use Rattle.sip_served.specs.State.{State, ServedTaken, changed_at, has_id}
 
@@ -54,8 +54,8 @@ is_sent_reliably held status reliability =
     may_be_reliable held status && (is_reliable reliability || requires_100rel held.request)
 
 -- it makes or confirms a dialog, or is one of a dialog
-abbrev pub is_of_dialog : HeldRequest → ℕ → Bool
-is_of_dialog held status = is_invite held.request && (is_provisional status || is_success status)
+abbrev pub makes_or_confirms_dialog : HeldRequest → ℕ → Bool
+makes_or_confirms_dialog held status = is_invite held.request && (is_provisional status || is_success status)
 
 -- the dialog of the request has ended
 abbrev pub has_ended : Dialogs → HeldRequest → Bool
@@ -83,7 +83,7 @@ refusals dialogs respond held =
     (not (is_user_status respond.status), BadStatus)
     ∷ (is_some held.removal, AlreadyFinal)
     ∷ (is_reliable respond.reliability && not (may_be_reliable held respond.status), NotSupported)
-    ∷ (is_of_dialog held respond.status && has_ended dialogs held, DialogEnded)
+    ∷ (makes_or_confirms_dialog held respond.status && has_ended dialogs held, DialogEnded)
     ∷ []
 
 -- the first reason for which an answer is refused
@@ -112,7 +112,7 @@ answer_to local held respond =
     with_content_of
     (if_so (is_sent_reliably held respond.status respond.reliability)
     (with_rseq (result_ok (send_answer held.ledger)))
-    (if_so (is_of_dialog held respond.status) (with_routes local held.request)
+    (if_so (makes_or_confirms_dialog held respond.status) (with_routes local held.request)
     (response_of held.request respond.status respond.reason held.tag)))
     respond.content
 
@@ -153,23 +153,23 @@ finished response status now held = went_on (Finishes response status now ∷ []
 -- 12.1.1)
 abbrev pub makes_dialog : HeldRequest → ℕ → Bool
 makes_dialog held status =
-    is_of_dialog held status && not (is_inside held.request) && is_none held.dialog
+    makes_or_confirms_dialog held status && not (has_to_tag held.request) && is_none held.dialog
 
 -- the dialog that an answer makes at the callee (RFC 3261, section 12.1.1)
 abbrev pub made_dialog : Id → HeldRequest → ℕ → HeldDialog
 made_dialog event held status = record {
   dialog = opened_by_request held.request held.tag status;
   address = held.reply_to;
-  made_by = held.id;
-  born = event;
-  heard = None;
-  owed = [];
+  invite = held.id;
+  created_by = event;
+  last_rseq = None;
+  pending_requests = [];
 }
 
 -- a 2xx confirms the dialog that an earlier response made
 abbrev pub confirms_dialog : HeldRequest → ℕ → Bool
 confirms_dialog held status =
-    is_of_dialog held status && is_success status && not (is_inside held.request)
+    makes_or_confirms_dialog held status && is_success status && not (has_to_tag held.request)
 
 -- any other final response ends the early dialogs
 abbrev pub rejects : HeldRequest → ℕ → Bool
@@ -189,7 +189,7 @@ dialogs_answered event held status response dialogs =
 abbrev pub makes : Id → HeldRequest → ℕ → List RequestHappening
 makes event held status =
     if makes_dialog held status
-    then MakesDialog record { name = dialog_name held.request held.tag; born = event } ∷ []
+    then MakesDialog record { name = dialog_name held.request held.tag; created_by = event } ∷ []
     else []
 
 -- the held request after that

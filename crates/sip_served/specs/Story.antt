@@ -9,13 +9,13 @@ use Rattle.sip_reliable.specs.Ledger.{Ledger, ledger_after}
 use Rattle.sip_timers.specs.declared.estimate.TheConstants.{T1}
 use Rattle.sip_transactions.specs.declared.step.Pace.TheVariants.{Capped}
 use Rattle.sip_transactions.specs.Timers.{interval}
-use Rattle.sip_common.specs.declared.held_dialog.DialogLife.{DialogLife}
+use Rattle.sip_common.specs.declared.held_dialog.DialogReference.{DialogReference}
 use Rattle.sip_common.specs.Requests.{is_invite, is_success, supports_100rel}
 use Rattle.sip_served.specs.declared.held_request.HeldRequest.{HeldRequest}
 use Rattle.sip_served.specs.declared.held_request.Retransmission.{Retransmission}
 use Rattle.sip_served.specs.declared.held_request.Success.{Success}
 use Rattle.sip_served.specs.declared.held_request.SuccessEnd.{SuccessEnd}
-use Rattle.sip_served.specs.declared.provisionals.NumberedResponse.{NumberedResponse}
+use Rattle.sip_served.specs.declared.provisionals.ReliableResponse.{ReliableResponse}
 use Rattle.sip_served.specs.Arrival.{first_rseq}
 use Rattle.sip_served.specs.RequestLife.{RequestHappening, EndsSuccess, Finishes, GivesUpProvisionals, MakesDialog, RepeatsProvisionals, RepeatsSuccess, SendsReliably, TakesPrack}
 
@@ -31,7 +31,7 @@ goes_on more story = record story { life = story.life ++ more }
 -- ---- its dialog
 
 -- the one that it came in, or that its answer made
-abbrev pub dialog_by : Option DialogLife → RequestHappening → Option DialogLife
+abbrev pub dialog_by : Option DialogReference → RequestHappening → Option DialogReference
 dialog_by dialog (MakesDialog life) = Some life
 dialog_by dialog _ = dialog
 
@@ -59,7 +59,7 @@ is_prack_of wanted (TakesPrack number) = wanted == number
 is_prack_of wanted _ = false
 
 -- those that went out, and whose PRACK didn't come after that
-abbrev pub unacknowledged : List RequestHappening → List NumberedResponse
+abbrev pub unacknowledged : List RequestHappening → List ReliableResponse
 unacknowledged [] = []
 unacknowledged (SendsReliably number response now ∷ later) =
     if list_any (is_prack_of number) later then unacknowledged later

@@ -8,7 +8,7 @@ use Rattle.sip_transactions.specs.declared.output.Kind.TheVariants.{Request, Ack
 use Rattle.sip_transactions.specs.declared.output.Up.{Up}
 use Rattle.sip_common.specs.declared.command.Respond.{Respond}
 use Rattle.sip_common.specs.declared.command.UserCommand.TheVariants as command
-use Rattle.sip_common.specs.declared.held_dialog.DialogName.{DialogName}
+use Rattle.sip_common.specs.declared.held_dialog.DialogId.{DialogId}
 use Rattle.sip_common.specs.declared.item.Item.{Item}
 use Rattle.sip_common.specs.declared.item.Item.TheVariants as item
 use Rattle.sip_common.specs.Requests.{dialog_name, is_cancel}
@@ -36,7 +36,7 @@ abbrev pub happens_to : Id → List RequestHappening → Stories → Stories
 happens_to id more stories = changed_first (λ story. has_id id story.arrival) (goes_on more) stories
 
 -- a request that comes up, other than a CANCEL: one for the user is held
-abbrev pub told_by_case : ArrivalCase → State → DialogName → Arrival → Stories → Stories
+abbrev pub told_by_case : ArrivalCase → State → DialogId → Arrival → Stories → Stories
 told_by_case (Acknowledges invite rseq) state name arrival stories =
     happens_to invite (TakesPrack rseq ∷ []) stories
 told_by_case ForUser state name arrival stories =

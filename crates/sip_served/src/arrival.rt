@@ -8,8 +8,8 @@ ghost use Rattle.sip_common.specs.Requests.{is_unknown_option};
 
 use crate::held_request::HeldRequest;
 use sip_common::dialogs::takes;
-use sip_common::request::{is_bye, is_inside, is_invite, is_prack, is_unknown_option};
-use sip_common::{DialogName, Dialogs, HeldDialog};
+use sip_common::request::{is_bye, has_to_tag, is_invite, is_prack, is_unknown_option};
+use sip_common::{DialogId, Dialogs, HeldDialog};
 use sip_message::{Addr, Id, Key, Message, RAck, Token};
 use sip_text::{Boxed, token_eq};
 
@@ -49,18 +49,18 @@ pub(crate) enum ArrivalCase {
 pub(crate) fn case_of(
     requests: &[HeldRequest],
     dialogs: &Dialogs,
-    name: &DialogName,
+    name: &DialogId,
     request: &Message,
 ) -> ArrivalCase
     ensures { result ≡ arrival.case_of requests.now dialogs.now.entries name.now request.now }
 {
-    if !is_inside(request) && merges(requests, request) {
+    if !has_to_tag(request) && merges(requests, request) {
         return ArrivalCase::Merged;
     }
     if requires_unknown(request) {
         return ArrivalCase::BadExtension;
     }
-    if is_inside(request) {
+    if has_to_tag(request) {
         case_inside(requests, name, request, dialogs.get(name))
     } else {
         case_outside(request)
@@ -79,7 +79,7 @@ fn case_outside(request: &Message) -> ArrivalCase
 
 fn case_inside(
     requests: &[HeldRequest],
-    name: &DialogName,
+    name: &DialogId,
     request: &Message,
     dialog: Option<&HeldDialog>,
 ) -> ArrivalCase
@@ -93,43 +93,43 @@ fn case_inside(
         return ArrivalCase::OutOfOrder;
     }
     if is_prack(request) {
-        return prack_case(requests, name, held.born, &request.rack);
+        return prack_case(requests, name, held.created_by, &request.rack);
     }
     ArrivalCase::ForUser
 }
 
 fn prack_case(
     requests: &[HeldRequest],
-    name: &DialogName,
-    born: Id,
+    name: &DialogId,
+    created_by: Id,
     rack: &Option<RAck>,
 ) -> ArrivalCase
-    ensures { result ≡ arrival.prack_case requests.now name.now born rack.now }
+    ensures { result ≡ arrival.prack_case requests.now name.now created_by rack.now }
 {
     let Some(rack) = rack else {
         return ArrivalCase::AcknowledgesNothing;
     };
-    match named_invite(requests, name, born, rack) {
+    match named_invite(requests, name, created_by, rack) {
         Some(invite) => ArrivalCase::Acknowledges(invite, rack.rseq),
         None => ArrivalCase::AcknowledgesNothing,
     }
 }
 
 // The first INVITE of the dialog of which a response waits that the RAck names.
-fn named_invite(requests: &[HeldRequest], name: &DialogName, born: Id, rack: &RAck) -> Option<Id>
-    ensures { result ≡ arrival.named_invite requests.now name.now born rack.now }
+fn named_invite(requests: &[HeldRequest], name: &DialogId, created_by: Id, rack: &RAck) -> Option<Id>
+    ensures { result ≡ arrival.named_invite requests.now name.now created_by rack.now }
 {
     requests
         .iter()
-        .find(|held| is_in_dialog(held, name, born) && is_named_by(held, rack))
+        .find(|held| is_in_dialog(held, name, created_by) && is_named_by(held, rack))
         .map(|held| held.id)
 }
 
-fn is_in_dialog(held: &HeldRequest, name: &DialogName, born: Id) -> bool
-    ensures { result ≡ arrival.is_in_dialog name.now born held.now }
+fn is_in_dialog(held: &HeldRequest, name: &DialogId, created_by: Id) -> bool
+    ensures { result ≡ arrival.is_in_dialog name.now created_by held.now }
 {
     match &held.dialog {
-        Some(life) => life.name == *name && life.born == born,
+        Some(life) => life.name == *name && life.created_by == created_by,
         None => false,
     }
 }

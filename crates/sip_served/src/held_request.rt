@@ -5,7 +5,7 @@ ghost use Rattle.sip_served.specs.Arrival.{held_first};
 
 use crate::arrival::Arrival;
 use crate::provisionals::Provisionals;
-use sip_common::DialogLife;
+use sip_common::DialogReference;
 use sip_common::request::supports_100rel;
 use sip_message::{Addr, Id, Key, Message, Token};
 use sip_reliable::Outbound;
@@ -26,7 +26,7 @@ pub struct HeldRequest {
     /// The To tag of its answers.
     pub tag: Token,
     /// The dialog that it came in, or that its answer made.
-    pub dialog: Option<DialogLife>,
+    pub dialog: Option<DialogReference>,
     /// The reliable provisional responses to it that were sent.
     pub ledger: Outbound,
     /// Those of them that wait for their PRACK.
@@ -39,7 +39,7 @@ pub struct HeldRequest {
 
 impl HeldRequest {
     /// A request that came up in this dialog, if any: no answer to it was sent. Takes no memory.
-    pub(crate) fn new(alloc: Global, arrival: Arrival, dialog: Option<DialogLife>) -> HeldRequest
+    pub(crate) fn new(alloc: Global, arrival: Arrival, dialog: Option<DialogReference>) -> HeldRequest
         ensures { result ≡ held_first dialog arrival }
     {
         let Arrival {

@@ -10,7 +10,7 @@ use std::marker::Model;
 
 /// A reliable provisional response that was sent.
 #[derive(Drop)]
-pub struct NumberedResponse {
+pub struct ReliableResponse {
     /// Its RSeq.
     pub number: u32,
     pub response: Boxed<Message>,
@@ -22,14 +22,14 @@ pub struct NumberedResponse {
 /// Contracts see them as a list.
 #[derive(Drop)]
 pub struct Provisionals {
-    responses: Vec<NumberedResponse>,
+    responses: Vec<ReliableResponse>,
 }
 
 impl Model for Provisionals {
     ghost use Rattle.std.specs.Prelude.{List};
-    ghost use Rattle.sip_served.specs.declared.provisionals.NumberedResponse.{NumberedResponse};
+    ghost use Rattle.sip_served.specs.declared.provisionals.ReliableResponse.{ReliableResponse};
 
-    ghost Value = { List NumberedResponse };
+    ghost Value = { List ReliableResponse };
 
     ghost view = { λ p. p.responses.items };
 }
@@ -44,14 +44,14 @@ impl Provisionals {
         }
     }
 
-    pub(crate) fn as_slice(&self) -> &[NumberedResponse]
+    pub(crate) fn as_slice(&self) -> &[ReliableResponse]
         ensures { result.now ≡ self.now }
     {
         self.responses.as_slice()
     }
 
     /// One more was sent.
-    pub(crate) fn push(&mut self, response: NumberedResponse) -> Result<(), AllocError>
+    pub(crate) fn push(&mut self, response: ReliableResponse) -> Result<(), AllocError>
         ensures { OnOk result (self.new ≡ self.old ++ response ∷ []) }
     {
         self.responses.push(response)?;

@@ -8,13 +8,13 @@ ghost use Rattle.sip_served.specs.RequestLife as life;
 ghost use Rattle.sip_served.specs.Respond as spec;
 
 use crate::held_request::{HeldRequest, Retransmission, Success};
-use crate::provisionals::NumberedResponse;
+use crate::provisionals::ReliableResponse;
 use sip_common::dialogs::{confirm, end_early, lives};
 use sip_common::request::{
-    dialog_name, is_final, is_inside, is_invite, is_provisional, is_success, requires_100rel,
+    dialog_name, is_final, has_to_tag, is_invite, is_provisional, is_success, requires_100rel,
     supports_100rel,
 };
-use sip_common::{CallOut, DialogLife, Dialogs, HeldDialog, Refusal, Reliability, Respond};
+use sip_common::{CallOut, DialogReference, Dialogs, HeldDialog, Refusal, Reliability, Respond};
 use sip_dialog::{Dialog, own_contact};
 use sip_message::{Addr, Id, Message, StatusCode, Token, response_to};
 use sip_reliable::{Inbound, SendFault};
@@ -43,7 +43,7 @@ pub(crate) fn refusal_for(
         Some(Refusal::AlreadyFinal)
     } else if is_reliable(respond.reliability) && !may_be_reliable(held, respond.status) {
         Some(Refusal::NotSupported)
-    } else if is_of_dialog(held, respond.status) && has_ended(dialogs, held) {
+    } else if makes_or_confirms_dialog(held, respond.status) && has_ended(dialogs, held) {
         Some(Refusal::DialogEnded)
     } else {
         reliable_refusal(held, respond)
@@ -80,8 +80,8 @@ fn is_reliable(reliability: Reliability) -> bool
 }
 
 /// Whether an answer of this status makes or confirms a dialog.
-pub(crate) fn is_of_dialog(held: &HeldRequest, status: u16) -> bool
-    ensures { result ≡ spec.is_of_dialog held.now status }
+pub(crate) fn makes_or_confirms_dialog(held: &HeldRequest, status: u16) -> bool
+    ensures { result ≡ spec.makes_or_confirms_dialog held.now status }
 {
     is_invite(held.request.get()) && (is_provisional(status) || is_success(status))
 }
@@ -131,7 +131,7 @@ pub(crate) fn answer_to(
 {
     let status = StatusCode::from_code(respond.status);
     let mut response = response_to(alloc, held.request.get(), status, respond.reason, &held.tag)?;
-    if is_of_dialog(held, respond.status) {
+    if makes_or_confirms_dialog(held, respond.status) {
         set_routes(alloc, local, held.request.get(), &mut response)?;
     }
     if is_sent_reliably(held, respond.status, respond.reliability) {
@@ -208,7 +208,7 @@ fn send_reliably(
     };
     let response = Boxed::new(alloc, response.clone()?)?;
     held.provisionals
-        .push(NumberedResponse { number, response })
+        .push(ReliableResponse { number, response })
 }
 
 /// A final response to a held request is the last one.
@@ -281,13 +281,13 @@ pub(crate) fn answer_dialogs(
 fn makes_dialog(held: &HeldRequest, status: u16) -> bool
     ensures { result ≡ spec.makes_dialog held.now status }
 {
-    is_of_dialog(held, status) && !is_inside(held.request.get()) && held.dialog.is_none()
+    makes_or_confirms_dialog(held, status) && !has_to_tag(held.request.get()) && held.dialog.is_none()
 }
 
 fn confirms_dialog(held: &HeldRequest, status: u16) -> bool
     ensures { result ≡ spec.confirms_dialog held.now status }
 {
-    is_of_dialog(held, status) && is_success(status) && !is_inside(held.request.get())
+    makes_or_confirms_dialog(held, status) && is_success(status) && !has_to_tag(held.request.get())
 }
 
 fn rejects(held: &HeldRequest, status: u16) -> bool
@@ -309,13 +309,13 @@ fn make_dialog(
         ≡ insert_entry is_named dialogs.old.entries (dialog_name held.old.request held.old.tag)
         (spec.made_dialog event held.old status)) }
     ensures request { OnOk result (held.new ≡ record held.old {
-      dialog = Some record { name = dialog_name held.old.request held.old.tag; born = event };
+      dialog = Some record { name = dialog_name held.old.request held.old.tag; created_by = event };
     }) }
 {
     let name = dialog_name(alloc, held.request.get(), &held.tag)?;
     let made = made_dialog(alloc, event, held, StatusCode::from_code(status))?;
     dialogs.insert(name.clone()?, made)?;
-    held.dialog = Some(DialogLife { name, born: event });
+    held.dialog = Some(DialogReference { name, created_by: event });
     Ok(())
 }
 
@@ -331,9 +331,9 @@ fn made_dialog(
     Ok(HeldDialog {
         dialog: Dialog::from_request(alloc, held.request.get(), tag, status)?,
         address: held.reply_to,
-        made_by: held.id,
-        born: event,
-        heard: Inbound::new(),
-        owed: Series::new(alloc),
+        invite: held.id,
+        created_by: event,
+        last_rseq: Inbound::new(),
+        pending_requests: Series::new(alloc),
     })
 }

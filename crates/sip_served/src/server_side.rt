@@ -29,8 +29,8 @@ use crate::tick::{is_kept, next_due, tick_requests};
 use indexmap::IndexMap;
 use sip_common::dialogs::{end, end_early, own_dialog, visit};
 use sip_common::outputs::{joined, one, refused, tell};
-use sip_common::request::{dialog_name, is_bye, is_cancel, is_inside, own_tag};
-use sip_common::{CallOut, DialogName, Dialogs, Item, Notice, Refusal, Respond, UserCommand};
+use sip_common::request::{dialog_name, is_bye, is_cancel, has_to_tag, own_tag};
+use sip_common::{CallOut, DialogId, Dialogs, Item, Notice, Refusal, Respond, UserCommand};
 use sip_message::{Addr, CallId, Id, Message, Token};
 use sip_text::Boxed;
 use sip_transactions::{Command, Kind, Up};
@@ -262,7 +262,7 @@ impl ServerSide {
         &mut self,
         case: ArrivalCase,
         call_id: CallId,
-        name: DialogName,
+        name: DialogId,
         arrival: Arrival,
     ) -> Result<Vec<CallOut>, AllocError>
         ensures { IfOk result (λ outs. (self.new, outs.items)
@@ -289,10 +289,10 @@ impl ServerSide {
     }
 
     // A request in a dialog is noted there.
-    fn note(&mut self, name: &DialogName, request: &Message) -> Result<(), AllocError>
+    fn note(&mut self, name: &DialogId, request: &Message) -> Result<(), AllocError>
         ensures { OnOk result (self.new ≡ arrived.noted self.old name.now request.now) }
     {
-        if is_inside(request) {
+        if has_to_tag(request) {
             visit(&mut self.dialogs, name, request)?;
         }
         Ok(())
@@ -324,13 +324,13 @@ impl ServerSide {
     fn for_user(
         &mut self,
         call_id: CallId,
-        name: DialogName,
+        name: DialogId,
         arrival: Arrival,
     ) -> Result<Vec<CallOut>, AllocError>
         ensures { IfOk result (λ outs. (self.new, outs.items)
             ≡ arrived.for_user self.old call_id name arrival) }
     {
-        let ends = is_inside(arrival.request.get()) && is_bye(arrival.request.get());
+        let ends = has_to_tag(arrival.request.get()) && is_bye(arrival.request.get());
         let held = self.hold(call_id, &name, arrival)?;
         if !ends {
             return Ok(held);
@@ -343,7 +343,7 @@ impl ServerSide {
     fn hold(
         &mut self,
         call_id: CallId,
-        name: &DialogName,
+        name: &DialogId,
         arrival: Arrival,
     ) -> Result<Vec<CallOut>, AllocError>
         ensures { IfOk result (λ outs. (self.new, outs.items)

@@ -35,10 +35,10 @@ use Rattle.sip_common.specs.declared.command.Invite.{Invite}
 use Rattle.sip_common.specs.declared.command.Plain.{Plain as PlainCommand}
 use Rattle.sip_common.specs.declared.command.ProvisionalSupport.{ProvisionalSupport}
 use Rattle.sip_common.specs.declared.command.ProvisionalSupport.TheVariants as support
-use Rattle.sip_common.specs.declared.debt.Debt.{Debt}
-use Rattle.sip_common.specs.declared.debt.Debt.TheVariants.{Ack, Prack}
-use Rattle.sip_common.specs.declared.held_dialog.DialogLife.{DialogLife}
-use Rattle.sip_common.specs.declared.held_dialog.DialogName.{DialogName}
+use Rattle.sip_common.specs.declared.pending_request.PendingRequest.{PendingRequest}
+use Rattle.sip_common.specs.declared.pending_request.PendingRequest.TheVariants.{Ack, Prack}
+use Rattle.sip_common.specs.declared.held_dialog.DialogReference.{DialogReference}
+use Rattle.sip_common.specs.declared.held_dialog.DialogId.{DialogId}
 use Rattle.sip_common.specs.declared.held_dialog.HeldDialog.{HeldDialog}
 use Rattle.sip_common.specs.declared.item.CallOut.{CallOut}
 use Rattle.sip_common.specs.declared.item.CallOut.TheVariants.{Command, Direct}
@@ -54,7 +54,7 @@ use Rattle.sip_clients.specs.declared.client.Cancelling.{Cancelling}
 use Rattle.sip_clients.specs.declared.client.Cancelling.TheVariants.{NotAsked, Sent, Waits}
 use Rattle.sip_clients.specs.declared.client.Client.{Client}
 use Rattle.sip_clients.specs.declared.client.RequestKind.{RequestKind}
-use Rattle.sip_clients.specs.declared.client.RequestKind.TheVariants.{First, Again, Inside, Plain}
+use Rattle.sip_clients.specs.declared.client.RequestKind.TheVariants.{InitialInvite, ReInvite, InDialog, OutOfDialog}
 use Rattle.sip_clients.specs.declared.event.Event.{Event}
 use Rattle.sip_clients.specs.declared.outside.TheConstants.{FIRST_CSEQ}
 use Rattle.sip_clients.specs.Client.{Clients, ClientTaken, Side}
@@ -62,17 +62,17 @@ use Rattle.sip_clients.specs.Event.{branch_of, from_tag_of}
 
 -- ---- client requests
 
--- an INVITE: an initial one (`First`) or a re-INVITE (`Again`)
+-- an INVITE: an initial one (`InitialInvite`) or a re-INVITE (`ReInvite`)
 abbrev pub is_inviting : RequestKind → Bool
-is_inviting First = true
-is_inviting (Again life) = true
+is_inviting InitialInvite = true
+is_inviting (ReInvite life) = true
 is_inviting _ = false
 
--- the dialog of a re-INVITE or of another request in a dialog (`Inside`); an initial INVITE and a
--- request outside of dialogs (`Plain`) have none
-abbrev pub life_of : RequestKind → Option DialogLife
-life_of (Again life) = Some life
-life_of (Inside life) = Some life
+-- the dialog of a re-INVITE or of another request in a dialog (`InDialog`); an initial INVITE and a
+-- request outside of dialogs (`OutOfDialog`) have none
+abbrev pub life_of : RequestKind → Option DialogReference
+life_of (ReInvite life) = Some life
+life_of (InDialog life) = Some life
 life_of _ = None
 
 -- a client request that is just sent, known by the event that sends it
@@ -84,7 +84,7 @@ new_request id kind request to = record {
   to = to;
   provisional = false;
   cancel = NotAsked;
-  heard = None;
+  last_rseq = None;
   answers = [];
   removal = None;
 }
@@ -126,7 +126,7 @@ invite_rule event invite clients =
     let supporting = with_100rel invite.support
     (record request { contacts = contact_of event.local ∷ [] }) in
     start (clients, [])
-    (new_request event.id First (with_content_of supporting invite.content) invite.address)
+    (new_request event.id InitialInvite (with_content_of supporting invite.content) invite.address)
 
 -- methods that have commands of their own
 abbrev pub has_command : List ℕ → Bool
@@ -142,7 +142,7 @@ plain_rule event plain clients =
     else (let request = request_outside event plain.call_id plain.method plain.request_uri
     plain.from plain.to plain.routes in
     start (clients, [])
-    (new_request event.id Plain (with_content_of request plain.content) plain.address))
+    (new_request event.id OutOfDialog (with_content_of request plain.content) plain.address))
 
 -- ---- in a dialog
 
@@ -166,13 +166,13 @@ refusals_in dialog method =
     ∷ []
 
 -- a request in a dialog with its next number: a re-INVITE or another
-abbrev pub request_within : Event → DialogName → List ℕ → Option RAck → Content → HeldDialog
+abbrev pub request_within : Event → DialogId → List ℕ → Option RAck → Content → HeldDialog
     → Client
 request_within event name method rack content held =
-    let life : DialogLife = record { name = name; born = held.born } in
+    let life : DialogReference = record { name = name; created_by = held.created_by } in
     let message = request_in held.dialog method (held.dialog.local_cseq + 1) content
     (branch_of event) event.local in
-    new_request event.id (if bytes_eq method (codes "INVITE") then Again life else Inside life)
+    new_request event.id (if bytes_eq method (codes "INVITE") then ReInvite life else InDialog life)
     (record message { rack = rack }) (hop_of held.dialog held.address)
 
 -- that number is taken
@@ -212,7 +212,7 @@ pub record Payment : Type 0 where
   pub outs : List CallOut
 
 -- it goes out with this content (RFC 3261, section 13.2.2.4; RFC 3262, section 4)
-abbrev pub payment_with : Event → DialogName → Debt → Content → HeldDialog → Payment
+abbrev pub payment_with : Event → DialogId → PendingRequest → Content → HeldDialog → Payment
 payment_with event name (Ack invite number) content held =
     let message = request_in held.dialog (codes "ACK") number content (branch_of event)
     event.local in
@@ -233,32 +233,32 @@ payment_with event name (Prack rseq number) content held =
     }
 
 -- its method
-abbrev pub method_of : Debt → List ℕ
+abbrev pub method_of : PendingRequest → List ℕ
 method_of (Ack invite number) = codes "ACK"
 method_of (Prack rseq number) = codes "PRACK"
 
 -- It goes out, or is refused; without a content it waits for the user. Where it doesn't go out the
 -- dialog is `owing`, and otherwise `paid`.
-abbrev pub payment : Event → List ℕ → DialogName → Debt → Option Content → HeldDialog → HeldDialog
+abbrev pub payment : Event → List ℕ → DialogId → PendingRequest → Option Content → HeldDialog → HeldDialog
     → Payment
-payment event call_id name debt content paid owing =
+payment event call_id name pending content paid owing =
     let unsent : List CallOut → Payment =
     λ outs. record { dialog = owing; ack = None; prack = []; outs = outs } in
     option_map_or (λ content.
     option_map_or (λ refusal. unsent (refused event.id call_id refusal))
-    (first_refusal (refusals_in paid.dialog (method_of debt)) None)
-    (payment_with event name debt content paid)) content (unsent [])
+    (first_refusal (refusals_in paid.dialog (method_of pending)) None)
+    (payment_with event name pending content paid)) content (unsent [])
 
 -- the same is owed
-abbrev pub is_debt : Debt → Debt → Bool
-is_debt (Ack invite number) (Ack other_invite other_number) =
+abbrev pub is_same_pending : PendingRequest → PendingRequest → Bool
+is_same_pending (Ack invite number) (Ack other_invite other_number) =
     is_id invite other_invite && (number == other_number)
-is_debt (Prack rseq number) (Prack other_rseq other_number) =
+is_same_pending (Prack rseq number) (Prack other_rseq other_number) =
     (rseq == other_rseq) && (number == other_number)
-is_debt _ _ = false
+is_same_pending _ _ = false
 
 -- the ACK is kept with its INVITE, for a 2xx that comes again
-abbrev pub ack_kept : Debt → DialogName → Option SentAck → Clients → Clients
+abbrev pub ack_kept : PendingRequest → DialogId → Option SentAck → Clients → Clients
 ack_kept (Ack invite number) name (Some ack) clients =
     option_map_or (λ client. set_value (is_id invite) clients
     (record client { answers = insert_entry is_named client.answers name (Some ack) }))
@@ -266,36 +266,36 @@ ack_kept (Ack invite number) name (Some ack) clients =
 ack_kept _ name ack clients = clients
 
 -- The user's ACK or PRACK is for the oldest response in its dialog that is owed one.
-abbrev pub debt_rule : List ℕ → Refusal → Event → DialogBody → Side → ClientTaken
-debt_rule method nothing event command side =
+abbrev pub pending_rule : List ℕ → Refusal → Event → DialogBody → Side → ClientTaken
+pending_rule method nothing event command side =
     let name = name_of_tags (tag_text command.local_tag) (tag_text command.remote_tag) in
     let refuse : Refusal → ClientTaken =
     λ refusal. (side, refused event.id command.call_id refusal) in
-    option_map_or (λ (held : HeldDialog). option_map_or (λ debt.
-    let paid = record held { owed = filter (λ other. not (is_debt debt other)) held.owed } in
-    let done = payment event command.call_id name debt (Some command.content) paid held in
-    let sent = fold start (ack_kept debt name done.ack side.clients, done.outs) done.prack in (
+    option_map_or (λ (held : HeldDialog). option_map_or (λ pending.
+    let paid = record held { pending_requests = filter (λ other. not (is_same_pending pending other)) held.pending_requests } in
+    let done = payment event command.call_id name pending (Some command.content) paid held in
+    let sent = fold start (ack_kept pending name done.ack side.clients, done.outs) done.prack in (
       record {
         dialogs = set_value (is_named name) side.dialogs done.dialog;
         clients = sent.0;
       },
       sent.1,
-    )) (find (λ debt. bytes_eq (method_of debt) method) held.owed) (refuse nothing))
+    )) (find (λ pending. bytes_eq (method_of pending) method) held.pending_requests) (refuse nothing))
     (lookup (is_named name) side.dialogs) (refuse NoSuchDialog)
 
 -- the command Ack
 unfoldable pub ack_rule : Event → DialogBody → Side → ClientTaken
-ack_rule = debt_rule (codes "ACK") NothingToAck
+ack_rule = pending_rule (codes "ACK") NothingToAck
 
 -- the command Prack
 unfoldable pub prack_rule : Event → DialogBody → Side → ClientTaken
-prack_rule = debt_rule (codes "PRACK") NothingToPrack
+prack_rule = pending_rule (codes "PRACK") NothingToPrack
 
 -- ---- CANCEL
 
 -- the CANCEL of an INVITE, with its branch and to where it was sent (RFC 3261, section 9.1)
 abbrev pub cancel_request : Id → Client → Client
-cancel_request id invite = new_request id Plain (cancel_of invite.request) invite.to
+cancel_request id invite = new_request id OutOfDialog (cancel_of invite.request) invite.to
 
 -- a CANCEL was asked for before
 abbrev pub is_asked : Cancelling → Bool

@@ -14,21 +14,21 @@ use Rattle.sip_timers.specs.declared.estimate.TheConstants.{LIFETIME}
 use Rattle.sip_dialog.specs.Dialog.{is_ended}
 use Rattle.sip_dialog.specs.Opening.{contact_uri, opened_by_response}
 use Rattle.sip_dialog.specs.Step.{confirmed_by}
-use Rattle.sip_common.specs.declared.debt.Debt.{Debt}
-use Rattle.sip_common.specs.declared.debt.Debt.TheVariants.{Ack, Prack}
+use Rattle.sip_common.specs.declared.pending_request.PendingRequest.{PendingRequest}
+use Rattle.sip_common.specs.declared.pending_request.PendingRequest.TheVariants.{Ack, Prack}
 use Rattle.sip_common.specs.declared.held_dialog.HeldDialog.{HeldDialog}
 use Rattle.sip_common.specs.declared.item.CallOut.{CallOut}
 use Rattle.sip_common.specs.declared.item.CallOut.TheVariants.{Direct, Notice}
 use Rattle.sip_common.specs.declared.notice.Notice.TheVariants.{Response}
 use Rattle.sip_common.specs.Dialogs.{is_named, lives, Dialogs}
 use Rattle.sip_common.specs.Ids.{is_id}
-use Rattle.sip_common.specs.Requests.{is_final, is_inside, is_success, name_of_tags, requires_100rel}
+use Rattle.sip_common.specs.Requests.{is_final, has_to_tag, is_success, name_of_tags, requires_100rel}
 use Rattle.sip_clients.specs.declared.answers.SentAck.{SentAck}
 use Rattle.sip_clients.specs.declared.client.Cancelling.{Cancelling}
 use Rattle.sip_clients.specs.declared.client.Cancelling.TheVariants.{NotAsked, Sent, Waits}
 use Rattle.sip_clients.specs.declared.client.Client.{Client}
 use Rattle.sip_clients.specs.declared.event.Event.{Event}
-use Rattle.sip_clients.specs.declared.reply.Reply.{Reply as Answer}
+use Rattle.sip_clients.specs.declared.reply.ReceivedResponse.{ReceivedResponse}
 use Rattle.sip_clients.specs.Client.{ClientTaken, Side}
 use Rattle.sip_clients.specs.Rules.Ends.{request_over}
 use Rattle.sip_clients.specs.Rules.Requests.{cancel_request, is_inviting, life_of, payment, start}
@@ -44,18 +44,18 @@ pub record Outcome : Type 0 where
   pub prack : List Client
 
 -- the dialog that a response makes (RFC 3261, section 12.1.2)
-abbrev pub dialog_made_by : Answer → Client → HeldDialog
+abbrev pub dialog_made_by : ReceivedResponse → Client → HeldDialog
 dialog_made_by answer client = record {
   dialog = opened_by_response client.request answer.response;
   address = client.to;
-  made_by = client.id;
-  born = answer.event.id;
-  heard = None;
-  owed = [];
+  invite = client.id;
+  created_by = answer.event.id;
+  last_rseq = None;
+  pending_requests = [];
 }
 
 -- the user is told of a response
-abbrev pub notice_of : Answer → CallOut
+abbrev pub notice_of : ReceivedResponse → CallOut
 notice_of answer =
     Notice (Response answer.call_id answer.id answer.status (tag_of answer.response.from)
     (tag_of answer.response.to) answer.response.body)
@@ -63,13 +63,13 @@ notice_of answer =
 -- A response that asks for an ACK or a PRACK is told, and that goes out, or is owed last of all. It
 -- has no body where the INVITE had an offer, or the response has none; otherwise the user answers
 -- the offer (RFC 3261, section 13.2.1; RFC 3262, section 5).
-abbrev pub asks_for : Debt → Answer → Client → (Option SentAck → Client) → HeldDialog → Dialogs
+abbrev pub asks_for : PendingRequest → ReceivedResponse → Client → (Option SentAck → Client) → HeldDialog → Dialogs
     → Outcome
-asks_for debt answer client after held dialogs =
+asks_for pending answer client after held dialogs =
     let content = if not (length client.request.body == 0) || (length answer.response.body == 0)
     then Some (content_of_body []) else None in
-    let owing = record held { owed = held.owed ++ debt ∷ [] } in
-    let done = payment answer.event answer.call_id answer.name debt content held owing in
+    let owing = record held { pending_requests = held.pending_requests ++ pending ∷ [] } in
+    let done = payment answer.event answer.call_id answer.name pending content held owing in
     record {
       request = Some (after done.ack);
       dialogs = insert_entry is_named dialogs answer.name done.dialog;
@@ -87,7 +87,7 @@ success_in initial response held =
     else record held { dialog = record held.dialog { target = target } })
 
 -- The first case that fits.
-abbrev pub outcome_of : Answer → Client → Dialogs → Outcome
+abbrev pub outcome_of : ReceivedResponse → Client → Dialogs → Outcome
 outcome_of answer client dialogs =
     let final = is_final answer.status in
     let initial = is_none (life_of client.kind) in
@@ -120,17 +120,17 @@ outcome_of answer client dialogs =
     -- the first 2xx of a dialog that has ended
     else (if final then kept (accepted None) dialogs (notice_of answer ∷ [])
     -- a provisional response of no dialog (section 12.1)
-    else (if not (stands && not (answer.status == 100) && is_inside answer.response)
+    else (if not (stands && not (answer.status == 100) && has_to_tag answer.response)
     then kept client dialogs (notice_of answer ∷ [])
     -- one of an early dialog: if it is reliable it has to be the next (RFC 3262, section 4)
     else (
     let held = unwrap_or found made in
-    let last = if initial then held.heard else client.heard in
+    let last = if initial then held.last_rseq else client.last_rseq in
     option_map_or (λ rseq.
     if not (option_map_or (λ last. rseq == last + 1) last true) then kept client dialogs []
     else asks_for (Prack rseq number) answer client
-    (λ ack. if initial then client else record client { heard = Some rseq })
-    (if initial then record held { heard = Some rseq } else held) dialogs)
+    (λ ack. if initial then client else record client { last_rseq = Some rseq })
+    (if initial then record held { last_rseq = Some rseq } else held) dialogs)
     (if requires_100rel answer.response then answer.response.rseq else None)
     (kept client (insert_entry is_named dialogs answer.name held)
     (notice_of answer ∷ [])))))))
@@ -158,7 +158,7 @@ response_rule event id call_id response side =
       provisional = client.provisional || not final;
       cancel = option_map_or (λ by. if final then NotAsked else Sent) waiting client.cancel;
     } in
-    let answer : Answer = record {
+    let answer : ReceivedResponse = record {
       event = event;
       id = id;
       call_id = call_id;

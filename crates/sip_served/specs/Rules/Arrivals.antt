@@ -19,7 +19,7 @@ use Rattle.sip_transactions.specs.declared.output.Kind.{Kind}
 use Rattle.sip_transactions.specs.declared.output.Kind.TheVariants as kind
 use Rattle.sip_transactions.specs.declared.output.Up.{Up}
 use Rattle.sip_common.specs.declared.command.UserCommand.TheVariants.{Respond}
-use Rattle.sip_common.specs.declared.held_dialog.DialogName.{DialogName}
+use Rattle.sip_common.specs.declared.held_dialog.DialogId.{DialogId}
 use Rattle.sip_common.specs.declared.item.CallOut.{CallOut}
 use Rattle.sip_common.specs.declared.item.CallOut.TheVariants.{Notice, Command}
 use Rattle.sip_common.specs.declared.item.Item.{Item}
@@ -27,7 +27,7 @@ use Rattle.sip_common.specs.declared.item.Item.TheVariants as item
 use Rattle.sip_common.specs.declared.notice.Notice.TheVariants.{Ack, Cancel, Prack, Request}
 use Rattle.sip_common.specs.Dialogs.{dialog_at, dialog_changed, early_ended, ended_at, is_named, own_dialog, takes, visited}
 use Rattle.sip_common.specs.Ids.{is_id}
-use Rattle.sip_common.specs.Requests.{dialog_name, is_bye, is_cancel, is_inside, is_invite, is_prack, is_unknown_option, local_tag_of, supports_100rel}
+use Rattle.sip_common.specs.Requests.{dialog_name, is_bye, is_cancel, has_to_tag, is_invite, is_prack, is_unknown_option, local_tag_of, supports_100rel}
 use Rattle.sip_served.specs.declared.arrival.Arrival.{Arrival}
 use Rattle.sip_served.specs.declared.held_request.HeldRequest.{HeldRequest}
 use Rattle.sip_served.specs.declared.held_request.Success.{Success}
@@ -47,7 +47,7 @@ no_such_call arrival = own_answer arrival 481 (codes "Call/Transaction Does Not 
 
 -- A request for the user, who is told of it: it is held, and no answer to it was sent. A BYE in a
 -- dialog ends the dialog (RFC 3261, section 15.1.2).
-abbrev pub request_for_user : State → List ℕ → DialogName → Arrival → ServedTaken
+abbrev pub request_for_user : State → List ℕ → DialogId → Arrival → ServedTaken
 request_for_user state call_id name arrival =
     let request = arrival.request in
     let supported = supports_100rel request in
@@ -63,7 +63,7 @@ request_for_user state call_id name arrival =
       success = None;
       removal = None;
     } in
-    let ends = is_inside request && is_bye request in
+    let ends = has_to_tag request && is_bye request in
     let after = if ends then ended_at name state.dialogs else (state.dialogs, []) in (
       record state { requests = state.requests ++ held ∷ []; dialogs = after.0 },
       Notice (Request call_id arrival.id request.cseq.method arrival.tag (tag_of request.from)
@@ -73,11 +73,11 @@ request_for_user state call_id name arrival =
 -- A PRACK in the dialog of this name, born so. It gets a 200 where its RAck names a reliable
 -- provisional response to an INVITE there that waits for it, and is no longer sent again; otherwise
 -- a 481 (RFC 3262, section 3).
-abbrev pub prack_rule : State → List ℕ → DialogName → Id → Arrival → Option RAck → ServedTaken
-prack_rule state call_id name born arrival None = (state, no_such_call arrival)
-prack_rule state call_id name born arrival (Some rack) =
+abbrev pub prack_rule : State → List ℕ → DialogId → Id → Arrival → Option RAck → ServedTaken
+prack_rule state call_id name created_by arrival None = (state, no_such_call arrival)
+prack_rule state call_id name created_by arrival (Some rack) =
     let acknowledged_by = λ (held : HeldRequest).
-    option_map_or (λ life. is_named life.name name && is_id life.born born) held.dialog false
+    option_map_or (λ life. is_named life.name name && is_id life.created_by created_by) held.dialog false
     && is_invite held.request && bytes_eq rack.method held.request.cseq.method
     && (held.request.cseq.number == rack.cseq) && waits_for rack.rseq held.ledger in
     let after = λ (held : HeldRequest). record held {
@@ -135,16 +135,16 @@ request_rule state call_id arrival now =
     let dialogs = dialog_changed name (visited request) state.dialogs in
     let noted : State = record state { dialogs = dialogs } in
     if is_cancel request then cancel_rule state call_id arrival now
-    else (if not (is_inside request) && merged
+    else (if not (has_to_tag request) && merged
     then (state, own_answer arrival 482 (codes "Loop Detected"))
     else (if list_any is_unknown_option request.require
     then (state, Command arrival.id bad_extension ∷ [])
-    else (if is_inside request
+    else (if has_to_tag request
     then option_map_or (λ held.
     if not (takes held request.cseq.number)
     then (state, own_answer arrival 500 (codes "Server Internal Error"))
     else (if is_prack request
-    then prack_rule noted call_id name held.born arrival request.rack
+    then prack_rule noted call_id name held.created_by arrival request.rack
     else request_for_user noted call_id name arrival))
     (dialog_at name state.dialogs) (state, no_such_call arrival)
     else (if is_bye request || is_prack request then (state, no_such_call arrival)

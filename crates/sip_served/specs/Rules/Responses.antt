@@ -18,7 +18,7 @@ use Rattle.sip_transactions.specs.declared.input.Command.TheVariants.{Answer}
 use Rattle.sip_common.specs.declared.command.Reliability.{Reliability}
 use Rattle.sip_common.specs.declared.command.Reliability.TheVariants.{Plain, Reliable}
 use Rattle.sip_common.specs.declared.command.Respond.{Respond}
-use Rattle.sip_common.specs.declared.held_dialog.DialogLife.{DialogLife}
+use Rattle.sip_common.specs.declared.held_dialog.DialogReference.{DialogReference}
 use Rattle.sip_common.specs.declared.held_dialog.HeldDialog.{HeldDialog}
 use Rattle.sip_common.specs.declared.item.CallOut.{CallOut}
 use Rattle.sip_common.specs.declared.item.CallOut.TheVariants.{Command}
@@ -27,7 +27,7 @@ use Rattle.sip_common.specs.declared.refusal.Refusal.TheVariants.{NoSuchRequest,
 use Rattle.sip_common.specs.Dialogs.{Dialogs, confirmed, dialog_changed, early_ended, is_named, lives}
 use Rattle.sip_common.specs.Notices.{refused}
 use Rattle.sip_common.specs.Refusal.{first_refusal}
-use Rattle.sip_common.specs.Requests.{dialog_name, is_final, is_inside, is_invite, is_provisional, is_success, requires_100rel, supports_100rel}
+use Rattle.sip_common.specs.Requests.{dialog_name, is_final, has_to_tag, is_invite, is_provisional, is_success, requires_100rel, supports_100rel}
 use Rattle.sip_served.specs.declared.held_request.HeldRequest.{HeldRequest}
 use Rattle.sip_served.specs.declared.held_request.Success.{Success}
 use Rattle.sip_served.specs.State.{State, ServedTaken, changed_at, has_id}
@@ -49,13 +49,13 @@ is_sent_reliably held respond =
     && (is_reliable respond.reliability || requires_100rel held.request)
 
 -- a provisional or success response to an INVITE makes or confirms a dialog, or is of one
-abbrev pub is_of_dialog : HeldRequest → ℕ → Bool
-is_of_dialog held status = is_invite held.request && nat_lt status 300
+abbrev pub makes_or_confirms_dialog : HeldRequest → ℕ → Bool
+makes_or_confirms_dialog held status = is_invite held.request && nat_lt status 300
 
 -- it makes one where the INVITE is outside of dialogs, and has made none
 abbrev pub makes_dialog : HeldRequest → ℕ → Bool
 makes_dialog held status =
-    is_of_dialog held status && not (is_inside held.request) && is_none held.dialog
+    makes_or_confirms_dialog held status && not (has_to_tag held.request) && is_none held.dialog
 
 -- Why an answer is refused: the first that fits. Another reliable provisional response waits until
 -- the first has its PRACK, while 8 have none, and once they were given up; a 2xx waits while one
@@ -69,7 +69,7 @@ answer_refusal dialogs held respond =
     first_refusal ((not (nat_le 101 status && nat_le status 699), BadStatus)
     ∷ (is_some held.removal, AlreadyFinal)
     ∷ (is_reliable respond.reliability && not (may_be_reliable held status), NotSupported)
-    ∷ (is_of_dialog held status && ended, DialogEnded)
+    ∷ (makes_or_confirms_dialog held status && ended, DialogEnded)
     ∷ (reliable && ledger.closed, AlreadyFinal)
     ∷ (reliable && not ledger.supported, NotSupported)
     ∷ (reliable && must_wait ledger, ReliablePending)
@@ -83,7 +83,7 @@ answer_sent local held respond =
     let routes = held.request.record_routes in
     let bare = response_of held.request respond.status respond.reason held.tag in
     let routed = record bare { contacts = contact_of local ∷ []; record_routes = routes } in
-    let plain = if is_of_dialog held respond.status then routed else bare in
+    let plain = if makes_or_confirms_dialog held respond.status then routed else bare in
     let reliable = record plain { require = codes "100rel" ∷ []; rseq = Some held.ledger.next } in
     with_content_of (if is_sent_reliably held respond then reliable else plain) respond.content
 
@@ -96,13 +96,13 @@ dialogs_after event held status response dialogs =
     let made : HeldDialog = record {
       dialog = opened_by_request request held.tag status;
       address = held.reply_to;
-      made_by = held.id;
-      born = event;
-      heard = None;
-      owed = [];
+      invite = held.id;
+      created_by = event;
+      last_rseq = None;
+      pending_requests = [];
     } in
     if makes_dialog held status then (insert_entry is_named dialogs name made, [])
-    else (if is_invite request && is_success status && not (is_inside request)
+    else (if is_invite request && is_success status && not (has_to_tag request)
     then (dialog_changed name (confirmed response) dialogs, [])
     else (if is_invite request && nat_le 300 status then early_ended held.id dialogs
     else (dialogs, [])))
@@ -114,7 +114,7 @@ abbrev pub held_after : Id → HeldRequest → Respond → Message → ℕ → H
 held_after event held respond response now =
     let status = respond.status in
     let ledger = held.ledger in
-    let life : DialogLife = record { name = dialog_name held.request held.tag; born = event } in
+    let life : DialogReference = record { name = dialog_name held.request held.tag; created_by = event } in
     let dialog = if makes_dialog held status then Some life else held.dialog in
     let waits : Provisional = record {
       number = ledger.next;

@@ -1,6 +1,6 @@
 use Rattle.std.proofs.Common.{◌≡◌, sym, ap, subst}
 use Rattle.std.specs.Prelude.{IfOk, OnOk}
-use Rattle.sip_clients.specs.Service.{Outcome}
+use Rattle.sip_clients.specs.SendOutcome.{Outcome}
 use Rattle.sip_clients.proofs.Served.{bad_request, good_request}
 use Rattle.sip_clients.proofs.commands.request_in.Goals as goal
 

@@ -1,5 +1,5 @@
 use Rattle.std.proofs.Common.{◌≡◌, ap, ◌∙◌, rules}
-use Rattle.sip_clients.specs.Debts.{paid}
+use Rattle.sip_clients.specs.Pending.{paid}
 use Rattle.sip_clients.proofs.Results.{on_ok}
 use Rattle.sip_clients.proofs.dialogs.pay_at.Goals as goal
 

@@ -3,11 +3,11 @@ use Rattle.std.specs.Prelude.{Option, None, Some, unwrap_or, if◌then◌else◌
 use Rattle.std.specs.Map.{lookup, set_value}
 use Rattle.std.proofs.lemmas.Map.Steps.{set_value_same}
 use Rattle.indexmap.specs.IndexMap.{insert_entry}
-use Rattle.sip_common.specs.declared.held_dialog.DialogName.{DialogName}
+use Rattle.sip_common.specs.declared.held_dialog.DialogId.{DialogId}
 use Rattle.sip_common.specs.declared.held_dialog.HeldDialog.{HeldDialog}
 use Rattle.sip_common.specs.Dialogs.{dialog_at, is_named, Dialogs}
 use Rattle.sip_clients.specs.Replied.{after_dialog, request_over, replied_in, dialogs_with}
-use Rattle.sip_clients.specs.Reply.{is_last}
+use Rattle.sip_clients.specs.ReceivedResponse.{is_last}
 use Rattle.sip_clients.proofs.Results.{if_ok}
 use Rattle.sip_clients.proofs.replied.take_reply.Goals as goal
 
@@ -26,7 +26,7 @@ put_there eq k (e ∷ es) v x is =
     there_step (eq k e.0) e es (set_value (eq k) es v) (insert_entry eq es k v) v x
     (lookup (eq k) es) is (put_there eq k es v x)
 
-put : (name : DialogName) (held : HeldDialog) (after : Option HeldDialog) (dialogs : Dialogs)
+put : (name : DialogId) (held : HeldDialog) (after : Option HeldDialog) (dialogs : Dialogs)
     → dialog_at name dialogs ≡ Some held
     → set_value (is_named name) dialogs (unwrap_or after held) ≡ dialogs_with name after dialogs
 put name held None dialogs is = set_value_same (is_named name) dialogs held is

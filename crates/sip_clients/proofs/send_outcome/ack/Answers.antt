@@ -1,4 +1,4 @@
-use Rattle.sip_clients.proofs.service.ack.Goals as goal
+use Rattle.sip_clients.proofs.send_outcome.ack.Goals as goal
 
 pub returns-in-Err : goal.returns-in-Err
 returns-in-Err c = c.refused_by.ensures.service _ _ c.in-Err.ensures.fault

@@ -4,14 +4,14 @@ use Rattle.sip_dialog.specs.declared.fault.DialogFault.{DialogFault}
 use Rattle.sip_dialog.specs.declared.dialog.Dialog.{Dialog}
 use Rattle.sip_dialog.specs.Fault.{request_fault}
 use Rattle.sip_dialog.specs.Request.{request_in}
-use Rattle.sip_clients.specs.declared.service.Sending.{Sending}
-use Rattle.sip_clients.specs.declared.service.Service.TheVariants.{Sent}
+use Rattle.sip_clients.specs.declared.send_outcome.OutgoingRequest.{OutgoingRequest}
+use Rattle.sip_clients.specs.declared.send_outcome.SendOutcome.TheVariants.{Sent}
 use Rattle.sip_clients.specs.Event.{branch_of}
 use Rattle.sip_common.specs.Dialogs.{lived}
-use Rattle.sip_clients.specs.Service.{happens_by_sending, service_by, with_rack}
-use Rattle.sip_clients.proofs.service.request.Goals as goal
+use Rattle.sip_clients.specs.SendOutcome.{happens_by_sending, service_by, with_rack}
+use Rattle.sip_clients.proofs.send_outcome.request.Goals as goal
 
-sent_by : (found : Option DialogFault) (sending : Sending) → found ≡ None
+sent_by : (found : Option DialogFault) (sending : OutgoingRequest) → found ≡ None
     → Sent sending ≡ service_by found sending
 sent_by found sending none i = service_by (sym none i) sending
 
@@ -25,7 +25,7 @@ returns-in-Ok-clause-service c =
     (held.dialog.local_cseq + 1) c.args.content branch c.args.event.local)
     c.in_ok-branch.ensures in
     let message = c.with_rack.ensures ∙ ap (with_rack c.args.rack) made in
-    (λ i. Sent record { message = message i; to = c.hop-to.ensures i; born = held.born })
+    (λ i. Sent record { message = message i; to = c.hop-to.ensures i; created_by = held.created_by })
     ∙ sent_by _ _ c.in-Ok.ensures.open
 
 pub returns-in-Err-clause-service : goal.returns-in-Err-clause-service

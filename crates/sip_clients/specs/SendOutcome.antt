@@ -10,21 +10,21 @@ use Rattle.sip_dialog.specs.Route.{hop_of}
 use Rattle.sip_message.specs.Content.{Content}
 use Rattle.sip_message.specs.declared.message.Message.{Message}
 use Rattle.sip_message.specs.declared.rack.RAck.{RAck}
-use Rattle.sip_common.specs.declared.debt.Debt.{Debt}
-use Rattle.sip_common.specs.declared.debt.Debt.TheVariants.{Ack, Prack}
+use Rattle.sip_common.specs.declared.pending_request.PendingRequest.{PendingRequest}
+use Rattle.sip_common.specs.declared.pending_request.PendingRequest.TheVariants.{Ack, Prack}
 use Rattle.sip_common.specs.declared.held_dialog.HeldDialog.{HeldDialog}
 use Rattle.sip_common.specs.Dialogs.{lived}
 use Rattle.sip_common.specs.declared.refusal.Refusal.{Refusal}
 use Rattle.sip_common.specs.declared.refusal.Refusal.TheVariants as refusal
 use Rattle.sip_clients.specs.declared.event.Event.{Event}
-use Rattle.sip_clients.specs.declared.service.Sending.{Sending}
-use Rattle.sip_clients.specs.declared.service.Service.{Service}
-use Rattle.sip_clients.specs.declared.service.Service.TheVariants.{Sent, Waits, Refused}
+use Rattle.sip_clients.specs.declared.send_outcome.OutgoingRequest.{OutgoingRequest}
+use Rattle.sip_clients.specs.declared.send_outcome.SendOutcome.{SendOutcome}
+use Rattle.sip_clients.specs.declared.send_outcome.SendOutcome.TheVariants.{Sent, Waits, Refused}
 use Rattle.sip_clients.specs.Event.{branch_of}
 
 -- a dialog after a request that is to be sent in it, and what becomes of that
 abbrev pub Outcome : Type 0
-Outcome = HeldDialog × Service
+Outcome = HeldDialog × SendOutcome
 
 -- why a request isn't sent; a held dialog hasn't ended
 abbrev pub refusal_for_fault : DialogFault → Refusal
@@ -36,7 +36,7 @@ refusal_for_fault fault.OutOfOrder = refusal.SequenceUsedUp
 refusal_for_fault fault.NoMemory = refusal.SequenceUsedUp
 
 -- sent, or refused as the dialog does
-abbrev pub service_by : Option DialogFault → Sending → Service
+abbrev pub service_by : Option DialogFault → OutgoingRequest → SendOutcome
 service_by None sending = Sent sending
 service_by (Some fault) sending = Refused (refusal_for_fault fault)
 
@@ -50,12 +50,12 @@ happens_by_sending method None = Requests method ∷ []
 happens_by_sending method (Some fault) = []
 
 -- a request of this method as it goes out, with a RAck where it is a PRACK
-abbrev pub sending_in : Event → List ℕ → Option RAck → Content → HeldDialog → Sending
+abbrev pub sending_in : Event → List ℕ → Option RAck → Content → HeldDialog → OutgoingRequest
 sending_in event method rack content held = record {
   message = with_rack rack (request_in held.dialog method (held.dialog.local_cseq + 1) content
       (branch_of event) event.local);
   to = hop_of held.dialog held.address;
-  born = held.born;
+  created_by = held.created_by;
 }
 
 -- it is sent, or refused as the dialog does
@@ -72,21 +72,21 @@ prack_requested event rseq number content held =
     (Some record { rseq = rseq; cseq = number; method = codes "INVITE" }) content held
 
 -- the ACK of the INVITE of this number
-abbrev pub acked : Event → HeldDialog → ℕ → Content → Service
+abbrev pub acked : Event → HeldDialog → ℕ → Content → SendOutcome
 acked event held number content = service_by (ack_fault held.dialog) record {
   message = ack_in held.dialog number content (branch_of event) event.local;
   to = hop_of held.dialog held.address;
-  born = held.born;
+  created_by = held.created_by;
 }
 
 -- the ACK or the PRACK goes out with this content
-abbrev pub discharged_with : Event → Debt → Content → HeldDialog → Outcome
+abbrev pub discharged_with : Event → PendingRequest → Content → HeldDialog → Outcome
 discharged_with event (Ack invite number) content held = (held, acked event held number content)
 discharged_with event (Prack rseq number) content held =
     prack_requested event rseq number content held
 
 -- what is owed is discharged with the content that its request carries; without one it waits for
 -- the user
-unfoldable pub discharged : Event → Debt → Option Content → HeldDialog → Outcome
-discharged event debt None held = (held, Waits)
-discharged event debt (Some content) held = discharged_with event debt content held
+unfoldable pub discharged : Event → PendingRequest → Option Content → HeldDialog → Outcome
+discharged event pending None held = (held, Waits)
+discharged event pending (Some content) held = discharged_with event pending content held

@@ -3,54 +3,54 @@
 ghost use Rattle.std.specs.Prelude.{◌≡◌, ◌∷◌, ◌++◌, [], ℕ, IfOk, List, OnOk, Option, Some, codes};
 ghost use Rattle.sip_dialog.specs.declared.fault.DialogFault.{DialogFault};
 ghost use Rattle.sip_dialog.specs.Fault.{or_no_memory};
-ghost use Rattle.sip_clients.specs.declared.service.Sending.{Sending};
+ghost use Rattle.sip_clients.specs.declared.send_outcome.OutgoingRequest.{OutgoingRequest};
 ghost use Rattle.sip_common.specs.declared.held_dialog.HeldDialog.{HeldDialog};
 ghost use Rattle.sip_common.specs.Dialogs.{lived};
-ghost use Rattle.sip_clients.specs.Service as spec;
+ghost use Rattle.sip_clients.specs.SendOutcome as spec;
 
 use crate::event::Event;
-use sip_common::{Debt, HeldDialog, Refusal};
+use sip_common::{PendingRequest, HeldDialog, Refusal};
 use sip_dialog::DialogFault;
 use sip_message::{Addr, Content, Id, Message, RAck, Token};
 use std::alloc::{AllocError, Global};
 
 /// A request that is sent in a dialog.
-pub(crate) struct Sending {
+pub(crate) struct OutgoingRequest {
     pub(crate) message: Message,
     pub(crate) to: Addr,
     /// The event that made the dialog.
-    pub(crate) born: Id,
+    pub(crate) created_by: Id,
 }
 
 /// What becomes of a request that is to be sent in a dialog.
 #[derive(Drop)]
-pub(crate) enum Service {
-    Sent(Sending),
+pub(crate) enum SendOutcome {
+    Sent(OutgoingRequest),
     /// It waits for the user's command.
     Waits,
     Refused(Refusal),
 }
 
-impl Sending {
+impl OutgoingRequest {
     /// The request, and where it goes.
     pub(crate) fn into_parts(self) -> (Message, Addr)
         ensures { result ≡ (self.message, self.to) }
     {
-        let Sending {
+        let OutgoingRequest {
             message,
             to,
-            born: _,
+            created_by: _,
         } = self;
         (message, to)
     }
 }
 
-impl Drop for Sending {
+impl Drop for OutgoingRequest {
     fn drop(self) {
-        let Sending {
+        let OutgoingRequest {
             message: _,
             to: _,
-            born: _,
+            created_by: _,
         } = self;
     }
 }
@@ -63,22 +63,22 @@ pub(crate) fn request(
     method: Token,
     rack: Option<RAck>,
     content: Content,
-) -> Result<Service, AllocError>
+) -> Result<SendOutcome, AllocError>
     ensures service { IfOk result (λ service. service
         ≡ (spec.requested event method rack content held.old).1) }
     ensures held { OnOk result (held.new ≡ (spec.requested event method rack content held.old).0) }
 {
     let to = held.dialog.hop(held.address);
-    let born = held.born;
+    let created_by = held.created_by;
     let branch = event.branch(alloc)?;
     match held
         .dialog
         .next_request(method, content, branch, event.local)
     {
-        Ok(message) => Ok(Service::Sent(Sending {
+        Ok(message) => Ok(SendOutcome::Sent(OutgoingRequest {
             message: with_rack(message, rack),
             to,
-            born,
+            created_by,
         })),
         Err(fault) => refused_by(fault),
     }
@@ -98,16 +98,16 @@ fn ack(
     event: Event,
     number: u32,
     content: Content,
-) -> Result<Service, AllocError>
+) -> Result<SendOutcome, AllocError>
     ensures { IfOk result (λ service. service ≡ spec.acked event held.now number content) }
 {
     let to = held.dialog.hop(held.address);
     let branch = event.branch(alloc)?;
     match held.dialog.ack(number, content, branch, event.local) {
-        Ok(message) => Ok(Service::Sent(Sending {
+        Ok(message) => Ok(SendOutcome::Sent(OutgoingRequest {
             message,
             to,
-            born: held.born,
+            created_by: held.created_by,
         })),
         Err(fault) => refused_by(fault),
     }
@@ -122,7 +122,7 @@ fn prack(
     rseq: u32,
     number: u32,
     content: Content,
-) -> Result<Service, AllocError>
+) -> Result<SendOutcome, AllocError>
     ensures service { IfOk result (λ service. service
         ≡ (spec.prack_requested event rseq number content held.old).1) }
     ensures held { OnOk result (held.new ≡ (spec.prack_requested event rseq number content
@@ -138,8 +138,8 @@ fn prack(
 }
 
 // Why a dialog refused, or want of memory.
-fn refused_by(fault: DialogFault) -> Result<Service, AllocError>
-    ensures service { (found : Option DialogFault) (sending : Sending) → fault ≡ or_no_memory found
+fn refused_by(fault: DialogFault) -> Result<SendOutcome, AllocError>
+    ensures service { (found : Option DialogFault) (sending : OutgoingRequest) → fault ≡ or_no_memory found
         → IfOk result (λ service. service ≡ spec.service_by found sending) }
     ensures held { (found : Option DialogFault) (method : List ℕ) (held : HeldDialog)
         → fault ≡ or_no_memory found → OnOk result (held
@@ -147,33 +147,33 @@ fn refused_by(fault: DialogFault) -> Result<Service, AllocError>
 {
     match fault {
         DialogFault::NoMemory => Err(AllocError),
-        DialogFault::StrictRoute => Ok(Service::Refused(Refusal::StrictRoute)),
-        DialogFault::NotConfirmed => Ok(Service::Refused(Refusal::BadMethod)),
-        DialogFault::Ended => Ok(Service::Refused(Refusal::DialogEnded)),
+        DialogFault::StrictRoute => Ok(SendOutcome::Refused(Refusal::StrictRoute)),
+        DialogFault::NotConfirmed => Ok(SendOutcome::Refused(Refusal::BadMethod)),
+        DialogFault::Ended => Ok(SendOutcome::Refused(Refusal::DialogEnded)),
         DialogFault::SequenceUsedUp | DialogFault::OutOfOrder => {
-            Ok(Service::Refused(Refusal::SequenceUsedUp))
+            Ok(SendOutcome::Refused(Refusal::SequenceUsedUp))
         }
     }
 }
 
 /// Discharges a debt with the content that its request carries; without one it waits for the user.
-#[tactic(auto, unfolding(crate::specs::Service::discharged))]
+#[tactic(auto, unfolding(crate::specs::SendOutcome::discharged))]
 pub(crate) fn discharge(
     alloc: Global,
     held: &mut HeldDialog,
     event: Event,
-    debt: Debt,
+    pending: PendingRequest,
     offer: Option<Content>,
-) -> Result<Service, AllocError>
+) -> Result<SendOutcome, AllocError>
     ensures service { IfOk result (λ service. service
-        ≡ (spec.discharged event debt offer held.old).1) }
-    ensures held { OnOk result (held.new ≡ (spec.discharged event debt offer held.old).0) }
+        ≡ (spec.discharged event pending offer held.old).1) }
+    ensures held { OnOk result (held.new ≡ (spec.discharged event pending offer held.old).0) }
 {
     let Some(content) = offer else {
-        return Ok(Service::Waits);
+        return Ok(SendOutcome::Waits);
     };
-    match debt {
-        Debt::Ack { invite: _, number } => ack(alloc, held, event, number, content),
-        Debt::Prack { rseq, number } => prack(alloc, held, event, rseq, number, content),
+    match pending {
+        PendingRequest::Ack { invite: _, number } => ack(alloc, held, event, number, content),
+        PendingRequest::Prack { rseq, number } => prack(alloc, held, event, rseq, number, content),
     }
 }

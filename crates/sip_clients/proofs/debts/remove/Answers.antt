@@ -1,8 +1,0 @@
-use Rattle.std.proofs.Common.{not, rules}
-use Rattle.std.proofs.lemmas.Fn.{filter_same}
-use Rattle.sip_clients.specs.Debts.{is_debt}
-use Rattle.sip_clients.proofs.debts.remove.Goals as goal
-
-pub returns : goal.returns
-returns c = filter_same _ (λ other. not (is_debt c.args.debt other)) _
-    (λ x b f call. search rules) _ _ c.retain.ensures.filtered

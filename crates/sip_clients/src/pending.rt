@@ -1,0 +1,124 @@
+//! What is owed in a dialog, and how it is discharged.
+
+ghost use Rattle.std.specs.Prelude.{◌≡◌, IfOk, OnOk, filter, find, not};
+ghost use Rattle.std.specs.Option.{option_copied};
+ghost use Rattle.sip_clients.specs.Pending as spec;
+
+use crate::event::Event;
+use crate::send_outcome::{SendOutcome, discharge};
+use sip_common::{PendingRequest, HeldDialog};
+use sip_message::Content;
+use sip_text::Series;
+use std::alloc::{AllocError, Global};
+use std::mem;
+
+/// A kind of debt.
+#[derive(Clone, Copy)]
+pub(crate) enum PendingKind {
+    Ack,
+    Prack,
+}
+
+/// Discharges what a response asks for; it stays owed where it isn't sent.
+#[tactic(auto, unfolding(crate::specs::Pending::pending_requests))]
+pub(crate) fn owe(
+    alloc: Global,
+    held: &mut HeldDialog,
+    event: Event,
+    pending: PendingRequest,
+    offer: Option<Content>,
+) -> Result<SendOutcome, AllocError>
+    ensures service { IfOk result (λ service. service ≡ (spec.pending_requests event pending offer held.old).1) }
+    ensures held { OnOk result (held.new ≡ (spec.pending_requests event pending offer held.old).0) }
+{
+    let service = discharge(alloc, held, event, pending, offer)?;
+    keep_unless_sent(held, pending, &service)?;
+    Ok(service)
+}
+
+fn keep_unless_sent(held: &mut HeldDialog, pending: PendingRequest, service: &SendOutcome) -> Result<(), AllocError>
+    ensures { OnOk result (held.new ≡ spec.kept_unless_sent pending service.now held.old) }
+{
+    match service {
+        SendOutcome::Sent(_) => Ok(()),
+        SendOutcome::Waits | SendOutcome::Refused(_) => held.pending_requests.push(pending),
+    }
+}
+
+/// Serves what is owed by the user's command; it is owed no more where it is sent.
+#[tactic(auto, unfolding(crate::specs::Pending::paid))]
+pub(crate) fn pay(
+    alloc: Global,
+    held: &mut HeldDialog,
+    event: Event,
+    pending: PendingRequest,
+    content: Content,
+) -> Result<SendOutcome, AllocError>
+    ensures service { IfOk result (λ service. service ≡ (spec.paid event pending content held.old).1) }
+    ensures held { OnOk result (held.new ≡ (spec.paid event pending content held.old).0) }
+{
+    let service = discharge(alloc, held, event, pending, Some(content))?;
+    drop_if_sent(alloc, held, pending, &service);
+    Ok(service)
+}
+
+fn drop_if_sent(alloc: Global, held: &mut HeldDialog, pending: PendingRequest, service: &SendOutcome)
+    ensures { held.new ≡ spec.dropped_if_sent pending service.now held.old }
+{
+    match service {
+        SendOutcome::Sent(_) => drop_debt(alloc, held, pending),
+        SendOutcome::Waits | SendOutcome::Refused(_) => {}
+    }
+}
+
+fn drop_debt(alloc: Global, held: &mut HeldDialog, pending: PendingRequest)
+    ensures { held.new ≡ spec.without_pending pending held.old }
+{
+    let mut pending_requests = mem::replace(&mut held.pending_requests, Series::new(alloc)).into_vec();
+    remove(&mut pending_requests, pending);
+    held.pending_requests = Series::from_vec(pending_requests);
+}
+
+fn remove(pending_requests: &mut Vec<PendingRequest>, pending: PendingRequest)
+    ensures { pending_requests.new.items ≡ filter (λ other. not (spec.is_same_pending pending other)) pending_requests.old.items }
+{
+    pending_requests.retain(|other| !is_same(pending, *other));
+}
+
+fn is_same(pending: PendingRequest, other: PendingRequest) -> bool
+    ensures { result ≡ spec.is_same_pending pending other }
+{
+    match (pending, other) {
+        (
+            PendingRequest::Ack { invite, number },
+            PendingRequest::Ack {
+                invite: other_invite,
+                number: other_number,
+            },
+        ) => invite == other_invite && number == other_number,
+        (
+            PendingRequest::Prack { rseq, number },
+            PendingRequest::Prack {
+                rseq: other_rseq,
+                number: other_number,
+            },
+        ) => rseq == other_rseq && number == other_number,
+        (PendingRequest::Ack { .. }, PendingRequest::Prack { .. }) | (PendingRequest::Prack { .. }, PendingRequest::Ack { .. }) => false,
+    }
+}
+
+/// The oldest debt of a kind.
+pub(crate) fn oldest(pending_requests: &[PendingRequest], kind: PendingKind) -> Option<&PendingRequest>
+    ensures { option_copied result ≡ find (spec.is_of kind) pending_requests.now }
+{
+    pending_requests.iter().find(|pending| is_of(kind, **pending))
+}
+
+fn is_of(kind: PendingKind, pending: PendingRequest) -> bool
+    ensures { result ≡ spec.is_of kind pending }
+{
+    match (kind, pending) {
+        (PendingKind::Ack, PendingRequest::Ack { .. }) | (PendingKind::Prack, PendingRequest::Prack { .. }) => true,
+        (PendingKind::Ack, PendingRequest::Prack { .. }) | (PendingKind::Prack, PendingRequest::Ack { .. }) => false,
+    }
+}
