@@ -9,17 +9,18 @@ ghost use Rattle.sip_clients.specs.Rules.Responses.{response_rule};
 
 use crate::cancel::take_cancel;
 use crate::client::{RequestKind, client_for};
-use crate::commands::{ack_told, pending_for, is_bad_outside, name_in, prack_told, request_told};
-use crate::pending::PendingKind;
+use crate::commands::{ack_told, is_bad_outside, name_in, pending_for, prack_told, request_told};
 use crate::event::Event;
 use crate::held::{ClientMap, fail_request, note_ack, settle, start, take_response};
 use crate::outputs::ClientChange;
 use crate::outside::{invite_of, plain_of};
+use crate::pending::PendingKind;
 use crate::tick::{drop_clients, drop_dialogs, next_due, over_notices};
 use indexmap::IndexMap;
 use sip_common::outputs::refused;
 use sip_common::{
-    CallOut, Cancel, PendingRequest, DialogBody, DialogId, DialogRequest, Dialogs, Invite, Plain, Refusal,
+    CallOut, Cancel, DialogBody, DialogId, DialogRequest, Dialogs, Invite, PendingRequest, Plain,
+    Refusal,
 };
 use sip_message::{CallId, Id, Message};
 use std::alloc::{AllocError, Global};
@@ -157,7 +158,13 @@ impl Clients {
         let alloc = self.alloc;
         let mut requests = self.take();
         let message = invite_of(alloc, event, invite)?;
-        let client = client_for(alloc, event.id, RequestKind::InitialInvite, message, invite.address);
+        let client = client_for(
+            alloc,
+            event.id,
+            RequestKind::InitialInvite,
+            message,
+            invite.address,
+        );
         let outs = start(alloc, &mut requests, event, client)?;
         self.requests = requests;
         Ok(outs)
@@ -276,7 +283,13 @@ fn plain_told(
         return refused(alloc, event.id, plain.call_id.clone()?, Refusal::BadMethod);
     }
     let message = plain_of(alloc, event, plain)?;
-    let client = client_for(alloc, event.id, RequestKind::OutOfDialog, message, plain.address);
+    let client = client_for(
+        alloc,
+        event.id,
+        RequestKind::OutOfDialog,
+        message,
+        plain.address,
+    );
     start(alloc, requests, event, client)
 }
 

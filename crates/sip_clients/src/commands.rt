@@ -9,14 +9,14 @@ ghost use Rattle.sip_clients.specs.Dialogs.{served_at};
 ghost use Rattle.sip_clients.specs.declared.send_outcome.SendOutcome.TheVariants.{Refused};
 
 use crate::answers::SentAck;
-use crate::pending::{PendingKind, oldest};
 use crate::dialogs::pay_at;
 use crate::event::Event;
 use crate::outputs::{ClientChange, ack_said, request_said};
+use crate::pending::{PendingKind, oldest};
 use crate::send_outcome::{SendOutcome, request};
 use sip_common::dialogs::end;
 use sip_common::{
-    CallOut, PendingRequest, DialogBody, DialogId, DialogRequest, Dialogs, HeldDialog, Refusal,
+    CallOut, DialogBody, DialogId, DialogRequest, Dialogs, HeldDialog, PendingRequest, Refusal,
 };
 use sip_dialog::{DialogState, Side};
 use sip_message::{Content, Token};

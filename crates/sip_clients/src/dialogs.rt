@@ -6,12 +6,12 @@ ghost use Rattle.sip_common.specs.Dialogs.{is_named};
 ghost use Rattle.sip_clients.specs.Dialogs as spec;
 
 use crate::client::{Client, RequestKind};
-use crate::pending::pay;
 use crate::event::Event;
+use crate::pending::pay;
 use crate::reply::ReceivedResponse;
 use crate::send_outcome::SendOutcome;
 use sip_common::dialogs::{confirm_dialog, end, end_early, lives};
-use sip_common::{CallOut, PendingRequest, DialogReference, DialogId, Dialogs, HeldDialog};
+use sip_common::{CallOut, DialogId, DialogReference, Dialogs, HeldDialog, PendingRequest};
 use sip_dialog::Dialog;
 use sip_message::{Content, Message};
 use sip_reliable::Inbound;

@@ -18,7 +18,7 @@ use crate::reply::{ReceivedResponse, reply_name, status_of};
 use indexmap::IndexMap;
 use sip_common::outputs::one;
 use sip_common::request::is_final;
-use sip_common::{CallOut, PendingRequest, DialogId, Dialogs};
+use sip_common::{CallOut, DialogId, Dialogs, PendingRequest};
 use sip_message::{CallId, Id, Message};
 use std::alloc::{AllocError, Global};
 

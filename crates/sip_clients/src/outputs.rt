@@ -10,7 +10,7 @@ use crate::reply::ReceivedResponse;
 use crate::send_outcome::{OutgoingRequest, SendOutcome};
 use sip_common::outputs::{one, refused};
 use sip_common::request::is_invite;
-use sip_common::{CallOut, DialogReference, DialogId, Notice};
+use sip_common::{CallOut, DialogId, DialogReference, Notice};
 use sip_message::{CallId, Id, Key, Message, write};
 use sip_text::{Boxed, Text};
 use sip_transactions::Command;
@@ -27,7 +27,10 @@ pub(crate) enum ClientChange {
 }
 
 /// How the user is told of a response.
-pub(crate) fn response_notice(alloc: Global, reply: &ReceivedResponse) -> Result<CallOut, AllocError>
+pub(crate) fn response_notice(
+    alloc: Global,
+    reply: &ReceivedResponse,
+) -> Result<CallOut, AllocError>
     ensures { IfOk result (λ out. out ≡ spec.response_notice reply.now) }
 {
     Ok(CallOut::Notice(Notice::Response {

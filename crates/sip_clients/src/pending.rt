@@ -6,7 +6,7 @@ ghost use Rattle.sip_clients.specs.Pending as spec;
 
 use crate::event::Event;
 use crate::send_outcome::{SendOutcome, discharge};
-use sip_common::{PendingRequest, HeldDialog};
+use sip_common::{HeldDialog, PendingRequest};
 use sip_message::Content;
 use sip_text::Series;
 use std::alloc::{AllocError, Global};
@@ -36,7 +36,11 @@ pub(crate) fn owe(
     Ok(service)
 }
 
-fn keep_unless_sent(held: &mut HeldDialog, pending: PendingRequest, service: &SendOutcome) -> Result<(), AllocError>
+fn keep_unless_sent(
+    held: &mut HeldDialog,
+    pending: PendingRequest,
+    service: &SendOutcome,
+) -> Result<(), AllocError>
     ensures { OnOk result (held.new ≡ spec.kept_unless_sent pending service.now held.old) }
 {
     match service {
@@ -62,7 +66,12 @@ pub(crate) fn pay(
     Ok(service)
 }
 
-fn drop_if_sent(alloc: Global, held: &mut HeldDialog, pending: PendingRequest, service: &SendOutcome)
+fn drop_if_sent(
+    alloc: Global,
+    held: &mut HeldDialog,
+    pending: PendingRequest,
+    service: &SendOutcome,
+)
     ensures { held.new ≡ spec.dropped_if_sent pending service.now held.old }
 {
     match service {
@@ -74,7 +83,10 @@ fn drop_if_sent(alloc: Global, held: &mut HeldDialog, pending: PendingRequest, s
 fn drop_debt(alloc: Global, held: &mut HeldDialog, pending: PendingRequest)
     ensures { held.new ≡ spec.without_pending pending held.old }
 {
-    let mut pending_requests = mem::replace(&mut held.pending_requests, Series::new(alloc)).into_vec();
+    let mut pending_requests = mem::replace(
+        &mut held.pending_requests,
+        Series::new(alloc),
+    ).into_vec();
     remove(&mut pending_requests, pending);
     held.pending_requests = Series::from_vec(pending_requests);
 }
@@ -103,22 +115,30 @@ fn is_same(pending: PendingRequest, other: PendingRequest) -> bool
                 number: other_number,
             },
         ) => rseq == other_rseq && number == other_number,
-        (PendingRequest::Ack { .. }, PendingRequest::Prack { .. }) | (PendingRequest::Prack { .. }, PendingRequest::Ack { .. }) => false,
+        (PendingRequest::Ack { .. }, PendingRequest::Prack { .. })
+        | (PendingRequest::Prack { .. }, PendingRequest::Ack { .. }) => false,
     }
 }
 
 /// The oldest debt of a kind.
-pub(crate) fn oldest(pending_requests: &[PendingRequest], kind: PendingKind) -> Option<&PendingRequest>
+pub(crate) fn oldest(
+    pending_requests: &[PendingRequest],
+    kind: PendingKind,
+) -> Option<&PendingRequest>
     ensures { option_copied result ≡ find (spec.is_of kind) pending_requests.now }
 {
-    pending_requests.iter().find(|pending| is_of(kind, **pending))
+    pending_requests
+        .iter()
+        .find(|pending| is_of(kind, **pending))
 }
 
 fn is_of(kind: PendingKind, pending: PendingRequest) -> bool
     ensures { result ≡ spec.is_of kind pending }
 {
     match (kind, pending) {
-        (PendingKind::Ack, PendingRequest::Ack { .. }) | (PendingKind::Prack, PendingRequest::Prack { .. }) => true,
-        (PendingKind::Ack, PendingRequest::Prack { .. }) | (PendingKind::Prack, PendingRequest::Ack { .. }) => false,
+        (PendingKind::Ack, PendingRequest::Ack { .. })
+        | (PendingKind::Prack, PendingRequest::Prack { .. }) => true,
+        (PendingKind::Ack, PendingRequest::Prack { .. })
+        | (PendingKind::Prack, PendingRequest::Ack { .. }) => false,
     }
 }

@@ -5,13 +5,13 @@ ghost use Rattle.sip_clients.specs.Replied as spec;
 
 use crate::answers::SentAck;
 use crate::client::{Client, RequestKind};
-use crate::pending::owe;
 use crate::dialogs::{accept, end_with, hear, hold, made_dialog};
 use crate::outputs::{ClientChange, ack_said, direct, request_said, response_notice};
+use crate::pending::owe;
 use crate::reply::{ReceivedResponse, ReplyCase, is_last, reply_case};
 use crate::send_outcome::SendOutcome;
 use sip_common::outputs::one;
-use sip_common::{CallOut, PendingRequest, Dialogs, HeldDialog};
+use sip_common::{CallOut, Dialogs, HeldDialog, PendingRequest};
 use sip_message::{Content, Message};
 use sip_text::Text;
 use sip_timers::LIFETIME;
@@ -310,7 +310,11 @@ fn late(
 }
 
 // The INVITE is held for 64*T1 after its first 2xx (RFC 6026, section 7.2).
-fn note_answer(client: &mut Client, reply: &ReceivedResponse, ack: Option<SentAck>) -> Result<(), AllocError>
+fn note_answer(
+    client: &mut Client,
+    reply: &ReceivedResponse,
+    ack: Option<SentAck>,
+) -> Result<(), AllocError>
     requires { reply.now.event.moment ≤ 2 ^ 62 }
     ensures { OnOk result (client.new ≡ spec.held_after_success reply.now ack client.old) }
 {

@@ -8,7 +8,7 @@ ghost use Rattle.sip_clients.specs.ReceivedResponse as spec;
 
 use crate::client::{Client, RequestKind};
 use crate::event::Event;
-use sip_common::request::{is_final, has_to_tag, is_success, requires_100rel};
+use sip_common::request::{has_to_tag, is_final, is_success, requires_100rel};
 use sip_common::{DialogId, HeldDialog};
 use sip_message::{CallId, Id, Message, StartLine, StatusCode};
 use sip_reliable::{Inbound, Offer};
@@ -96,7 +96,11 @@ pub(crate) fn is_last(kind: &RequestKind, status: u16) -> bool
 }
 
 /// The first case that fits, by the held dialog of its name.
-pub(crate) fn reply_case(client: &Client, found: Option<&HeldDialog>, reply: &ReceivedResponse) -> ReplyCase
+pub(crate) fn reply_case(
+    client: &Client,
+    found: Option<&HeldDialog>,
+    reply: &ReceivedResponse,
+) -> ReplyCase
     ensures { result ≡ spec.reply_case client.now (option_copied found.entry) reply.now }
 {
     if is_final(reply.status.code()) {
@@ -150,7 +154,8 @@ fn has_dialog(kind: &RequestKind, found: Option<&HeldDialog>) -> bool
     match (kind, found) {
         (RequestKind::InitialInvite, _) => true,
         (RequestKind::ReInvite(life), Some(held)) => held.created_by == life.created_by,
-        (RequestKind::ReInvite(_), None) | (RequestKind::InDialog(_) | RequestKind::OutOfDialog, _) => false,
+        (RequestKind::ReInvite(_), None)
+        | (RequestKind::InDialog(_) | RequestKind::OutOfDialog, _) => false,
     }
 }
 
@@ -161,7 +166,8 @@ fn heard_of(client: &Client, found: Option<&HeldDialog>) -> Inbound
     match (&client.kind, found) {
         (RequestKind::InitialInvite, Some(held)) => held.last_rseq,
         (RequestKind::InitialInvite, None) => Inbound::new(),
-        (RequestKind::ReInvite(_) | RequestKind::InDialog(_) | RequestKind::OutOfDialog, _) => client.last_rseq,
+        (RequestKind::ReInvite(_) | RequestKind::InDialog(_) | RequestKind::OutOfDialog, _) =>
+            client.last_rseq,
     }
 }
 

@@ -9,7 +9,7 @@ ghost use Rattle.sip_common.specs.Dialogs.{lived};
 ghost use Rattle.sip_clients.specs.SendOutcome as spec;
 
 use crate::event::Event;
-use sip_common::{PendingRequest, HeldDialog, Refusal};
+use sip_common::{HeldDialog, PendingRequest, Refusal};
 use sip_dialog::DialogFault;
 use sip_message::{Addr, Content, Id, Message, RAck, Token};
 use std::alloc::{AllocError, Global};

@@ -3,7 +3,7 @@
 ghost use Rattle.std.specs.Prelude.{◌≡◌, IfOk, OnOk, not};
 ghost use Rattle.sip_common.specs.Dialogs as spec;
 
-use crate::held_dialog::{DialogReference, DialogId, HeldDialog};
+use crate::held_dialog::{DialogId, DialogReference, HeldDialog};
 use crate::item::CallOut;
 use crate::notice::Notice;
 use crate::request::{has_to_tag, is_invite};
@@ -107,11 +107,7 @@ fn refresh(held: &mut HeldDialog, request: &Message) -> Result<(), AllocError>
 }
 
 /// A 2xx confirms the dialog of this name.
-pub fn confirm(
-    dialogs: &mut Dialogs,
-    name: &DialogId,
-    response: &Message,
-) -> Result<(), AllocError>
+pub fn confirm(dialogs: &mut Dialogs, name: &DialogId, response: &Message) -> Result<(), AllocError>
     ensures { OnOk result (dialogs.new.entries
         ≡ spec.dialog_changed name.now (spec.confirmed response.now) dialogs.old.entries) }
 {

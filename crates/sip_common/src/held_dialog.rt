@@ -87,6 +87,9 @@ impl Drop for HeldDialog {
 
 impl Drop for DialogReference {
     fn drop(self) {
-        let DialogReference { name: _, created_by: _ } = self;
+        let DialogReference {
+            name: _,
+            created_by: _,
+        } = self;
     }
 }

@@ -3,13 +3,13 @@
 #![tactic(auto)]
 
 mod command;
-mod pending_request;
 pub mod dialogs;
 mod held_dialog;
 mod item;
 mod laws;
 mod notice;
 pub mod outputs;
+mod pending_request;
 mod refusal;
 pub mod request;
 
@@ -17,10 +17,10 @@ pub use command::{
     Cancel, DialogBody, DialogRequest, Invite, Plain, ProvisionalSupport, Reliability, Respond,
     UserCommand,
 };
-pub use pending_request::PendingRequest;
 pub use dialogs::Dialogs;
-pub use held_dialog::{DialogReference, DialogId, HeldDialog};
+pub use held_dialog::{DialogId, DialogReference, HeldDialog};
 pub use item::{CallOut, Item};
 pub use laws::a_dialog_stands_for_its_story;
 pub use notice::Notice;
+pub use pending_request::PendingRequest;
 pub use refusal::Refusal;

@@ -8,7 +8,7 @@ ghost use Rattle.sip_common.specs.Requests.{is_unknown_option};
 
 use crate::held_request::HeldRequest;
 use sip_common::dialogs::takes;
-use sip_common::request::{is_bye, has_to_tag, is_invite, is_prack, is_unknown_option};
+use sip_common::request::{has_to_tag, is_bye, is_invite, is_prack, is_unknown_option};
 use sip_common::{DialogId, Dialogs, HeldDialog};
 use sip_message::{Addr, Id, Key, Message, RAck, Token};
 use sip_text::{Boxed, token_eq};
@@ -116,7 +116,12 @@ fn prack_case(
 }
 
 // The first INVITE of the dialog of which a response waits that the RAck names.
-fn named_invite(requests: &[HeldRequest], name: &DialogId, created_by: Id, rack: &RAck) -> Option<Id>
+fn named_invite(
+    requests: &[HeldRequest],
+    name: &DialogId,
+    created_by: Id,
+    rack: &RAck,
+) -> Option<Id>
     ensures { result ≡ arrival.named_invite requests.now name.now created_by rack.now }
 {
     requests

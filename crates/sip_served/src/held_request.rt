@@ -39,7 +39,11 @@ pub struct HeldRequest {
 
 impl HeldRequest {
     /// A request that came up in this dialog, if any: no answer to it was sent. Takes no memory.
-    pub(crate) fn new(alloc: Global, arrival: Arrival, dialog: Option<DialogReference>) -> HeldRequest
+    pub(crate) fn new(
+        alloc: Global,
+        arrival: Arrival,
+        dialog: Option<DialogReference>,
+    ) -> HeldRequest
         ensures { result ≡ held_first dialog arrival }
     {
         let Arrival {

@@ -22,10 +22,11 @@ pub use laws::{
     a_cancel_answers_as_the_user_would, each_notice_is_of_its_call, each_request_is_told_once,
     few_provisionals_wait, the_rules_say_the_steps, ticks_when_due,
 };
-pub use provisionals::{ReliableResponse, Provisionals};
+pub use provisionals::{Provisionals, ReliableResponse};
 pub use served::Served;
 pub use server_side::ServerSide;
 pub use sip_common::{
-    CallOut, Cancel, PendingRequest, DialogBody, DialogReference, DialogId, DialogRequest, Dialogs, HeldDialog,
-    Invite, Item, Notice, Plain, ProvisionalSupport, Refusal, Reliability, Respond, UserCommand,
+    CallOut, Cancel, DialogBody, DialogId, DialogReference, DialogRequest, Dialogs, HeldDialog,
+    Invite, Item, Notice, PendingRequest, Plain, ProvisionalSupport, Refusal, Reliability, Respond,
+    UserCommand,
 };

@@ -11,7 +11,7 @@ use crate::held_request::{HeldRequest, Retransmission, Success};
 use crate::provisionals::ReliableResponse;
 use sip_common::dialogs::{confirm, end_early, lives};
 use sip_common::request::{
-    dialog_name, is_final, has_to_tag, is_invite, is_provisional, is_success, requires_100rel,
+    dialog_name, has_to_tag, is_final, is_invite, is_provisional, is_success, requires_100rel,
     supports_100rel,
 };
 use sip_common::{CallOut, DialogReference, Dialogs, HeldDialog, Refusal, Reliability, Respond};
@@ -281,7 +281,9 @@ pub(crate) fn answer_dialogs(
 fn makes_dialog(held: &HeldRequest, status: u16) -> bool
     ensures { result ≡ spec.makes_dialog held.now status }
 {
-    makes_or_confirms_dialog(held, status) && !has_to_tag(held.request.get()) && held.dialog.is_none()
+    makes_or_confirms_dialog(held, status)
+        && !has_to_tag(held.request.get())
+        && held.dialog.is_none()
 }
 
 fn confirms_dialog(held: &HeldRequest, status: u16) -> bool
@@ -315,7 +317,10 @@ fn make_dialog(
     let name = dialog_name(alloc, held.request.get(), &held.tag)?;
     let made = made_dialog(alloc, event, held, StatusCode::from_code(status))?;
     dialogs.insert(name.clone()?, made)?;
-    held.dialog = Some(DialogReference { name, created_by: event });
+    held.dialog = Some(DialogReference {
+        name,
+        created_by: event,
+    });
     Ok(())
 }
 

@@ -29,7 +29,7 @@ use crate::tick::{is_kept, next_due, tick_requests};
 use indexmap::IndexMap;
 use sip_common::dialogs::{end, end_early, own_dialog, visit};
 use sip_common::outputs::{joined, one, refused, tell};
-use sip_common::request::{dialog_name, is_bye, is_cancel, has_to_tag, own_tag};
+use sip_common::request::{dialog_name, has_to_tag, is_bye, is_cancel, own_tag};
 use sip_common::{CallOut, DialogId, Dialogs, Item, Notice, Refusal, Respond, UserCommand};
 use sip_message::{Addr, CallId, Id, Message, Token};
 use sip_text::Boxed;

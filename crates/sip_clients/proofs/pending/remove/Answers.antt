@@ -4,5 +4,5 @@ use Rattle.sip_clients.specs.Pending.{is_same_pending}
 use Rattle.sip_clients.proofs.pending.remove.Goals as goal
 
 pub returns : goal.returns
-returns c = filter_same _ (λ other. not (is_same_pending c.args.debt other)) _
+returns c = filter_same _ (λ other. not (is_same_pending c.args.pending other)) _
     (λ x b f call. search rules) _ _ c.retain.ensures.filtered
