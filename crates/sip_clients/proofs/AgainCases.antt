@@ -19,7 +19,7 @@ use Rattle.sip_clients.specs.declared.reply.ReceivedResponse.{ReceivedResponse}
 use Rattle.sip_clients.specs.declared.reply.ReplyCase.{ReplyCase}
 use Rattle.sip_clients.specs.declared.reply.ReplyCase.TheVariants as reply
 use Rattle.sip_clients.specs.Answers.{has_answer}
-use Rattle.sip_clients.specs.Pending.{pending_requests}
+use Rattle.sip_clients.specs.Pending.{kept_pending}
 use Rattle.sip_clients.specs.Dialogs.{dialog_for_provisional}
 use Rattle.sip_clients.specs.Replied.{by_reply_case, automatic_body, prack_owed}
 use Rattle.sip_clients.specs.ReceivedResponse.{has_dialog, reliable_case, success_case}
@@ -111,5 +111,5 @@ lives_owed life own number client dialogs answer None is there = absurd cc
 lives_owed life own number client dialogs answer (Some held) is there =
     let pending = Prack number ((client.request).cseq).number in
     let offer = automatic_body client answer.response in
-    lives_put life answer.name held (pending_requests answer.event pending offer held).0 dialogs is
+    lives_put life answer.name held (kept_pending answer.event pending offer held).0 dialogs is
     (owed_keeps answer.event pending offer held).0

@@ -21,7 +21,7 @@ use Rattle.sip_clients.specs.declared.send_outcome.SendOutcome.TheVariants.{Sent
 use Rattle.sip_common.specs.declared.refusal.Refusal.{Refusal as ARefusal}
 use Rattle.sip_common.specs.Refusal.{first_refusal}
 use Rattle.sip_clients.specs.Commands.{bye_ended, request_in_held, request_refusals, sent_unless}
-use Rattle.sip_clients.specs.Pending.{dropped_if_sent, kept_unless_sent, pending_requests, paid}
+use Rattle.sip_clients.specs.Pending.{dropped_if_sent, kept_unless_sent, kept_pending, paid}
 use Rattle.sip_clients.specs.Dialogs.{ended_with, own_ended, served_at}
 use Rattle.sip_clients.specs.SendOutcome.{Outcome, discharged, sending_in, happens_by_sending}
 use Rattle.sip_common.proofs.Heard.{AreApart, Grows, Keeps, Leads, Life, in_one, keeps_same, keeps_then, leads_changed, leads_filtered, leads_removed, leads_same, leads_then, quiet}
@@ -60,8 +60,8 @@ if_sent_keeps pending Waits held = keeps_same held
 if_sent_keeps pending (Refused refusal) held = keeps_same held
 
 pub owed_keeps : (event : Event) (pending : PendingRequest) (offer : Option Content) (held : HeldDialog)
-    → Keeps None (discharge_life pending offer held.dialog) held (pending_requests event pending offer held).0
-unfolding pending_requests
+    → Keeps None (discharge_life pending offer held.dialog) held (kept_pending event pending offer held).0
+unfolding kept_pending
 owed_keeps event pending offer held =
     let done = discharged event pending offer held in
     keeps_then None (discharge_life pending offer held.dialog) held done.0

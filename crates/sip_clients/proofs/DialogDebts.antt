@@ -28,7 +28,7 @@ use Rattle.sip_clients.specs.declared.send_outcome.SendOutcome.TheVariants.{Sent
 use Rattle.sip_clients.specs.Client.{Side}
 use Rattle.sip_clients.specs.Clients.{lost_of}
 use Rattle.sip_clients.specs.Commands.{bye_ended}
-use Rattle.sip_clients.specs.Pending.{dropped_if_sent, is_same_pending, kept_unless_sent, pending_requests, paid}
+use Rattle.sip_clients.specs.Pending.{dropped_if_sent, is_same_pending, kept_unless_sent, kept_pending, paid}
 use Rattle.sip_clients.specs.Dialogs.{accepted_in, ended_with, own_ended}
 use Rattle.sip_clients.specs.Outputs.{ack_said}
 use Rattle.sip_clients.specs.Owing.{is_direct, is_of_prack}
@@ -113,9 +113,9 @@ drops pending Waits held = (refl, refl)
 drops pending (Refused refusal) held = (refl, refl)
 
 pub owed_adds : (event : Event) (pending : PendingRequest) (offer : Option Content) (held : HeldDialog)
-    → OwesStill (λ pending_requests. pending_requests ++ unless_out (goes (pending_requests event pending offer held).1) pending)
-    (Some held) (Some (pending_requests event pending offer held).0)
-unfolding pending_requests
+    → OwesStill (λ pending_requests. pending_requests ++ unless_out (goes (kept_pending event pending offer held).1) pending)
+    (Some held) (Some (kept_pending event pending offer held).0)
+unfolding kept_pending
 owed_adds event pending offer held =
     let done = discharged event pending offer held in
     let kept = discharged_kept event pending offer held in
@@ -180,9 +180,9 @@ module _ (name own : DialogId) (event : Event) (held : HeldDialog)
         by_fault (Some fault) sending = refl
 
     pub prack_owes : (rseq number : ℕ) (offer : Option Content)
-        → list_any is_of_prack (service_cseqs name (pending_requests event (Prack rseq number) offer held).1)
-        ≡ goes (pending_requests event (Prack rseq number) offer held).1
-    unfolding pending_requests
+        → list_any is_of_prack (service_cseqs name (kept_pending event (Prack rseq number) offer held).1)
+        ≡ goes (kept_pending event (Prack rseq number) offer held).1
+    unfolding kept_pending
     prack_owes rseq number offer = prack_discharged rseq number offer
 
     pub prack_pays : (rseq number : ℕ) (content : Content)

@@ -29,7 +29,7 @@ use Rattle.sip_clients.specs.declared.send_outcome.OutgoingRequest.{OutgoingRequ
 use Rattle.sip_clients.specs.declared.send_outcome.SendOutcome.{SendOutcome}
 use Rattle.sip_clients.specs.declared.send_outcome.SendOutcome.TheVariants.{Sent, Waits, Refused}
 use Rattle.sip_clients.specs.Commands.{bye_ended, request_in_held, requested_at}
-use Rattle.sip_clients.specs.Pending.{dropped_if_sent, kept_unless_sent, pending_requests, paid}
+use Rattle.sip_clients.specs.Pending.{dropped_if_sent, kept_unless_sent, kept_pending, paid}
 use Rattle.sip_clients.specs.Dialogs.{accepted, ended_with, dialog_for_provisional, own_ended, paid_at, served_at}
 use Rattle.sip_clients.specs.Happenings.{success_brings}
 use Rattle.sip_clients.proofs.ReplyDialogs.{success_keeps}
@@ -98,8 +98,8 @@ module _ (call_id : List ℕ) where
   kept_own pending (Refused refusal) held own = own
 
   pub owed_own : (event : Event) (pending : PendingRequest) (offer : Option Content) (held : HeldDialog)
-      → IsDialogOf call_id held → IsOutcomeOf (pending_requests event pending offer held)
-  unfolding pending_requests
+      → IsDialogOf call_id held → IsOutcomeOf (kept_pending event pending offer held)
+  unfolding kept_pending
   owed_own event pending offer held own =
       let done = discharged event pending offer held in
       let so = served_own event pending offer held own in

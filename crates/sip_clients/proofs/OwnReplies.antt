@@ -32,7 +32,7 @@ use Rattle.sip_clients.specs.Clients.{found_taken, request_lost, lost_of, reply_
 use Rattle.sip_clients.specs.Dialogs.{accepted, dialog_for_provisional}
 use Rattle.sip_clients.specs.Outputs.{ack_said, direct, request_said, start_command}
 use Rattle.sip_clients.specs.OwnCall.{AreClientsOf, AreDialogsOf, AreNoticesOf, IsDialogOf, IsNoticeOf, IsRequestOf, IsSideOf, KeepsTo}
-use Rattle.sip_clients.specs.Replied.{InDialog, Replied, ack_owed, after_dialog, by_reply_case, ends_dialog, request_over, heard_again, heard_first, automatic_body, prack_owed, replied_in, reply_taken, dialogs_with}
+use Rattle.sip_clients.specs.Replied.{InOneDialog, Replied, ack_owed, after_dialog, by_reply_case, ends_dialog, request_over, heard_again, heard_first, automatic_body, prack_owed, replied_in, reply_taken, dialogs_with}
 use Rattle.sip_clients.specs.ReceivedResponse.{is_last, reply_case}
 use Rattle.sip_clients.specs.Tick.{ends_early_at, is_over, early_ends_told, clients_ticked}
 use Rattle.sip_common.proofs.Each.{all_of_each, both, each_but_one, each_inserted, each_left, each_set, found_one}
@@ -114,7 +114,7 @@ module _ (call_id : List ℕ) where
   -- ---- a response
 
   -- the request, the dialog, what is told, and the request that is sent
-  record IsInDialogOf (done : InDialog) : Type 0 where
+  record IsInDialogOf (done : InOneDialog) : Type 0 where
     pub client : IsRequestOf call_id done.0
     pub dialog : IfSome done.1 (IsDialogOf call_id)
     pub told : AreNoticesOf call_id done.2

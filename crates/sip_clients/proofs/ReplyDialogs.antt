@@ -23,7 +23,7 @@ use Rattle.sip_clients.specs.declared.reply.ReplyCase.{ReplyCase}
 use Rattle.sip_clients.specs.declared.reply.ReplyCase.TheVariants as reply
 use Rattle.sip_clients.specs.Answers.{has_answer}
 use Rattle.sip_clients.specs.Clients.{reply_name}
-use Rattle.sip_clients.specs.Pending.{pending_requests}
+use Rattle.sip_clients.specs.Pending.{kept_pending}
 use Rattle.sip_clients.specs.Dialogs.{accepted, accepted_in, hearing, dialog_by_response, dialog_for_provisional}
 use Rattle.sip_clients.specs.Happenings.{success_brings}
 use Rattle.sip_clients.specs.Replied.{ack_owed, by_reply_case, heard_first, automatic_body, prack_owed, dialogs_with}
@@ -198,7 +198,7 @@ module _ (event : Option Id) (client : Client) (answer : ReceivedResponse)
   -- a reliable provisional response, whose PRACK is owed in the dialog that has heard it so
   abbrev prack_owes : ℕ → HeldDialog → HeldDialog
   prack_owes number held =
-      (pending_requests answer.event (Prack number ((client.request).cseq).number)
+      (kept_pending answer.event (Prack number ((client.request).cseq).number)
       (automatic_body client answer.response) held).0
 
   abbrev GoesBy : Option ℕ → (HeldDialog → HeldDialog) → ℕ → Option HeldDialog → Type 0

@@ -49,7 +49,7 @@ use Rattle.sip_clients.specs.ClientRules.{AllLive, EachFits, HoldsRules}
 use Rattle.sip_clients.specs.ClientStory.{ClientStory, with_answer, client_told, is_provisional_response}
 use Rattle.sip_clients.specs.ClientTelling.{ClientStories, AreTold, HoldsStories, begin_story, begin_stories, for_dialog, for_dialog_or_cancel, happens_to, reliable_taken, reply_told, response_happens, response_told, success_happens}
 use Rattle.sip_clients.specs.Clients.{found_taken, reply_name, reply_of, reply_settled, response_taken, settled, side_after, status_of}
-use Rattle.sip_clients.specs.Pending.{pending_requests}
+use Rattle.sip_clients.specs.Pending.{kept_pending}
 use Rattle.sip_clients.specs.Dialogs.{accepted, dialog_for_provisional}
 use Rattle.sip_clients.specs.Event.{branch_of}
 use Rattle.sip_clients.specs.Outputs.{direct, kind_in, request_said, sent_ack}
@@ -109,8 +109,8 @@ unfolding with_content_of
 sent_method event method rack content held = refl
 
 owed_prack : (event : Event) (rseq number : ℕ) (offer : Option Content) (held : HeldDialog)
-    → IsPrack held.created_by (pending_requests event (Prack rseq number) offer held).1
-unfolding pending_requests discharged
+    → IsPrack held.created_by (kept_pending event (Prack rseq number) offer held).1
+unfolding kept_pending discharged
 owed_prack event rseq number None held = tt
 owed_prack event rseq number (Some content) held =
     by_fault (request_fault held.dialog (codes "PRACK"))

@@ -41,7 +41,7 @@ use Rattle.sip_clients.specs.Answers.{has_answer}
 use Rattle.sip_clients.specs.Cancel.{after_response, cancel_client, cancel_freed, cancelling_after, freed_by}
 use Rattle.sip_clients.specs.Client.{ClientTaken, Side, client_at}
 use Rattle.sip_clients.specs.Clients.{found_taken, reply_name, reply_of, reply_settled, response_taken, side_after, status_of}
-use Rattle.sip_clients.specs.Pending.{kept_unless_sent, pending_requests}
+use Rattle.sip_clients.specs.Pending.{kept_unless_sent, kept_pending}
 use Rattle.sip_clients.specs.Dialogs.{accepted, hearing}
 use Rattle.sip_clients.specs.Outputs.{ack_said, request_said, response_notice, start_command}
 use Rattle.sip_clients.specs.Replied.{Replied, accepted_by_ack, ack_again, ack_owed, after_dialog, ends_dialog, hears, held_after_success, notice, automatic_body, prack_owed, reliable, reply_taken, request_over, told_of_prack}
@@ -169,8 +169,8 @@ owed_seen : (event : Event) (call_id : List ℕ) (name : DialogId) (pending : Pe
     (content : Option Content) (held : HeldDialog)
     → served_by event call_id name pending held.pending_requests (held.pending_requests ++ pending ∷ [])
     (discharged event pending content held)
-    ≡ seen event call_id name pending (pending_requests event pending content held)
-unfolding pending_requests
+    ≡ seen event call_id name pending (kept_pending event pending content held)
+unfolding kept_pending
 owed_seen event call_id name (Ack invite number) content held =
     let pending = Ack invite number in
     let done = discharged event pending content held in
@@ -185,7 +185,7 @@ owed_seen event call_id name (Prack rseq number) content held =
 owed_same : (event : Event) (call_id : List ℕ) (name : DialogId) (pending : PendingRequest)
     (content : Option Content) (held : HeldDialog)
     → rule.payment event call_id name pending content held (record held { pending_requests = held.pending_requests ++ pending ∷ [] })
-    ≡ seen event call_id name pending (pending_requests event pending content held)
+    ≡ seen event call_id name pending (kept_pending event pending content held)
 owed_same event call_id name pending content held =
     served_same event call_id name held held.pending_requests (held.pending_requests ++ pending ∷ []) pending content
     ∙ owed_seen event call_id name pending content held
@@ -294,7 +294,7 @@ module _ (answer : ReceivedResponse) (side : Side) (cancel : Option Client) wher
   ack_asked client held =
       let pending = Ack client.id ((client.request).cseq).number in
       let content = automatic_body client answer.response in
-      let done = pending_requests answer.event pending content held in
+      let done = kept_pending answer.event pending content held in
       let said = ack_said answer.event answer.call_id done.1 in
       ap (λ (done : rule.Payment).
       ours (with_served (λ ack. held_after_success answer ack client) done))
@@ -304,11 +304,11 @@ module _ (answer : ReceivedResponse) (side : Side) (cancel : Option Client) wher
 
   prack_asked : (after : Client) (content : Option Content) (rseq number : ℕ) (held : HeldDialog)
       → ours (with_served (λ ack. after) (asked_for content (Prack rseq number) held))
-      ≡ (let done = pending_requests answer.event (Prack rseq number) content held in
+      ≡ (let done = kept_pending answer.event (Prack rseq number) content held in
       let told = told_of_prack answer done.1 in
       theirs (after, insert_entry is_named side.dialogs answer.name done.0, told.0, told.1))
   prack_asked after content rseq number held =
-      let done = pending_requests answer.event (Prack rseq number) content held in
+      let done = kept_pending answer.event (Prack rseq number) content held in
       ap (λ (done : rule.Payment). ours (with_served (λ ack. after) done))
       (owed_same answer.event answer.call_id answer.name (Prack rseq number) content held)
       ∙ prack_put answer.event answer.id side cancel after
@@ -402,7 +402,7 @@ module _ (answer : ReceivedResponse) (side : Side) (cancel : Option Client) wher
           ap (λ (last : Option ℕ). record held { last_rseq = last }) (latest held.last_rseq rseq n) in
           ap ours left ∙ prack_asked (initial client) content rseq number last_rseq
           ∙ ap (λ (last_rseq : HeldDialog).
-          let done = pending_requests answer.event (Prack rseq number) content last_rseq in
+          let done = kept_pending answer.event (Prack rseq number) content last_rseq in
           let told = told_of_prack answer done.1 in
           theirs (
             initial client,
@@ -510,7 +510,7 @@ module _ (life : DialogReference) (given : ReceivedResponse) (side : Side) (canc
           ap (ours own side cancel) left
           ∙ prack_asked own side cancel after content rseq number held
           ∙ ap (λ (after : Client).
-          let done = pending_requests own.event (Prack rseq number) content held in
+          let done = kept_pending own.event (Prack rseq number) content held in
           let told = told_of_prack own done.1 in
           theirs own side cancel (
             after,

@@ -37,7 +37,7 @@ use Rattle.sip_clients.specs.Cancel.{cancel_client, sent_beside}
 use Rattle.sip_clients.specs.Client.{Clients}
 use Rattle.sip_clients.specs.Clients.{settled}
 use Rattle.sip_clients.specs.Commands.{is_own_kind, request_in_held, request_refusals, sent_unless}
-use Rattle.sip_clients.specs.Pending.{pending_requests, paid}
+use Rattle.sip_clients.specs.Pending.{kept_pending, paid}
 use Rattle.sip_clients.specs.Dialogs.{served_at}
 use Rattle.sip_clients.specs.Event.{branch_of}
 use Rattle.sip_clients.specs.Outputs.{request_said, start_command}
@@ -173,9 +173,9 @@ module _ (name own : DialogId) (event : Event) (held : HeldDialog)
       by_prack_fault _ content (request_fault held.dialog (codes "PRACK"))
 
   pub owed_sent : (pending : PendingRequest) (offer : Option Content)
-      → service_cseqs name (pending_requests event pending offer held).1
+      → service_cseqs name (kept_pending event pending offer held).1
       ≡ cond (is_named own name) (discharge_cseqs pending offer held.dialog) []
-  unfolding pending_requests
+  unfolding kept_pending
   owed_sent pending offer = discharged_sent pending offer
 
   pub paid_sent : (pending : PendingRequest) (content : Content)

@@ -38,8 +38,8 @@ kept_unless_sent pending Waits held = record held { pending_requests = held.pend
 kept_unless_sent pending (Refused refusal) held = record held { pending_requests = held.pending_requests ++ pending ∷ [] }
 
 -- the dialog after it, and what becomes of what is to be sent
-unfoldable pub pending_requests : Event → PendingRequest → Option Content → HeldDialog → Outcome
-pending_requests event pending offer held =
+unfoldable pub kept_pending : Event → PendingRequest → Option Content → HeldDialog → Outcome
+kept_pending event pending offer held =
     let done = discharged event pending offer held in (kept_unless_sent pending done.1 done.0, done.1)
 
 -- ---- the user serves it: it is owed no more where it is sent

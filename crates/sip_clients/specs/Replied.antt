@@ -23,7 +23,7 @@ use Rattle.sip_clients.specs.declared.reply.ReplyCase.{ReplyCase}
 use Rattle.sip_clients.specs.declared.reply.ReplyCase.TheVariants as reply
 use Rattle.sip_clients.specs.declared.send_outcome.SendOutcome.{SendOutcome}
 use Rattle.sip_clients.specs.Answers.{ack_of}
-use Rattle.sip_clients.specs.Pending.{pending_requests}
+use Rattle.sip_clients.specs.Pending.{kept_pending}
 use Rattle.sip_clients.specs.Dialogs.{accepted, ended_with, hearing, dialog_for_provisional}
 use Rattle.sip_clients.specs.Outputs.{ack_said, direct, request_said, response_notice}
 use Rattle.sip_clients.specs.ReceivedResponse.{is_last, reply_case}
@@ -34,8 +34,8 @@ abbrev pub Replied : Type 0
 Replied = Client × Dialogs × List CallOut × ClientChange
 
 -- the same of the one dialog that it may change: that after it, if it is changed or made
-abbrev pub InDialog : Type 0
-InDialog = Client × Option HeldDialog × List CallOut × ClientChange
+abbrev pub InOneDialog : Type 0
+InOneDialog = Client × Option HeldDialog × List CallOut × ClientChange
 
 -- the user is told of it
 abbrev pub notice : ReceivedResponse → List CallOut
@@ -86,7 +86,7 @@ automatic_body client response =
 -- its PRACK is owed, or sent
 unfoldable pub prack_owed : ℕ → Client → HeldDialog → ReceivedResponse → HeldDialog × SendOutcome
 prack_owed rseq client held answer =
-    pending_requests answer.event (Prack rseq ((client.request).cseq).number)
+    kept_pending answer.event (Prack rseq ((client.request).cseq).number)
     (automatic_body client answer.response) (heard_first client.kind rseq held)
 
 -- what is told and sent, and the PRACK's request
@@ -96,7 +96,7 @@ told_of_prack answer service =
     (notice answer ++ said.0, said.1)
 
 -- a reliable one that is the next of its dialog is told, and its PRACK is owed
-abbrev pub reliable : ℕ → Client → HeldDialog → ReceivedResponse → InDialog
+abbrev pub reliable : ℕ → Client → HeldDialog → ReceivedResponse → InOneDialog
 reliable rseq client held answer =
     let pending_requests = prack_owed rseq client held answer in
     let told = told_of_prack answer pending_requests.1 in
@@ -119,7 +119,7 @@ held_after_success answer ack client = record client {
 -- its ACK is owed, or sent
 unfoldable pub ack_owed : Client → HeldDialog → ReceivedResponse → HeldDialog × SendOutcome
 ack_owed client held answer =
-    pending_requests answer.event (Ack client.id ((client.request).cseq).number)
+    kept_pending answer.event (Ack client.id ((client.request).cseq).number)
     (automatic_body client answer.response) held
 
 -- what is told and sent, and the ACK
@@ -128,7 +128,7 @@ told_of_ack answer service =
     let said = ack_said answer.event answer.call_id service in (notice answer ++ said.0, said.1)
 
 -- the first 2xx of a dialog is told, and its ACK is owed
-abbrev pub accepted_by_ack : Client → HeldDialog → ReceivedResponse → InDialog
+abbrev pub accepted_by_ack : Client → HeldDialog → ReceivedResponse → InOneDialog
 accepted_by_ack client held answer =
     let pending_requests = ack_owed client held answer in
     let told = told_of_ack answer pending_requests.1 in
@@ -137,7 +137,7 @@ accepted_by_ack client held answer =
 -- ---- all of it
 
 -- by the held dialog of its name, if there is one
-abbrev pub by_reply_case : ReplyCase → Client → Option HeldDialog → ReceivedResponse → InDialog
+abbrev pub by_reply_case : ReplyCase → Client → Option HeldDialog → ReceivedResponse → InOneDialog
 by_reply_case reply.Repeated client found answer = (client, None, ack_again client answer, Stays)
 by_reply_case reply.Accepted client found answer =
     accepted_by_ack client (accepted client answer found) answer
@@ -151,7 +151,7 @@ by_reply_case reply.Early client found answer =
 by_reply_case reply.Told client found answer = (client, None, notice answer, Stays)
 
 -- case by case, in the dialog of its name where it is held
-abbrev pub replied_in : Client → Option HeldDialog → ReceivedResponse → InDialog
+abbrev pub replied_in : Client → Option HeldDialog → ReceivedResponse → InOneDialog
 replied_in client found answer = by_reply_case (reply_case client found answer) client found answer
 
 -- the dialogs with that one
@@ -160,7 +160,7 @@ dialogs_with name None dialogs = dialogs
 dialogs_with name (Some held) dialogs = insert_entry is_named dialogs name held
 
 -- the dialogs with that one after it
-abbrev pub after_dialog : DialogId → Dialogs → InDialog → Replied
+abbrev pub after_dialog : DialogId → Dialogs → InOneDialog → Replied
 after_dialog name dialogs done = (done.0, dialogs_with name done.1 dialogs, done.2, done.3)
 
 -- the last response ends its request; any other is taken case by case
@@ -171,5 +171,5 @@ reply_taken client dialogs answer =
     (replied_in client (dialog_at answer.name dialogs) answer)
 
 -- of a held dialog: that after it
-abbrev pub in_place : HeldDialog → InDialog → Client × HeldDialog × List CallOut × ClientChange
+abbrev pub in_place : HeldDialog → InOneDialog → Client × HeldDialog × List CallOut × ClientChange
 in_place held done = (done.0, unwrap_or done.1 held, done.2, done.3)

@@ -20,7 +20,7 @@ pub(crate) enum PendingKind {
 }
 
 /// Discharges what a response asks for; it stays owed where it isn't sent.
-#[tactic(auto, unfolding(crate::specs::Pending::pending_requests))]
+#[tactic(auto, unfolding(crate::specs::Pending::kept_pending))]
 pub(crate) fn owe(
     alloc: Global,
     held: &mut HeldDialog,
@@ -28,8 +28,8 @@ pub(crate) fn owe(
     pending: PendingRequest,
     offer: Option<Content>,
 ) -> Result<SendOutcome, AllocError>
-    ensures service { IfOk result (λ service. service ≡ (spec.pending_requests event pending offer held.old).1) }
-    ensures held { OnOk result (held.new ≡ (spec.pending_requests event pending offer held.old).0) }
+    ensures service { IfOk result (λ service. service ≡ (spec.kept_pending event pending offer held.old).1) }
+    ensures held { OnOk result (held.new ≡ (spec.kept_pending event pending offer held.old).0) }
 {
     let service = discharge(alloc, held, event, pending, offer)?;
     keep_unless_sent(held, pending, &service)?;
