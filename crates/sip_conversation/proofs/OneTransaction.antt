@@ -1,6 +1,6 @@
 -- What a transaction sends is the text of a message that it was given or made, and what it hands up
 -- is a message that came to it.
-use Rattle.std.proofs.Common.{◌≡◌, ℕ, Bool, true, false, cond, List, [], ◌∷◌, refl, sym, ap, ◌∙◌, codes}
+use Rattle.std.proofs.Common.{◌≡◌, ℕ, Bool, true, false, cond, List, [], ◌∷◌, refl, sym, ap, ◌∙◌, codes, subst}
 use Rattle.std.specs.Prelude.{Contains, IfSome, Option, None, Some, not, option_map, option_to_list}
 use Rattle.std.specs.List.{AllByRecursion}
 use Rattle.std.proofs.lemmas.Bool.{false≢true}
@@ -35,6 +35,8 @@ use Rattle.sip_transactions.specs.declared.trigger.Trigger.TheVariants as on
 use Rattle.sip_transactions.specs.Steps.Input.{answer_of, arrival_of, arrived_in, class_of, is_same_method, message_in, role_of, trigger_of}
 use Rattle.sip_transactions.specs.Steps.Life.{acted_if, armed, begun, context_of, entered, keeps_request, last_of, life_after, life_in, state_of, stepped}
 use Rattle.sip_transactions.specs.Machine.{transaction_machine}
+use Rattle.sip_transactions.specs.Rules.Step.{step_at}
+use Rattle.sip_transactions.proofs.Rules.{step_is}
 use Rattle.sip_transactions.specs.Steps.Output.{handed_out, kind_of, made_bytes, made_of, outputs_of, send_out, sent_bytes, trying_of}
 use Rattle.sip_transactions.specs.Rows.{rows_of}
 use Rattle.sip_transactions.proofs.LawSteps.{RowFor, by_step}
@@ -331,10 +333,12 @@ module _ (all : List (Timed Input)) (Says Came : Message → Type 0) where
         → AllByRecursion (IsFaithful Says Came) (outputs_from transaction_machine key held inputs)
     faithful_from key held [] among sound = tt
     faithful_from key held (timed ∷ inputs) among sound =
-        let after = one_input key held timed.moment timed.input among.0 sound in
-        both (IsFaithful Says Came) (stepped key held timed).1
-        (outputs_from transaction_machine key (stepped key held timed).0 inputs) after.1
-        (faithful_from key (stepped key held timed).0 inputs among.1 after.0)
+        let step = step_at key held timed.moment timed.input in
+        let after = subst After (sym (step_is key held timed.moment timed.input))
+        (one_input key held timed.moment timed.input among.0 sound) in
+        both (IsFaithful Says Came) step.1
+        (outputs_from transaction_machine key step.0 inputs) after.1
+        (faithful_from key step.0 inputs among.1 after.0)
 
     pub faithful : (key : Key)
         → AllByRecursion (IsFaithful Says Came) (outputs_from transaction_machine key None all)

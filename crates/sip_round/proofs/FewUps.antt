@@ -1,12 +1,12 @@
 -- What a transaction hands up to one input: at most one thing, and to a tick no message.
-use Rattle.std.proofs.Common.{◌≡◌, ◌⊎◌, inl, inr, ℕ, List, [], ◌∷◌, ◌++◌, refl}
+use Rattle.std.proofs.Common.{◌≡◌, ◌⊎◌, inl, inr, ℕ, List, [], ◌∷◌, ◌++◌, refl, sym, subst}
 use Rattle.std.specs.Prelude.{Option, None, Some, filter_map}
 use Rattle.std.specs.List.{cons_option, flat_map}
 use Rattle.std.specs.Option.{option_map, option_to_list}
 use Rattle.sip_message.specs.declared.addr.Addr.{Addr}
 use Rattle.sip_message.specs.declared.id.Id.{Id}
 use Rattle.sip_message.specs.declared.key.Key.{Key}
-use Rattle.sip_model.specs.Machine.{adds, Timed, tick_at}
+use Rattle.sip_model.specs.Machine.{adds, Timed, tick_at, Machine}
 use Rattle.sip_transactions.specs.declared.input.Input.{Input}
 use Rattle.sip_transactions.specs.declared.life.Context.{Context}
 use Rattle.sip_transactions.specs.declared.life.Life.{Life}
@@ -21,6 +21,7 @@ use Rattle.sip_transactions.specs.declared.step.Step.{Step}
 use Rattle.sip_transactions.specs.Steps.Input.{arrived_in, message_in, role_of}
 use Rattle.sip_transactions.specs.Steps.Life.{acted_if, context_of, state_of, step_for, stepped, stepped_by}
 use Rattle.sip_transactions.specs.Machine.{transaction_machine}
+use Rattle.sip_transactions.proofs.Rules.{machine_is}
 use Rattle.sip_transactions.specs.Steps.Output.{handed_out, made_bytes, outputs_of, send_out, sent_bytes}
 use Rattle.sip_common.specs.declared.item.Item.{Item}
 use Rattle.sip_calls.specs.Provisionals.{event_in, event_of_kind}
@@ -92,7 +93,9 @@ pub few_ups : (id : Id) (key : Key) (held : Option Life) (timed : Timed Input)
     → Few id (raised id (adds transaction_machine key held timed))
 unfolding stepped
 few_ups id key held timed =
-    few_by id key held timed.moment timed.input (step_for key held timed.moment timed.input)
+    subst (λ (machine : Machine Key Life (Timed Input) Out).
+    Few id (raised id (adds machine key held timed))) (sym machine_is)
+    (few_by id key held timed.moment timed.input (step_for key held timed.moment timed.input))
 
 none_acted : (id : Id) (key : Key) (now : ℕ) (state : Option State) (o : Option Context)
     (step : Step) → raised id (acted_if key now None state o step).1 ≡ []
@@ -112,4 +115,7 @@ none_by id key held now (Some step) = none_acted id key now (state_of held)
 pub no_ups : (id : Id) (key : Key) (held : Option Life) (now : ℕ)
     → raised id (adds transaction_machine key held (tick_at now)) ≡ []
 unfolding stepped
-no_ups id key held now = none_by id key held now (step_for key held now None)
+no_ups id key held now =
+    subst (λ (machine : Machine Key Life (Timed Input) Out).
+    raised id (adds machine key held (tick_at now)) ≡ []) (sym machine_is)
+    (none_by id key held now (step_for key held now None))

@@ -1,6 +1,6 @@
 -- A transaction speaks under its own key alone: so it is with all that is chosen of its outputs,
 -- where it is so with an output of each kind.
-use Rattle.std.proofs.Common.{◌≡◌, ℕ, Bool, true, false, cond, List, [], ◌∷◌, ◌++◌, refl}
+use Rattle.std.proofs.Common.{◌≡◌, ℕ, Bool, true, false, cond, List, [], ◌∷◌, ◌++◌, refl, sym, subst}
 use Rattle.std.specs.Prelude.{Option, None, Some, option_map, option_to_list}
 use Rattle.std.specs.BTreeMap.{is_at}
 use Rattle.std.specs.List.{flat_map}
@@ -10,7 +10,7 @@ use Rattle.sip_message.specs.declared.message.Message.{Message}
 use Rattle.sip_message.specs.Key.{key_cmp, keys_total}
 use Rattle.sip_model.specs.declared.item.Item.{Item}
 use Rattle.sip_model.specs.Laws.{said_by}
-use Rattle.sip_model.specs.Machine.{Timed, tick_at}
+use Rattle.sip_model.specs.Machine.{Timed, tick_at, Machine}
 use Rattle.sip_model.specs.Phase.{Phase}
 use Rattle.sip_model.proofs.Spoken.{FitItems, SpeaksForItself, spoken}
 use Rattle.sip_transactions.specs.declared.input.Input.{Input}
@@ -27,8 +27,9 @@ use Rattle.sip_transactions.specs.declared.step.Handed.TheVariants as handed
 use Rattle.sip_transactions.specs.declared.step.Step.{Step}
 use Rattle.sip_transactions.specs.Steps.Input.{arrived_in, message_in, role_of}
 use Rattle.sip_transactions.specs.Keys.{exact_keys}
-use Rattle.sip_transactions.specs.Steps.Life.{acted_if, context_of, state_of, step_for, stepped, stepped_by}
+use Rattle.sip_transactions.specs.Steps.Life.{acted_if, context_of, state_of, step_for, stepped, stepped_by, step_machine}
 use Rattle.sip_transactions.specs.Machine.{transaction_machine}
+use Rattle.sip_transactions.proofs.Rules.{machine_is}
 use Rattle.sip_transactions.specs.Steps.Output.{handed_out, kind_of, made_bytes, outputs_of, send_out, sent_bytes, up_out}
 use Rattle.sip_round.specs.Answers.{said_by_transactions}
 use Rattle.sip_round.specs.Outputs.{all_said}
@@ -113,10 +114,15 @@ module _ (X : Type 0) (chosen : Out → List X) (picked : Key → Out → List X
     own_by q key held now input (Some step) =
         own_acted q key now input (state_of held) (context_of (role_of key) held input) step
 
-    own_outputs : SpeaksForItself key_cmp transaction_machine chosen picked AnyHeld AnyInput
+    own_steps : SpeaksForItself key_cmp step_machine chosen picked AnyHeld AnyInput
     unfolding stepped
-    own_outputs q key held timed own fits =
+    own_steps q key held timed own fits =
         own_by q key held timed.moment timed.input (step_for key held timed.moment timed.input)
+
+    own_outputs : SpeaksForItself key_cmp transaction_machine chosen picked AnyHeld AnyInput
+    own_outputs =
+        subst (λ (machine : Machine Key Life (Timed Input) Out).
+        SpeaksForItself key_cmp machine chosen picked AnyHeld AnyInput) (sym machine_is) own_steps
 
     any_items : (items : List (Item Key (Timed Input)))
         → FitItems key_cmp transaction_machine chosen picked AnyHeld AnyInput items

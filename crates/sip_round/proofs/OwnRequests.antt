@@ -12,7 +12,7 @@ use Rattle.sip_message.specs.declared.key.Key.{Key}
 use Rattle.sip_message.specs.declared.message.Message.{Message}
 use Rattle.sip_message.specs.declared.start_line.StartLine.{StartLine}
 use Rattle.sip_message.specs.declared.start_line.StartLine.TheVariants as start
-use Rattle.sip_model.specs.Machine.{adds, Timed}
+use Rattle.sip_model.specs.Machine.{adds, Timed, Machine}
 use Rattle.sip_model.proofs.Ordered.{by_bool}
 use Rattle.sip_transactions.specs.declared.input.Input.{Input}
 use Rattle.sip_transactions.specs.declared.input.Input.TheVariants.{Receive, Start, Answer, Failed}
@@ -27,8 +27,9 @@ use Rattle.sip_transactions.specs.declared.step.Handed.TheVariants as handed
 use Rattle.sip_transactions.specs.declared.step.Step.{Step}
 use Rattle.sip_transactions.specs.Steps.Input.{is_same_method, message_in, role_of}
 use Rattle.sip_transactions.specs.Laws.{arrival_id, is_request_kind, is_request_up, naming_id, requests_in}
-use Rattle.sip_transactions.specs.Steps.Life.{acted_if, begun, context_by, keeps_request, step_for, stepped, stepped_by}
+use Rattle.sip_transactions.specs.Steps.Life.{acted_if, begun, context_by, keeps_request, step_for, stepped, stepped_by, step_machine}
 use Rattle.sip_transactions.specs.Machine.{transaction_machine}
+use Rattle.sip_transactions.proofs.Rules.{machine_is}
 use Rattle.sip_transactions.specs.Steps.Output.{handed_out, kind_of, made_bytes, outputs_of, send_out, sent_bytes}
 use Rattle.sip_transactions.proofs.OneRequest.{held_silent}
 use Rattle.sip_common.specs.OwnCall.{IsKindOf}
@@ -165,10 +166,17 @@ first_own : (key : Key) (timed : Timed Input) (o : Option Step)
 first_own key timed None = tt
 first_own key timed (Some step) = begun_own key timed.moment timed.input step
 
+own_steps : (key : Key) (held : Option Life) (timed : Timed Input)
+    → AreOwnUps (naming_id timed.input) (adds step_machine key held timed)
+unfolding stepped
+own_steps key None timed = first_own key timed (step_for key None timed.moment timed.input)
+own_steps key (Some life) timed =
+    no_requests (naming_id timed.input) (adds step_machine key (Some life) timed)
+    (held_silent key life timed)
+
 pub own_ups : (key : Key) (held : Option Life) (timed : Timed Input)
     → AreOwnUps (naming_id timed.input) (adds transaction_machine key held timed)
-unfolding stepped
-own_ups key None timed = first_own key timed (step_for key None timed.moment timed.input)
-own_ups key (Some life) timed =
-    no_requests (naming_id timed.input) (adds transaction_machine key (Some life) timed)
-    (held_silent key life timed)
+own_ups key held timed =
+    subst (λ (machine : Machine Key Life (Timed Input) Out).
+    AreOwnUps (naming_id timed.input) (adds machine key held timed)) (sym machine_is)
+    (own_steps key held timed)

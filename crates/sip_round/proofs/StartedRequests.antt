@@ -1,5 +1,5 @@
 -- A life of a client's transaction begins by a request that is started, which goes out at once.
-use Rattle.std.proofs.Common.{◌≡◌, ℕ, Bool, true, false, cond, ◌&&◌, ◌||◌, List, [], ◌∷◌, ◌++◌, refl, sym, ap, ◌∙◌}
+use Rattle.std.proofs.Common.{◌≡◌, ℕ, Bool, true, false, cond, ◌&&◌, ◌||◌, List, [], ◌∷◌, ◌++◌, refl, sym, ap, ◌∙◌, subst}
 use Rattle.std.specs.Prelude.{not, IsSome, Option, None, Some, is_none, is_some, option_map, unwrap_or, codes}
 use Rattle.std.specs.List.{flat_map}
 use Rattle.std.proofs.lemmas.Bool.{false≢true}
@@ -20,6 +20,7 @@ use Rattle.sip_transactions.specs.declared.input.Input.{Input}
 use Rattle.sip_transactions.specs.declared.input.Input.TheVariants.{Receive, Start, Answer, Failed}
 use Rattle.sip_transactions.specs.declared.life.Context.{Context}
 use Rattle.sip_transactions.specs.declared.life.Life.{Life}
+use Rattle.sip_transactions.specs.declared.output.Out.{Out}
 use Rattle.sip_transactions.specs.declared.output.Out.TheVariants as out
 use Rattle.sip_transactions.specs.declared.state.Role.TheVariants as role
 use Rattle.sip_transactions.specs.declared.state.State.{State}
@@ -36,6 +37,7 @@ use Rattle.sip_transactions.specs.declared.trigger.Trigger.TheVariants as on
 use Rattle.sip_transactions.specs.Steps.Input.{arrival_of, is_same_method, role_of}
 use Rattle.sip_transactions.specs.Steps.Life.{begun, context_by, entered, keeps_request, life_after, stepped}
 use Rattle.sip_transactions.specs.Machine.{transaction_machine}
+use Rattle.sip_transactions.proofs.Rules.{step_is}
 use Rattle.sip_transactions.specs.Steps.Output.{handed_out, made_bytes, made_of, outputs_of}
 use Rattle.sip_transactions.specs.Rows.{rows_of}
 use Rattle.sip_transactions.proofs.LawSteps.{RowFor, by_step, is_ended}
@@ -198,7 +200,9 @@ module _ (branch method : List ℕ) where
     request = request;
     to = to;
     is = refl;
-    sends = started_out now id call_id request to some;
+    sends = ap (λ (done : Option Life × List Out). done.1)
+        (step_is client None now (Some (Start id call_id request to)))
+        ∙ started_out now id call_id request to some;
   }
   begins_so now (Some (Answer id message)) some =
       absurd (by_step (λ after. IsSome after.0 → ⊥) client None (given_at now (Answer id message))
@@ -214,7 +218,9 @@ pub started_requests : EachKeyAlone key_cmp transaction_machine tick_at → Answ
     → GivesStartedRequests config rounds (answers config rounds)
 started_requests alone own config rounds branch method life =
     let k = key.Client branch method in
-    let first = begins_so branch method life.first.moment life.first.input life.begins in
+    let first = begins_so branch method life.first.moment life.first.input
+    (subst (λ (done : Option Life × List Out). IsSome done.0)
+    (step_is k None life.first.moment life.first.input) life.begins) in
     let before = outputs_from transaction_machine k None life.before in
     let later = said_in_rest life ++ said_after life in
     record {
