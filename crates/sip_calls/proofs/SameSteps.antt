@@ -19,19 +19,19 @@ use Rattle.sip_clients.proofs.RuleRequests.{ack_same, cancel_same, invite_same, 
 use Rattle.sip_clients.proofs.RuleResponses.{response_same}
 use Rattle.sip_calls.specs.declared.call.Call.{Call}
 use Rattle.sip_calls.specs.declared.calls.Calls.{Calls}
-use Rattle.sip_calls.specs.Call.{CallItem, call_step, event_of, item_rule, kept, loss_rule, made_tag, new_call, up_rule, with_clients}
+use Rattle.sip_calls.specs.Call.{CallItem, call_step, event_of, item_of_call, kept, transaction_lost, made_tag, new_call, received, with_clients}
 use Rattle.sip_calls.specs.Idle.{same_tick}
 use Rattle.sip_calls.specs.Sides.{by_clients, by_server, side_of}
 use Rattle.sip_calls.specs.Steps.Call.{command_taken, first_command_taken, lost_taken, step_taken, up_taken}
 
 same_loss : (call : Call) (id : Id) (notice : ANotice) (timed_out : Bool)
-    → loss_rule call id notice timed_out ≡ lost_taken call id notice timed_out
+    → transaction_lost call id notice timed_out ≡ lost_taken call id notice timed_out
 same_loss call id notice timed_out =
     ap (λ (taken : ClientTaken). let after = by_clients call taken in
     (after.0, Notice notice ∷ after.1)) (lost_same id timed_out (side_of call))
 
 same_up : (call : Call) (event : Event) (up : AnUp) (k : Kind)
-    → up_rule call event up k ≡ up_taken call event up k
+    → received call event up k ≡ up_taken call event up k
 same_up call event up (kind.Request request reply_to) =
     ap (by_server call) (kind_same call.served (made_tag event) up (kind.Request request reply_to)
     event.moment)
@@ -44,7 +44,7 @@ same_up call event up kind.Timeout =
 same_up call event up kind.Failed = same_loss call up.id (Failed up.call_id up.id) false
 
 same_first : (call : Call) (event : Event) (command : UserCommand)
-    → item_rule false call event (User command) ≡ first_command_taken call event command
+    → item_of_call false call event (User command) ≡ first_command_taken call event command
 same_first call event (Invite invite) =
     ap (with_clients call) (invite_same event invite call.clients)
 same_first call event (Plain plain) =
@@ -56,7 +56,7 @@ same_first call event (Prack prack) = refl
 same_first call event (Cancel cancel) = refl
 
 same_later : (call : Call) (event : Event) (command : UserCommand)
-    → item_rule true call event (User command) ≡ command_taken call event command
+    → item_of_call true call event (User command) ≡ command_taken call event command
 same_later call event (Invite invite) = refl
 same_later call event (Plain plain) = refl
 same_later call event (Request request) =

@@ -22,15 +22,15 @@ use Rattle.sip_common.specs.declared.notice.Notice.TheVariants.{Timeout, Failed}
 use Rattle.sip_common.specs.declared.refusal.Refusal.{Refusal}
 use Rattle.sip_common.specs.declared.refusal.Refusal.TheVariants.{CallInUse, NoSuchCall}
 use Rattle.sip_served.specs.State.{empty_at}
-use Rattle.sip_served.specs.Rules.Arrivals.{kind_rule}
-use Rattle.sip_served.specs.Rules.Responses.{respond_rule}
+use Rattle.sip_served.specs.Rules.Arrivals.{server_received}
+use Rattle.sip_served.specs.Rules.Responses.{respond_command}
 use Rattle.sip_served.specs.Rules.Ticks as served
 use Rattle.sip_clients.specs.Client.{Clients}
 use Rattle.sip_clients.specs.Name.{name_of}
 use Rattle.sip_clients.specs.Rules.Ends as clients
-use Rattle.sip_clients.specs.Rules.Ends.{lost_rule}
-use Rattle.sip_clients.specs.Rules.Requests.{ack_rule, cancel_rule, invite_rule, plain_rule, prack_rule, request_rule}
-use Rattle.sip_clients.specs.Rules.Responses.{response_rule}
+use Rattle.sip_clients.specs.Rules.Ends.{request_is_lost}
+use Rattle.sip_clients.specs.Rules.Requests.{ack_command, cancel_command, invite_command, plain_command, prack_command, request_command}
+use Rattle.sip_clients.specs.Rules.Responses.{response_received}
 use Rattle.sip_clients.specs.declared.event.Event.{Event}
 use Rattle.sip_calls.specs.declared.call.Call.{Call}
 use Rattle.sip_calls.specs.declared.calls.Calls.{Calls}
@@ -63,20 +63,20 @@ abbrev pub made_tag : Event → List ℕ
 made_tag event = name_of event.seed event.id 0
 
 -- That a transaction is lost is told, and then its request is over.
-abbrev pub loss_rule : Call → Id → ANotice → Bool → CallTaken
-loss_rule call id notice timed_out =
-    let after = by_clients call (lost_rule id timed_out (side_of call)) in
+abbrev pub transaction_lost : Call → Id → ANotice → Bool → CallTaken
+transaction_lost call id notice timed_out =
+    let after = by_clients call (request_is_lost id timed_out (side_of call)) in
     (after.0, Notice notice ∷ after.1)
 
 -- What comes up from a transaction: a response is for the client side, a request or an ACK for the
 -- server side.
-abbrev pub up_rule : Call → Event → AnUp → Kind → CallTaken
-up_rule call event up (kind.Response response) =
-    by_clients call (response_rule event up.id up.call_id response (side_of call))
-up_rule call event up kind.Timeout = loss_rule call up.id (Timeout up.call_id up.id) true
-up_rule call event up kind.Failed = loss_rule call up.id (Failed up.call_id up.id) false
-up_rule call event up of_server =
-    by_server call (kind_rule call.served (made_tag event) up of_server event.moment)
+abbrev pub received : Call → Event → AnUp → Kind → CallTaken
+received call event up (kind.Response response) =
+    by_clients call (response_received event up.id up.call_id response (side_of call))
+received call event up kind.Timeout = transaction_lost call up.id (Timeout up.call_id up.id) true
+received call event up kind.Failed = transaction_lost call up.id (Failed up.call_id up.id) false
+received call event up of_server =
+    by_server call (server_received call.served (made_tag event) up of_server event.moment)
 
 -- ---- commands of the user
 
@@ -85,37 +85,37 @@ abbrev pub with_clients : Call → Clients × List CallOut → CallTaken
 with_clients call taken = (record call { clients = taken.0 }, taken.1)
 
 -- a request outside of dialogs begins a call, and all else needs one that is held
-abbrev pub use_refusal : Bool → UserCommand → Option Refusal
-use_refusal held (Invite invite) = if held then Some CallInUse else None
-use_refusal held (Plain plain) = if held then Some CallInUse else None
-use_refusal held command = if held then None else Some NoSuchCall
+abbrev pub call_refusal : Bool → UserCommand → Option Refusal
+call_refusal held (Invite invite) = if held then Some CallInUse else None
+call_refusal held (Plain plain) = if held then Some CallInUse else None
+call_refusal held command = if held then None else Some NoSuchCall
 
 -- a command that isn't refused so
-abbrev pub used_rule : Call → Event → UserCommand → CallTaken
-used_rule call event (Invite invite) = with_clients call (invite_rule event invite call.clients)
-used_rule call event (Plain plain) = with_clients call (plain_rule event plain call.clients)
-used_rule call event (Request request) =
-    by_clients call (request_rule event request (side_of call))
-used_rule call event (Respond respond) =
-    by_server call (respond_rule call.served event.id respond event.moment)
-used_rule call event (Ack ack) = by_clients call (ack_rule event ack (side_of call))
-used_rule call event (Prack prack) = by_clients call (prack_rule event prack (side_of call))
-used_rule call event (Cancel cancel) = by_clients call (cancel_rule event cancel (side_of call))
+abbrev pub used_command : Call → Event → UserCommand → CallTaken
+used_command call event (Invite invite) = with_clients call (invite_command event invite call.clients)
+used_command call event (Plain plain) = with_clients call (plain_command event plain call.clients)
+used_command call event (Request request) =
+    by_clients call (request_command event request (side_of call))
+used_command call event (Respond respond) =
+    by_server call (respond_command call.served event.id respond event.moment)
+used_command call event (Ack ack) = by_clients call (ack_command event ack (side_of call))
+used_command call event (Prack prack) = by_clients call (prack_command event prack (side_of call))
+used_command call event (Cancel cancel) = by_clients call (cancel_command event cancel (side_of call))
 
 -- ---- the machine
 
 -- an item of a call that is held, or of which nothing is held yet
-abbrev pub item_rule : Bool → Call → Event → Item → CallTaken
-item_rule held call event (Up up) = up_rule call event up up.kind
-item_rule held call event (User command) =
+abbrev pub item_of_call : Bool → Call → Event → Item → CallTaken
+item_of_call held call event (Up up) = received call event up up.kind
+item_of_call held call event (User command) =
     option_map_or (λ refusal. (call, refused event.id (call_of_command command) refusal))
-    (use_refusal held command) (used_rule call event command)
+    (call_refusal held command) (used_command call event command)
 
 -- At a tick first the server side, and then the client side.
-abbrev pub call_tick_rule : Call → ℕ → CallTaken
-call_tick_rule call now =
-    let first = by_server call (served.tick_rule call.served now) in
-    let second = by_clients first.0 (clients.tick_rule (side_of first.0) now) in
+abbrev pub call_tick : Call → ℕ → CallTaken
+call_tick call now =
+    let first = by_server call (served.server_tick call.served now) in
+    let second = by_clients first.0 (clients.client_tick (side_of first.0) now) in
     (second.0, first.1 ++ second.1)
 
 -- an item, and the id of its event
@@ -126,10 +126,10 @@ CallItem = Id × Item
 abbrev pub call_step : Calls → Option Call → Option CallItem → ℕ → Taken
 call_step calls None None now = (None, [])
 call_step calls None (Some (id, item)) now =
-    kept (item_rule false (new_call calls.local) (event_of calls id now) item)
-call_step calls (Some call) None now = kept (call_tick_rule call now)
+    kept (item_of_call false (new_call calls.local) (event_of calls id now) item)
+call_step calls (Some call) None now = kept (call_tick call now)
 call_step calls (Some call) (Some (id, item)) now =
-    kept (item_rule true call (event_of calls id now) item)
+    kept (item_of_call true call (event_of calls id now) item)
 
 -- one machine for every Call-ID
 abbrev pub call_machine : Calls → Machine (List ℕ) Call (Timed CallItem) CallOut
@@ -139,5 +139,5 @@ call_machine calls =
 -- the moment at which something is due of a call; one under which nothing is held is over at once
 abbrev pub call_due : Call → Option ℕ
 call_due call =
-    if holds_any call then earlier (served.due_rule call.served) (clients.removal_rule call.clients)
+    if holds_any call then earlier (served.server_due call.served) (clients.client_due call.clients)
     else Some 0

@@ -14,17 +14,17 @@ use Rattle.sip_timers.specs.Earlier.{earlier}
 use Rattle.sip_common.proofs.Dues.{earlier_due}
 use Rattle.sip_clients.specs.Tick as clients
 use Rattle.sip_clients.specs.Client.{ClientTaken}
-use Rattle.sip_clients.specs.Rules.Ends.{removal_rule, tick_rule as clients_rule}
+use Rattle.sip_clients.specs.Rules.Ends.{client_due, client_tick as clients_rule}
 use Rattle.sip_clients.proofs.QuietBeforeDue.{clients_quiet_before}
 use Rattle.sip_clients.proofs.RuleEnds.{removal_same, tick_same as client_same}
 use Rattle.sip_calls.specs.declared.call.Call.{Call}
 use Rattle.sip_calls.specs.declared.calls.Calls.{Calls}
-use Rattle.sip_calls.specs.Call.{call_due, call_machine, call_tick_rule, kept_call}
+use Rattle.sip_calls.specs.Call.{call_due, call_machine, call_tick, kept_call}
 use Rattle.sip_calls.specs.Sides.{CallTaken, by_clients, by_server, holds_any, side_of}
 use Rattle.sip_calls.specs.Steps.Call.{due_taken, next_due, ticked}
 
 -- the rules of a tick are the steps of the code
-pub same_tick : (call : Call) (now : ℕ) → call_tick_rule call now ≡ ticked call now
+pub same_tick : (call : Call) (now : ℕ) → call_tick call now ≡ ticked call now
 same_tick call now =
     let after : CallTaken = by_server call (served.tick_taken call.served now) in
     ap (λ (taken : ServedTaken). let first = by_server call taken in
@@ -35,7 +35,7 @@ same_tick call now =
 
 pub same_due : (call : Call) → call_due call ≡ due_taken call
 same_due call =
-    ap (λ due. if holds_any call then earlier due (removal_rule call.clients) else Some 0)
+    ap (λ due. if holds_any call then earlier due (client_due call.clients) else Some 0)
     (due_same call.served)
     ∙ ap (λ due. if holds_any call then earlier (served.next_server_due call.served) due else Some 0)
     (removal_same call.clients)

@@ -2,11 +2,11 @@
 
 ghost use Rattle.std.specs.Prelude.{◌≡◌, ◌≤◌, ◌^◌, IfOk};
 ghost use Rattle.sip_timers.specs.Earlier as timers;
-ghost use Rattle.sip_served.specs.Rules.Ticks.{due_rule};
-ghost use Rattle.sip_clients.specs.Rules.Ends.{lost_rule, removal_rule, tick_rule};
+ghost use Rattle.sip_served.specs.Rules.Ticks.{server_due};
+ghost use Rattle.sip_clients.specs.Rules.Ends.{request_is_lost, client_due, client_tick};
 ghost use Rattle.sip_clients.specs.Rules.Requests as requests;
-ghost use Rattle.sip_clients.specs.Rules.Responses.{response_rule};
-ghost use Rattle.sip_calls.specs.Call.{call_tick_rule};
+ghost use Rattle.sip_clients.specs.Rules.Responses.{response_received};
+ghost use Rattle.sip_calls.specs.Call.{call_tick};
 ghost use Rattle.sip_calls.specs.Sides as spec;
 
 use sip_clients::{Clients, Event};
@@ -33,7 +33,7 @@ impl Call {
     /// The first moment, in ms, at which something is due.
     pub(crate) fn next_due(&self) -> Option<u64>
         ensures { result
-            ≡ timers.earlier (due_rule self.now.served) (removal_rule self.now.clients) }
+            ≡ timers.earlier (server_due self.now.served) (client_due self.now.clients) }
     {
         earlier(self.served.next_due(), self.clients.next_due())
     }
@@ -41,7 +41,7 @@ impl Call {
     /// The moment `now`, in ms, has come: first for the server side.
     pub(crate) fn tick(&mut self, now: u64) -> Result<Vec<CallOut>, AllocError>
         requires { now ≤ 2 ^ 62 }
-        ensures { IfOk result (λ outs. (self.new, outs.items) ≡ call_tick_rule self.old now) }
+        ensures { IfOk result (λ outs. (self.new, outs.items) ≡ call_tick self.old now) }
     {
         let mut outs = self.served.tick(now)?;
         outs.append(&mut self.tick_clients(now)?)?;
@@ -52,7 +52,7 @@ impl Call {
 
     fn tick_clients(&mut self, now: u64) -> Result<Vec<CallOut>, AllocError>
         ensures { IfOk result (λ outs. (self.new, outs.items)
-            ≡ spec.by_clients self.old (tick_rule (spec.side_of self.old) now)) }
+            ≡ spec.by_clients self.old (client_tick (spec.side_of self.old) now)) }
     {
         self.clients.tick(self.served.dialogs(), now)
     }
@@ -67,7 +67,7 @@ impl Call {
     ) -> Result<Vec<CallOut>, AllocError>
         requires { event.moment ≤ 2 ^ 62 }
         ensures { IfOk result (λ outs. (self.new, outs.items)
-            ≡ spec.by_clients self.old (response_rule event id call_id response
+            ≡ spec.by_clients self.old (response_received event id call_id response
             (spec.side_of self.old))) }
     {
         self.clients
@@ -81,7 +81,7 @@ impl Call {
         timed_out: bool,
     ) -> Result<Vec<CallOut>, AllocError>
         ensures { IfOk result (λ outs. (self.new, outs.items)
-            ≡ spec.by_clients self.old (lost_rule id timed_out
+            ≡ spec.by_clients self.old (request_is_lost id timed_out
             (spec.side_of self.old))) }
     {
         self.clients
@@ -95,7 +95,7 @@ impl Call {
         command: &DialogRequest,
     ) -> Result<Vec<CallOut>, AllocError>
         ensures { IfOk result (λ outs. (self.new, outs.items)
-            ≡ spec.by_clients self.old (requests.request_rule event command.now
+            ≡ spec.by_clients self.old (requests.request_command event command.now
             (spec.side_of self.old))) }
     {
         self.clients.request(self.served.dialogs(), event, command)
@@ -108,7 +108,7 @@ impl Call {
         command: &DialogBody,
     ) -> Result<Vec<CallOut>, AllocError>
         ensures { IfOk result (λ outs. (self.new, outs.items)
-            ≡ spec.by_clients self.old (requests.ack_rule event command.now
+            ≡ spec.by_clients self.old (requests.ack_command event command.now
             (spec.side_of self.old))) }
     {
         self.clients.ack(self.served.dialogs(), event, command)
@@ -121,7 +121,7 @@ impl Call {
         command: &DialogBody,
     ) -> Result<Vec<CallOut>, AllocError>
         ensures { IfOk result (λ outs. (self.new, outs.items)
-            ≡ spec.by_clients self.old (requests.prack_rule event command.now
+            ≡ spec.by_clients self.old (requests.prack_command event command.now
             (spec.side_of self.old))) }
     {
         self.clients.prack(self.served.dialogs(), event, command)
@@ -134,7 +134,7 @@ impl Call {
         command: &Cancel,
     ) -> Result<Vec<CallOut>, AllocError>
         ensures { IfOk result (λ outs. (self.new, outs.items)
-            ≡ spec.by_clients self.old (requests.cancel_rule event command.now
+            ≡ spec.by_clients self.old (requests.cancel_command event command.now
             (spec.side_of self.old))) }
     {
         self.clients.cancel(event, command)

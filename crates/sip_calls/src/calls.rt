@@ -158,7 +158,7 @@ fn take_first(
 ) -> Result<Vec<CallOut>, AllocError>
     requires { event.moment ≤ 2 ^ 62 }
     ensures { IfOk result (λ outs. (call.new, outs.items)
-        ≡ spec.item_rule false call.old event item) }
+        ≡ spec.item_of_call false call.old event item) }
 {
     match item {
         Item::Up(up) => take_up(alloc, call, event, up),
@@ -174,7 +174,7 @@ fn take_next(
     item: Item,
 ) -> Result<Vec<CallOut>, AllocError>
     requires { event.moment ≤ 2 ^ 62 }
-    ensures { IfOk result (λ outs. (call.new, outs.items) ≡ spec.item_rule true call.old event item) }
+    ensures { IfOk result (λ outs. (call.new, outs.items) ≡ spec.item_of_call true call.old event item) }
 {
     match item {
         Item::Up(up) => take_up(alloc, call, event, up),
@@ -193,7 +193,7 @@ fn kept(call: Call) -> Option<Call>
 fn take_up(alloc: Global, call: &mut Call, event: Event, up: Up) -> Result<Vec<CallOut>, AllocError>
     requires { event.moment ≤ 2 ^ 62 }
     ensures { IfOk result (λ outs. (call.new, outs.items)
-        ≡ spec.up_rule call.old event up up.kind) }
+        ≡ spec.received call.old event up up.kind) }
 {
     let Up {
         key,
@@ -239,7 +239,7 @@ fn fail_request(
     timed_out: bool,
 ) -> Result<Vec<CallOut>, AllocError>
     ensures { IfOk result (λ outs. (call.new, outs.items)
-        ≡ spec.loss_rule call.old id notice timed_out) }
+        ≡ spec.transaction_lost call.old id notice timed_out) }
 {
     let mut outs = Vec::new(alloc);
     outs.push(CallOut::Notice(notice))?;
@@ -255,7 +255,7 @@ fn take_first_command(
     command: UserCommand,
 ) -> Result<Vec<CallOut>, AllocError>
     ensures { IfOk result (λ outs. (call.new, outs.items)
-        ≡ spec.item_rule false call.old event (User command)) }
+        ≡ spec.item_of_call false call.old event (User command)) }
 {
     match &command {
         UserCommand::Invite(invite) => call.clients.invite(event, invite),
@@ -276,7 +276,7 @@ fn take_command(
 ) -> Result<Vec<CallOut>, AllocError>
     requires { event.moment ≤ 2 ^ 62 }
     ensures { IfOk result (λ outs. (call.new, outs.items)
-        ≡ spec.item_rule true call.old event (User command)) }
+        ≡ spec.item_of_call true call.old event (User command)) }
 {
     match command {
         UserCommand::Invite(invite) => {

@@ -15,7 +15,7 @@ use Rattle.sip_clients.specs.declared.client.Client.{Client}
 use Rattle.sip_clients.specs.Client.{Clients, Side, ClientTaken, client_at}
 use Rattle.sip_clients.specs.Clients.{lost_of, request_lost}
 use Rattle.sip_clients.specs.Dialogs.{ended_with, own_ended}
-use Rattle.sip_clients.specs.Rules.Ends.{is_over, lost_rule, removal_rule, request_over, tick_rule}
+use Rattle.sip_clients.specs.Rules.Ends.{is_over, request_is_lost, client_due, request_over, client_tick}
 use Rattle.sip_clients.specs.Rules.Requests.{life_of}
 use Rattle.sip_clients.specs.Tick.{clients_ticked, next_removal}
 
@@ -56,8 +56,8 @@ lost_held id timed_out side (Some client) =
     ap (lost_after id side) (over_same client timed_out side.dialogs)
 
 pub lost_same : (id : Id) (timed_out : Bool) (side : Side)
-    → lost_rule id timed_out side ≡ request_lost id timed_out side
-unfolding lost_rule
+    → request_is_lost id timed_out side ≡ request_lost id timed_out side
+unfolding request_is_lost
 lost_same id timed_out side = lost_held id timed_out side (client_at id side.clients)
 
 -- ---- a tick
@@ -87,8 +87,8 @@ module _ {X : Type 0} (p : X → Bool) where
   map_filtered f [] = refl
   map_filtered f (x ∷ xs) = map_step f x xs (p x) (map_filtered f xs)
 
-pub tick_same : (side : Side) (now : ℕ) → tick_rule side now ≡ clients_ticked side now
-unfolding tick_rule
+pub tick_same : (side : Side) (now : ℕ) → client_tick side now ≡ clients_ticked side now
+unfolding client_tick
 tick_same side now =
     let clients = values_of side.clients in
     let ends = λ (held : HeldDialog).
@@ -103,6 +103,6 @@ tick_same side now =
       outs i,
     )
 
-pub removal_same : (clients : Clients) → removal_rule clients ≡ next_removal clients
-unfolding removal_rule
+pub removal_same : (clients : Clients) → client_due clients ≡ next_removal clients
+unfolding client_due
 removal_same clients = refl

@@ -60,7 +60,7 @@ use Rattle.sip_clients.specs.Outside.{bare_request, supporting, through, with_co
 use Rattle.sip_clients.specs.SendOutcome.{Outcome, discharged, refusal_for_fault, sending_in}
 use Rattle.sip_clients.specs.ReceivedResponse.{is_inviting}
 use Rattle.sip_clients.specs.Rules.Requests as rule
-use Rattle.sip_clients.specs.Rules.Requests.{ack_rule, cancel_rule, invite_rule, plain_rule, prack_rule, request_rule}
+use Rattle.sip_clients.specs.Rules.Requests.{ack_command, cancel_command, invite_command, plain_command, prack_command, request_command}
 use Rattle.sip_clients.proofs.Served.{found_passes}
 
 -- ---- outside of dialogs
@@ -79,16 +79,16 @@ supported_so event invite support.Supported = refl
 supported_so event invite support.Required = refl
 
 pub invite_same : (event : Event) (invite : Invite) (clients : Clients)
-    → rule.invite_rule event invite clients ≡ invite_taken event invite clients
-unfolding invite_rule start_command bare_request
+    → rule.invite_command event invite clients ≡ invite_taken event invite clients
+unfolding invite_command start_command bare_request
 invite_same event invite clients =
     ap (λ (request : Message). rule.start (clients, []) (client_for event.id InitialInvite
     (with_content_of request invite.content) invite.address))
     (supported_so event invite invite.support)
 
 pub plain_same : (event : Event) (plain : PlainCommand) (clients : Clients)
-    → rule.plain_rule event plain clients ≡ plain_taken event plain clients
-unfolding plain_rule start_command bare_request
+    → rule.plain_command event plain clients ≡ plain_taken event plain clients
+unfolding plain_command start_command bare_request
 plain_same event plain clients = refl
 
 -- ---- why a request isn't sent in a dialog
@@ -221,8 +221,8 @@ module _ (event : Event) (command : DialogRequest) (side : Side) where
       (set_value_same (is_named own_name) side.dialogs held at)
 
 pub request_same : (event : Event) (command : DialogRequest) (side : Side)
-    → rule.request_rule event command side ≡ request_by_user event command side
-unfolding request_rule requested_at
+    → rule.request_command event command side ≡ request_by_user event command side
+unfolding request_command requested_at
 request_same event command side =
     by_found event command side
     (dialog_at (name_in command.local_tag command.remote_tag) side.dialogs) refl
@@ -242,7 +242,7 @@ started_by (change.Starts client) = client ∷ []
 
 -- the same of the step
 abbrev pub served_by : Event → List ℕ → DialogId → PendingRequest → List PendingRequest → List PendingRequest → Outcome
-    → rule.Payment
+    → rule.PendingOutcome
 served_by event call_id name (Ack invite number) paid owing done = record {
   dialog = dialog_by done.1 paid owing done.0;
   ack = (ack_said event call_id done.1).1;
@@ -261,13 +261,13 @@ module _ (event : Event) (call_id : List ℕ) (name : DialogId) (held : HeldDial
   abbrev with_owed : List PendingRequest → HeldDialog
   with_owed pending_requests = record held { pending_requests = pending_requests }
 
-  abbrev unsent : List CallOut → rule.Payment
+  abbrev unsent : List CallOut → rule.PendingOutcome
   unsent outs = record { dialog = with_owed owing; ack = None; prack = []; outs = outs }
 
-  abbrev sent_or : PendingRequest → Content → Option Refusal → rule.Payment
+  abbrev sent_or : PendingRequest → Content → Option Refusal → rule.PendingOutcome
   sent_or pending content why =
       option_map_or (λ why. unsent (refused event.id call_id why)) why
-      (rule.payment_with event name pending content (with_owed paid))
+      (rule.pending_sent event name pending content (with_owed paid))
 
   ack_by_fault : (invite : Id) (number : ℕ) (content : Content) (why : Option DialogFault)
       → ack_fault held.dialog ≡ why
@@ -302,7 +302,7 @@ module _ (event : Event) (call_id : List ℕ) (name : DialogId) (held : HeldDial
   waits (Prack rseq number) = refl
 
   pub served_same : (pending : PendingRequest) (content : Option Content)
-      → rule.payment event call_id name pending content (with_owed paid) (with_owed owing)
+      → rule.pending_outcome event call_id name pending content (with_owed paid) (with_owed owing)
       ≡ served_by event call_id name pending paid owing (discharged event pending content held)
   served_same pending None = waits pending
   served_same pending (Some content) =
@@ -362,12 +362,12 @@ module _ (event : Event) (command : DialogBody) (side : Side) where
 
   -- ---- as the rule says
 
-  abbrev rule_served : HeldDialog → PendingRequest → List PendingRequest → rule.Payment
+  abbrev rule_served : HeldDialog → PendingRequest → List PendingRequest → rule.PendingOutcome
   rule_served held pending left =
-      rule.payment event command.call_id asked_name pending (Some command.content)
+      rule.pending_outcome event command.call_id asked_name pending (Some command.content)
       (record held { pending_requests = left }) held
 
-  abbrev rule_after : PendingRequest → rule.Payment → ClientTaken
+  abbrev rule_after : PendingRequest → rule.PendingOutcome → ClientTaken
   rule_after pending done =
       let sent = fold rule.start (rule.ack_kept pending asked_name done.ack side.clients, done.outs)
       done.prack in (
@@ -529,15 +529,15 @@ module _ (event : Event) (command : DialogBody) (side : Side) where
       ∙ prack_owed held (find (is_of kind.Prack) held.pending_requests) at refl
 
 pub ack_same : (event : Event) (command : DialogBody) (side : Side)
-    → rule.ack_rule event command side ≡ ack_by_user event command side
-unfolding ack_rule
+    → rule.ack_command event command side ≡ ack_by_user event command side
+unfolding ack_command
 ack_same event command side =
     ack_in event command side
     (dialog_at (name_in command.local_tag command.remote_tag) side.dialogs) refl
 
 pub prack_same : (event : Event) (command : DialogBody) (side : Side)
-    → rule.prack_rule event command side ≡ prack_by_user event command side
-unfolding prack_rule
+    → rule.prack_command event command side ≡ prack_by_user event command side
+unfolding prack_command
 prack_same event command side =
     prack_in event command side
     (dialog_at (name_in command.local_tag command.remote_tag) side.dialogs) refl
@@ -614,7 +614,7 @@ module _ (event : Event) (command : Cancel) (side : Side) where
       (inviting_same invite.kind)
 
 pub cancel_same : (event : Event) (command : Cancel) (side : Side)
-    → rule.cancel_rule event command side ≡ cancel_by_user event command side
-unfolding cancel_rule
+    → rule.cancel_command event command side ≡ cancel_by_user event command side
+unfolding cancel_command
 cancel_same event command side =
     cancel_in event command side (client_at command.id side.clients) refl

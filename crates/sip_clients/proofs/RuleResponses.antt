@@ -49,7 +49,7 @@ use Rattle.sip_clients.specs.ReceivedResponse.{is_dialog_response, offer_case, r
 use Rattle.sip_clients.specs.SendOutcome.{discharged}
 use Rattle.sip_clients.specs.Rules.Ends as ends
 use Rattle.sip_clients.specs.Rules.Requests as rule
-use Rattle.sip_clients.specs.Rules.Responses.{Outcome, dialog_made_by, outcome_of, response_rule, success_in, waiting_cancel}
+use Rattle.sip_clients.specs.Rules.Responses.{Outcome, dialog_made_by, outcome_of, response_received, success_in, waiting_cancel}
 use Rattle.sip_clients.specs.Rules.Responses as response
 use Rattle.sip_clients.proofs.RuleEnds.{over_same}
 use Rattle.sip_clients.proofs.RuleRequests.{dialog_by, owed_kept, served_by, served_same, started_by}
@@ -142,7 +142,7 @@ prack_put event id side cancel client dialogs call_id name told (service.Refused
 
 -- ---- what a response asks for
 
-abbrev seen : Event → List ℕ → DialogId → PendingRequest → HeldDialog × SendOutcome → rule.Payment
+abbrev seen : Event → List ℕ → DialogId → PendingRequest → HeldDialog × SendOutcome → rule.PendingOutcome
 seen event call_id name (Ack invite number) done = record {
   dialog = done.0;
   ack = (ack_said event call_id done.1).1;
@@ -184,7 +184,7 @@ owed_seen event call_id name (Prack rseq number) content held =
 
 owed_same : (event : Event) (call_id : List ℕ) (name : DialogId) (pending : PendingRequest)
     (content : Option Content) (held : HeldDialog)
-    → rule.payment event call_id name pending content held (record held { pending_requests = held.pending_requests ++ pending ∷ [] })
+    → rule.pending_outcome event call_id name pending content held (record held { pending_requests = held.pending_requests ++ pending ∷ [] })
     ≡ seen event call_id name pending (kept_pending event pending content held)
 owed_same event call_id name pending content held =
     served_same event call_id name held held.pending_requests (held.pending_requests ++ pending ∷ []) pending content
@@ -273,11 +273,11 @@ module _ (answer : ReceivedResponse) (side : Side) (cancel : Option Client) wher
       })) (over_same client (ends_dialog answer.status) side.dialogs)
       ∙ over_put answer.event answer.id side cancel client _ _
 
-  abbrev asked_for : Option Content → PendingRequest → HeldDialog → rule.Payment
-  asked_for content pending held = rule.payment answer.event answer.call_id answer.name pending content held
+  abbrev asked_for : Option Content → PendingRequest → HeldDialog → rule.PendingOutcome
+  asked_for content pending held = rule.pending_outcome answer.event answer.call_id answer.name pending content held
       (record held { pending_requests = held.pending_requests ++ pending ∷ [] })
 
-  abbrev with_served : (Option SentAck → Client) → rule.Payment → Outcome
+  abbrev with_served : (Option SentAck → Client) → rule.PendingOutcome → Outcome
   with_served after done = record {
     request = Some (after done.ack);
     dialogs = insert_entry is_named side.dialogs answer.name done.dialog;
@@ -296,7 +296,7 @@ module _ (answer : ReceivedResponse) (side : Side) (cancel : Option Client) wher
       let content = automatic_body client answer.response in
       let done = kept_pending answer.event pending content held in
       let said = ack_said answer.event answer.call_id done.1 in
-      ap (λ (done : rule.Payment).
+      ap (λ (done : rule.PendingOutcome).
       ours (with_served (λ ack. held_after_success answer ack client) done))
       (owed_same answer.event answer.call_id answer.name pending content held)
       ∙ stays (held_after_success answer said.1 client)
@@ -309,7 +309,7 @@ module _ (answer : ReceivedResponse) (side : Side) (cancel : Option Client) wher
       theirs (after, insert_entry is_named side.dialogs answer.name done.0, told.0, told.1))
   prack_asked after content rseq number held =
       let done = kept_pending answer.event (Prack rseq number) content held in
-      ap (λ (done : rule.Payment). ours (with_served (λ ack. after) done))
+      ap (λ (done : rule.PendingOutcome). ours (with_served (λ ack. after) done))
       (owed_same answer.event answer.call_id answer.name (Prack rseq number) content held)
       ∙ prack_put answer.event answer.id side cancel after
       (insert_entry is_named side.dialogs answer.name done.0) answer.call_id answer.name
@@ -690,8 +690,8 @@ status_same (start.Request uri) = refl
 status_same (start.Response status reason) = refl
 
 pub response_same : (event : Event) (id : Id) (call_id : List ℕ) (message : Message) (side : Side)
-    → response_rule event id call_id message side ≡ response_taken event id call_id message side
-unfolding response_rule
+    → response_received event id call_id message side ≡ response_taken event id call_id message side
+unfolding response_received
 response_same event id call_id message side =
     ap (λ status. rule_by event id call_id message side status (client_at id side.clients))
     (status_same message.start)

@@ -32,7 +32,7 @@ use Rattle.sip_clients.specs.Clients.{paid_or_refused}
 
 -- ---- the commands Ack and Prack
 
--- what holds of a refusal and of each payment holds of what becomes of the command
+-- what holds of a refusal and of each pending_outcome holds of what becomes of the command
 pub paid_either : (P : ClientTaken → Type 0) (event : Event) (command : DialogBody)
     (pay : PendingRequest → Side → ClientTaken) (side : Side) (o : Result PendingRequest Refusal)
     → ((refusal : Refusal) → P (side, refused event.id command.call_id refusal))

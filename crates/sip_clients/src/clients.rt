@@ -5,7 +5,7 @@ ghost use Rattle.sip_common.specs.Dialogs.{Dialogs};
 ghost use Rattle.sip_clients.specs.Clients as spec;
 ghost use Rattle.sip_clients.specs.Rules.Ends as ends;
 ghost use Rattle.sip_clients.specs.Rules.Requests as requests;
-ghost use Rattle.sip_clients.specs.Rules.Responses.{response_rule};
+ghost use Rattle.sip_clients.specs.Rules.Responses.{response_received};
 
 use crate::cancel::take_cancel;
 use crate::client::{RequestKind, client_for};
@@ -68,7 +68,7 @@ impl Clients {
     /// The first moment, in ms, at which a tick does something, if there is one. Takes no memory.
     #[tactic(auto, using(crate::proofs::RuleEnds::removal_same))]
     pub fn next_due(&self) -> Option<u64>
-        ensures { result ≡ ends.removal_rule self.now }
+        ensures { result ≡ ends.client_due self.now }
     {
         next_due(&self.requests)
     }
@@ -86,7 +86,7 @@ impl Clients {
     pub fn tick(&mut self, dialogs: &mut Dialogs, now: u64) -> Result<Vec<CallOut>, AllocError>
         ensures taken { IfOk result (λ outs.
             (record { dialogs = dialogs.new.entries; clients = self.new }, outs.items)
-            ≡ ends.tick_rule record { dialogs = dialogs.old.entries; clients = self.old }
+            ≡ ends.client_tick record { dialogs = dialogs.old.entries; clients = self.old }
             now) }
         ensures err { OnErr result (self.new ≡ []) }
     {
@@ -113,7 +113,7 @@ impl Clients {
         requires { event.moment ≤ 2 ^ 62 }
         ensures taken { IfOk result (λ outs.
             (record { dialogs = dialogs.new.entries; clients = self.new }, outs.items)
-            ≡ response_rule event id call_id response
+            ≡ response_received event id call_id response
             record { dialogs = dialogs.old.entries; clients = self.old }) }
         ensures err { OnErr result (self.new ≡ []) }
     {
@@ -135,7 +135,7 @@ impl Clients {
     ) -> Result<Vec<CallOut>, AllocError>
         ensures taken { IfOk result (λ outs.
             (record { dialogs = dialogs.new.entries; clients = self.new }, outs.items)
-            ≡ ends.lost_rule id timed_out record {
+            ≡ ends.request_is_lost id timed_out record {
               dialogs = dialogs.old.entries;
               clients = self.old;
             }) }
@@ -152,7 +152,7 @@ impl Clients {
     /// The user starts the call by an INVITE (RFC 3261, section 13.2.1).
     pub fn invite(&mut self, event: Event, invite: &Invite) -> Result<Vec<CallOut>, AllocError>
         ensures taken { IfOk result (λ outs. (self.new, outs.items)
-            ≡ requests.invite_rule event invite.now self.old) }
+            ≡ requests.invite_command event invite.now self.old) }
         ensures err { OnErr result (self.new ≡ []) }
     {
         let alloc = self.alloc;
@@ -173,7 +173,7 @@ impl Clients {
     /// The user sends a request outside of dialogs (RFC 3261, section 8.1.1).
     pub fn plain(&mut self, event: Event, plain: &Plain) -> Result<Vec<CallOut>, AllocError>
         ensures taken { IfOk result (λ outs. (self.new, outs.items)
-            ≡ requests.plain_rule event plain.now self.old) }
+            ≡ requests.plain_command event plain.now self.old) }
         ensures err { OnErr result (self.new ≡ []) }
     {
         let mut requests = self.take();
@@ -191,7 +191,7 @@ impl Clients {
     ) -> Result<Vec<CallOut>, AllocError>
         ensures taken { IfOk result (λ outs.
             (record { dialogs = dialogs.new.entries; clients = self.new }, outs.items)
-            ≡ requests.request_rule event command.now
+            ≡ requests.request_command event command.now
             record { dialogs = dialogs.old.entries; clients = self.old }) }
         ensures err { OnErr result (self.new ≡ []) }
     {
@@ -209,7 +209,7 @@ impl Clients {
     pub fn cancel(&mut self, event: Event, command: &Cancel) -> Result<Vec<CallOut>, AllocError>
         ensures taken { IfOk result (λ outs. (dialogs : Dialogs)
             → (record { dialogs = dialogs; clients = self.new }, outs.items)
-            ≡ requests.cancel_rule event command.now
+            ≡ requests.cancel_command event command.now
             record { dialogs = dialogs; clients = self.old }) }
         ensures err { OnErr result (self.new ≡ []) }
     {
@@ -229,7 +229,7 @@ impl Clients {
     ) -> Result<Vec<CallOut>, AllocError>
         ensures taken { IfOk result (λ outs.
             (record { dialogs = dialogs.new.entries; clients = self.new }, outs.items)
-            ≡ requests.ack_rule event command.now
+            ≡ requests.ack_command event command.now
             record { dialogs = dialogs.old.entries; clients = self.old }) }
         ensures err { OnErr result (self.new ≡ []) }
     {
@@ -249,7 +249,7 @@ impl Clients {
     ) -> Result<Vec<CallOut>, AllocError>
         ensures taken { IfOk result (λ outs.
             (record { dialogs = dialogs.new.entries; clients = self.new }, outs.items)
-            ≡ requests.prack_rule event command.now
+            ≡ requests.prack_command event command.now
             record { dialogs = dialogs.old.entries; clients = self.old }) }
         ensures err { OnErr result (self.new ≡ []) }
     {

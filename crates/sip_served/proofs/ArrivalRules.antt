@@ -1,6 +1,8 @@
 -- What comes up is taken by the rules as by its steps.
-use Rattle.std.proofs.Common.{◌≡◌, ℕ, ◌+◌, not, ◌&&◌, ◌||◌, Bool, true, false, cond, List, [], ◌++◌, refl, sym, ap, ◌∙◌}
-use Rattle.std.specs.Prelude.{◌==◌, Option, None, Some, find, option_map, if◌then◌else◌}
+use Rattle.std.proofs.Common.{◌≡◌, ℕ, ◌+◌, not, ◌&&◌, ◌||◌, Bool, true, false, cond, List, [], ◌∷◌, ◌++◌, refl, sym, ap, ◌∙◌}
+use Rattle.std.specs.Prelude.{◌==◌, Option, None, Some, codes, find, is_some, nat_le, option_map, unwrap_or, if◌then◌else◌}
+use Rattle.std.specs.Map.{set_value}
+use Rattle.std.proofs.lemmas.Bool.{false≢true}
 use Rattle.std.specs.List.{list_any}
 use Rattle.std.specs.Option.{option_map_or}
 use Rattle.std.specs.Str.{bytes_eq, str_eq_ignore_ascii_case}
@@ -19,7 +21,11 @@ use Rattle.sip_common.specs.declared.held_dialog.HeldDialog.{HeldDialog}
 use Rattle.sip_common.specs.declared.item.CallOut.{CallOut}
 use Rattle.sip_common.specs.declared.item.Item.{Item}
 use Rattle.sip_common.specs.declared.item.Item.TheVariants as item
-use Rattle.sip_common.specs.Dialogs.{Dialogs, dialog_at, dialog_changed, early_ended, ended_at, takes, visited}
+use Rattle.sip_common.specs.Dialogs.{Dialogs, dialog_at, dialog_changed, early_ended, ended_at, is_named, lived, refreshes, retargets, takes, visited}
+use Rattle.sip_dialog.specs.Dialog.{is_ended}
+use Rattle.sip_dialog.specs.Life.{Accepts, Refreshes}
+use Rattle.sip_dialog.specs.Opening.{contact_uri}
+use Rattle.sip_dialog.specs.declared.fault.DialogFault.TheVariants as fault
 use Rattle.sip_common.specs.Requests.{dialog_name, is_bye, is_cancel, has_to_tag, is_invite, is_prack, is_unknown_option}
 use Rattle.sip_served.specs.declared.arrival.Arrival.{Arrival}
 use Rattle.sip_served.specs.declared.arrival.ArrivalCase.TheVariants.{Merged, BadExtension, Acknowledges, AcknowledgesNothing, ForUser}
@@ -28,7 +34,7 @@ use Rattle.sip_served.specs.Acknowledgment.{ack_noted, ack_taken, awaits_ack, is
 use Rattle.sip_served.specs.Arrival.{arrival_of, by_case, case_inside, case_outside, for_user, is_in_dialog, is_merged, is_named_by, no_such_dialog, noted, prack_case, prack_taken, request_held}
 use Rattle.sip_served.specs.Cancel.{by_cancelled, cancel_taken, cancelled_request, is_unanswered_invite, request_terminated, terminates, termination_told}
 use Rattle.sip_served.specs.RequestLife.{success_sent, went_on}
-use Rattle.sip_served.specs.Rules.Arrivals.{ack_rule, cancel_rule, kind_rule, prack_rule, request_for_user, request_rule, server_item_rule}
+use Rattle.sip_served.specs.Rules.Arrivals.{ack_received, after_request, cancel_received, is_above, own_response, prack_received, request_for_user, request_in_dialog, request_received, server_item, server_received}
 use Rattle.sip_served.specs.State.{State, ServedTaken, changed_at, followed, quiet}
 use Rattle.sip_served.specs.Step.{arrival_taken, kind_taken, server_item_taken}
 use Rattle.sip_served.proofs.ResponseRules.{respond_same}
@@ -70,6 +76,49 @@ for_user_same state call_id name arrival =
 
 -- ---- a request in a dialog
 
+out_of_order : (b : Bool) → not (is_some (if b then Some fault.OutOfOrder else None)) ≡ not b
+out_of_order true = refl
+out_of_order false = refl
+
+number_above : (number : ℕ) (ended : Bool) (remote : Option ℕ)
+    → not (is_some (if ended then Some fault.Ended
+    else (if option_map_or (nat_le number) remote false then Some fault.OutOfOrder else None)))
+    ≡ (not ended && option_map_or (λ last. not (nat_le number last)) remote true)
+number_above number true remote = refl
+number_above number false None = refl
+number_above number false (Some last) = out_of_order (nat_le number last)
+
+takes_above : (held : HeldDialog) (number : ℕ) → takes held number ≡ is_above held number
+takes_above held number = number_above number (is_ended held.dialog.state) held.dialog.remote_cseq
+
+goes_on : (number : ℕ) (ended : Bool) (remote : Option ℕ)
+    → not (is_some (if ended then Some fault.Ended
+    else (if option_map_or (nat_le number) remote false then Some fault.OutOfOrder else None)))
+    ≡ true → is_some (if ended then Some fault.Ended else None) ≡ false
+goes_on number true remote e = absurd (false≢true e)
+goes_on number false remote e = refl
+
+visited_same : (request : Message) (held : HeldDialog) → takes held request.cseq.number ≡ true
+    → visited request held ≡ after_request request held
+visited_same request held taken =
+    ap (λ b. lived ((if b then Accepts request.cseq.number ∷ [] else []) ++ refreshes request held)
+    held) taken
+    ∙ by (is_invite request) (contact_uri request)
+  where
+    by : (invite : Bool) (contact : Option (List ℕ))
+        → lived (Accepts request.cseq.number ∷ (if invite then retargets contact held else [])) held
+        ≡ record held {
+          dialog = record held.dialog {
+            remote_cseq = Some request.cseq.number;
+            target = unwrap_or (if invite then contact else None) held.dialog.target;
+          };
+        }
+    by false contact = refl
+    by true None = refl
+    by true (Some uri) =
+        ap (λ b. lived (Accepts request.cseq.number ∷ (if b then [] else Refreshes uri ∷ [])) held)
+        (goes_on request.cseq.number (is_ended held.dialog.state) held.dialog.remote_cseq taken)
+
 module _ (state : State) (call_id : List ℕ) (name : DialogId) (arrival : Arrival)
     (inside : has_to_tag arrival.request ≡ true) where
   abbrev noted_so : State
@@ -82,7 +131,7 @@ module _ (state : State) (call_id : List ℕ) (name : DialogId) (arrival : Arriv
 
   prack_same : (created_by : Id) (rack : Option RAck)
       → by_case (prack_case state.requests name created_by rack) state call_id name arrival
-      ≡ prack_rule noted_so call_id name created_by arrival rack
+      ≡ prack_received noted_so call_id name created_by arrival rack
   prack_same created_by None = ap (λ later. (later, no_such_dialog arrival)) is_noted
   prack_same created_by (Some rack) =
       (λ i. by_rack (find (λ held. same_invite held i) state.requests))
@@ -109,13 +158,50 @@ module _ (state : State) (call_id : List ℕ) (name : DialogId) (arrival : Arriv
           (held.request.cseq.number == rack.cseq) (waits_for rack.rseq held.ledger)
 
   in_dialog : (h : HeldDialog → ServedTaken) (o : Option HeldDialog)
-      → ((held : HeldDialog)
+      → dialog_at name state.dialogs ≡ o
+      → ((held : HeldDialog) → dialog_at name state.dialogs ≡ Some held
       → by_case (case_inside state.requests name arrival.request (Some held)) state call_id name
       arrival ≡ h held)
       → by_case (case_inside state.requests name arrival.request o) state call_id name arrival
       ≡ option_map_or h o (state, no_such_dialog arrival)
-  in_dialog h None each = refl
-  in_dialog h (Some held) each = each held
+  in_dialog h None at each = refl
+  in_dialog h (Some held) at each = each held at
+
+  -- noted as the rule says, where the number is above
+  abbrev noted_rule : State
+  noted_rule = record state {
+    dialogs = dialog_changed name (after_request arrival.request) state.dialogs;
+  }
+
+  same_noted : (held : HeldDialog) → dialog_at name state.dialogs ≡ Some held
+      → takes held arrival.request.cseq.number ≡ true → noted_so ≡ noted_rule
+  same_noted held at taken =
+      let change : (HeldDialog → HeldDialog) → Option HeldDialog → State =
+      λ change o. record state {
+        dialogs = option_map_or (λ held. set_value (is_named name) state.dialogs (change held)) o
+            state.dialogs;
+      } in
+      ap (change (visited arrival.request)) at
+      ∙ ap (λ (after : HeldDialog). record state {
+        dialogs = set_value (is_named name) state.dialogs after;
+      }) (visited_same arrival.request held taken)
+      ∙ sym (ap (change (after_request arrival.request)) at)
+
+  by_number : (held : HeldDialog) → dialog_at name state.dialogs ≡ Some held → (b : Bool)
+      → takes held arrival.request.cseq.number ≡ b
+      → cond (not b) (state, own_response arrival 500 (codes "Server Internal Error"))
+      (cond (is_prack arrival.request)
+      (prack_received noted_so call_id name held.created_by arrival arrival.request.rack)
+      (request_for_user noted_so call_id name arrival))
+      ≡ cond (not b) (state, own_response arrival 500 (codes "Server Internal Error"))
+      (cond (is_prack arrival.request)
+      (prack_received noted_rule call_id name held.created_by arrival arrival.request.rack)
+      (request_for_user noted_rule call_id name arrival))
+  by_number held at true taken =
+      ap (λ noted. cond (is_prack arrival.request)
+      (prack_received noted call_id name held.created_by arrival arrival.request.rack)
+      (request_for_user noted call_id name arrival)) (same_noted held at taken)
+  by_number held at false taken = refl
 
   for_user_noted : by_case ForUser state call_id name arrival
       ≡ request_for_user noted_so call_id name arrival
@@ -172,7 +258,7 @@ terminated_same response now one =
     ]
 
 cancel_same : (state : State) (call_id : List ℕ) (arrival : Arrival) (now : ℕ)
-    → cancel_taken state call_id arrival now ≡ cancel_rule state call_id arrival now
+    → cancel_taken state call_id arrival now ≡ cancel_received state call_id arrival now
 cancel_same state call_id arrival now =
     by_option (λ o. by_cancelled state call_id arrival now o) _ _
     (cancelled_request arrival.key state.requests) refl
@@ -190,8 +276,8 @@ cancel_same state call_id arrival now =
 -- ---- what a transaction hands up
 
 pub arrival_same : (state : State) (call_id : List ℕ) (arrival : Arrival) (now : ℕ)
-    → arrival_taken state call_id arrival now ≡ request_rule state call_id arrival now
-unfolding request_rule
+    → arrival_taken state call_id arrival now ≡ request_received state call_id arrival now
+unfolding request_received
 arrival_same state call_id arrival now =
     let request = arrival.request in
     let name = dialog_name request arrival.tag in
@@ -200,11 +286,19 @@ arrival_same state call_id arrival now =
     (list_any is_unknown_option request.require) (has_to_tag request)
     _ _ Merged BadExtension (case_inside state.requests name request (dialog_at name state.dialogs))
     (case_outside request) _ _ _ _ (cancel_same state call_id arrival now) refl refl
-    (λ inside. in_dialog state call_id name arrival inside _ (dialog_at name state.dialogs)
-    (λ held. two (λ one. by_case one state call_id name arrival)
+    (λ inside. in_dialog state call_id name arrival inside
+    (request_in_dialog state call_id name arrival) (dialog_at name state.dialogs) refl
+    (λ held at. two (λ one. by_case one state call_id name arrival)
     (not (takes held request.cseq.number)) (is_prack request) _ _ _ _ _ _ refl
     (prack_same state call_id name arrival inside held.created_by request.rack)
-    (for_user_noted state call_id name arrival inside)))
+    (for_user_noted state call_id name arrival inside)
+    ∙ by_number state call_id name arrival inside held at (takes held request.cseq.number) refl
+    ∙ ap (λ b. cond (not b) (state, own_response arrival 500 (codes "Server Internal Error"))
+    (cond (is_prack request)
+    (prack_received (noted_rule state call_id name arrival inside) call_id name held.created_by
+    arrival request.rack)
+    (request_for_user (noted_rule state call_id name arrival inside) call_id name arrival)))
+    (takes_above held request.cseq.number)))
     (λ outside. either (λ one. by_case one state call_id name arrival)
     (is_bye request || is_prack request) _ _ _ _ refl
     (ap (λ b. for_user (if b
@@ -212,8 +306,8 @@ arrival_same state call_id arrival now =
     else state) call_id name arrival) outside ∙ for_user_same state call_id name arrival))
 
 pub ack_same : (state : State) (call_id : List ℕ) (ack : Message)
-    → ack_taken state call_id ack ≡ ack_rule state call_id ack
-unfolding ack_rule
+    → ack_taken state call_id ack ≡ ack_received state call_id ack
+unfolding ack_received
 ack_same state call_id ack =
     (λ i. ack_noted state call_id ack
     (option_map (λ held. held.id) (find (λ held. same_ack held i) state.requests)))
@@ -229,7 +323,7 @@ ack_same state call_id ack =
         (ack.cseq.number == held.request.cseq.number)
 
 pub kind_same : (state : State) (tag : List ℕ) (up : Up) (kind : Kind) (now : ℕ)
-    → kind_rule state tag up kind now ≡ kind_taken state tag up kind now
+    → server_received state tag up kind now ≡ kind_taken state tag up kind now
 kind_same state tag up (kind.Request request reply_to) now =
     sym (arrival_same state up.call_id (arrival_of up request reply_to tag) now)
 kind_same state tag up (kind.Ack ack) now = sym (ack_same state up.call_id ack)
@@ -238,7 +332,7 @@ kind_same state tag up kind.Timeout now = refl
 kind_same state tag up kind.Failed now = refl
 
 pub item_same : (state : State) (tag : List ℕ) (id : Id) (item : Item) (now : ℕ)
-    → server_item_rule state tag id item now ≡ server_item_taken state tag id item now
+    → server_item state tag id item now ≡ server_item_taken state tag id item now
 item_same state tag id (item.Up up) now = kind_same state tag up up.kind now
 item_same state tag id (item.User (command.Respond respond)) now =
     respond_same state id respond now

@@ -1,6 +1,6 @@
 -- The user's answer is taken by the rules as by its steps.
 use Rattle.std.proofs.Common.{◌≡◌, ℕ, not, ◌&&◌, ◌||◌, nat_le, nat_lt, Bool, true, false, cond, List, [], ◌∷◌, Ok, refl, sym, ap, ◌∙◌, arith}
-use Rattle.std.specs.Prelude.{Option, None, Some, find, option_map, is_some, is_none}
+use Rattle.std.specs.Prelude.{Option, None, Some, find, option_map, is_some, is_none, if◌then◌else◌}
 use Rattle.std.specs.List.{list_any}
 use Rattle.std.specs.Option.{option_map_or}
 use Rattle.std.specs.Result.{result_ok}
@@ -18,11 +18,16 @@ use Rattle.sip_reliable.specs.Ledger.{must_wait, ok_unless, send_answer, send_fa
 use Rattle.sip_transactions.specs.declared.input.Command.TheVariants.{Answer}
 use Rattle.sip_common.specs.declared.command.Respond.{Respond}
 use Rattle.sip_common.specs.declared.held_dialog.DialogReference.{DialogReference}
+use Rattle.sip_common.specs.declared.held_dialog.HeldDialog.{HeldDialog}
 use Rattle.sip_common.specs.declared.item.CallOut.{CallOut}
 use Rattle.sip_common.specs.declared.item.CallOut.TheVariants.{Command}
 use Rattle.sip_common.specs.declared.refusal.Refusal.{Refusal}
 use Rattle.sip_common.specs.declared.refusal.Refusal.TheVariants.{AlreadyFinal, BadStatus, DialogEnded, NoSuchRequest, ReliablePending, NotSupported, SequenceUsedUp}
-use Rattle.sip_common.specs.Dialogs.{Dialogs, confirmed, dialog_changed, early_ended, is_named}
+use Rattle.sip_common.specs.Dialogs.{Dialogs, confirmed, dialog_changed, early_ended, is_named, lived}
+use Rattle.sip_dialog.specs.Dialog.{is_ended}
+use Rattle.sip_dialog.specs.Life.{Confirms}
+use Rattle.sip_dialog.specs.Step.{confirmed_by}
+use Rattle.sip_dialog.specs.declared.fault.DialogFault.TheVariants as fault
 use Rattle.sip_common.specs.Notices.{refused}
 use Rattle.sip_common.specs.Refusal.{first_refusal}
 use Rattle.sip_common.specs.Requests.{dialog_name, is_final, has_to_tag, is_invite, is_provisional, is_success, supports_100rel}
@@ -30,7 +35,7 @@ use Rattle.sip_served.specs.declared.held_request.HeldRequest.{HeldRequest}
 use Rattle.sip_served.specs.RequestLife.{MakesDialog, went_on}
 use Rattle.sip_served.specs.Respond.{after_answer, answer_given, answer_to, answered, by_refusal, by_request, dialogs_answered, has_ended, if_so, makes_or_confirms_dialog, is_reliable, is_sent_reliably, is_user_status, makes_dialog, made_dialog, may_be_reliable, refusal_for, refusal_of_fault, rejects, reliable_refusal, respond_taken, sends_as, with_routes, with_rseq}
 use Rattle.sip_served.specs.Rules.Responses as rule
-use Rattle.sip_served.specs.Rules.Responses.{answer_refusal, answer_sent, dialogs_after, held_after, respond_rule}
+use Rattle.sip_served.specs.Rules.Responses.{after_2xx, response_refusal, response_sent, dialogs_after, held_after, respond_command}
 use Rattle.sip_served.specs.State.{State, ServedTaken, changed_at, has_id}
 
 -- ---- statuses
@@ -85,7 +90,7 @@ reliable_same true false true false success body true e = rw (e refl) refl
 reliable_same true false true false success body false e = rw (e refl) refl
 
 refusal_same : (dialogs : Dialogs) (held : HeldRequest) (respond : Respond)
-    → refusal_for dialogs respond held ≡ answer_refusal dialogs held respond
+    → refusal_for dialogs respond held ≡ response_refusal dialogs held respond
 refusal_same dialogs held respond =
     let status = respond.status in
     λ i. first_refusal ((not (is_user_status status), BadStatus)
@@ -131,7 +136,7 @@ where_so false x y z e = refl
 response_same : (local : Addr) (held : HeldRequest) (respond : Respond)
     → (rule.is_sent_reliably held respond ≡ true
     → send_answer held.ledger ≡ Ok held.ledger.next)
-    → answer_to local held respond ≡ answer_sent local held respond
+    → answer_to local held respond ≡ response_sent local held respond
 response_same local held respond number =
     let plain = response_of held.request respond.status respond.reason held.tag in
     let routed = with_routes local held.request plain in
@@ -153,6 +158,17 @@ confirms_same true true success inside = refl
 confirms_same true false true inside = refl
 confirms_same true false false inside = refl
 
+by_2xx_same : (response : Message) (held : HeldDialog)
+    → confirmed response held ≡ after_2xx response held
+by_2xx_same response held = by (is_ended held.dialog.state)
+  where
+    by : (ended : Bool)
+        → lived (if is_some (if ended then Some fault.Ended else None) then []
+        else Confirms response ∷ []) held
+        ≡ (if ended then held else record held { dialog = confirmed_by held.dialog response })
+    by true = refl
+    by false = refl
+
 dialogs_same : (event : Id) (held : HeldRequest) (status : ℕ) (response : Message)
     (dialogs : Dialogs) → dialogs_answered event held status response dialogs
     ≡ dialogs_after event held status response dialogs
@@ -161,7 +177,8 @@ dialogs_same event held status response dialogs =
     λ i. cond (makes_same held status i)
     (insert_entry is_named dialogs name (made_dialog event held status), [])
     (cond (confirms_same (is_invite held.request) (is_provisional status) (is_success status)
-    (has_to_tag held.request) i) (dialog_changed name (confirmed response) dialogs, [])
+    (has_to_tag held.request) i)
+    (dialog_changed name (λ held. by_2xx_same response held i) dialogs, [])
     (cond (rejects held status) (early_ended held.id dialogs) (dialogs, [])))
 
 -- ---- the held request
@@ -227,7 +244,7 @@ module _ (state : State) (event : Id) (respond : Respond) (now : ℕ) where
 
   abbrev given : HeldRequest → ServedTaken
   given held =
-      let response = answer_sent state.local held respond in
+      let response = response_sent state.local held respond in
       left held response
       (changed_at respond.id (λ _. held_after event held respond response now) state.requests)
       (dialogs_after event held respond.status response state.dialogs)
@@ -238,7 +255,7 @@ module _ (state : State) (event : Id) (respond : Respond) (now : ℕ) where
   given_same held found unrefused =
       let number = number_sent state.dialogs held respond unrefused in
       let same = response_same state.local held respond number in
-      let response = answer_sent state.local held respond in
+      let response = response_sent state.local held respond in
       (λ i. left held (same i)
       (changed_at respond.id (after_answer event respond (same i) now) state.requests)
       (dialogs_answered event held respond.status (same i) state.dialogs))
@@ -265,15 +282,15 @@ module _ (state : State) (event : Id) (respond : Respond) (now : ℕ) where
   by_found h None each = refl
   by_found h (Some held) each = each held refl
 
-  taken_same : respond_taken state event respond now ≡ respond_rule state event respond now
-  unfolding respond_rule
+  taken_same : respond_taken state event respond now ≡ respond_command state event respond now
+  unfolding respond_command
   taken_same =
       by_found _ (find (has_id respond.id) state.requests) (λ held found.
       ap (by_refusal state event respond now held) (refusal_same state.dialogs held respond)
-      ∙ by_refused held (answer_refusal state.dialogs held respond)
+      ∙ by_refused held (response_refusal state.dialogs held respond)
       (λ unrefused. given_same held found
       (refusal_same state.dialogs held respond ∙ unrefused)))
 
 pub respond_same : (state : State) (event : Id) (respond : Respond) (now : ℕ)
-    → respond_rule state event respond now ≡ respond_taken state event respond now
+    → respond_command state event respond now ≡ respond_taken state event respond now
 respond_same state event respond now = sym (taken_same state event respond now)

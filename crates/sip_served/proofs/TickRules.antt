@@ -15,7 +15,7 @@ use Rattle.sip_served.specs.declared.held_request.Success.{Success}
 use Rattle.sip_served.specs.declared.provisionals.ReliableResponse.{ReliableResponse}
 use Rattle.sip_served.specs.declared.tick.SuccessDue.TheVariants as repeat
 use Rattle.sip_served.specs.RequestLife.{went_on}
-use Rattle.sip_served.specs.Rules.Ticks.{due_rule, provisionals_tick, success_tick, tick_rule}
+use Rattle.sip_served.specs.Rules.Ticks.{server_due, provisionals_tick, success_tick, server_tick}
 use Rattle.sip_served.specs.State.{State}
 use Rattle.sip_served.specs.Tick.{Ticked, is_kept_at, next_server_due, provisionals_by, provisionals_ticked, request_due, request_ticked, success_at_tick, success_goes, success_moment, success_told, tick_taken}
 
@@ -92,8 +92,8 @@ due_from a (held ∷ requests) =
     (fold_from a (moments_of held) ∙ ap (earlier a) (request_first held))
     ∙ due_from (earlier a (request_due held)) requests
 
-pub due_same : (state : State) → due_rule state ≡ next_server_due state
-unfolding due_rule
+pub due_same : (state : State) → server_due state ≡ next_server_due state
+unfolding server_due
 due_same state = due_from None state.requests
 
 -- ---- the 2xx of a request
@@ -210,8 +210,8 @@ request_same now held =
     ∙ ap (λ second. (second.0, (success_tick now held).1 ++ second.1))
     (provisionals_same now held (success_tick now held).0)
 
-pub tick_same : (state : State) (now : ℕ) → tick_rule state now ≡ tick_taken state now
-unfolding tick_rule
+pub tick_same : (state : State) (now : ℕ) → server_tick state now ≡ tick_taken state now
+unfolding server_tick
 tick_same state now = λ i. (
   record state {
     requests = filter (is_kept_at now)

@@ -17,9 +17,9 @@ ghost use Rattle.sip_served.specs.Respond.{respond_taken};
 ghost use Rattle.sip_served.specs.Run.{Event, FewWaitEach, event_taken, server_state_after};
 ghost use Rattle.sip_served.specs.ForUser.{brings, ids_for_user, told_by, told_from};
 ghost use Rattle.sip_common.specs.Ids.{is_id};
-ghost use Rattle.sip_served.specs.Rules.Arrivals.{kind_rule, server_item_rule};
-ghost use Rattle.sip_served.specs.Rules.Responses.{respond_rule};
-ghost use Rattle.sip_served.specs.Rules.Ticks.{due_rule, tick_rule};
+ghost use Rattle.sip_served.specs.Rules.Arrivals.{server_received, server_item};
+ghost use Rattle.sip_served.specs.Rules.Responses.{respond_command};
+ghost use Rattle.sip_served.specs.Rules.Ticks.{server_due, server_tick};
 ghost use Rattle.sip_served.specs.Step.{kind_taken, server_item_taken};
 ghost use Rattle.sip_served.specs.State.{State, empty_at, followed, has_id, quiet};
 ghost use Rattle.sip_served.specs.Tick.{next_server_due, tick_taken};
@@ -78,11 +78,11 @@ pub fn each_notice_is_of_its_call()
 /// which one is due.
 pub fn the_rules_say_the_steps()
     ensures item { (state : State) (tag : List ℕ) (id : Id) (item : Item) (now : ℕ)
-        → server_item_rule state tag id item now ≡ server_item_taken state tag id item now }
+        → server_item state tag id item now ≡ server_item_taken state tag id item now }
     ensures kind { (state : State) (tag : List ℕ) (up : Up) (kind : Kind) (now : ℕ)
-        → kind_rule state tag up kind now ≡ kind_taken state tag up kind now }
+        → server_received state tag up kind now ≡ kind_taken state tag up kind now }
     ensures answer { (state : State) (event : Id) (respond : Respond) (now : ℕ)
-        → respond_rule state event respond now ≡ respond_taken state event respond now }
-    ensures tick { (state : State) (now : ℕ) → tick_rule state now ≡ tick_taken state now }
-    ensures due { (state : State) → due_rule state ≡ next_server_due state }
+        → respond_command state event respond now ≡ respond_taken state event respond now }
+    ensures tick { (state : State) (now : ℕ) → server_tick state now ≡ tick_taken state now }
+    ensures due { (state : State) → server_due state ≡ next_server_due state }
 {}

@@ -32,8 +32,8 @@ impl Served {
     ghost use Rattle.sip_served.specs.Lending.{ServedLends};
     ghost use Rattle.sip_served.specs.Served.{after, lost};
     ghost use Rattle.sip_served.specs.State.{empty_at};
-    ghost use Rattle.sip_served.specs.Rules.Arrivals.{server_item_rule};
-    ghost use Rattle.sip_served.specs.Rules.Ticks.{due_rule, tick_rule};
+    ghost use Rattle.sip_served.specs.Rules.Arrivals.{server_item};
+    ghost use Rattle.sip_served.specs.Rules.Ticks.{server_due, server_tick};
     ghost use Rattle.sip_served.specs.Step.{holds};
 
     /// The server side of a Call-ID under which nothing is held, at the address `local`. Takes no
@@ -56,7 +56,7 @@ impl Served {
 
     /// The first moment, in ms, at which a tick does something, if there is one. Takes no memory.
     pub fn next_due(&self) -> Option<u64>
-        ensures { result ≡ due_rule self.now.state }
+        ensures { result ≡ server_due self.now.state }
     {
         self.side.next_due()
     }
@@ -89,7 +89,7 @@ impl Served {
         ensures broken_stays { result ≡ Err ShardFault.Broken → self.new ≡ self.old }
         ensures no_memory { result ≡ Err ShardFault.NoMemory → self.new ≡ lost self.old }
         ensures ok { IfOk result (λ outs. (self.new, outs.items)
-            ≡ after self.old (server_item_rule self.old.state tag id item now)) }
+            ≡ after self.old (server_item self.old.state tag id item now)) }
     {
         let local = self.local()?;
         let taken = self.side.item(tag, id, item, now);
@@ -108,7 +108,7 @@ impl Served {
         ensures broken_stays { result ≡ Err ShardFault.Broken → self.new ≡ self.old }
         ensures no_memory { result ≡ Err ShardFault.NoMemory → self.new ≡ lost self.old }
         ensures ok { IfOk result (λ outs. (self.new, outs.items)
-            ≡ after self.old (tick_rule self.old.state now)) }
+            ≡ after self.old (server_tick self.old.state now)) }
     {
         let local = self.local()?;
         let taken = self.side.tick(now);

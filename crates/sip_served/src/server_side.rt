@@ -6,8 +6,8 @@ ghost use Rattle.sip_served.specs.Arrival as arrived;
 ghost use Rattle.sip_served.specs.Cancel as cancels;
 ghost use Rattle.sip_served.specs.Respond as answers;
 ghost use Rattle.sip_served.specs.Rules.Arrivals as rules;
-ghost use Rattle.sip_served.specs.Rules.Responses.{respond_rule};
-ghost use Rattle.sip_served.specs.Rules.Ticks.{due_rule, tick_rule};
+ghost use Rattle.sip_served.specs.Rules.Responses.{respond_command};
+ghost use Rattle.sip_served.specs.Rules.Ticks.{server_due, server_tick};
 ghost use Rattle.sip_served.specs.Step as step;
 ghost use Rattle.std.specs.List.{slice_get};
 ghost use Rattle.sip_served.specs.Tick.{is_kept_at};
@@ -95,7 +95,7 @@ impl ServerSide {
     /// The first moment, in ms, at which a tick does something, if there is one. Takes no memory.
     #[tactic(auto, using(crate::proofs::TickRules::due_same))]
     pub fn next_due(&self) -> Option<u64>
-        ensures { result ≡ due_rule self.now }
+        ensures { result ≡ server_due self.now }
     {
         next_due(self.requests.as_slice())
     }
@@ -126,7 +126,7 @@ impl ServerSide {
     ) -> Result<Vec<CallOut>, AllocError>
         requires { now ≤ 2 ^ 62 }
         ensures { IfOk result (λ outs. (self.new, outs.items)
-            ≡ rules.server_item_rule self.old tag id item now) }
+            ≡ rules.server_item self.old tag id item now) }
     {
         match item {
             Item::Up(up) => self.come_up(tag, up, now),
@@ -139,7 +139,7 @@ impl ServerSide {
     fn come_up(&mut self, tag: Token, up: Up, now: u64) -> Result<Vec<CallOut>, AllocError>
         requires { now ≤ 2 ^ 62 }
         ensures { IfOk result (λ outs. (self.new, outs.items)
-            ≡ rules.kind_rule self.old tag up up.kind now) }
+            ≡ rules.server_received self.old tag up up.kind now) }
     {
         let Up {
             key,
@@ -178,7 +178,7 @@ impl ServerSide {
     ) -> Result<Vec<CallOut>, AllocError>
         requires { now ≤ 2 ^ 62 }
         ensures { IfOk result (λ outs. (self.new, outs.items)
-            ≡ rules.request_rule self.old call_id arrival now) }
+            ≡ rules.request_received self.old call_id arrival now) }
     {
         self.take_arrival(call_id, arrival, now)
     }
@@ -368,7 +368,7 @@ impl ServerSide {
     /// Want of memory.
     pub fn ack(&mut self, call_id: CallId, ack: &Message) -> Result<Vec<CallOut>, AllocError>
         ensures { IfOk result (λ outs. (self.new, outs.items)
-            ≡ rules.ack_rule self.old call_id ack.now) }
+            ≡ rules.ack_received self.old call_id ack.now) }
     {
         self.take_ack(call_id, ack)
     }
@@ -406,7 +406,7 @@ impl ServerSide {
     ) -> Result<Vec<CallOut>, AllocError>
         requires { now ≤ 2 ^ 62 }
         ensures { IfOk result (λ outs. (self.new, outs.items)
-            ≡ respond_rule self.old event respond now) }
+            ≡ respond_command self.old event respond now) }
     {
         let Some(index) = place_of(self.requests.as_slice(), respond.id) else {
             return refused(self.alloc, event, respond.call_id, Refusal::NoSuchRequest);
@@ -456,7 +456,7 @@ impl ServerSide {
     /// Want of memory.
     pub fn tick(&mut self, now: u64) -> Result<Vec<CallOut>, AllocError>
         requires { now ≤ 2 ^ 62 }
-        ensures { IfOk result (λ outs. (self.new, outs.items) ≡ tick_rule self.old now) }
+        ensures { IfOk result (λ outs. (self.new, outs.items) ≡ server_tick self.old now) }
     {
         let mut outs = Vec::new(self.alloc);
         tick_requests(self.alloc, &mut self.requests, now, &mut outs)?;

@@ -14,8 +14,8 @@ use Rattle.sip_clients.specs.declared.client.Client.{Client}
 use Rattle.sip_clients.specs.Client.{Clients, ClientTaken, Side}
 use Rattle.sip_clients.specs.Rules.Requests.{life_of}
 
--- The early dialogs that a request made end with it, and where the peer is gone also the dialog
--- that it was sent in, unless that ended before (RFC 3261, section 12.2.1.2).
+-- The early dialogs that a request made end with it, and where `gone` also the dialog that it was
+-- sent in, if that is held still (RFC 3261, section 12.2.1.2).
 abbrev pub request_over : Client → Bool → Dialogs → Dialogs × List CallOut
 request_over client gone dialogs =
     let early = early_ended client.id dialogs in
@@ -24,10 +24,10 @@ request_over client gone dialogs =
     (life_of client.kind) (early.0, []) in
     (own.0, early.1 ++ own.1)
 
--- A request is over whose message could not be sent, or whose transaction timed out; then the peer
--- is gone.
-unfoldable pub lost_rule : Id → Bool → Side → ClientTaken
-lost_rule id timed_out side =
+-- A request is over whose message could not be sent, or whose transaction timed out: that counts as
+-- a 408, and ends its dialog (RFC 3261, section 8.1.3.1).
+unfoldable pub request_is_lost : Id → Bool → Side → ClientTaken
+request_is_lost id timed_out side =
     let ended = option_map_or (λ client. request_over client timed_out side.dialogs)
     (lookup (is_id id) side.clients) (side.dialogs, []) in
     (record { dialogs = ended.0; clients = remove_entry (is_id id) side.clients }, ended.1)
@@ -37,8 +37,8 @@ abbrev pub is_over : ℕ → Client → Bool
 is_over now client = option_map_or (λ moment. nat_le moment now) client.removal false
 
 -- At a tick such INVITEs are removed, and their dialogs that are early still end.
-unfoldable pub tick_rule : Side → ℕ → ClientTaken
-tick_rule side now =
+unfoldable pub client_tick : Side → ℕ → ClientTaken
+client_tick side now =
     let over = filter (is_over now) (values_of side.clients) in
     let ends = λ (held : HeldDialog). list_any (λ client. is_early_of client.id held) over in (
       record {
@@ -49,5 +49,5 @@ tick_rule side now =
     )
 
 -- the first moment at which one is due to be removed
-unfoldable pub removal_rule : Clients → Option ℕ
-removal_rule clients = fold (λ due client. earlier due client.removal) None (values_of clients)
+unfoldable pub client_due : Clients → Option ℕ
+client_due clients = fold (λ due client. earlier due client.removal) None (values_of clients)

@@ -98,6 +98,10 @@ start done client = (
       client.request.call_id client.request client.to) ∷ [],
 )
 
+-- a command is refused, and nothing changes
+abbrev pub refuse : Event → List ℕ → Side → Refusal → ClientTaken
+refuse event call_id side refusal = (side, refused event.id call_id refusal)
+
 -- ---- outside of dialogs
 
 -- the request of this method (RFC 3261, section 8.1.1), with the routes that are known before
@@ -119,8 +123,8 @@ with_100rel support.Supported invite = record invite { supported = codes "100rel
 with_100rel support.Required invite = record invite { require = codes "100rel" ∷ [] }
 
 -- An initial INVITE goes out, with this agent's address as Contact (RFC 3261, section 13.2.1).
-unfoldable pub invite_rule : Event → Invite → Clients → Clients × List CallOut
-invite_rule event invite clients =
+unfoldable pub invite_command : Event → Invite → Clients → Clients × List CallOut
+invite_command event invite clients =
     let request = request_outside event invite.call_id (codes "INVITE") invite.request_uri
     invite.from invite.to invite.routes in
     let supporting = with_100rel invite.support
@@ -128,14 +132,14 @@ invite_rule event invite clients =
     start (clients, [])
     (new_request event.id InitialInvite (with_content_of supporting invite.content) invite.address)
 
--- methods that have commands of their own
+-- methods that neither Plain nor Request sends, since they have commands of their own
 abbrev pub has_command : List ℕ → Bool
 has_command method = bytes_eq method (codes "ACK") || bytes_eq method (codes "CANCEL")
     || bytes_eq method (codes "PRACK")
 
 -- Another request goes out outside of dialogs; INVITE has its command, and a BYE needs a dialog.
-unfoldable pub plain_rule : Event → PlainCommand → Clients → Clients × List CallOut
-plain_rule event plain clients =
+unfoldable pub plain_command : Event → PlainCommand → Clients → Clients × List CallOut
+plain_command event plain clients =
     if has_command plain.method || bytes_eq plain.method (codes "INVITE")
     || bytes_eq plain.method (codes "BYE")
     then (clients, refused event.id plain.call_id BadMethod)
@@ -179,15 +183,11 @@ request_within event name method rack content held =
 abbrev pub with_number : HeldDialog → HeldDialog
 with_number held = record held { dialog = with_next_number held.dialog }
 
--- A request in a dialog is refused, or goes out; a BYE ends its dialog at once (RFC 3261, section
--- 15.1.1).
-unfoldable pub request_rule : Event → DialogRequest → Side → ClientTaken
-request_rule event command side =
-    let name = name_of_tags (tag_text command.local_tag) (tag_text command.remote_tag) in
-    let refuse : Refusal → ClientTaken =
-    λ refusal. (side, refused event.id command.call_id refusal) in
-    option_map_or (λ (held : HeldDialog).
-    option_map_or refuse
+-- A request in this held dialog is refused, or goes out; a BYE ends the dialog at once (RFC 3261,
+-- section 15.1.1).
+abbrev pub request_in_dialog : Event → DialogRequest → Side → DialogId → HeldDialog → ClientTaken
+request_in_dialog event command side name held =
+    option_map_or (refuse event command.call_id side)
     (first_refusal
     ((has_command command.method, BadMethod) ∷ refusals_in held.dialog command.method) None)
     (let sent = start (side.clients, [])
@@ -195,25 +195,28 @@ request_rule event command side =
     let dialogs = set_value (is_named name) side.dialogs (with_number held) in
     let ended = if bytes_eq command.method (codes "BYE") then ended_at name dialogs
     else (dialogs, []) in
-    (record { dialogs = ended.0; clients = sent.0 }, sent.1 ++ ended.1)))
-    (lookup (is_named name) side.dialogs) (refuse NoSuchDialog)
+    (record { dialogs = ended.0; clients = sent.0 }, sent.1 ++ ended.1))
+
+-- The command Request is for the held dialog of its tags.
+unfoldable pub request_command : Event → DialogRequest → Side → ClientTaken
+request_command event command side =
+    let name = name_of_tags (tag_text command.local_tag) (tag_text command.remote_tag) in
+    option_map_or (request_in_dialog event command side name) (lookup (is_named name) side.dialogs)
+    (refuse event command.call_id side NoSuchDialog)
 
 -- ---- the ACK of a 2xx, and the PRACK of a reliable provisional response
 
--- what becomes of one that is owed in a dialog
-pub record Payment : Type 0 where
-  -- the dialog after it
+-- what becomes of a pending one: the dialog after it; the ACK that goes out, or the PRACK; and what is
+-- given at once: the same ACK, which has no transaction, or that it is refused
+pub record PendingOutcome : Type 0 where
   pub dialog : HeldDialog
-  -- the ACK that goes out
   pub ack : Option SentAck
-  -- the PRACK that goes out
   pub prack : List Client
-  -- the same ACK, which has no transaction, or that it is refused
   pub outs : List CallOut
 
 -- it goes out with this content (RFC 3261, section 13.2.2.4; RFC 3262, section 4)
-abbrev pub payment_with : Event → DialogId → PendingRequest → Content → HeldDialog → Payment
-payment_with event name (Ack invite number) content held =
+abbrev pub pending_sent : Event → DialogId → PendingRequest → Content → HeldDialog → PendingOutcome
+pending_sent event name (Ack invite number) content held =
     let message = request_in held.dialog (codes "ACK") number content (branch_of event)
     event.local in
     let to = hop_of held.dialog held.address in
@@ -223,7 +226,7 @@ payment_with event name (Ack invite number) content held =
       prack = [];
       outs = Direct to (written message) ∷ [];
     }
-payment_with event name (Prack rseq number) content held =
+pending_sent event name (Prack rseq number) content held =
     let rack = Some record { rseq = rseq; cseq = number; method = codes "INVITE" } in
     record {
       dialog = with_number held;
@@ -232,24 +235,32 @@ payment_with event name (Prack rseq number) content held =
       outs = [];
     }
 
+-- it doesn't go out
+abbrev pub pending_unsent : HeldDialog → List CallOut → PendingOutcome
+pending_unsent held outs = record { dialog = held; ack = None; prack = []; outs = outs }
+
 -- its method
 abbrev pub method_of : PendingRequest → List ℕ
 method_of (Ack invite number) = codes "ACK"
 method_of (Prack rseq number) = codes "PRACK"
 
--- It goes out, or is refused; without a content it waits for the user. Where it doesn't go out the
--- dialog is `owing`, and otherwise `paid`.
-abbrev pub payment : Event → List ℕ → DialogId → PendingRequest → Option Content → HeldDialog → HeldDialog
-    → Payment
-payment event call_id name pending content paid owing =
-    let unsent : List CallOut → Payment =
-    λ outs. record { dialog = owing; ack = None; prack = []; outs = outs } in
-    option_map_or (λ content.
-    option_map_or (λ refusal. unsent (refused event.id call_id refusal))
-    (first_refusal (refusals_in paid.dialog (method_of pending)) None)
-    (payment_with event name pending content paid)) content (unsent [])
+-- with this content it is refused, or goes out
+abbrev pub pending_with : Event → List ℕ → DialogId → PendingRequest → HeldDialog → HeldDialog
+    → Content → PendingOutcome
+pending_with event call_id name pending sent unsent content =
+    option_map_or (λ refusal. pending_unsent unsent (refused event.id call_id refusal))
+    (first_refusal (refusals_in sent.dialog (method_of pending)) None)
+    (pending_sent event name pending content sent)
 
--- the same is owed
+-- Without a content it waits for the user. Where it goes out the dialog is `sent` before, otherwise
+-- `unsent`.
+abbrev pub pending_outcome : Event → List ℕ → DialogId → PendingRequest → Option Content → HeldDialog
+    → HeldDialog → PendingOutcome
+pending_outcome event call_id name pending content sent unsent =
+    option_map_or (pending_with event call_id name pending sent unsent) content
+    (pending_unsent unsent [])
+
+-- the same pending request
 abbrev pub is_same_pending : PendingRequest → PendingRequest → Bool
 is_same_pending (Ack invite number) (Ack other_invite other_number) =
     is_id invite other_invite && (number == other_number)
@@ -265,31 +276,43 @@ ack_kept (Ack invite number) name (Some ack) clients =
     (lookup (is_id invite) clients) clients
 ack_kept _ name ack clients = clients
 
--- The user's ACK or PRACK is for the oldest response in its dialog that is owed one.
-abbrev pub pending_rule : List ℕ → Refusal → Event → DialogBody → Side → ClientTaken
-pending_rule method nothing event command side =
-    let name = name_of_tags (tag_text command.local_tag) (tag_text command.remote_tag) in
-    let refuse : Refusal → ClientTaken =
-    λ refusal. (side, refused event.id command.call_id refusal) in
-    option_map_or (λ (held : HeldDialog). option_map_or (λ pending.
-    let paid = record held { pending_requests = filter (λ other. not (is_same_pending pending other)) held.pending_requests } in
-    let done = payment event command.call_id name pending (Some command.content) paid held in
-    let sent = fold start (ack_kept pending name done.ack side.clients, done.outs) done.prack in (
+-- it goes out by the user's command, or is refused; then it is pending no longer
+abbrev pub pending_by_user : Event → DialogBody → Side → DialogId → HeldDialog → PendingRequest
+    → ClientTaken
+pending_by_user event command side name held pending =
+    let others = filter (λ other. not (is_same_pending pending other)) held.pending_requests in
+    let sent = record held { pending_requests = others } in
+    let done = pending_outcome event command.call_id name pending (Some command.content) sent held in
+    let after = fold start (ack_kept pending name done.ack side.clients, done.outs) done.prack in (
       record {
         dialogs = set_value (is_named name) side.dialogs done.dialog;
-        clients = sent.0;
+        clients = after.0;
       },
-      sent.1,
-    )) (find (λ pending. bytes_eq (method_of pending) method) held.pending_requests) (refuse nothing))
-    (lookup (is_named name) side.dialogs) (refuse NoSuchDialog)
+      after.1,
+    )
+
+-- the oldest of this method in this held dialog
+abbrev pub oldest_pending : List ℕ → Refusal → Event → DialogBody → Side → DialogId → HeldDialog
+    → ClientTaken
+oldest_pending method nothing event command side name held =
+    option_map_or (pending_by_user event command side name held)
+    (find (λ pending. bytes_eq (method_of pending) method) held.pending_requests)
+    (refuse event command.call_id side nothing)
+
+-- The user's ACK or PRACK is for the oldest that is pending in the held dialog of its tags.
+abbrev pub pending_command : List ℕ → Refusal → Event → DialogBody → Side → ClientTaken
+pending_command method nothing event command side =
+    let name = name_of_tags (tag_text command.local_tag) (tag_text command.remote_tag) in
+    option_map_or (oldest_pending method nothing event command side name)
+    (lookup (is_named name) side.dialogs) (refuse event command.call_id side NoSuchDialog)
 
 -- the command Ack
-unfoldable pub ack_rule : Event → DialogBody → Side → ClientTaken
-ack_rule = pending_rule (codes "ACK") NothingToAck
+unfoldable pub ack_command : Event → DialogBody → Side → ClientTaken
+ack_command = pending_command (codes "ACK") NothingToAck
 
 -- the command Prack
-unfoldable pub prack_rule : Event → DialogBody → Side → ClientTaken
-prack_rule = pending_rule (codes "PRACK") NothingToPrack
+unfoldable pub prack_command : Event → DialogBody → Side → ClientTaken
+prack_command = pending_command (codes "PRACK") NothingToPrack
 
 -- ---- CANCEL
 
@@ -304,13 +327,10 @@ is_asked _ = true
 
 -- An INVITE alone is cancelled, before its first 2xx, and once: at once after a provisional
 -- response, and otherwise when the first one comes (RFC 3261, section 9.1).
-unfoldable pub cancel_rule : Event → Cancel → Side → ClientTaken
-cancel_rule event command side =
-    let refuse : Refusal → ClientTaken =
-    λ refusal. (side, refused event.id command.call_id refusal) in
-    option_map_or (λ (invite : Client).
-    if not (is_inviting invite.kind) then refuse NoSuchRequest
-    else (if is_some invite.removal then refuse AlreadyFinal
+abbrev pub cancel_of_request : Event → Cancel → Side → Client → ClientTaken
+cancel_of_request event command side invite =
+    if not (is_inviting invite.kind) then refuse event command.call_id side NoSuchRequest
+    else (if is_some invite.removal then refuse event command.call_id side AlreadyFinal
     else (if is_asked invite.cancel then (side, [])
     else (
     let held : Cancelling → Clients = λ cancel. set_value (is_id command.id) side.clients
@@ -318,5 +338,10 @@ cancel_rule event command side =
     let done = if invite.provisional
     then start (held Sent, []) (cancel_request event.id invite)
     else (held (Waits event.id), []) in
-    (record side { clients = done.0 }, done.1)))))
-    (lookup (is_id command.id) side.clients) (refuse NoSuchRequest)
+    (record side { clients = done.0 }, done.1))))
+
+-- The command Cancel is for the held request of its id.
+unfoldable pub cancel_command : Event → Cancel → Side → ClientTaken
+cancel_command event command side =
+    option_map_or (cancel_of_request event command side) (lookup (is_id command.id) side.clients)
+    (refuse event command.call_id side NoSuchRequest)

@@ -31,51 +31,84 @@ use Rattle.sip_clients.specs.declared.event.Event.{Event}
 use Rattle.sip_clients.specs.declared.reply.ReceivedResponse.{ReceivedResponse}
 use Rattle.sip_clients.specs.Client.{ClientTaken, Side}
 use Rattle.sip_clients.specs.Rules.Ends.{request_over}
-use Rattle.sip_clients.specs.Rules.Requests.{cancel_request, is_inviting, life_of, payment, start}
+use Rattle.sip_clients.specs.Rules.Requests.{cancel_request, is_inviting, life_of, pending_outcome, start}
 
--- what a response comes to
+-- ---- what a response comes to
+
+-- the request after it, or none if it is over; what is told, and the ACK that goes out, in order; the
+-- PRACK that goes out after that
 pub record Outcome : Type 0 where
-  -- the request after it; none if it is over
   pub request : Option Client
   pub dialogs : Dialogs
-  -- what is told, and the ACK that goes out, in order
   pub outs : List CallOut
-  -- the PRACK that goes out after that
   pub prack : List Client
+
+-- the user is told of a response
+abbrev pub notice_of : ReceivedResponse → CallOut
+notice_of reply =
+    Notice (Response reply.call_id reply.id reply.status (tag_of reply.response.from)
+    (tag_of reply.response.to) reply.response.body)
+
+-- the request is held further, and asks for nothing
+abbrev pub kept : Client → Dialogs → List CallOut → Outcome
+kept after dialogs outs =
+    record { request = Some after; dialogs = dialogs; outs = outs; prack = [] }
+
+-- The user is told of a response that asks for an ACK or a PRACK. That goes out by itself, unless it
+-- has to carry an SDP answer (the response has a body and the INVITE had none) or is refused: then it
+-- stands last in `pending_requests` (RFC 3261, section 13.2.1; RFC 3262, section 5).
+abbrev pub asks_for : PendingRequest → ReceivedResponse → Client → (Option SentAck → Client)
+    → HeldDialog → Dialogs → Outcome
+asks_for pending reply client after held dialogs =
+    let content = if not (length client.request.body == 0) || (length reply.response.body == 0)
+    then Some (content_of_body []) else None in
+    let unsent = record held { pending_requests = held.pending_requests ++ pending ∷ [] } in
+    let done = pending_outcome reply.event reply.call_id reply.name pending content held unsent in
+    record {
+      request = Some (after done.ack);
+      dialogs = insert_entry is_named dialogs reply.name done.dialog;
+      outs = notice_of reply ∷ done.outs;
+      prack = done.prack;
+    }
+
+-- an initial INVITE, among INVITEs
+abbrev pub is_initial : Client → Bool
+is_initial client = is_none (life_of client.kind)
 
 -- the dialog that a response makes (RFC 3261, section 12.1.2)
 abbrev pub dialog_made_by : ReceivedResponse → Client → HeldDialog
-dialog_made_by answer client = record {
-  dialog = opened_by_response client.request answer.response;
+dialog_made_by reply client = record {
+  dialog = opened_by_response client.request reply.response;
   address = client.to;
   invite = client.id;
-  created_by = answer.event.id;
+  created_by = reply.event.id;
   last_rseq = None;
   pending_requests = [];
 }
 
--- the user is told of a response
-abbrev pub notice_of : ReceivedResponse → CallOut
-notice_of answer =
-    Notice (Response answer.call_id answer.id answer.status (tag_of answer.response.from)
-    (tag_of answer.response.to) answer.response.body)
+-- ---- final responses
 
--- A response that asks for an ACK or a PRACK is told, and that goes out, or is owed last of all. It
--- has no body where the INVITE had an offer, or the response has none; otherwise the user answers
--- the offer (RFC 3261, section 13.2.1; RFC 3262, section 5).
-abbrev pub asks_for : PendingRequest → ReceivedResponse → Client → (Option SentAck → Client) → HeldDialog → Dialogs
-    → Outcome
-asks_for pending answer client after held dialogs =
-    let content = if not (length client.request.body == 0) || (length answer.response.body == 0)
-    then Some (content_of_body []) else None in
-    let owing = record held { pending_requests = held.pending_requests ++ pending ∷ [] } in
-    let done = payment answer.event answer.call_id answer.name pending content held owing in
-    record {
-      request = Some (after done.ack);
-      dialogs = insert_entry is_named dialogs answer.name done.dialog;
-      outs = notice_of answer ∷ done.outs;
-      prack = done.prack;
-    }
+-- The last one: the request is over, and what ends with it ends; on 481 and 408 also the dialog that
+-- it was sent in (RFC 3261, section 12.2.1.2).
+abbrev pub last_response : ReceivedResponse → Client → Dialogs → Outcome
+last_response reply client dialogs =
+    let gone = (reply.status == 481) || (reply.status == 408) in
+    let ended = request_over client gone dialogs in
+    record { request = None; dialogs = ended.0; outs = notice_of reply ∷ ended.1; prack = [] }
+
+-- a 2xx that comes again: the same ACK, to the same address (RFC 3261, section 13.2.2.4)
+abbrev pub success_again : Option (Option SentAck) → Client → Dialogs → Outcome
+success_again sent_ack client dialogs =
+    kept client dialogs (option_map_or (λ ack. Direct ack.to ack.bytes ∷ [])
+    (option_and_then (λ ack. ack) sent_ack) [])
+
+-- after a 2xx the INVITE is held for 64*T1 from the first one on (RFC 3261, section 13.2.2.4), with
+-- its ACK where that was sent
+abbrev pub accepted : ReceivedResponse → Client → Option SentAck → Client
+accepted reply client ack = record client {
+  answers = insert_entry is_named client.answers reply.name ack;
+  removal = Some (unwrap_or client.removal (reply.event.moment + LIFETIME));
+}
 
 -- A 2xx to an initial INVITE confirms its dialog, and one to a re-INVITE refreshes the target, unless
 -- the dialog has ended (RFC 3261, sections 12.2.1.2 and 13.2.2.4).
@@ -86,54 +119,59 @@ success_in initial response held =
     else (if initial then record held { dialog = confirmed_by held.dialog response }
     else record held { dialog = record held.dialog { target = target } })
 
--- The first case that fits.
-abbrev pub outcome_of : ReceivedResponse → Client → Dialogs → Outcome
-outcome_of answer client dialogs =
-    let final = is_final answer.status in
-    let initial = is_none (life_of client.kind) in
-    -- the dialog of an INVITE is held still, or may be made
-    let stands = is_inviting client.kind
-    && option_map_or (lives dialogs) (life_of client.kind) true in
-    let found = lookup (is_named answer.name) dialogs in
-    let made = dialog_made_by answer client in
-    let sent_ack = lookup (is_named answer.name) client.answers in
-    let number = client.request.cseq.number in
-    let kept : Client → Dialogs → List CallOut → Outcome = λ after dialogs outs.
-    record { request = Some after; dialogs = dialogs; outs = outs; prack = [] } in
-    -- a 2xx keeps an INVITE for 64*T1 after the first one (RFC 6026, section 7.2)
-    let accepted : Option SentAck → Client = λ ack. record client {
-      answers = insert_entry is_named client.answers answer.name ack;
-      removal = Some (unwrap_or client.removal (answer.event.moment + LIFETIME));
-    } in
-    -- the last response: final, and no 2xx to an INVITE (RFC 3261, section 12.2.1.2)
-    if final && not (is_inviting client.kind && is_success answer.status) then (
-    let gone = (answer.status == 481) || (answer.status == 408) in
-    let ended = request_over client gone dialogs in
-    record { request = None; dialogs = ended.0; outs = notice_of answer ∷ ended.1; prack = [] })
-    -- a 2xx that comes again: the same ACK, to the same address (section 13.2.2.4)
-    else (if final && is_some sent_ack
-    then kept client dialogs (option_map_or (λ ack. Direct ack.to ack.bytes ∷ [])
-    (option_and_then (λ ack. ack) sent_ack) [])
-    -- the first 2xx of a dialog, which it makes where it isn't held
-    else (if final && stands then asks_for (Ack client.id number) answer client accepted
-    (option_map_or (success_in initial answer.response) found made) dialogs
-    -- the first 2xx of a dialog that has ended
-    else (if final then kept (accepted None) dialogs (notice_of answer ∷ [])
-    -- a provisional response of no dialog (section 12.1)
-    else (if not (stands && not (answer.status == 100) && has_to_tag answer.response)
-    then kept client dialogs (notice_of answer ∷ [])
-    -- one of an early dialog: if it is reliable it has to be the next (RFC 3262, section 4)
-    else (
-    let held = unwrap_or found made in
+-- the first 2xx of a dialog, which it makes where it isn't held; it asks for its ACK
+abbrev pub first_success : ReceivedResponse → Client → Dialogs → Outcome
+first_success reply client dialogs =
+    let found = lookup (is_named reply.name) dialogs in
+    asks_for (Ack client.id client.request.cseq.number) reply client (accepted reply client)
+    (option_map_or (success_in (is_initial client) reply.response) found
+    (dialog_made_by reply client)) dialogs
+
+-- ---- provisional responses of a dialog
+
+-- A reliable one is the next in this dialog, or to this re-INVITE, or is passed over; it asks for its
+-- PRACK (RFC 3262, section 4).
+abbrev pub reliable_response : ReceivedResponse → Client → Dialogs → HeldDialog → ℕ → Outcome
+reliable_response reply client dialogs held rseq =
+    let initial = is_initial client in
     let last = if initial then held.last_rseq else client.last_rseq in
-    option_map_or (λ rseq.
     if not (option_map_or (λ last. rseq == last + 1) last true) then kept client dialogs []
-    else asks_for (Prack rseq number) answer client
+    else asks_for (Prack rseq client.request.cseq.number) reply client
     (λ ack. if initial then client else record client { last_rseq = Some rseq })
-    (if initial then record held { last_rseq = Some rseq } else held) dialogs)
-    (if requires_100rel answer.response then answer.response.rseq else None)
-    (kept client (insert_entry is_named dialogs answer.name held)
-    (notice_of answer ∷ [])))))))
+    (if initial then record held { last_rseq = Some rseq } else held) dialogs
+
+-- one of a dialog, which it makes early where it isn't held
+abbrev pub dialog_response : ReceivedResponse → Client → Dialogs → Outcome
+dialog_response reply client dialogs =
+    let response = reply.response in
+    let held = unwrap_or (lookup (is_named reply.name) dialogs) (dialog_made_by reply client) in
+    option_map_or (reliable_response reply client dialogs held)
+    (if requires_100rel response then response.rseq else None)
+    (kept client (insert_entry is_named dialogs reply.name held) (notice_of reply ∷ []))
+
+-- ---- all of them
+
+-- the dialog of an INVITE is held still, or may be made
+abbrev pub has_dialog : Client → Dialogs → Bool
+has_dialog client dialogs =
+    is_inviting client.kind && option_map_or (lives dialogs) (life_of client.kind) true
+
+-- The first case that fits: the last response; a 2xx that comes again; the first 2xx of a dialog; the
+-- first 2xx of a dialog that has ended (own: it gets no ACK); a provisional response of no dialog
+-- (RFC 3261, section 12.1); one of a dialog.
+abbrev pub outcome_of : ReceivedResponse → Client → Dialogs → Outcome
+outcome_of reply client dialogs =
+    let final = is_final reply.status in
+    let sent_ack = lookup (is_named reply.name) client.answers in
+    if final && not (is_inviting client.kind && is_success reply.status)
+    then last_response reply client dialogs
+    else (if final && is_some sent_ack then success_again sent_ack client dialogs
+    else (if final && has_dialog client dialogs then first_success reply client dialogs
+    else (if final then kept (accepted reply client None) dialogs (notice_of reply ∷ [])
+    else (if not (has_dialog client dialogs && not (reply.status == 100)
+    && has_to_tag reply.response)
+    then kept client dialogs (notice_of reply ∷ [])
+    else dialog_response reply client dialogs))))
 
 -- the status of a response
 abbrev pub status_of : StartLine → Option ℕ
@@ -145,11 +183,10 @@ abbrev pub waiting_cancel : Cancelling → Option Id
 waiting_cancel (Waits id) = Some id
 waiting_cancel _ = None
 
--- A response does this to its request, if that is held, and to the dialogs. A CANCEL that waits is
--- sent after a provisional response, and forgotten after a final one (RFC 3261, section 9.1).
-unfoldable pub response_rule : Event → Id → List ℕ → Message → Side → ClientTaken
-response_rule event id call_id response side =
-    option_map_or (λ status. option_map_or (λ (client : Client).
+-- A response of this status to this request. A CANCEL that waits is sent after a provisional
+-- response, and forgotten after a final one (RFC 3261, section 9.1).
+abbrev pub response_to : Event → Id → List ℕ → Message → Side → ℕ → Client → ClientTaken
+response_to event id call_id response side status client =
     let final = is_final status in
     let waiting = waiting_cancel client.cancel in
     let cancel = if final then [] else option_map_or (λ by. cancel_request by client ∷ []) waiting []
@@ -158,7 +195,7 @@ response_rule event id call_id response side =
       provisional = client.provisional || not final;
       cancel = option_map_or (λ by. if final then NotAsked else Sent) waiting client.cancel;
     } in
-    let answer : ReceivedResponse = record {
+    let reply : ReceivedResponse = record {
       event = event;
       id = id;
       call_id = call_id;
@@ -167,9 +204,14 @@ response_rule event id call_id response side =
       status = status;
       response = response;
     } in
-    let done = outcome_of answer after side.dialogs in
+    let done = outcome_of reply after side.dialogs in
     let clients = option_map_or (set_value (is_id id) side.clients) done.request
     (remove_entry (is_id id) side.clients) in
     let sent = fold start (clients, done.outs) (done.prack ++ cancel) in
-    (record { dialogs = done.dialogs; clients = sent.0 }, sent.1))
+    (record { dialogs = done.dialogs; clients = sent.0 }, sent.1)
+
+-- A response to the held request that the event `id` sent; to none it does nothing.
+unfoldable pub response_received : Event → Id → List ℕ → Message → Side → ClientTaken
+response_received event id call_id response side =
+    option_map_or (λ status. option_map_or (response_to event id call_id response side status)
     (lookup (is_id id) side.clients) (side, [])) (status_of response.start) (side, [])

@@ -1,6 +1,6 @@
 -- The rules of what comes up to the server side of a Call-ID: requests (RFC 3261, sections 8.2 and
 -- 12.2.2), CANCELs (section 9.2), PRACKs (RFC 3262, section 3) and ACKs (section 13.3.1.4).
-use Rattle.std.specs.Prelude.{ℕ, Bool, false, not, ◌+◌, ◌&&◌, ◌||◌, ◌==◌, List, [], ◌∷◌, ◌++◌, Option, None, Some, codes, find, filter, is_none, reverse, if◌then◌else◌}
+use Rattle.std.specs.Prelude.{ℕ, Bool, false, not, ◌+◌, ◌&&◌, ◌||◌, ◌==◌, List, [], ◌∷◌, ◌++◌, Option, None, Some, codes, find, filter, is_none, nat_le, reverse, unwrap_or, if◌then◌else◌}
 use Rattle.std.specs.List.{list_any, join_by}
 use Rattle.std.specs.Option.{option_map, option_map_or}
 use Rattle.std.specs.Str.{bytes_eq, str_eq_ignore_ascii_case}
@@ -12,6 +12,8 @@ use Rattle.sip_message.specs.declared.message.Message.{Message}
 use Rattle.sip_message.specs.declared.rack.RAck.{RAck}
 use Rattle.sip_message.specs.Party.{tag_of}
 use Rattle.sip_message.specs.Response.{response_of}
+use Rattle.sip_dialog.specs.Dialog.{is_ended}
+use Rattle.sip_dialog.specs.Opening.{contact_uri}
 use Rattle.sip_reliable.specs.Ledger.{acknowledged, closed_now, waits_for}
 use Rattle.sip_timers.specs.declared.estimate.TheConstants.{LIFETIME}
 use Rattle.sip_transactions.specs.declared.input.Command.TheVariants.{Answer}
@@ -20,33 +22,37 @@ use Rattle.sip_transactions.specs.declared.output.Kind.TheVariants as kind
 use Rattle.sip_transactions.specs.declared.output.Up.{Up}
 use Rattle.sip_common.specs.declared.command.UserCommand.TheVariants.{Respond}
 use Rattle.sip_common.specs.declared.held_dialog.DialogId.{DialogId}
+use Rattle.sip_common.specs.declared.held_dialog.HeldDialog.{HeldDialog}
 use Rattle.sip_common.specs.declared.item.CallOut.{CallOut}
 use Rattle.sip_common.specs.declared.item.CallOut.TheVariants.{Notice, Command}
 use Rattle.sip_common.specs.declared.item.Item.{Item}
 use Rattle.sip_common.specs.declared.item.Item.TheVariants as item
 use Rattle.sip_common.specs.declared.notice.Notice.TheVariants.{Ack, Cancel, Prack, Request}
-use Rattle.sip_common.specs.Dialogs.{dialog_at, dialog_changed, early_ended, ended_at, is_named, own_dialog, takes, visited}
+use Rattle.sip_common.specs.Dialogs.{dialog_at, dialog_changed, early_ended, ended_at, is_named, own_dialog}
 use Rattle.sip_common.specs.Ids.{is_id}
 use Rattle.sip_common.specs.Requests.{dialog_name, is_bye, is_cancel, has_to_tag, is_invite, is_prack, is_unknown_option, local_tag_of, supports_100rel}
 use Rattle.sip_served.specs.declared.arrival.Arrival.{Arrival}
 use Rattle.sip_served.specs.declared.held_request.HeldRequest.{HeldRequest}
 use Rattle.sip_served.specs.declared.held_request.Success.{Success}
 use Rattle.sip_served.specs.declared.held_request.SuccessEnd.TheVariants.{Acknowledged}
-use Rattle.sip_served.specs.Rules.Responses.{respond_rule}
+use Rattle.sip_served.specs.Rules.Responses.{respond_command}
 use Rattle.sip_served.specs.State.{State, ServedTaken, changed_at}
 
--- the agent answers a request by itself
-abbrev pub own_answer : Arrival → ℕ → List ℕ → List CallOut
-own_answer arrival status reason =
+-- the agent responds to a request by itself
+abbrev pub own_response : Arrival → ℕ → List ℕ → List CallOut
+own_response arrival status reason =
     let response = response_of arrival.request status reason arrival.tag in
     Command arrival.id (Answer arrival.key response) ∷ []
 
--- it answers 481
-abbrev pub no_such_call : Arrival → List CallOut
-no_such_call arrival = own_answer arrival 481 (codes "Call/Transaction Does Not Exist")
+-- with a 481
+abbrev pub no_such_call : State → Arrival → ServedTaken
+no_such_call state arrival =
+    (state, own_response arrival 481 (codes "Call/Transaction Does Not Exist"))
 
--- A request for the user, who is told of it: it is held, and no answer to it was sent. A BYE in a
--- dialog ends the dialog (RFC 3261, section 15.1.2).
+-- ---- for the user
+
+-- A request for the user, who is told of it: it is held, and no response to it was sent. A BYE in a
+-- dialog ends the dialog (RFC 3261, section 15.1.2). The first RSeq is 1.
 abbrev pub request_for_user : State → List ℕ → DialogId → Arrival → ServedTaken
 request_for_user state call_id name arrival =
     let request = arrival.request in
@@ -70,25 +76,41 @@ request_for_user state call_id name arrival =
           request.body) ∷ after.1,
     )
 
--- A PRACK in the dialog of this name, born so. It gets a 200 where its RAck names a reliable
--- provisional response to an INVITE there that waits for it, and is no longer sent again; otherwise
--- a 481 (RFC 3262, section 3).
-abbrev pub prack_rule : State → List ℕ → DialogId → Id → Arrival → Option RAck → ServedTaken
-prack_rule state call_id name created_by arrival None = (state, no_such_call arrival)
-prack_rule state call_id name created_by arrival (Some rack) =
-    let acknowledged_by = λ (held : HeldRequest).
-    option_map_or (λ life. is_named life.name name && is_id life.created_by created_by) held.dialog false
+-- ---- a PRACK
+
+-- a held INVITE of the dialog of this name, which the event `created_by` made, to which a reliable
+-- provisional response went out that the RAck names and that has no PRACK yet
+abbrev pub is_named_by : RAck → DialogId → Id → HeldRequest → Bool
+is_named_by rack name created_by held =
+    option_map_or (λ life. is_named life.name name && is_id life.created_by created_by)
+    held.dialog false
     && is_invite held.request && bytes_eq rack.method held.request.cseq.method
-    && (held.request.cseq.number == rack.cseq) && waits_for rack.rseq held.ledger in
-    let after = λ (held : HeldRequest). record held {
-      ledger = acknowledged rack.rseq held.ledger;
-      provisionals = filter (λ one. not (one.number == rack.rseq)) held.provisionals;
-    } in
-    option_map_or (λ invite. (
-      record state { requests = changed_at invite.id after state.requests },
-      own_answer arrival 200 (codes "OK")
-          ++ Notice (Prack call_id invite.id rack.rseq arrival.request.body) ∷ [],
-    )) (find acknowledged_by state.requests) (state, no_such_call arrival)
+    && (held.request.cseq.number == rack.cseq) && waits_for rack.rseq held.ledger
+
+-- that response isn't sent again, and is kept no longer
+abbrev pub after_prack : ℕ → HeldRequest → HeldRequest
+after_prack rseq held = record held {
+  ledger = acknowledged rseq held.ledger;
+  provisionals = filter (λ one. not (one.number == rseq)) held.provisionals;
+}
+
+-- the PRACK of a response to this INVITE: it gets a 200, and the user is told
+abbrev pub prack_for : State → List ℕ → Arrival → RAck → HeldRequest → ServedTaken
+prack_for state call_id arrival rack invite = (
+  record state { requests = changed_at invite.id (after_prack rack.rseq) state.requests },
+  own_response arrival 200 (codes "OK")
+      ++ Notice (Prack call_id invite.id rack.rseq arrival.request.body) ∷ [],
+)
+
+-- A PRACK in a held dialog is for the INVITE that its RAck names; there is none: 481 (RFC 3262,
+-- section 3).
+abbrev pub prack_received : State → List ℕ → DialogId → Id → Arrival → Option RAck → ServedTaken
+prack_received state call_id name created_by arrival None = no_such_call state arrival
+prack_received state call_id name created_by arrival (Some rack) =
+    option_map_or (prack_for state call_id arrival rack)
+    (find (is_named_by rack name created_by) state.requests) (no_such_call state arrival)
+
+-- ---- a CANCEL
 
 -- the keys of two requests have the same branch and sent-by, whatever their methods
 abbrev pub is_same_branch : Key → Key → Bool
@@ -97,88 +119,147 @@ is_same_branch (Server branch sent_by method) (Server other other_sent_by other_
     && (sent_by.port == other_sent_by.port)
 is_same_branch _ _ = false
 
--- A CANCEL gets a 200 where its branch is that of a held request, of several the last that came up,
--- and otherwise a 481. An INVITE that it names, and that has no final response, gets a 487, and its
--- early dialogs end (RFC 3261, section 9.2).
-abbrev pub cancel_rule : State → List ℕ → Arrival → ℕ → ServedTaken
-cancel_rule state call_id arrival now =
-    let over = λ (held : HeldRequest).
-    record held { ledger = closed_now held.ledger; removal = Some (now + LIFETIME) } in
-    option_map_or (λ held.
-    let ok = own_answer (record arrival { tag = held.tag }) 200 (codes "OK") in
+-- after its final response, which a 487 is: 64*T1 later it is removed
+abbrev pub after_487 : ℕ → HeldRequest → HeldRequest
+after_487 now held =
+    record held { ledger = closed_now held.ledger; removal = Some (now + LIFETIME) }
+
+-- The CANCEL of this request gets a 200 with the To tag of its responses. An INVITE without a final
+-- response then gets a 487 as its final one, the user is told, and its early dialogs end.
+abbrev pub cancel_for : State → List ℕ → Arrival → ℕ → HeldRequest → ServedTaken
+cancel_for state call_id arrival now held =
+    let ok = own_response (record arrival { tag = held.tag }) 200 (codes "OK") in
     let terminated = response_of held.request 487 (codes "Request Terminated") held.tag in
     let after = early_ended held.id state.dialogs in
     if not (is_invite held.request && is_none held.removal) then (state, ok)
     else (
-      record state { requests = changed_at held.id over state.requests; dialogs = after.0 },
+      record state {
+        requests = changed_at held.id (after_487 now) state.requests;
+        dialogs = after.0;
+      },
       ok ++ Command held.id (Answer held.key terminated) ∷ Notice (Cancel call_id held.id)
           ∷ after.1,
-    )) (find (λ held. is_same_branch arrival.key held.key) (reverse state.requests))
-    (state, no_such_call arrival)
+    )
 
--- A request that comes up, by the first case that fits (RFC 3261, section 8.2): a CANCEL; 482 where
--- it was merged, one with its From tag and CSeq is held; 420 where it requires an option that the
--- agent doesn't know; 481 for a dialog that isn't held; 500 where its number isn't above those that
--- came before it in its dialog (section 12.2.2). A request in a dialog is noted there.
-unfoldable pub request_rule : State → List ℕ → Arrival → ℕ → ServedTaken
-request_rule state call_id arrival now =
-    let request = arrival.request in
-    let name = dialog_name request arrival.tag in
-    let merged = list_any (λ held.
+-- A CANCEL is for the held request of its branch and sent-by, of several the last that came; there
+-- is none: 481 (RFC 3261, section 9.2).
+abbrev pub cancel_received : State → List ℕ → Arrival → ℕ → ServedTaken
+cancel_received state call_id arrival now =
+    option_map_or (cancel_for state call_id arrival now)
+    (find (λ held. is_same_branch arrival.key held.key) (reverse state.requests))
+    (no_such_call state arrival)
+
+-- ---- any request
+
+-- the same request came up on another way: a held one has its From tag and its CSeq (RFC 3261,
+-- section 8.2.2.2)
+abbrev pub is_merged : Message → HeldRequest → Bool
+is_merged request held =
     str_eq_ignore_ascii_case (tag_of held.request.from) (tag_of request.from)
     && (held.request.cseq.number == request.cseq.number)
-    && bytes_eq held.request.cseq.method request.cseq.method) state.requests in
+    && bytes_eq held.request.cseq.method request.cseq.method
+
+-- a 420 that names the options which the agent doesn't know (RFC 3261, section 8.2.2.3)
+abbrev pub bad_extension : State → Arrival → ServedTaken
+bad_extension state arrival =
+    let request = arrival.request in
     let unknown = join_by (λ o. o) (codes ", ") (filter is_unknown_option request.require) in
     let unsupported : Header = record { name = codes "Unsupported"; value = unknown } in
     let refusal = response_of request 420 (codes "Bad Extension") arrival.tag in
-    let bad_extension = Answer arrival.key (record refusal { others = unsupported ∷ [] }) in
-    let dialogs = dialog_changed name (visited request) state.dialogs in
+    let refused = record refusal { others = unsupported ∷ [] } in
+    (state, Command arrival.id (Answer arrival.key refused) ∷ [])
+
+-- the number is above those that came before it in the dialog, if any did (RFC 3261, section 12.2.2;
+-- own: an equal one is none)
+abbrev pub is_above : HeldDialog → ℕ → Bool
+is_above held number = not (is_ended held.dialog.state)
+    && option_map_or (λ last. not (nat_le number last)) held.dialog.remote_cseq true
+
+-- the dialog after a request in it: its number, and of a re-INVITE its Contact as the remote target
+abbrev pub after_request : Message → HeldDialog → HeldDialog
+after_request request held =
+    let contact = if is_invite request then contact_uri request else None in
+    record held {
+      dialog = record held.dialog {
+        remote_cseq = Some request.cseq.number;
+        target = unwrap_or contact held.dialog.target;
+      };
+    }
+
+-- A request in this held dialog: a 500 if its number isn't above; a PRACK; for the user.
+abbrev pub request_in_dialog : State → List ℕ → DialogId → Arrival → HeldDialog → ServedTaken
+request_in_dialog state call_id name arrival held =
+    let request = arrival.request in
+    let dialogs = dialog_changed name (after_request request) state.dialogs in
     let noted : State = record state { dialogs = dialogs } in
-    if is_cancel request then cancel_rule state call_id arrival now
-    else (if not (has_to_tag request) && merged
-    then (state, own_answer arrival 482 (codes "Loop Detected"))
-    else (if list_any is_unknown_option request.require
-    then (state, Command arrival.id bad_extension ∷ [])
-    else (if has_to_tag request
-    then option_map_or (λ held.
-    if not (takes held request.cseq.number)
-    then (state, own_answer arrival 500 (codes "Server Internal Error"))
+    if not (is_above held request.cseq.number)
+    then (state, own_response arrival 500 (codes "Server Internal Error"))
     else (if is_prack request
-    then prack_rule noted call_id name held.created_by arrival request.rack
-    else request_for_user noted call_id name arrival))
-    (dialog_at name state.dialogs) (state, no_such_call arrival)
-    else (if is_bye request || is_prack request then (state, no_such_call arrival)
+    then prack_received noted call_id name held.created_by arrival request.rack
+    else request_for_user noted call_id name arrival)
+
+-- A request that comes up, by the first case that fits (RFC 3261, sections 8.2 and 12.2.2): a
+-- CANCEL; 482 where it was merged and has no To tag; 420; with a To tag 481 where its dialog isn't
+-- held; without one 481 for a BYE or a PRACK; for the user.
+unfoldable pub request_received : State → List ℕ → Arrival → ℕ → ServedTaken
+request_received state call_id arrival now =
+    let request = arrival.request in
+    let name = dialog_name request arrival.tag in
+    if is_cancel request then cancel_received state call_id arrival now
+    else (if not (has_to_tag request) && list_any (is_merged request) state.requests
+    then (state, own_response arrival 482 (codes "Loop Detected"))
+    else (if list_any is_unknown_option request.require then bad_extension state arrival
+    else (if has_to_tag request
+    then option_map_or (request_in_dialog state call_id name arrival)
+    (dialog_at name state.dialogs) (no_such_call state arrival)
+    else (if is_bye request || is_prack request then no_such_call state arrival
     else request_for_user state call_id name arrival))))
 
--- The ACK of a 2xx, by its tags and its number: the 2xx isn't sent again, and the user is told (RFC
--- 3261, section 13.3.1.4). Any other ACK says nothing.
-unfoldable pub ack_rule : State → List ℕ → Message → ServedTaken
-ack_rule state call_id ack =
-    let acknowledged_by = λ (held : HeldRequest).
+-- ---- an ACK
+
+-- an INVITE whose 2xx waits for its ACK, of these tags and this number
+abbrev pub awaits : Message → HeldRequest → Bool
+awaits ack held =
     is_invite held.request
     && option_map_or (λ success. is_none success.over) held.success false
     && str_eq_ignore_ascii_case (tag_of ack.to) held.tag
     && str_eq_ignore_ascii_case (tag_of ack.from) (tag_of held.request.from)
-    && (ack.cseq.number == held.request.cseq.number) in
-    let over = λ (success : Success). record success { over = Some Acknowledged } in
-    let after = λ (held : HeldRequest). record held { success = option_map over held.success } in
-    option_map_or (λ invite. (
-      record state { requests = changed_at invite.id after state.requests },
-      Notice (Ack call_id invite.id ack.body) ∷ [],
-    )) (find acknowledged_by state.requests) (state, [])
+    && (ack.cseq.number == held.request.cseq.number)
+
+-- its 2xx isn't sent again
+abbrev pub after_ack : HeldRequest → HeldRequest
+after_ack held = record held {
+  success = option_map (λ (success : Success). record success { over = Some Acknowledged })
+      held.success;
+}
+
+-- the user is told
+abbrev pub ack_for : State → List ℕ → Message → HeldRequest → ServedTaken
+ack_for state call_id ack invite = (
+  record state { requests = changed_at invite.id after_ack state.requests },
+  Notice (Ack call_id invite.id ack.body) ∷ [],
+)
+
+-- The ACK of a 2xx (RFC 3261, section 13.3.1.4). Of any other ACK nobody is told, and nothing
+-- changes.
+unfoldable pub ack_received : State → List ℕ → Message → ServedTaken
+ack_received state call_id ack =
+    option_map_or (ack_for state call_id ack) (find (awaits ack) state.requests) (state, [])
+
+-- ---- what comes up
 
 -- What a transaction hands up: of the server side are the requests and the ACKs. `made` is the To
--- tag of the answers to a request without one.
-abbrev pub kind_rule : State → List ℕ → Up → Kind → ℕ → ServedTaken
-kind_rule state made up (kind.Request request reply_to) now =
+-- tag of the responses to a request without one.
+abbrev pub server_received : State → List ℕ → Up → Kind → ℕ → ServedTaken
+server_received state made up (kind.Request request reply_to) now =
     let tag = local_tag_of request made in
-    request_rule state up.call_id
+    request_received state up.call_id
     record { id = up.id; key = up.key; request = request; reply_to = reply_to; tag = tag } now
-kind_rule state made up (kind.Ack ack) now = ack_rule state up.call_id ack
-kind_rule state made up _ now = (state, [])
+server_received state made up (kind.Ack ack) now = ack_received state up.call_id ack
+server_received state made up _ now = (state, [])
 
--- What an item makes of the server side, at a moment in ms: what comes up, or the user's answer.
-abbrev pub server_item_rule : State → List ℕ → Id → Item → ℕ → ServedTaken
-server_item_rule state tag id (item.Up up) now = kind_rule state tag up up.kind now
-server_item_rule state tag id (item.User (Respond answer)) now = respond_rule state id answer now
-server_item_rule state tag id _ now = (state, [])
+-- What an item makes of the server side, at a moment in ms: what comes up, or the user's response.
+abbrev pub server_item : State → List ℕ → Id → Item → ℕ → ServedTaken
+server_item state tag id (item.Up up) now = server_received state tag up up.kind now
+server_item state tag id (item.User (Respond answer)) now = respond_command state id answer now
+server_item state tag id _ now = (state, [])

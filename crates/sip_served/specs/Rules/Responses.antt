@@ -9,7 +9,9 @@ use Rattle.sip_message.specs.declared.id.Id.{Id}
 use Rattle.sip_message.specs.declared.message.Message.{Message}
 use Rattle.sip_message.specs.Content.{with_content_of}
 use Rattle.sip_message.specs.Response.{response_of}
+use Rattle.sip_dialog.specs.Dialog.{is_ended}
 use Rattle.sip_dialog.specs.Opening.{opened_by_request}
+use Rattle.sip_dialog.specs.Step.{confirmed_by}
 use Rattle.sip_dialog.specs.Request.{contact_of}
 use Rattle.sip_reliable.specs.Ledger.{closed_now, must_wait}
 use Rattle.sip_reliable.specs.Provisional.{Provisional}
@@ -24,7 +26,7 @@ use Rattle.sip_common.specs.declared.item.CallOut.{CallOut}
 use Rattle.sip_common.specs.declared.item.CallOut.TheVariants.{Command}
 use Rattle.sip_common.specs.declared.refusal.Refusal.{Refusal}
 use Rattle.sip_common.specs.declared.refusal.Refusal.TheVariants.{NoSuchRequest, AlreadyFinal, BadStatus, ReliablePending, NotSupported, SequenceUsedUp, DialogEnded}
-use Rattle.sip_common.specs.Dialogs.{Dialogs, confirmed, dialog_changed, early_ended, is_named, lives}
+use Rattle.sip_common.specs.Dialogs.{Dialogs, dialog_changed, early_ended, is_named, lives}
 use Rattle.sip_common.specs.Notices.{refused}
 use Rattle.sip_common.specs.Refusal.{first_refusal}
 use Rattle.sip_common.specs.Requests.{dialog_name, is_final, has_to_tag, is_invite, is_provisional, is_success, requires_100rel, supports_100rel}
@@ -48,20 +50,21 @@ is_sent_reliably held respond =
     may_be_reliable held respond.status
     && (is_reliable respond.reliability || requires_100rel held.request)
 
--- a provisional or success response to an INVITE makes or confirms a dialog, or is of one
-abbrev pub makes_or_confirms_dialog : HeldRequest → ℕ → Bool
-makes_or_confirms_dialog held status = is_invite held.request && nat_lt status 300
+-- a response of 101 to 299 to an INVITE: it makes, confirms or is in a dialog
+abbrev pub is_dialog_response : HeldRequest → ℕ → Bool
+is_dialog_response held status = is_invite held.request && nat_lt status 300
 
 -- it makes one where the INVITE is outside of dialogs, and has made none
 abbrev pub makes_dialog : HeldRequest → ℕ → Bool
 makes_dialog held status =
-    makes_or_confirms_dialog held status && not (has_to_tag held.request) && is_none held.dialog
+    is_dialog_response held status && not (has_to_tag held.request) && is_none held.dialog
 
--- Why an answer is refused: the first that fits. Another reliable provisional response waits until
--- the first has its PRACK, while 8 have none, and once they were given up; a 2xx waits while one
--- that has a body has none (RFC 3262, section 3).
-abbrev pub answer_refusal : Dialogs → HeldRequest → Respond → Option Refusal
-answer_refusal dialogs held respond =
+-- Why a response is refused, the first that fits. ReliablePending: a further reliable one while the
+-- first has no PRACK, while 8 have none, or after they were given up; a 2xx while one with a body
+-- has none (RFC 3262, section 3). Two stand for any ledger, and decide only in states that don't
+-- occur: closed without a removal, and not supported where it may be reliable.
+abbrev pub response_refusal : Dialogs → HeldRequest → Respond → Option Refusal
+response_refusal dialogs held respond =
     let status = respond.status in
     let reliable = is_sent_reliably held respond in
     let ledger = held.ledger in
@@ -69,23 +72,41 @@ answer_refusal dialogs held respond =
     first_refusal ((not (nat_le 101 status && nat_le status 699), BadStatus)
     ∷ (is_some held.removal, AlreadyFinal)
     ∷ (is_reliable respond.reliability && not (may_be_reliable held status), NotSupported)
-    ∷ (makes_or_confirms_dialog held status && ended, DialogEnded)
+    ∷ (is_dialog_response held status && ended, DialogEnded)
     ∷ (reliable && ledger.closed, AlreadyFinal)
     ∷ (reliable && not ledger.supported, NotSupported)
     ∷ (reliable && must_wait ledger, ReliablePending)
     ∷ (is_success status && list_any (λ p. p.has_body) ledger.waiting, ReliablePending)
     ∷ (reliable && nat_lt 4294967295 ledger.next, SequenceUsedUp) ∷ []) None
 
--- The response that goes out. One of a dialog has the Record-Route of the INVITE and a Contact (RFC
--- 3261, section 12.1.1), a reliable one `Require: 100rel` and an RSeq (RFC 3262, section 3).
-abbrev pub answer_sent : Addr → HeldRequest → Respond → Message
-answer_sent local held respond =
+-- What goes out: of 101 to 299 to an INVITE with its Record-Route and a Contact (RFC 3261, section
+-- 12.1.1); a reliable one with `Require: 100rel` and the next RSeq (RFC 3262, section 3); then the
+-- user's headers and body.
+abbrev pub response_sent : Addr → HeldRequest → Respond → Message
+response_sent local held respond =
     let routes = held.request.record_routes in
     let bare = response_of held.request respond.status respond.reason held.tag in
     let routed = record bare { contacts = contact_of local ∷ []; record_routes = routes } in
-    let plain = if makes_or_confirms_dialog held respond.status then routed else bare in
+    let plain = if is_dialog_response held respond.status then routed else bare in
     let reliable = record plain { require = codes "100rel" ∷ []; rseq = Some held.ledger.next } in
     with_content_of (if is_sent_reliably held respond then reliable else plain) respond.content
+
+-- the dialog that it makes (RFC 3261, section 12.1.1)
+abbrev pub dialog_by_request : Id → HeldRequest → ℕ → HeldDialog
+dialog_by_request event held status = record {
+  dialog = opened_by_request held.request held.tag status;
+  address = held.reply_to;
+  invite = held.id;
+  created_by = event;
+  last_rseq = None;
+  pending_requests = [];
+}
+
+-- a 2xx confirms its dialog, unless that has ended
+abbrev pub after_2xx : Message → HeldDialog → HeldDialog
+after_2xx response held =
+    if is_ended held.dialog.state then held
+    else record held { dialog = confirmed_by held.dialog response }
 
 -- The dialogs after it: it makes one, a 2xx confirms it, and any other final response ends the
 -- early ones (RFC 3261, sections 12.1.1 and 13.3.1).
@@ -93,46 +114,43 @@ abbrev pub dialogs_after : Id → HeldRequest → ℕ → Message → Dialogs �
 dialogs_after event held status response dialogs =
     let request = held.request in
     let name = dialog_name request held.tag in
-    let made : HeldDialog = record {
-      dialog = opened_by_request request held.tag status;
-      address = held.reply_to;
-      invite = held.id;
-      created_by = event;
-      last_rseq = None;
-      pending_requests = [];
-    } in
-    if makes_dialog held status then (insert_entry is_named dialogs name made, [])
+    if makes_dialog held status
+    then (insert_entry is_named dialogs name (dialog_by_request event held status), [])
     else (if is_invite request && is_success status && not (has_to_tag request)
-    then (dialog_changed name (confirmed response) dialogs, [])
+    then (dialog_changed name (after_2xx response) dialogs, [])
     else (if is_invite request && nat_le 300 status then early_ended held.id dialogs
     else (dialogs, [])))
 
--- The held request after it. A reliable provisional response waits for its PRACK, and is sent again
--- after T1. A final response is the last: 64*T1 after it the request is removed, and until then a
--- 2xx to an INVITE waits for its ACK, and is sent again after T1.
+-- a reliable provisional response that waits for its PRACK, and is sent again after T1
+abbrev pub provisional_sent : ℕ → Message → ℕ → Provisional
+provisional_sent rseq response now = record {
+  number = rseq;
+  has_body = nat_lt 0 (length response.body);
+  sent = now;
+  retransmission = Some record { due = now + T1; repeats = 0 };
+}
+
+-- a 2xx to an INVITE that waits for its ACK, for 64*T1, and is sent again after T1
+abbrev pub success_sent : Message → ℕ → Success
+success_sent response now = record {
+  response = response;
+  end = now + LIFETIME;
+  retransmission = record { due = now + T1; interval = T1 };
+  over = None;
+}
+
+-- The held request after it. 64*T1 after its final response it is removed.
 abbrev pub held_after : Id → HeldRequest → Respond → Message → ℕ → HeldRequest
 held_after event held respond response now =
     let status = respond.status in
     let ledger = held.ledger in
     let life : DialogReference = record { name = dialog_name held.request held.tag; created_by = event } in
     let dialog = if makes_dialog held status then Some life else held.dialog in
-    let waits : Provisional = record {
-      number = ledger.next;
-      has_body = nat_lt 0 (length response.body);
-      sent = now;
-      retransmission = Some record { due = now + T1; repeats = 0 };
-    } in
-    let success : Success = record {
-      response = response;
-      end = now + LIFETIME;
-      retransmission = record { due = now + T1; interval = T1 };
-      over = None;
-    } in
     let awaits_ack = is_invite held.request && is_success status in
     if is_sent_reliably held respond
     then record held {
       dialog = dialog;
-      ledger = record ledger { next = ledger.next + 1; waiting = ledger.waiting ++ waits ∷ [] };
+      ledger = record ledger { next = ledger.next + 1; waiting = ledger.waiting ++ provisional_sent ledger.next response now ∷ [] };
       provisionals = held.provisionals
           ++ record { number = ledger.next; response = response } ∷ [];
     }
@@ -140,22 +158,29 @@ held_after event held respond response now =
     then record held {
       dialog = dialog;
       ledger = closed_now ledger;
-      success = if awaits_ack then Some success else held.success;
+      success = if awaits_ack then Some (success_sent response now) else held.success;
       removal = Some (now + LIFETIME);
     }
     else record held { dialog = dialog })
 
--- The user's answer to the held request of its id: it is refused, and nothing changes, or goes out.
-unfoldable pub respond_rule : State → Id → Respond → ℕ → ServedTaken
-respond_rule state event respond now =
-    option_map_or (λ held.
-    let response = answer_sent state.local held respond in
+-- a command of the user is refused, and nothing changes
+abbrev pub refuse : State → Id → Respond → Refusal → ServedTaken
+refuse state event respond refusal = (state, refused event respond.call_id refusal)
+
+-- a response to this held request: it is refused, or goes out
+abbrev pub respond_to : State → Id → Respond → ℕ → HeldRequest → ServedTaken
+respond_to state event respond now held =
+    let response = response_sent state.local held respond in
     let dialogs = dialogs_after event held respond.status response state.dialogs in
     let after = held_after event held respond response now in
     let requests = changed_at respond.id (λ _. after) state.requests in
-    option_map_or (λ refusal. (state, refused event respond.call_id refusal))
-    (answer_refusal state.dialogs held respond) (
+    option_map_or (refuse state event respond) (response_refusal state.dialogs held respond) (
       record state { requests = requests; dialogs = dialogs.0 },
       Command held.id (Answer held.key response) ∷ dialogs.1,
-    )) (find (has_id respond.id) state.requests)
-    (state, refused event respond.call_id NoSuchRequest)
+    )
+
+-- The command Respond is for the held request of its id.
+unfoldable pub respond_command : State → Id → Respond → ℕ → ServedTaken
+respond_command state event respond now =
+    option_map_or (respond_to state event respond now) (find (has_id respond.id) state.requests)
+    (refuse state event respond NoSuchRequest)

@@ -19,9 +19,8 @@ use Rattle.sip_served.specs.State.{State, ServedTaken}
 
 -- A 2xx to an INVITE that has no ACK is given up when its end is reached. Until then it is sent
 -- again when it is due, and each interval is twice the last, up to T2 (RFC 3261, section 13.3.1.4).
-abbrev pub success_tick : ℕ → HeldRequest → Option Success × List CallOut
-success_tick now held =
-    option_map_or (λ success.
+abbrev pub success_at : ℕ → HeldRequest → Success → Option Success × List CallOut
+success_at now held success =
     let interval = min (2 * success.retransmission.interval) T2 in
     let later : Retransmission = record { due = now + interval; interval = interval } in
     let again = Command held.id (Answer held.key success.response) in
@@ -30,7 +29,11 @@ success_tick now held =
     then (Some (record success { over = Some GivenUp }), no_ack ∷ [])
     else (if is_none success.over && nat_le success.retransmission.due now
     then (Some (record success { retransmission = later }), again ∷ [])
-    else (Some success, []))) held.success (None, [])
+    else (Some success, []))
+
+-- where there is one
+abbrev pub success_tick : ℕ → HeldRequest → Option Success × List CallOut
+success_tick now held = option_map_or (success_at now held) held.success (None, [])
 
 -- The reliable provisional responses that have no PRACK are given up, all of them, 64*T1 after one
 -- was sent. Until then each is sent again when it is due, and each interval is twice the last. A
@@ -49,9 +52,9 @@ provisionals_tick now held =
           (filter (λ one. list_any (λ number. one.number == number) due) held.provisionals),
     ))
 
--- Each held request takes the tick; those whose time is over are removed.
-unfoldable pub tick_rule : State → ℕ → ServedTaken
-tick_rule state now = (
+-- Each held request at a tick; then those whose moment of removal has come are removed.
+unfoldable pub server_tick : State → ℕ → ServedTaken
+server_tick state now = (
   record state {
     requests = filter (λ held. option_map_or (λ moment. nat_lt now moment) held.removal true)
         (map (λ (held : HeldRequest). record held {
@@ -62,12 +65,17 @@ tick_rule state now = (
   flat_map (λ held. (success_tick now held).1 ++ (provisionals_tick now held).1) state.requests,
 )
 
--- The first moment at which a tick does something.
-unfoldable pub due_rule : State → Option ℕ
-due_rule state =
-    fold earlier None (flat_map (λ held.
-    let success = option_and_then (λ success.
-    if is_some success.over then None
-    else Some (min success.end success.retransmission.due)) held.success in
+-- the moment at which a 2xx is sent again or given up
+abbrev pub success_due : Success → Option ℕ
+success_due success =
+    if is_some success.over then None else Some (min success.end success.retransmission.due)
+
+-- the moments at which something of a held request is due, each of which may be missing
+abbrev pub moments_of : HeldRequest → List (Option ℕ)
+moments_of held =
     let waiting = if held.ledger.closed then [] else map due_moment held.ledger.waiting in
-    held.removal ∷ success ∷ waiting) state.requests)
+    held.removal ∷ option_and_then success_due held.success ∷ waiting
+
+-- The first moment at which a tick does something.
+unfoldable pub server_due : State → Option ℕ
+server_due state = fold earlier None (flat_map moments_of state.requests)

@@ -4,7 +4,7 @@ use Rattle.std.specs.List.{slice_get, slice_set}
 use Rattle.std.proofs.lemmas.Option.{slice_get_read}
 use Rattle.sip_served.specs.declared.held_request.HeldRequest.{HeldRequest}
 use Rattle.sip_served.specs.Respond.{answer_given_at, refusal_for}
-use Rattle.sip_served.specs.Rules.Responses.{respond_rule}
+use Rattle.sip_served.specs.Rules.Responses.{respond_command}
 use Rattle.sip_served.specs.State.{State, changed_at, has_id}
 use Rattle.sip_served.proofs.Changes.{given, ok_mapped}
 use Rattle.sip_served.proofs.ResponseRules.{respond_same}
@@ -40,7 +40,7 @@ returns-in-None c =
     (λ change. slice_set state.requests index (change h)) state c.args.event c.args.respond
     c.args.now h)
     (λ outs. (c.give.new.self, outs.items)
-    ≡ respond_rule state c.args.event c.args.respond c.args.now)
+    ≡ respond_command state c.args.event c.args.respond c.args.now)
     c.give.result
     (λ outs gave. gave held at ∙ given state c.args.event c.args.respond c.args.now index held found
     unrefused (λ change. changes change held at)
