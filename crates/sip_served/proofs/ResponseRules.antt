@@ -48,7 +48,7 @@ apart : (status : ℕ) → is_provisional status ≡ true → is_success status 
 apart status e = grind (arith, nat_tests)
 
 of_dialog_same : (held : HeldRequest) (status : ℕ)
-    → makes_or_confirms_dialog held status ≡ rule.makes_or_confirms_dialog held status
+    → makes_or_confirms_dialog held status ≡ rule.is_dialog_response held status
 of_dialog_same held status = ap (λ b. is_invite held.request && b) (below status)
 
 makes_same : (held : HeldRequest) (status : ℕ)
@@ -146,7 +146,7 @@ response_same local held respond number =
     ∙ ap (λ message. with_content_of message respond.content)
     (where_so (rule.is_sent_reliably held respond) _ _ _
     (λ e. ap (λ sent. with_rseq (result_ok sent)
-    (cond (rule.makes_or_confirms_dialog held respond.status) routed plain)) (number e)))
+    (cond (rule.is_dialog_response held respond.status) routed plain)) (number e)))
 
 -- ---- the dialogs
 
