@@ -1,4 +1,4 @@
--- When an id is another, and the order of ids.
+-- When two ids are the same, and their order.
 use Rattle.std.specs.Prelude.{Bool, ◌&&◌, ◌==◌, List}
 use Rattle.std.specs.declared.cmp.Ordering.{Ordering}
 use Rattle.std.specs.Ordering.{nat_cmp, on, then_cmp}

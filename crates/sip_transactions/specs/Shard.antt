@@ -1,4 +1,4 @@
--- What a shard of transactions shows, and what its calls are to one transaction.
+-- What a shard of transactions shows, and what its functions give to one transaction.
 use Rattle.std.specs.Prelude.{ℕ, Bool, not, ◌&&◌, Option, None, Some, if◌then◌else◌}
 use Rattle.sip_message.specs.declared.addr.Addr.{Addr}
 use Rattle.sip_message.specs.declared.id.Id.{Id}

@@ -47,8 +47,8 @@ came (start.Request uri) message reply_to =
     if bytes_eq message.cseq.method (codes "ACK") then (on.Ack, kind.Ack message)
     else (on.Request, kind.Request message reply_to)
 
--- what a row sends: the message that the user gave; what was sent last; 100 Trying, without a tag
--- (section 8.2.6.1); or the ACK of a response of 300 to 699 (section 17.1.1.3)
+-- what a row sends: the message that the user gave; what was sent last; 100 Trying, without a
+-- To tag (sections 8.2.6.2 and 17.2.1); or the ACK of a response of 300 to 699 (section 17.1.1.3)
 abbrev pub text_sent : Context → Option Message → Sent → Option (List ℕ)
 text_sent context message send.Nothing = None
 text_sent context message send.Given = option_map written message

@@ -1,7 +1,7 @@
 -- The tables of the four machines (RFC 3261, sections 17.1 and 17.2, and RFC 6026, section 7). Each
 -- row has the state and what comes; then the state after it, what goes up, what is sent, and what
--- becomes of the timers. The first row that fits counts; where none does, nothing happens. `None`
--- is no transaction. A timer's letter stands beside each row that sets it (+) or in which it fires
+-- becomes of the timers. The first row that fits counts, and by the last one of a table nothing
+-- happens. `None` is no transaction. A timer's letter stands beside each row that sets it (+) or in which it fires
 -- (!). T1 and T4 are those of RFC 3261, section 17, in ms.
 use Rattle.std.specs.Prelude.{codes, if◌then◌else◌, Option, None, Some}
 use Rattle.std.specs.Str.{bytes_eq}
@@ -29,8 +29,8 @@ use Rattle.sip_transactions.specs.declared.step.Pace.TheVariants.{Doubled, Cappe
 abbrev pub row : Next → Handed → Sent → Due → Step
 row next handed sent due = record { next = next; handed = handed; sent = sent; due = due }
 
--- The client of an INVITE: RFC 3261, section 17.1.1, and RFC 6026, section 7.2. The ACK of a 2xx
--- isn't its own. A repeats the request, B ends the wait for a response, D absorbs repeated
+-- INVITE client transaction: RFC 3261, section 17.1.1, and RFC 6026, section 7.2. The ACK of a 2xx is
+-- sent by the call, not by it. A repeats the request, B ends the wait for a response, D absorbs repeated
 -- responses, M passes on further 2xx.
 abbrev pub invite_client : Option State → Trigger → Step
 invite_client None Start = row (To Calling) up.Nothing send.Given Both  -- +A +B
@@ -43,12 +43,14 @@ invite_client (Some Calling) (Response 2xx) =
     row (To Accepted) up.Message send.Nothing (Ending 64*T1)  -- +M
 invite_client (Some Calling) (Response 300-699) =
     row (To Completed) up.Message send.Ack (Ending 64*T1)  -- +D
-invite_client (Some Calling) (Response 1xx) = row (To Proceeding) up.Message send.Nothing Clear
+invite_client (Some Calling) (Response left) =
+    row (To Proceeding) up.Message send.Nothing Clear  -- 100 to 199
 invite_client (Some Proceeding) (Response 2xx) =
     row (To Accepted) up.Message send.Nothing (Ending 64*T1)  -- +M
 invite_client (Some Proceeding) (Response 300-699) =
     row (To Completed) up.Message send.Ack (Ending 64*T1)  -- +D
-invite_client (Some Proceeding) (Response 1xx) = row (To Proceeding) up.Message send.Nothing Clear
+invite_client (Some Proceeding) (Response left) =
+    row (To Proceeding) up.Message send.Nothing Clear  -- 100 to 199
 invite_client (Some Completed) (Response 300-699) = row Same up.Nothing send.Latest Keep
 invite_client (Some Completed) Failed = row Ended up.Failed send.Nothing Clear
 invite_client (Some Completed) TimeoutDue = row Ended up.Nothing send.Nothing Clear  -- !D
@@ -56,7 +58,7 @@ invite_client (Some Accepted) (Response 2xx) = row Same up.Message send.Nothing 
 invite_client (Some Accepted) TimeoutDue = row Ended up.Nothing send.Nothing Clear  -- !M
 invite_client state other = row Same up.Nothing send.Nothing Keep
 
--- The client of another request: RFC 3261, section 17.1.2. E repeats the request, F ends the wait
+-- Non-INVITE client transaction: RFC 3261, section 17.1.2. E repeats the request, F ends the wait
 -- for a final response, K absorbs repeated responses.
 abbrev pub client : Option State → Trigger → Step
 client None Start = row (To Trying) up.Nothing send.Given Both  -- +E +F
@@ -70,16 +72,18 @@ client (Some Proceeding) Failed = row Ended up.Failed send.Nothing Clear
 client (Some Trying) (Response 2xx) = row (To Completed) up.Message send.Nothing (Ending T4)  -- +K
 client (Some Trying) (Response 300-699) =
     row (To Completed) up.Message send.Nothing (Ending T4)  -- +K
-client (Some Trying) (Response 1xx) = row (To Proceeding) up.Message send.Nothing Keep
+client (Some Trying) (Response left) =
+    row (To Proceeding) up.Message send.Nothing Keep  -- 100 to 199
 client (Some Proceeding) (Response 2xx) =
     row (To Completed) up.Message send.Nothing (Ending T4)  -- +K
 client (Some Proceeding) (Response 300-699) =
     row (To Completed) up.Message send.Nothing (Ending T4)  -- +K
-client (Some Proceeding) (Response 1xx) = row (To Proceeding) up.Message send.Nothing Keep
+client (Some Proceeding) (Response left) =
+    row (To Proceeding) up.Message send.Nothing Keep  -- 100 to 199
 client (Some Completed) TimeoutDue = row Ended up.Nothing send.Nothing Clear  -- !K
 client state other = row Same up.Nothing send.Nothing Keep
 
--- The server of an INVITE: RFC 3261, section 17.2.1, and RFC 6026, section 7.1. G repeats the
+-- INVITE server transaction: RFC 3261, section 17.2.1, and RFC 6026, section 7.1. G repeats the
 -- response, H ends the wait for the ACK, I absorbs repeated ACKs, L passes on the ACKs of a 2xx.
 abbrev pub invite_server : Option State → Trigger → Step
 invite_server None Request = row (To Proceeding) up.Message send.Trying Clear
@@ -105,7 +109,7 @@ invite_server (Some Confirmed) TimeoutDue = row Ended up.Nothing send.Nothing Cl
 invite_server (Some Confirmed) Failed = row Same up.Failed send.Nothing Keep
 invite_server state other = row Same up.Nothing send.Nothing Keep
 
--- The server of another request: RFC 3261, section 17.2.2. J keeps the response for repeated
+-- Non-INVITE server transaction: RFC 3261, section 17.2.2. J keeps the response for repeated
 -- requests.
 abbrev pub server : Option State → Trigger → Step
 server None Request = row (To Trying) up.Message send.Nothing Clear
