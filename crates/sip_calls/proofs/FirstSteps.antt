@@ -14,7 +14,7 @@ use Rattle.sip_common.specs.declared.item.CallOut.{CallOut}
 use Rattle.sip_common.specs.declared.item.Item.TheVariants.{Up, User}
 use Rattle.sip_common.specs.declared.notice.Notice.{Notice}
 use Rattle.sip_common.specs.declared.notice.Notice.TheVariants as notice
-use Rattle.sip_common.specs.Dialogs.{Dialogs, is_named}
+use Rattle.sip_common.specs.Dialogs.{Dialogs, is_dialog_id}
 use Rattle.sip_served.specs.Happenings.{accepts, answer_confirms, answer_opens}
 use Rattle.sip_served.proofs.DialogSteps.{ack_leads as server_ack, request_leads as server_request, respond_moves}
 use Rattle.sip_common.proofs.Entries.{none_apart}
@@ -178,4 +178,4 @@ module _ (life : DialogReference) where
       (done calls OfTheCall life state input).1) (λ state. ear life (side_held state).dialogs)
       (λ state. AreApart (side_held state).dialogs) life.created_by
       (λ state timed apart _. by_input calls state timed.input timed.moment apart) inputs None
-      (none_apart is_named) differ refl
+      (none_apart is_dialog_id) differ refl

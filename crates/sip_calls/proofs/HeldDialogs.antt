@@ -16,7 +16,7 @@ use Rattle.sip_common.specs.declared.item.CallOut.{CallOut}
 use Rattle.sip_common.specs.declared.item.CallOut.TheVariants.{Notice as Tells}
 use Rattle.sip_common.specs.declared.item.Item.TheVariants.{Up, User}
 use Rattle.sip_common.specs.declared.notice.Notice.TheVariants as notice
-use Rattle.sip_common.specs.Dialogs.{Dialogs, dialog_at, is_named}
+use Rattle.sip_common.specs.Dialogs.{Dialogs, dialog_at, is_dialog_id}
 use Rattle.sip_common.specs.Ids.{is_id}
 use Rattle.sip_common.specs.Sent.{name_of_dialog, sent_in}
 use Rattle.sip_common.proofs.EndedDialogs.{Goes, Which, ended_of, goes_as, goes_before, goes_same, left_of, lived_name, names_ended, no_name, none_ends, once}
@@ -265,19 +265,19 @@ input_sound calls state input now sound =
 still_named : (event : Option Id) (start : Option Opening) (came : Option ℕ) (life : Life)
     (begun : List Happening) (name : DialogId) (before : Option HeldDialog) (held : HeldDialog)
     → ((was : HeldDialog) → before ≡ Some was
-    → is_named name (name_of_dialog was.dialog) ≡ true)
+    → is_dialog_id name (name_of_dialog was.dialog) ≡ true)
     → Went event (OpensBy start name) came life begun before (Some held)
-    → is_named name (name_of_dialog held.dialog) ≡ true
+    → is_dialog_id name (name_of_dialog held.dialog) ≡ true
 still_named event start came life begun name None held named (inl stays) = absurd stays
 still_named event start came life begun name (Some was) held named (inl stays) =
-    ap (λ dialog. is_named name (name_of_dialog dialog)) stays.2.1
-    ∙ ap (is_named name) (lived_name was.dialog (life was)) ∙ named was refl
+    ap (λ dialog. is_dialog_id name (name_of_dialog dialog)) stays.2.1
+    ∙ ap (is_dialog_id name) (lived_name was.dialog (life was)) ∙ named was refl
 still_named event start came life begun name before held named (inr begins) =
     let opening = begins.2.0 in
     let opens = begins.2.1 in
     let grows = begins.2.2 in
-    ap (λ dialog. is_named name (name_of_dialog dialog)) grows.1
-    ∙ ap (is_named name) (lived_name (opened opening) begun) ∙ opens.1
+    ap (λ dialog. is_dialog_id name (name_of_dialog dialog)) grows.1
+    ∙ ap (is_dialog_id name) (lived_name (opened opening) begun) ∙ opens.1
 
 next_orderly : (calls : Calls) (input : Timed CallItem) (state : Option Call) → Orderly state
     → Orderly (call_step calls state input.input input.moment).0
@@ -299,7 +299,7 @@ next_orderly calls input state orderly =
 
 none_orderly : Orderly None
 none_orderly = record {
-  apart = none_apart is_named;
+  apart = none_apart is_dialog_id;
   named = λ name held at. absurd (never held at);
   sound = (none_apart is_id, tt);
 }

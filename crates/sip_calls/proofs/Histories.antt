@@ -13,7 +13,7 @@ use Rattle.sip_dialog.specs.Life.{Happening, dialog_after}
 use Rattle.sip_dialog.specs.Opening.{Opening, opened}
 use Rattle.sip_common.specs.declared.held_dialog.DialogId.{DialogId}
 use Rattle.sip_common.specs.declared.held_dialog.HeldDialog.{HeldDialog}
-use Rattle.sip_common.specs.Dialogs.{dialog_at, happened, is_named}
+use Rattle.sip_common.specs.Dialogs.{dialog_at, happened, is_dialog_id}
 use Rattle.sip_common.specs.Ids.{is_id}
 use Rattle.sip_common.specs.Lives.{AllFit}
 use Rattle.sip_common.specs.Sent.{NumberedAfter, NumberedFrom, cseqs_in, name_of_dialog, number_before, requests_made}
@@ -44,7 +44,7 @@ Stands name None history ids = Unit {0}
 Stands name (Some held) None ids = ⊥
 Stands name (Some held) (Some history) ids =
     (held.dialog ≡ dialog_after history.opening history.life)
-    × (is_named name (name_of_dialog (opened history.opening)) ≡ true)
+    × (is_dialog_id name (name_of_dialog (opened history.opening)) ≡ true)
     × NoneOf held.created_by ids
     × (how_many history.life ≡ length history.sent)
     × NumberedAfter (opened history.opening).local_cseq history.sent
@@ -189,13 +189,13 @@ module _ (name : DialogId) (event : Option Id) (ids : List Id) (start : Option O
 
 named_so : (name : DialogId) (o : Option HeldDialog) (history : Option History) (ids : List Id)
     → Stands name o history ids → (held : HeldDialog) → o ≡ Some held
-    → is_named name (name_of_dialog held.dialog) ≡ true
+    → is_dialog_id name (name_of_dialog held.dialog) ≡ true
 named_so name None history ids stands held at = absurd cc
 named_so name (Some there) None ids stands held at = absurd stands
 named_so name (Some there) (Some history) ids stands held at =
     let same : there ≡ held = cc in
-    ap (λ (held : HeldDialog). is_named name (name_of_dialog held.dialog)) (sym same)
-    ∙ ap (λ dialog. is_named name (name_of_dialog dialog)) stands.0 ∙ stands.1
+    ap (λ (held : HeldDialog). is_dialog_id name (name_of_dialog held.dialog)) (sym same)
+    ∙ ap (λ dialog. is_dialog_id name (name_of_dialog dialog)) stands.0 ∙ stands.1
 
 pub rest_differ : (event : Option Id) (ids : List Id) → IsDistinct is_id (cons_option event ids)
     → IsDistinct is_id ids
@@ -259,7 +259,7 @@ from calls (input ∷ inputs) state histories differ sound =
 
 -- before all inputs
 pub none_yet : {ids : List Id} → Sound None (λ name. None) ids
-none_yet = record { apart = none_apart is_named; stand = λ name. tt }
+none_yet = record { apart = none_apart is_dialog_id; stand = λ name. tt }
 
 -- after all inputs, of which nothing was held before
 sound_after : (calls : Calls) (inputs : List (Timed CallItem)) → EventsDiffer inputs

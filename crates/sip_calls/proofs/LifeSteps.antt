@@ -15,7 +15,7 @@ use Rattle.sip_common.specs.declared.item.CallOut.{CallOut}
 use Rattle.sip_common.specs.declared.item.Item.TheVariants.{Up, User}
 use Rattle.sip_common.specs.declared.notice.Notice.{Notice}
 use Rattle.sip_common.specs.declared.notice.Notice.TheVariants as notice
-use Rattle.sip_common.specs.Dialogs.{Dialogs, dialog_at, is_named}
+use Rattle.sip_common.specs.Dialogs.{Dialogs, dialog_at, is_dialog_id}
 use Rattle.sip_common.specs.Sent.{cseqs_in, number_before, sent_in}
 use Rattle.sip_common.proofs.Entries.{none_apart}
 use Rattle.sip_common.proofs.Heard.{AreApart, Leads, Lives, Moves, leads_filtered, leads_same, moves_as, moves_led, none_came, quiet}
@@ -177,7 +177,7 @@ tick_step call now apart =
 none_held : (event : Option Id) (lives : Lives) (outs : List CallOut)
     → MovesTo event None lives outs [] []
 none_held event lives outs =
-    led event lives outs [] [] record { apart = none_apart is_named; stays = λ name. tt }
+    led event lives outs [] [] record { apart = none_apart is_dialog_id; stays = λ name. tt }
     (λ name. tt)
 
 no_opening : (local : Calls) (id : Id) (k : Kind)

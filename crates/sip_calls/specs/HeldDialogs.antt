@@ -19,9 +19,9 @@ use Rattle.sip_common.specs.declared.item.CallOut.TheVariants.{Notice}
 use Rattle.sip_common.specs.declared.item.Item.{Item}
 use Rattle.sip_common.specs.declared.item.Item.TheVariants.{Up, User}
 use Rattle.sip_common.specs.declared.notice.Notice.TheVariants.{Ended}
-use Rattle.sip_common.specs.Dialogs.{dialog_at, is_early_of, is_named}
+use Rattle.sip_common.specs.Dialogs.{dialog_at, is_early_of, is_dialog_id}
 use Rattle.sip_common.specs.Ids.{is_id}
-use Rattle.sip_common.specs.Requests.{is_final, has_to_tag, name_of_tags}
+use Rattle.sip_common.specs.Requests.{is_final, has_to_tag, dialog_id_of_tags}
 use Rattle.sip_common.specs.Sent.{cseqs_in}
 use Rattle.sip_served.specs.Endings.{ended_by_answer, ended_by_request, opened_by_answer}
 use Rattle.sip_clients.specs.declared.client.Client.{Client}
@@ -58,7 +58,7 @@ is_early_response status response =
 abbrev pub opened_by_reply : ℕ → Client → Message → DialogId → Bool
 opened_by_reply status client response name =
     let own = reply_name client.kind client response in
-    opens_dialogs client.kind && is_named own name
+    opens_dialogs client.kind && is_dialog_id own name
     && (is_first_success status client own || is_early_response status response)
 
 -- the response to the request of this id
@@ -73,8 +73,8 @@ opened_by_response id response clients name =
 -- the dialog that a request was sent in, as it was then
 abbrev pub was_sent_in : RequestKind → DialogId → HeldDialog → Bool
 was_sent_in InitialInvite name held = false
-was_sent_in (ReInvite life) name held = is_named life.name name && is_id held.created_by life.created_by
-was_sent_in (InDialog life) name held = is_named life.name name && is_id held.created_by life.created_by
+was_sent_in (ReInvite life) name held = is_dialog_id life.name name && is_id held.created_by life.created_by
+was_sent_in (InDialog life) name held = is_dialog_id life.name name && is_id held.created_by life.created_by
 was_sent_in OutOfDialog name held = false
 
 -- With a request that is over end the early dialogs that it made and, where the peer has the dialog
@@ -170,12 +170,12 @@ ends call timed outs name =
 -- the dialog of whose end an output tells the user
 abbrev pub name_ended_by : CallOut → Option DialogId
 name_ended_by (Notice (Ended call_id local_tag remote_tag)) =
-    Some (name_of_tags local_tag remote_tag)
+    Some (dialog_id_of_tags local_tag remote_tag)
 name_ended_by _ = None
 
 -- how often outputs tell of the end of the dialog of the name
 abbrev pub ends_told : DialogId → List CallOut → ℕ
-ends_told name outs = count_by (is_named name) (filter_map name_ended_by outs)
+ends_told name outs = count_by (is_dialog_id name) (filter_map name_ended_by outs)
 
 -- ---- a list of inputs
 

@@ -17,7 +17,7 @@ use Rattle.sip_common.specs.declared.held_dialog.HeldDialog.{HeldDialog}
 use Rattle.sip_common.specs.declared.item.CallOut.{CallOut}
 use Rattle.sip_common.specs.declared.item.Item.{Item}
 use Rattle.sip_common.specs.declared.item.Item.TheVariants.{Up, User}
-use Rattle.sip_common.specs.Dialogs.{Dialogs, dialog_at, is_named, lives}
+use Rattle.sip_common.specs.Dialogs.{Dialogs, dialog_at, is_dialog_id, lives}
 use Rattle.sip_common.specs.Sent.{NumberedAfter, NumberedFrom, cseqs_in, name_of_dialog, number_before, requests_made, sent_in}
 use Rattle.sip_served.specs.Happenings.{accepts, answer_confirms, answer_opens}
 use Rattle.sip_clients.specs.Happenings.{response_brings, response_opens}
@@ -148,7 +148,7 @@ abbrev pub HasItsName : Type 0
 HasItsName = (calls : Calls) (inputs : List (Timed CallItem)) → EventsDiffer inputs
     → (name : DialogId) (held : HeldDialog)
     → dialog_at name (side_held (call_from calls None inputs)).dialogs ≡ Some held
-    → is_named name (name_of_dialog held.dialog) ≡ true
+    → is_dialog_id name (name_of_dialog held.dialog) ≡ true
 
 -- its local CSeq is that of its opening, and one more for each request that went out in it
 abbrev pub CountsItsRequests : Type 0

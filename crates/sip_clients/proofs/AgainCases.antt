@@ -9,7 +9,7 @@ use Rattle.sip_common.specs.declared.pending_request.PendingRequest.TheVariants.
 use Rattle.sip_common.specs.declared.held_dialog.DialogReference.{DialogReference}
 use Rattle.sip_common.specs.declared.held_dialog.DialogId.{DialogId}
 use Rattle.sip_common.specs.declared.held_dialog.HeldDialog.{HeldDialog}
-use Rattle.sip_common.specs.Dialogs.{dialog_at, is_named, lives, Dialogs}
+use Rattle.sip_common.specs.Dialogs.{dialog_at, is_dialog_id, lives, Dialogs}
 use Rattle.sip_common.specs.Ids.{is_id}
 use Rattle.sip_common.proofs.Entries as entries
 use Rattle.sip_common.proofs.Heard.{name_laws}
@@ -75,22 +75,22 @@ success_unheard own client answer found =
 -- ---- lives
 
 pub lives_same : (life own : DialogReference) (dialogs : Dialogs)
-    → (is_named life.name own.name && is_id own.created_by life.created_by) ≡ true
+    → (is_dialog_id life.name own.name && is_id own.created_by life.created_by) ≡ true
     → lives dialogs own ≡ lives dialogs life
 lives_same life own dialogs same =
-    let named = first_so (is_named life.name own.name) (is_id own.created_by life.created_by) same in
+    let named = first_so (is_dialog_id life.name own.name) (is_id own.created_by life.created_by) same in
     let created_by = id_exact own.created_by life.created_by
-    (second_so (is_named life.name own.name) (is_id own.created_by life.created_by) same) in
+    (second_so (is_dialog_id life.name own.name) (is_id own.created_by life.created_by) same) in
     λ i. option_map_or (λ (held : HeldDialog). is_id held.created_by (created_by i))
     (entries.same_key name_laws life.name own.name dialogs named i) false
 
 -- the dialog of a name is another of the same life
 lives_put : (life : DialogReference) (name : DialogId) (held after : HeldDialog) (dialogs : Dialogs)
     → dialog_at name dialogs ≡ Some held → after.created_by ≡ held.created_by
-    → lives (insert_entry is_named dialogs name after) life ≡ lives dialogs life
+    → lives (insert_entry is_dialog_id dialogs name after) life ≡ lives dialogs life
 lives_put life name held after dialogs is created_by =
     ap is_own (entries.found_inserted name_laws name life.name after dialogs)
-    ∙ by_bool (is_named name life.name)
+    ∙ by_bool (is_dialog_id name life.name)
     (λ same. ap (λ b. is_own (cond b (Some after) (dialog_at life.name dialogs))) same
     ∙ ap (λ id. is_id id life.created_by) created_by
     ∙ ap is_own (sym (entries.same_key name_laws name life.name dialogs same ∙ is)))
@@ -102,7 +102,7 @@ lives_put life name held after dialogs is created_by =
 pub lives_owed : (life own : DialogReference) (number : ℕ) (client : Client) (dialogs : Dialogs)
     (answer : ReceivedResponse) (found : Option HeldDialog) → dialog_at answer.name dialogs ≡ found
     → has_dialog (ReInvite own) found ≡ true
-    → lives (insert_entry is_named dialogs answer.name
+    → lives (insert_entry is_dialog_id dialogs answer.name
     (prack_owed number (again own client) (dialog_for_provisional (again own client) answer found)
     answer).0) life
     ≡ lives dialogs life

@@ -15,7 +15,7 @@ use Rattle.sip_common.specs.declared.held_dialog.DialogReference.{DialogReferenc
 use Rattle.sip_common.specs.declared.held_dialog.DialogId.{DialogId}
 use Rattle.sip_common.specs.declared.item.CallOut.{CallOut}
 use Rattle.sip_common.specs.declared.refusal.Refusal.TheVariants.{BadMethod}
-use Rattle.sip_common.specs.Dialogs.{is_named, lives, Dialogs}
+use Rattle.sip_common.specs.Dialogs.{is_dialog_id, lives, Dialogs}
 use Rattle.sip_common.specs.Ids.{is_id}
 use Rattle.sip_common.proofs.Entries as entries
 use Rattle.sip_common.proofs.Heard.{id_laws}
@@ -55,7 +55,7 @@ AreApart clients = entries.Apart id_laws clients
 abbrev pub asks_ear : DialogReference → RequestKind → Option ℕ → Option (Option ℕ)
 asks_ear life InitialInvite last_rseq = None
 asks_ear life (ReInvite own) last_rseq =
-    if is_named life.name own.name && is_id own.created_by life.created_by then Some last_rseq else None
+    if is_dialog_id life.name own.name && is_id own.created_by life.created_by then Some last_rseq else None
 asks_ear life (InDialog own) last_rseq = None
 asks_ear life OutOfDialog last_rseq = None
 
@@ -67,7 +67,7 @@ asks_fresh : (life : DialogReference) (kind : RequestKind) (last_rseq : Option �
     → (asks_ear life kind last_rseq ≡ None) ⊎ (asks_ear life kind last_rseq ≡ Some None)
 asks_fresh life InitialInvite last_rseq none = inl refl
 asks_fresh life (ReInvite own) last_rseq none =
-    elim (is_named life.name own.name
+    elim (is_dialog_id life.name own.name
     && is_id own.created_by life.created_by) as (λ b. ((if b then Some last_rseq else None) ≡ None)
     ⊎ ((if b then Some last_rseq else None) ≡ Some None)) [
       | true ↦ inr (ap (λ h. Some h) none)

@@ -11,7 +11,7 @@ use Rattle.sip_reliable.specs.Inbound.{latest_after, offered, taken}
 use Rattle.sip_common.specs.declared.held_dialog.DialogReference.{DialogReference}
 use Rattle.sip_common.specs.declared.held_dialog.HeldDialog.{HeldDialog}
 use Rattle.sip_common.specs.declared.item.CallOut.{CallOut}
-use Rattle.sip_common.specs.Dialogs.{dialog_at, is_named, lives, Dialogs}
+use Rattle.sip_common.specs.Dialogs.{dialog_at, is_dialog_id, lives, Dialogs}
 use Rattle.sip_common.specs.Requests.{is_final, has_to_tag, is_success}
 use Rattle.sip_common.specs.Ids.{is_id}
 use Rattle.sip_common.proofs.Entries as entries
@@ -182,7 +182,7 @@ module _ (life : DialogReference) (invite : Id) (event : Option Id) (answer : Re
   module _ (own : DialogReference) (client : Client) (named : answer.name ≡ own.name)
       (is : client_at answer.id side.clients ≡ Some (again own client))
       (same : is_id answer.id invite ≡ true)
-      (ours : (is_named life.name own.name && is_id own.created_by life.created_by) ≡ true) where
+      (ours : (is_dialog_id life.name own.name && is_id own.created_by life.created_by) ≡ true) where
     abbrev found : Client
     found = again own client
 

@@ -7,7 +7,7 @@ use Rattle.sip_message.specs.declared.id.Id.{Id}
 use Rattle.sip_message.specs.declared.message.Message.{Message}
 use Rattle.sip_common.specs.declared.held_dialog.DialogReference.{DialogReference}
 use Rattle.sip_common.specs.declared.item.CallOut.{CallOut}
-use Rattle.sip_common.specs.Dialogs.{is_named, lives}
+use Rattle.sip_common.specs.Dialogs.{is_dialog_id, lives}
 use Rattle.sip_common.specs.Requests.{is_final}
 use Rattle.sip_common.specs.Ids.{is_id}
 use Rattle.sip_clients.specs.declared.client.RequestKind.{RequestKind}
@@ -77,7 +77,7 @@ module _ (life : DialogReference) (invite : Id) (event : Option Id) (of : Event)
   by_life : (status : ℕ) (client : Client) (own : DialogReference)
       → client_at id side.clients ≡ Some (with_asks (ReInvite own) client)
       → (b ours : Bool) → is_id id invite ≡ b
-      → (is_named life.name own.name && is_id own.created_by life.created_by) ≡ ours
+      → (is_dialog_id life.name own.name && is_id own.created_by life.created_by) ≡ ours
       → SideResult (if b && ours then provisional_number (Some status) response else None)
       (side_after of id side None (done_of status (with_asks (ReInvite own) client)))
   by_life status client own is false ours same is_ours =
@@ -102,7 +102,7 @@ module _ (life : DialogReference) (invite : Id) (event : Option Id) (of : Event)
       (λ last_rseq. refl)
   settles status client (ReInvite own) is =
       by_life status client own is (is_id id invite)
-      (is_named life.name own.name && is_id own.created_by life.created_by) refl refl
+      (is_dialog_id life.name own.name && is_id own.created_by life.created_by) refl refl
   settles status client (InDialog own) is =
       let found = with_asks (InDialog own) client in
       no_invite life invite event (answer_for status found) made side apart once found is

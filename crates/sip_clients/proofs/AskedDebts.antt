@@ -31,7 +31,7 @@ use Rattle.sip_clients.specs.Clients.{settled}
 use Rattle.sip_clients.specs.Outputs.{direct, start_command}
 use Rattle.sip_clients.specs.Provisionals.{is_response}
 use Rattle.sip_clients.specs.Replied.{by_reply_case}
-use Rattle.sip_clients.specs.ReceivedResponse.{is_inviting, has_dialog, offer_case, reliable_case}
+use Rattle.sip_clients.specs.ReceivedResponse.{is_invite_kind, has_dialog, offer_case, reliable_case}
 use Rattle.sip_clients.proofs.DialogDebts.{neither_way, unless_out}
 
 -- ---- a response: what is given
@@ -157,7 +157,7 @@ module _ (goes : PendingRequest → Bool) (ack : PendingRequest) (prack : ℕ �
   -- the last response asks for nothing
   pub last_asks : (kind : RequestKind) (found : Option HeldDialog)
       (named final success inside told : Bool) (rseq : Option ℕ)
-      → (final && not (is_inviting kind && success)) ≡ true
+      → (final && not (is_invite_kind kind && success)) ≡ true
       → (if named && has_dialog kind found then left_by told goes
       (asked_by success final inside rseq) else []) ≡ []
   last_asks kind found named false success inside told rseq last =

@@ -16,7 +16,7 @@ use Rattle.sip_common.specs.declared.held_dialog.DialogId.{DialogId}
 use Rattle.sip_common.specs.declared.held_dialog.HeldDialog.{HeldDialog}
 use Rattle.sip_common.specs.declared.refusal.Refusal.{Refusal}
 use Rattle.sip_common.specs.declared.refusal.Refusal.TheVariants.{NoSuchDialog}
-use Rattle.sip_common.specs.Dialogs.{dialog_at, is_named}
+use Rattle.sip_common.specs.Dialogs.{dialog_at, is_dialog_id}
 use Rattle.sip_common.specs.Ids.{is_id}
 use Rattle.sip_common.specs.Notices.{refused}
 use Rattle.sip_common.specs.Requests.{is_final}
@@ -98,7 +98,7 @@ module _ (event : Event) (side : Side) (apart : AreApart side.dialogs)
           → paid_in command (debt_or_refusal kind.Ack o) other held ≡ []
       by_debt None is = refl
       by_debt (Some (Ack invite number)) is =
-          none_either (is_named (name_in command.local_tag command.remote_tag) other)
+          none_either (is_dialog_id (name_in command.local_tag command.remote_tag) other)
       by_debt (Some (Prack rseq number)) is =
           let wrong : false ≡ true =
           found_passes (is_of kind.Ack) there.pending_requests (Prack rseq number) is in absurd cc

@@ -14,7 +14,7 @@ use Rattle.sip_common.specs.declared.held_dialog.HeldDialog.{HeldDialog}
 use Rattle.sip_common.specs.declared.item.CallOut.{CallOut}
 use Rattle.sip_common.specs.declared.refusal.Refusal.{Refusal}
 use Rattle.sip_common.specs.declared.refusal.Refusal.TheVariants.{NoSuchDialog}
-use Rattle.sip_common.specs.Dialogs.{Dialogs, dialog_at, is_named}
+use Rattle.sip_common.specs.Dialogs.{Dialogs, dialog_at, is_dialog_id}
 use Rattle.sip_common.specs.Notices.{refused}
 use Rattle.sip_common.specs.Refusal.{first_refusal}
 use Rattle.sip_common.proofs.Entries as entries
@@ -90,9 +90,9 @@ module _ (event : Event) (command : DialogBody) (side : Side) where
   nothing_paid kind outs none name =
       let held = dialog_at name side.dialogs in
       still_as unchanged (command_pays kind command name outs) held held
-      (λ pending_requests. sym (ap (λ b. if is_named asked_name name && b then oldest_paid kind pending_requests
+      (λ pending_requests. sym (ap (λ b. if is_dialog_id asked_name name && b then oldest_paid kind pending_requests
       else pending_requests) (none name)
-      ∙ neither_way (is_named asked_name name) (oldest_paid kind pending_requests) pending_requests)) (still_same held)
+      ∙ neither_way (is_dialog_id asked_name name) (oldest_paid kind pending_requests) pending_requests)) (still_same held)
 
   refused_pays : (kind : PendingKind) (refusal : Refusal)
       → Pays kind (refused event.id command.call_id refusal) side.dialogs
@@ -103,7 +103,7 @@ module _ (event : Event) (command : DialogBody) (side : Side) where
 
   debt_paid : (kind : PendingKind) (pending : PendingRequest) (held : HeldDialog) (outs : List CallOut)
       → dialog_at asked_name side.dialogs ≡ Some held → find (is_of kind) held.pending_requests ≡ Some pending
-      → ((name : DialogId) → is_named asked_name name ≡ true
+      → ((name : DialogId) → is_dialog_id asked_name name ≡ true
       → goes_out kind name outs ≡ goes (paid event pending command.content held).1)
       → Pays kind outs (paid_at asked_name event pending command.content side.dialogs).0
   debt_paid kind pending held outs at oldest goes_so name =
@@ -112,9 +112,9 @@ module _ (event : Event) (command : DialogBody) (side : Side) where
       (sym (served_dialogs asked_name (paid event pending command.content) Waits side.dialogs))
       (subst (OwesStill (command_pays kind command name outs) (dialog_at name side.dialogs))
       (sym (entries.found_changed name_laws asked_name name (paid_of pending) side.dialogs))
-      (by_name (is_named asked_name name) refl))
+      (by_name (is_dialog_id asked_name name) refl))
     where
-      by_name : (b : Bool) → is_named asked_name name ≡ b
+      by_name : (b : Bool) → is_dialog_id asked_name name ≡ b
           → OwesStill (command_pays kind command name outs) (dialog_at name side.dialogs)
           (cond b (option_map (paid_of pending) (dialog_at name side.dialogs))
           (dialog_at name side.dialogs))
@@ -177,7 +177,7 @@ module _ (event : Event) (command : DialogBody) (side : Side) where
 
   module _ (named : AreNamed side.dialogs) where
     prack_out : (pending : PendingRequest) (held : HeldDialog) → dialog_at asked_name side.dialogs ≡ Some held
-        → is_of kind.Prack pending ≡ true → (name : DialogId) → is_named asked_name name ≡ true
+        → is_of kind.Prack pending ≡ true → (name : DialogId) → is_dialog_id asked_name name ≡ true
         → let done = paid_at asked_name event pending command.content side.dialogs in
         let said = request_said event command.call_id asked_name done.1 in
         goes_out kind.Prack name

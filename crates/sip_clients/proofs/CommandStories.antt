@@ -24,7 +24,7 @@ use Rattle.sip_common.specs.declared.held_dialog.HeldDialog.{HeldDialog}
 use Rattle.sip_common.specs.declared.item.CallOut.{CallOut}
 use Rattle.sip_common.specs.declared.refusal.Refusal.{Refusal}
 use Rattle.sip_common.specs.declared.refusal.Refusal.TheVariants.{AlreadyFinal, BadMethod, NoSuchDialog, NoSuchRequest}
-use Rattle.sip_common.specs.Dialogs.{Dialogs, dialog_at, is_named}
+use Rattle.sip_common.specs.Dialogs.{Dialogs, dialog_at, is_dialog_id}
 use Rattle.sip_common.specs.Ids.{is_id}
 use Rattle.sip_common.specs.Notices.{refused}
 use Rattle.sip_common.specs.Refusal.{first_refusal}
@@ -57,7 +57,7 @@ use Rattle.sip_clients.specs.OwnCall.{on_side}
 use Rattle.sip_clients.specs.Outputs.{ack_said, kind_in, request_said, sent_ack, start_command}
 use Rattle.sip_clients.specs.Outside.{invite_of, plain_of}
 use Rattle.sip_clients.specs.RefusedCommands.{is_refusal}
-use Rattle.sip_clients.specs.ReceivedResponse.{is_inviting}
+use Rattle.sip_clients.specs.ReceivedResponse.{is_invite_kind}
 use Rattle.sip_clients.specs.SendOutcome.{Outcome, discharged, sending_in, service_by}
 use Rattle.sip_clients.specs.Tick.{clients_ticked, is_over}
 use Rattle.sip_clients.proofs.ClientRecords.{any_more, asked_again, client_happened, or_false}
@@ -146,7 +146,7 @@ module _ (event : Event) (name : DialogId) (dialogs : Dialogs) where
     where
       by_found : (o : Option HeldDialog) → IsBorn (born_in o)
           (option_map_or {U = Dialogs × SendOutcome} (λ held. (
-            set_value (is_named name) dialogs (serve held).0,
+            set_value (is_dialog_id name) dialogs (serve held).0,
             (serve held).1,
           )) o (dialogs, otherwise)).1
       by_found None = other event.id
@@ -380,7 +380,7 @@ module _ (event : Event) (command : Cancel) (side : Side) (stories : ClientStori
   by_found : (o : Option Client) → client_at command.id side.clients ≡ o
       → CancelTold (cancelled_of o event command side.clients)
   by_found None at = told
-  by_found (Some invite) at = by_kind invite at (is_inviting invite.kind)
+  by_found (Some invite) at = by_kind invite at (is_invite_kind invite.kind)
 
   cancel_holds_so : CancelTold (cancelled_of (client_at command.id side.clients) event command
       side.clients)
@@ -466,7 +466,7 @@ module _ (event : Event) (command : Cancel) (side : Side) (stories : ClientStori
         ∙ sym (lookup-map_values client_told (is_id command.id) stories)
         ∙ sym (ap (lookup (is_id command.id)) told) ∙ at)
 
-    module _ (inviting : is_inviting invite.kind ≡ true)
+    module _ (inviting : is_invite_kind invite.kind ≡ true)
         (none : is_some invite.removal ≡ false) where
       asks_alone : AllLive (happens_to command.id (AsksCancel event.id ∷ []) stories)
       asks_alone =
@@ -521,14 +521,14 @@ module _ (event : Event) (command : Cancel) (side : Side) (stories : ClientStori
       lives_by_state provisional (cancel.Waits id) came is = asks_alone
       lives_by_state provisional cancel.Sent came is = asks_alone
 
-    lives_by_removal : is_inviting invite.kind ≡ true → (final : Bool)
+    lives_by_removal : is_invite_kind invite.kind ≡ true → (final : Bool)
         → is_some invite.removal ≡ final → AskedLives (if final then ask.Refused AlreadyFinal
         else asking_case invite.provisional invite.cancel)
     lives_by_removal inviting true is = all
     lives_by_removal inviting false is =
         lives_by_state inviting is invite.provisional invite.cancel refl refl
 
-    lives_by_kind : (inviting : Bool) → is_inviting invite.kind ≡ inviting
+    lives_by_kind : (inviting : Bool) → is_invite_kind invite.kind ≡ inviting
         → AskedLives (if not inviting then ask.Refused NoSuchRequest
         else (if is_some invite.removal then ask.Refused AlreadyFinal
         else asking_case invite.provisional invite.cancel))
@@ -538,7 +538,7 @@ module _ (event : Event) (command : Cancel) (side : Side) (stories : ClientStori
   lives_by_found : (o : Option Client) → client_at command.id side.clients ≡ o
       → CancelLives (cancelled_of o event command side.clients)
   lives_by_found None at = all
-  lives_by_found (Some invite) at = lives_by_kind invite at (is_inviting invite.kind) refl
+  lives_by_found (Some invite) at = lives_by_kind invite at (is_invite_kind invite.kind) refl
 
 pub cancel_rules : (event : Event) (command : Cancel)
     → HoldsRules (cancel_by_user event command)

@@ -13,7 +13,7 @@ use Rattle.sip_common.specs.declared.pending_request.PendingRequest.TheVariants.
 use Rattle.sip_common.specs.declared.held_dialog.DialogId.{DialogId}
 use Rattle.sip_common.specs.declared.held_dialog.HeldDialog.{HeldDialog}
 use Rattle.sip_common.specs.declared.item.CallOut.{CallOut}
-use Rattle.sip_common.specs.Dialogs.{Dialogs, ended_at, is_early_of, is_named, lives}
+use Rattle.sip_common.specs.Dialogs.{Dialogs, ended_at, is_early_of, is_dialog_id, lives}
 use Rattle.sip_common.specs.Sent.{name_of_dialog}
 use Rattle.sip_common.proofs.Entries as entries
 use Rattle.sip_common.proofs.Heard.{AreApart, name_laws}
@@ -158,7 +158,7 @@ ack_goes event call_id Waits = refl
 ack_goes event call_id (Refused refusal) = refl
 
 module _ (name own : DialogId) (event : Event) (held : HeldDialog)
-    (named : is_named own (name_of_dialog held.dialog) ≡ true) (same : is_named own name ≡ true)
+    (named : is_dialog_id own (name_of_dialog held.dialog) ≡ true) (same : is_dialog_id own name ≡ true)
   where
     prack_discharged : (rseq number : ℕ) (offer : Option Content)
         → list_any is_of_prack

@@ -9,7 +9,7 @@ use Rattle.sip_dialog.specs.Opening.{Opening}
 use Rattle.sip_common.specs.declared.held_dialog.DialogId.{DialogId}
 use Rattle.sip_common.specs.declared.held_dialog.HeldDialog.{HeldDialog}
 use Rattle.sip_common.specs.declared.item.CallOut.{CallOut}
-use Rattle.sip_common.specs.Dialogs.{Dialogs, dialog_at, is_named}
+use Rattle.sip_common.specs.Dialogs.{Dialogs, dialog_at, is_dialog_id}
 use Rattle.sip_common.specs.Sent.{NumberedAfter, NumberedFrom, cseq_of_request, cseqs_in, name_of_dialog, number_before, requests_made, sent_in}
 use Rattle.sip_common.proofs.Heard.{Leads, Lives, in_one, leads_as, quiet}
 use Rattle.sip_common.proofs.Starts.{cseqs_both, none_numbered, numbered_none, starts}
@@ -26,7 +26,7 @@ use Rattle.sip_clients.proofs.SentIn.{service_cseqs}
 -- each dialog is held under the name of its tags
 abbrev pub AreNamed : Dialogs → Type 0
 AreNamed dialogs = (name : DialogId) (held : HeldDialog) → dialog_at name dialogs ≡ Some held
-    → is_named name (name_of_dialog held.dialog) ≡ true
+    → is_dialog_id name (name_of_dialog held.dialog) ≡ true
 
 -- what goes out in it is all that happens
 abbrev pub by_outs : List CallOut → Lives
@@ -70,12 +70,12 @@ pub sends_one : (own : DialogId) (cseqs : HeldDialog → List CSeq) (outs : List
     (dialogs after : Dialogs)
     → ((held : HeldDialog) → NumberedAfter held.dialog.local_cseq (cseqs held))
     → ((name : DialogId) (held : HeldDialog) → dialog_at name dialogs ≡ Some held
-    → cond (is_named own name) (cseqs held) [] ≡ cseqs_in name outs)
+    → cond (is_dialog_id own name) (cseqs held) [] ≡ cseqs_in name outs)
     → Leads (in_one own (λ held. requests_made (cseqs held))) dialogs after
     → Sends outs dialogs after
 sends_one own cseqs outs dialogs after numbers same leads = record {
   leads = leads_as (in_one own (λ held. requests_made (cseqs held))) (by_outs outs) dialogs after
-      (λ name held at. made_either (is_named own name) (cseqs held)
+      (λ name held at. made_either (is_dialog_id own name) (cseqs held)
       ∙ ap requests_made (same name held at)) leads;
   numbered = λ name. by_found name (dialog_at name dialogs) refl;
 }
@@ -85,7 +85,7 @@ sends_one own cseqs outs dialogs after numbers same leads = record {
     by_found name None at = tt
     by_found name (Some held) at =
         subst (NumberedAfter held.dialog.local_cseq) (same name held at)
-        (numbered_either (is_named own name) held.dialog.local_cseq (cseqs held) (numbers held))
+        (numbered_either (is_dialog_id own name) held.dialog.local_cseq (cseqs held) (numbers held))
 
 pub after_silent : (name : DialogId) (xs ys : List CallOut) → starts xs ≡ []
     → cseqs_in name (xs ++ ys) ≡ cseqs_in name ys

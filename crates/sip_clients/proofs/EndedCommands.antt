@@ -16,7 +16,7 @@ use Rattle.sip_common.specs.declared.held_dialog.HeldDialog.{HeldDialog}
 use Rattle.sip_common.specs.declared.item.CallOut.{CallOut}
 use Rattle.sip_common.specs.declared.refusal.Refusal.{Refusal}
 use Rattle.sip_common.specs.declared.refusal.Refusal.TheVariants.{BadMethod, NoSuchDialog}
-use Rattle.sip_common.specs.Dialogs.{Dialogs, dialog_at, ended_at, is_named}
+use Rattle.sip_common.specs.Dialogs.{Dialogs, dialog_at, ended_at, is_dialog_id}
 use Rattle.sip_common.specs.Notices.{refused}
 use Rattle.sip_common.specs.Refusal.{first_refusal}
 use Rattle.sip_common.specs.Sent.{cseqs_in, name_of_dialog}
@@ -111,7 +111,7 @@ module _ (event : Event) (side : Side) (apart : AreApart side.dialogs)
 
   -- what goes out in the dialog of a name
   given : (name : DialogId) (held : HeldDialog) → dialog_at name side.dialogs ≡ Some held
-      → cond (is_named own name) (request_cseqs command.method held.dialog) []
+      → cond (is_dialog_id own name) (request_cseqs command.method held.dialog) []
       ≡ cseqs_in name outs
   unfolding requested_at
   given name held at =
@@ -145,9 +145,9 @@ module _ (event : Event) (side : Side) (apart : AreApart side.dialogs)
       by_refusal held (first_refusal (request_refusals held.dialog command.method) None)
 
   same_end : (name : DialogId) (held : HeldDialog) → dialog_at name side.dialogs ≡ Some held
-      → (sends_bye done.1 && is_named own name) ≡ gives_bye name outs
+      → (sends_bye done.1 && is_dialog_id own name) ≡ gives_bye name outs
   same_end name held at =
-      by_name (is_named own name) refl
+      by_name (is_dialog_id own name) refl
       ∙ ap (λ cseqs. list_any is_of_bye cseqs) (given name held at)
     where
       never : (b : Bool) → (b && false) ≡ false
@@ -158,7 +158,7 @@ module _ (event : Event) (side : Side) (apart : AreApart side.dialogs)
       always true = refl
       always false = refl
 
-      by_name : (b : Bool) → is_named own name ≡ b
+      by_name : (b : Bool) → is_dialog_id own name ≡ b
           → (sends_bye done.1 && b)
           ≡ list_any is_of_bye (cond b (request_cseqs command.method held.dialog) [])
       by_name false other = never (sends_bye done.1)
@@ -171,14 +171,14 @@ module _ (event : Event) (side : Side) (apart : AreApart side.dialogs)
           ∙ sends_as held
 
   removed : (b : Bool) (dialogs : Dialogs) → AreApart dialogs → AreNamed dialogs
-      → Goes no_name (λ name held. b && is_named own name) dialogs
+      → Goes no_name (λ name held. b && is_dialog_id own name) dialogs
       (cond {A = Dialogs × List CallOut} b (ended_at own dialogs) (dialogs, [])).0
       (cond {A = Dialogs × List CallOut} b (ended_at own dialogs) (dialogs, [])).1
   removed true dialogs apart named = goes_removed own dialogs apart named
   removed false dialogs apart named = goes_same dialogs [] refl
 
   by_service : (service : SendOutcome) (dialogs : Dialogs) → AreApart dialogs → AreNamed dialogs
-      → Goes no_name (λ name held. sends_bye service && is_named own name) dialogs
+      → Goes no_name (λ name held. sends_bye service && is_dialog_id own name) dialogs
       (bye_ended own command.method service dialogs).0
       (bye_ended own command.method service dialogs).1
   by_service (Sent sending) dialogs apart named =
@@ -193,13 +193,13 @@ module _ (event : Event) (side : Side) (apart : AreApart side.dialogs)
       let said = request_said event command.call_id own done.1 in
       let after = settled event event.id said.1 side.clients in
       let bye = bye_ended own command.method done.1 done.0 in
-      let ends : Which = λ name held. sends_bye done.1 && is_named own name in
+      let ends : Which = λ name held. sends_bye done.1 && is_dialog_id own name in
       goes_as no_name no_name ends (λ name held. gives_bye name outs) side.dialogs bye.0 outs
       (λ name. refl) same_end
       (goes_before no_name ends side.dialogs bye.0 (said.0 ++ after.1) bye.1
       (silent_both said.0 after.1 (request_silent event command.call_id own done.1)
       (settled_silent event event.id said.1 side.clients))
-      (goes_named_then (λ name. sends_bye done.1 && is_named own name) side.dialogs done.0 bye.0
+      (goes_named_then (λ name. sends_bye done.1 && is_dialog_id own name) side.dialogs done.0 bye.0
       bye.1 served_held (by_service done.1 done.0 served_apart still_named)))
 
 -- ---- an ACK and a PRACK

@@ -11,7 +11,7 @@ use Rattle.sip_common.specs.declared.held_dialog.DialogReference.{DialogReferenc
 use Rattle.sip_common.specs.declared.held_dialog.DialogId.{DialogId}
 use Rattle.sip_common.specs.declared.held_dialog.HeldDialog.{HeldDialog}
 use Rattle.sip_common.specs.declared.item.CallOut.{CallOut}
-use Rattle.sip_common.specs.Dialogs.{Dialogs, dialog_at, early_ended, ended_at, is_early_of, is_named, lives}
+use Rattle.sip_common.specs.Dialogs.{Dialogs, dialog_at, early_ended, ended_at, is_early_of, is_dialog_id, lives}
 use Rattle.sip_common.specs.Ids.{is_id}
 use Rattle.sip_common.specs.Requests.{is_final, has_to_tag, is_success}
 use Rattle.sip_common.proofs.Entries as entries
@@ -35,7 +35,7 @@ use Rattle.sip_clients.specs.Clients.{found_taken, lost_of, reply_name, reply_of
 use Rattle.sip_clients.specs.Dialogs.{accepted, dialog_for_provisional, ended_with, own_ended}
 use Rattle.sip_clients.specs.Outputs.{ack_said, direct, request_said, start_command}
 use Rattle.sip_clients.specs.Replied.{Replied, ack_owed, after_dialog, by_reply_case, dialogs_with, ends_dialog, notice, prack_owed, reply_taken, request_over}
-use Rattle.sip_clients.specs.ReceivedResponse.{heard_of, is_dialog_response, is_inviting, is_last, has_dialog, reliable_case, reply_case, rseq_of}
+use Rattle.sip_clients.specs.ReceivedResponse.{heard_of, is_dialog_response, is_invite_kind, is_last, has_dialog, reliable_case, reply_case, rseq_of}
 use Rattle.sip_common.proofs.EndedDialogs.{AreNamed, Goes, Which, early_told, ended_none, ends_told, none_told, filtered_named, goes_as, goes_before, goes_beside, goes_filtered_then, goes_removed, goes_same, left_of, names_ended, no_name, none_ends}
 
 -- ---- what ends with a client request
@@ -43,8 +43,8 @@ use Rattle.sip_common.proofs.EndedDialogs.{AreNamed, Goes, Which, early_told, en
 -- the dialog that it was sent in, as it was then
 abbrev pub was_sent_in : RequestKind → Which
 was_sent_in InitialInvite name held = false
-was_sent_in (ReInvite life) name held = is_named life.name name && is_id held.created_by life.created_by
-was_sent_in (InDialog life) name held = is_named life.name name && is_id held.created_by life.created_by
+was_sent_in (ReInvite life) name held = is_dialog_id life.name name && is_id held.created_by life.created_by
+was_sent_in (InDialog life) name held = is_dialog_id life.name name && is_id held.created_by life.created_by
 was_sent_in OutOfDialog name held = false
 
 abbrev pub ends_with : Client → Bool → Which
@@ -54,12 +54,12 @@ ends_with client gone name held =
 module _ (life : DialogReference) (dialogs : Dialogs) (apart : AreApart dialogs)
     (named : AreNamed dialogs) where
   abbrev is_it : Which
-  is_it name held = is_named life.name name && is_id held.created_by life.created_by
+  is_it name held = is_dialog_id life.name name && is_id held.created_by life.created_by
 
   -- what is held under its name is that dialog where that lives
   lives_as : (name : DialogId) (held : HeldDialog) → dialog_at name dialogs ≡ Some held
       → (lives_so : Bool) → lives dialogs life ≡ lives_so → (b : Bool)
-      → is_named life.name name ≡ b → (b && lives_so) ≡ (b && is_id held.created_by life.created_by)
+      → is_dialog_id life.name name ≡ b → (b && lives_so) ≡ (b && is_id held.created_by life.created_by)
   lives_as name held at lives_so is true same =
       sym is ∙ ap (λ o. option_map_or (λ (held : HeldDialog). is_id held.created_by life.created_by) o false)
       (sym (entries.same_key name_laws life.name name dialogs same) ∙ at)
@@ -77,15 +77,15 @@ module _ (life : DialogReference) (dialogs : Dialogs) (apart : AreApart dialogs)
       → let done = cond {A = Dialogs × List CallOut} b (ended_at life.name dialogs) (dialogs, []) in
       Goes no_name is_it dialogs done.0 done.1
   life_goes true is =
-      goes_as no_name no_name (λ name held. is_named life.name name) is_it dialogs
+      goes_as no_name no_name (λ name held. is_dialog_id life.name name) is_it dialogs
       (ended_at life.name dialogs).0 (ended_at life.name dialogs).1 (λ name. refl)
-      (λ name held at. and_true (is_named life.name name)
-      ∙ lives_as name held at true is (is_named life.name name) refl)
+      (λ name held at. and_true (is_dialog_id life.name name)
+      ∙ lives_as name held at true is (is_dialog_id life.name name) refl)
       (goes_removed life.name dialogs apart named)
   life_goes false is =
       goes_as no_name no_name none_ends is_it dialogs dialogs [] (λ name. refl)
-      (λ name held at. and_false (is_named life.name name)
-      ∙ lives_as name held at false is (is_named life.name name) refl)
+      (λ name held at. and_false (is_dialog_id life.name name)
+      ∙ lives_as name held at false is (is_dialog_id life.name name) refl)
       (goes_same dialogs [] refl)
 
 own_goes : (kind : RequestKind) (gone : Bool) (dialogs : Dialogs) → AreApart dialogs
@@ -231,7 +231,7 @@ not_last false success inviting last is = absurd cc
 
 -- the last opens none
 last_opens : (kind : RequestKind) (final success first early : Bool)
-    → (final && not (is_inviting kind && success)) ≡ true
+    → (final && not (is_invite_kind kind && success)) ≡ true
     → (opens_dialogs kind && ((success && first) || (not final && early))) ≡ false
 last_opens InitialInvite true true first early last = absurd cc
 last_opens InitialInvite true false first early last = refl
@@ -257,7 +257,7 @@ module _ (event : Event) (id : Id) (call_id : List ℕ) (response : Message) (st
     found = dialog_at own dialogs
 
     abbrev pub opened_by_reply : DialogId → Bool
-    opened_by_reply name = opens_dialogs asker.kind && is_named own name
+    opened_by_reply name = opens_dialogs asker.kind && is_dialog_id own name
         && ((is_success status && not (has_answer own asker.answers))
         || (not (is_final status) && (not (status == 100) && has_to_tag response)))
 
@@ -278,11 +278,11 @@ module _ (event : Event) (id : Id) (call_id : List ℕ) (response : Message) (st
     case_silent reply.Told = refl
 
     put_so : (held : HeldDialog) (name : DialogId)
-        → is_some (dialog_at name (insert_entry is_named dialogs own held))
-        ≡ (is_named own name || is_some (dialog_at name dialogs))
+        → is_some (dialog_at name (insert_entry is_dialog_id dialogs own held))
+        ≡ (is_dialog_id own name || is_some (dialog_at name dialogs))
     put_so held name =
         ap (λ o. is_some o) (entries.found_inserted name_laws own name held dialogs)
-        ∙ by_name (is_named own name) (dialog_at name dialogs)
+        ∙ by_name (is_dialog_id own name) (dialog_at name dialogs)
       where
         by_name : (b : Bool) (o : Option HeldDialog)
             → is_some (cond {A = Option HeldDialog} b (Some held) o) ≡ (b || is_some o)
@@ -292,7 +292,7 @@ module _ (event : Event) (id : Id) (call_id : List ℕ) (response : Message) (st
     case_held : (case : ReplyCase) (name : DialogId)
         → is_some (dialog_at name
         (dialogs_with own (by_reply_case case noted found answer).1 dialogs))
-        ≡ ((puts case && is_named own name) || is_some (dialog_at name dialogs))
+        ≡ ((puts case && is_dialog_id own name) || is_some (dialog_at name dialogs))
     case_held reply.Repeated name = refl
     case_held reply.Accepted name =
         put_so (ack_owed noted (accepted noted answer found) answer).0 name
@@ -310,10 +310,10 @@ module _ (event : Event) (id : Id) (call_id : List ℕ) (response : Message) (st
 
     -- it puts a dialog that is there, or opens one
     opens_so : is_last noted.kind status ≡ false → (name : DialogId)
-        → ((puts (reply_case noted found answer) && is_named own name)
+        → ((puts (reply_case noted found answer) && is_dialog_id own name)
         || is_some (dialog_at name dialogs))
         ≡ (opened_by_reply name || is_some (dialog_at name dialogs))
-    opens_so last name = by_name (is_named own name) refl
+    opens_so last name = by_name (is_dialog_id own name) refl
       where
         no_name_opens : (first may : Bool) (b : Bool) → (b && false) ≡ (first && false && may)
         no_name_opens true may true = refl
@@ -337,12 +337,12 @@ module _ (event : Event) (id : Id) (call_id : List ℕ) (response : Message) (st
             (by_kind noted.kind noted (is_final status) (is_success status)
             (has_answer own noted.answers) (is_dialog_response answer) (rseq_of response)
             (success_final status)
-            (not_last (is_final status) (is_success status) (is_inviting noted.kind) last)))
+            (not_last (is_final status) (is_success status) (is_invite_kind noted.kind) last)))
         by_found (Some held) is =
             or_true (puts (reply_case noted (Some held) answer) && true)
             ∙ sym (or_true (opens_if true))
 
-        by_name : (b : Bool) → is_named own name ≡ b
+        by_name : (b : Bool) → is_dialog_id own name ≡ b
             → ((puts (reply_case noted found answer) && b) || is_some (dialog_at name dialogs))
             ≡ (opens_if b || is_some (dialog_at name dialogs))
         by_name false other =
@@ -376,7 +376,7 @@ module _ (event : Event) (id : Id) (call_id : List ℕ) (response : Message) (st
 
         none_opens : (name : DialogId) → opened_by_reply name ≡ false
         none_opens name =
-            between (opens_dialogs asker.kind) (is_named own name) _
+            between (opens_dialogs asker.kind) (is_dialog_id own name) _
             (last_opens asker.kind (is_final status) (is_success status)
             (not (has_answer own asker.answers)) _ is)
     by_last false is = record {

@@ -11,7 +11,7 @@ use Rattle.sip_reliable.specs.Inbound.{offered}
 use Rattle.sip_common.specs.declared.held_dialog.DialogReference.{DialogReference}
 use Rattle.sip_common.specs.declared.held_dialog.HeldDialog.{HeldDialog}
 use Rattle.sip_common.specs.declared.item.CallOut.{CallOut}
-use Rattle.sip_common.specs.Dialogs.{dialog_at, is_named, lives, Dialogs}
+use Rattle.sip_common.specs.Dialogs.{dialog_at, is_dialog_id, lives, Dialogs}
 use Rattle.sip_common.specs.Requests.{is_final, has_to_tag, is_success}
 use Rattle.sip_clients.specs.declared.client.RequestKind.TheVariants.{InitialInvite}
 use Rattle.sip_clients.specs.declared.client.Client.{Client}
@@ -138,11 +138,11 @@ module _ (event : Option Id) (life : DialogReference) (client : Client) (answer 
   lived_by case client = in_one answer.name (case_life event client answer made case) life.name
 
   abbrev begun_by : ReplyCase → Client → List Happening
-  begun_by case client = cond (is_named answer.name life.name)
+  begun_by case client = cond (is_dialog_id answer.name life.name)
       (case_begun event client answer made case found) []
 
   unheard : (case : ReplyCase) (client : Client) (clients : Clients) → Named case client
-      → heard_number case client.kind (is_named answer.name life.name) ≡ None
+      → heard_number case client.kind (is_dialog_id answer.name life.name) ≡ None
       → Result client None (taken_as case client) clients
   unheard case client clients named none =
       let done = taken_as case client in
@@ -155,7 +155,7 @@ module _ (event : Option Id) (life : DialogReference) (client : Client) (answer 
   -- it is
   by_offer : (number : ℕ) (offer : Offer) (clients : Clients)
       → IsNamedSo (first client) answer found
-      → is_named answer.name life.name ≡ true
+      → is_dialog_id answer.name life.name ≡ true
       → offered (option_and_then (λ held. held.last_rseq) before) number ≡ offer
       → Result (first client) (Some number) (taken_as (offer_case offer number) (first client))
       clients
@@ -191,7 +191,7 @@ module _ (event : Option Id) (life : DialogReference) (client : Client) (answer 
 
   by_number : (number : Option ℕ) (case : ReplyCase) (clients : Clients)
       → IsNamedSo (first client) answer found
-      → is_named answer.name life.name ≡ true
+      → is_dialog_id answer.name life.name ≡ true
       → Decided Unheard (option_and_then (λ held. held.last_rseq) found) number case
       → Result (first client) number (taken_as case (first client)) clients
   by_number None case clients own named is =
@@ -216,7 +216,7 @@ module _ (event : Option Id) (life : DialogReference) (client : Client) (answer 
       then reliable_case (option_and_then (λ held. held.last_rseq) found) rseq else reply.Told)
 
   in_dialog : (final named : Bool) (clients : Clients) → IsNamedSo (first client) answer found
-      → is_named life.name answer.name ≡ named
+      → is_dialog_id life.name answer.name ≡ named
       → Result (first client) (if named then number_by final inside rseq else None)
       (taken_as (case_of final) (first client)) clients
   in_dialog final true clients own named =
@@ -230,7 +230,7 @@ module _ (event : Option Id) (life : DialogReference) (client : Client) (answer 
       ∙ unnamed_unheard (case_of final) InitialInvite)
 
   by_last : (final success named : Bool) (clients : Clients) → IsNamedSo (first client) answer found
-      → is_named life.name answer.name ≡ named
+      → is_dialog_id life.name answer.name ≡ named
       → Result (first client) (if named then number_by final inside rseq else None)
       (cond {A = Replied} (final && not success) (request_over (first client) dialogs answer)
       (taken_as (case_of final) (first client))) clients
@@ -241,7 +241,7 @@ module _ (event : Option Id) (life : DialogReference) (client : Client) (answer 
 
   pub first_replied : (clients : Clients) (named : Bool)
       → answer.name ≡ reply_name InitialInvite client answer.response
-      → is_named life.name answer.name ≡ named
+      → is_dialog_id life.name answer.name ≡ named
       → Result (first client) (if named then provisional_number (Some answer.status) answer.response
       else None) (reply_taken (first client) dialogs answer) clients
   first_replied clients named own is =
@@ -260,5 +260,5 @@ module _ (event : Option Id) (life : DialogReference) (client : Client) (answer 
       (taken_as case client)) clients) [
         | true ↦ over client clients
         | false ↦ unheard case client clients (reply_names client answer found own)
-            (none case (is_named answer.name life.name))
+            (none case (is_dialog_id answer.name life.name))
       ]

@@ -16,7 +16,7 @@ use Rattle.sip_common.specs.declared.item.CallOut.{CallOut}
 use Rattle.sip_common.specs.declared.refusal.Refusal.{Refusal}
 use Rattle.sip_common.specs.declared.refusal.Refusal.TheVariants.{NoSuchDialog}
 use Rattle.sip_clients.specs.declared.send_outcome.SendOutcome.TheVariants.{Refused, Waits}
-use Rattle.sip_common.specs.Dialogs.{dialog_at, is_named, lives, Dialogs}
+use Rattle.sip_common.specs.Dialogs.{dialog_at, is_dialog_id, lives, Dialogs}
 use Rattle.sip_common.specs.Requests.{is_final}
 use Rattle.sip_common.specs.Ids.{is_id}
 use Rattle.sip_clients.specs.declared.client.RequestKind.{RequestKind}
@@ -137,7 +137,7 @@ module _ (life : DialogReference) where
     settles status client InitialInvite =
         let found = first client in
         first_replied call life (noting status client) (answer_for status found) side.dialogs apart
-        made (replied status found) (is_named life.name (answer_for status found).name) refl refl
+        made (replied status found) (is_dialog_id life.name (answer_for status found).name) refl refl
     settles status client (ReInvite own) =
         let found = with_asks (ReInvite own) client in
         other_replied call life client (answer_for status found) side.dialogs apart made

@@ -32,7 +32,7 @@ use Rattle.sip_common.specs.declared.item.CallOut.{CallOut}
 use Rattle.sip_common.specs.declared.item.CallOut.TheVariants as out
 use Rattle.sip_common.specs.declared.refusal.Refusal.{Refusal}
 use Rattle.sip_common.specs.declared.refusal.Refusal.TheVariants.{BadMethod, NoSuchDialog}
-use Rattle.sip_common.specs.Dialogs.{Dialogs, dialog_at, early_ended, ended_at, ended_notice, is_early_of, is_named, lives}
+use Rattle.sip_common.specs.Dialogs.{Dialogs, dialog_at, early_ended, ended_at, ended_notice, is_early_of, is_dialog_id, lives}
 use Rattle.sip_common.specs.Ids.{is_id}
 use Rattle.sip_common.specs.Notices.{refused}
 use Rattle.sip_common.specs.Refusal.{first_refusal}
@@ -68,7 +68,7 @@ use Rattle.sip_clients.specs.OwnCall.{on_side}
 use Rattle.sip_clients.specs.Outputs.{request_said, start_command}
 use Rattle.sip_clients.specs.Outside.{bare_invite, bare_plain, bare_request, invite_of, plain_of, supporting, through}
 use Rattle.sip_clients.specs.Replied.{Replied, after_dialog, by_reply_case, ends_dialog, prack_owed, request_over}
-use Rattle.sip_clients.specs.ReceivedResponse.{heard_of, is_dialog_response, is_inviting, is_last, has_dialog, offer_case, reliable_case, rseq_of, success_case}
+use Rattle.sip_clients.specs.ReceivedResponse.{heard_of, is_dialog_response, is_invite_kind, is_last, has_dialog, offer_case, reliable_case, rseq_of, success_case}
 use Rattle.sip_clients.specs.SendOutcome.{Outcome, discharged, sending_in, service_by}
 use Rattle.sip_clients.specs.Tick.{clients_ticked, early_ends_told, is_over, over_notices}
 use Rattle.sip_clients.proofs.ReplyStories.{sent_method}
@@ -292,7 +292,7 @@ served_so : (name : DialogId) (serve : HeldDialog → Outcome) (otherwise : Send
 served_so name serve otherwise dialogs serves other = by_found (dialog_at name dialogs)
   where
     by_found : (o : Option HeldDialog) → IsNoCancel (option_map_or {U = Dialogs × SendOutcome}
-        (λ held. (set_value (is_named name) dialogs (serve held).0, (serve held).1)) o
+        (λ held. (set_value (is_dialog_id name) dialogs (serve held).0, (serve held).1)) o
         (dialogs, otherwise)).1
     by_found None = other
     by_found (Some held) = serves held
@@ -608,7 +608,7 @@ module _ (event : Event) (id : Id) (call_id : List ℕ) (response : Message) (st
 
   by_acks : (final : Bool) → final ≡ false
       → acks_out (taken_with (freed_by final client.cancel)
-      (done_at (final && not (is_inviting client.kind && is_success status)) final)).1 ≡ []
+      (done_at (final && not (is_invite_kind client.kind && is_success status)) final)).1 ≡ []
   by_acks true is = absurd (true≢false is)
   by_acks false is = provisional_acks
 

@@ -17,7 +17,7 @@ use Rattle.sip_common.specs.declared.held_dialog.DialogId.{DialogId}
 use Rattle.sip_common.specs.declared.held_dialog.HeldDialog.{HeldDialog}
 use Rattle.sip_common.specs.declared.item.CallOut.{CallOut}
 use Rattle.sip_common.specs.declared.refusal.Refusal.TheVariants.{NoSuchDialog}
-use Rattle.sip_common.specs.Dialogs.{dialog_at, early_ended, ended_at, is_named, lives, Dialogs}
+use Rattle.sip_common.specs.Dialogs.{dialog_at, early_ended, ended_at, is_dialog_id, lives, Dialogs}
 use Rattle.sip_common.proofs.Each.{both, each_set}
 use Rattle.sip_common.proofs.OwnDialogs.{AreEndedOf, dialog_own, early_own, ended_own, lived_keeps}
 use Rattle.sip_clients.specs.declared.client.RequestKind.{RequestKind}
@@ -140,7 +140,7 @@ module _ (call_id : List ℕ) where
           × IsServiceOf (served_in name serve otherwise dialogs found).1
       by_found None its = (own, other)
       by_found (Some held) its = (
-        each_set (IsDialogOf call_id) (is_named name) dialogs (serve held).0
+        each_set (IsDialogOf call_id) (is_dialog_id name) dialogs (serve held).0
             (serves held its).0 own,
         (serves held its).1,
       )

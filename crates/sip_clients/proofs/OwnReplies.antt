@@ -10,7 +10,7 @@ use Rattle.sip_common.specs.declared.pending_request.PendingRequest.TheVariants.
 use Rattle.sip_common.specs.declared.held_dialog.DialogId.{DialogId}
 use Rattle.sip_common.specs.declared.held_dialog.HeldDialog.{HeldDialog}
 use Rattle.sip_common.specs.declared.item.CallOut.{CallOut}
-use Rattle.sip_common.specs.Dialogs.{dialog_at, early_ended, is_named, Dialogs}
+use Rattle.sip_common.specs.Dialogs.{dialog_at, early_ended, is_dialog_id, Dialogs}
 use Rattle.sip_common.specs.Requests.{is_final}
 use Rattle.sip_common.specs.Ids.{is_id}
 use Rattle.sip_clients.specs.declared.answers.SentAck.{SentAck}
@@ -191,7 +191,7 @@ module _ (call_id : List ℕ) where
       → AreDialogsOf call_id (dialogs_with name o dialogs)
   with_dialog_own name None dialogs its own = own
   with_dialog_own name (Some held) dialogs its own =
-      each_inserted (IsDialogOf call_id) is_named name held its dialogs own
+      each_inserted (IsDialogOf call_id) is_dialog_id name held its dialogs own
 
   reply_own : (client : Client) (dialogs : Dialogs) (answer : ReceivedResponse)
       → answer.call_id ≡ call_id → IsRequestOf call_id client → AreDialogsOf call_id dialogs

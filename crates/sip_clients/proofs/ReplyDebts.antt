@@ -13,7 +13,7 @@ use Rattle.sip_common.specs.declared.pending_request.PendingRequest.TheVariants.
 use Rattle.sip_common.specs.declared.held_dialog.DialogId.{DialogId}
 use Rattle.sip_common.specs.declared.item.CallOut.{CallOut}
 use Rattle.sip_common.specs.declared.item.CallOut.TheVariants as out
-use Rattle.sip_common.specs.Dialogs.{dialog_at, is_named}
+use Rattle.sip_common.specs.Dialogs.{dialog_at, is_dialog_id}
 use Rattle.sip_common.specs.Ids.{is_id}
 use Rattle.sip_common.specs.Requests.{is_final}
 use Rattle.sip_common.specs.Sent.{cseqs_in}
@@ -112,7 +112,7 @@ module _ (event : Event) (id : Id) (call_id : List ℕ) (response : Message) (si
         name done)
         (λ pending_requests. pending_requests ++ owes_by (Some status) (Some client) name taken.1)
         (dialog_at name side.dialogs) (dialog_at name done.1)
-        (λ pending_requests. ap (λ xs. pending_requests ++ (if is_named answer_to.name name
+        (λ pending_requests. ap (λ xs. pending_requests ++ (if is_dialog_id answer_to.name name
         && has_dialog client.kind (dialog_at name side.dialogs) then xs else []))
         (asked_same name (asked_for status client response)))
         (replied_owes event id call_id response status client side.dialogs apart named name)

@@ -12,8 +12,8 @@ use Rattle.sip_dialog.specs.Opening.{ByResponse, Opening, contact_uri, opened as
 use Rattle.sip_common.specs.declared.pending_request.PendingRequest.TheVariants.{Ack, Prack}
 use Rattle.sip_common.specs.declared.held_dialog.DialogId.{DialogId}
 use Rattle.sip_common.specs.declared.held_dialog.HeldDialog.{HeldDialog}
-use Rattle.sip_common.specs.Dialogs.{dialog_at, is_named, Dialogs}
-use Rattle.sip_common.specs.Requests.{is_final, name_of_tags}
+use Rattle.sip_common.specs.Dialogs.{dialog_at, is_dialog_id, Dialogs}
+use Rattle.sip_common.specs.Requests.{is_final, dialog_id_of_tags}
 use Rattle.sip_common.specs.Sent.{name_of_dialog}
 use Rattle.sip_clients.specs.declared.client.RequestKind.{RequestKind}
 use Rattle.sip_clients.specs.declared.client.RequestKind.TheVariants.{InitialInvite, ReInvite, InDialog, OutOfDialog}
@@ -92,7 +92,7 @@ makes_first OutOfDialog false again false last_rseq rseq makes = absurd cc
 -- a dialog that a response makes has the name of its tags
 abbrev pub IsNamedSo : Client → ReceivedResponse → Option HeldDialog → Type 0
 IsNamedSo client answer found = found ≡ None
-    → is_named answer.name
+    → is_dialog_id answer.name
     (name_of_dialog (dialog_opened (ByResponse client.request answer.response))) ≡ true
 
 pub first_name : (client : Client) (answer : ReceivedResponse) (found : Option HeldDialog)
@@ -102,8 +102,8 @@ first_name client answer found own none =
     let to = (answer.response).to in
     let tags = name_of_dialog (dialog_opened (ByResponse client.request answer.response)) in
     let same : answer.name ≡ tags =
-    own ∙ (λ i. name_of_tags (sym (tag_kept (tag_of from)) i) (sym (tag_kept (tag_of to)) i)) in
-    ap (λ name. is_named name tags) same ∙ name_laws.refl tags
+    own ∙ (λ i. dialog_id_of_tags (sym (tag_kept (tag_of from)) i) (sym (tag_kept (tag_of to)) i)) in
+    ap (λ name. is_dialog_id name tags) same ∙ name_laws.refl tags
 
 pub reply_names : (client : Client) (answer : ReceivedResponse) (found : Option HeldDialog)
     → answer.name ≡ reply_name client.kind client answer.response
@@ -156,9 +156,9 @@ module _ (event : Option Id) (client : Client) (answer : ReceivedResponse)
 
   abbrev GoesHere : ReplyCase → Option HeldDialog → HeldDialog → Type 0
   GoesHere case found after =
-      (other : DialogId) → is_named answer.name other ≡ true → GoesTo case found after other
+      (other : DialogId) → is_dialog_id answer.name other ≡ true → GoesTo case found after other
 
-  opens_so : IsNamedSo client answer None → (other : DialogId) → is_named answer.name other ≡ true
+  opens_so : IsNamedSo client answer None → (other : DialogId) → is_dialog_id answer.name other ≡ true
       → OpensBy (Some start) other start
   opens_so named other same =
       (refl, same_name answer.name other (name_of_dialog (dialog_opened start)) (named refl) same)
@@ -202,7 +202,7 @@ module _ (event : Option Id) (client : Client) (answer : ReceivedResponse)
       (automatic_body client answer.response) held).0
 
   abbrev GoesBy : Option ℕ → (HeldDialog → HeldDialog) → ℕ → Option HeldDialog → Type 0
-  GoesBy came hears number found = (other : DialogId) → is_named answer.name other ≡ true
+  GoesBy came hears number found = (other : DialogId) → is_dialog_id answer.name other ≡ true
       → Goes event (OpensBy (Some start) other) came (case_life (reply.Reliable number))
       (case_begun (reply.Reliable number) found) found
       (Some (prack_owes number (hears (dialog_for_provisional client answer found))))
@@ -244,9 +244,9 @@ module _ (event : Option Id) (client : Client) (answer : ReceivedResponse)
 
   abbrev pub Answered : ReplyCase → Dialogs → Dialogs → Type 0
   Answered case before after = Moves event (Some start)
-      (λ name. heard_number case client.kind (is_named answer.name name))
+      (λ name. heard_number case client.kind (is_dialog_id answer.name name))
       (in_one answer.name (case_life case))
-      (λ name. cond (is_named answer.name name) (case_begun case (dialog_at answer.name before)) [])
+      (λ name. cond (is_dialog_id answer.name name) (case_begun case (dialog_at answer.name before)) [])
       before after
 
   still : (b : Bool) (o : Option HeldDialog) → Stays None (λ held. cond b [] []) o o
@@ -258,19 +258,19 @@ module _ (event : Option Id) (client : Client) (answer : ReceivedResponse)
   -- where the dialog of its name is this one
   put_moves : (case : ReplyCase) (held : HeldDialog) (dialogs : Dialogs) → AreApart dialogs
       → GoesHere case (dialog_at answer.name dialogs) held
-      → Answered case dialogs (insert_entry is_named dialogs answer.name held)
+      → Answered case dialogs (insert_entry is_dialog_id dialogs answer.name held)
   put_moves case held dialogs apart here = record {
     apart = entries.apart_inserted name_laws answer.name held dialogs apart;
     goes = λ name. subst (Goes event (OpensBy (Some start) name)
-        (heard_number case client.kind (is_named answer.name name))
+        (heard_number case client.kind (is_dialog_id answer.name name))
         (in_one answer.name (case_life case) name)
-        (cond (is_named answer.name name) (case_begun case (dialog_at answer.name dialogs)) [])
+        (cond (is_dialog_id answer.name name) (case_begun case (dialog_at answer.name dialogs)) [])
         (dialog_at name dialogs))
         (sym (entries.found_inserted name_laws answer.name name held dialogs))
-        (by_name name (is_named answer.name name) refl);
+        (by_name name (is_dialog_id answer.name name) refl);
   }
     where
-      by_name : (name : DialogId) (b : Bool) → is_named answer.name name ≡ b
+      by_name : (name : DialogId) (b : Bool) → is_dialog_id answer.name name ≡ b
           → Goes event (OpensBy (Some start) name) (heard_number case client.kind b)
           (λ held. cond b (case_life case held) [])
           (cond b (case_begun case (dialog_at answer.name dialogs)) []) (dialog_at name dialogs)
@@ -292,7 +292,7 @@ module _ (event : Option Id) (client : Client) (answer : ReceivedResponse)
   unfolding prack_owed
   case_moves reply.Repeated dialogs apart named = record {
     apart = apart;
-    goes = λ name. inl (still (is_named answer.name name) (dialog_at name dialogs));
+    goes = λ name. inl (still (is_dialog_id answer.name name) (dialog_at name dialogs));
   }
   case_moves reply.Accepted dialogs apart named =
       let found = dialog_at answer.name dialogs in
@@ -300,7 +300,7 @@ module _ (event : Option Id) (client : Client) (answer : ReceivedResponse)
       apart (ack_goes found (named refl))
   case_moves reply.Late dialogs apart named = record {
     apart = apart;
-    goes = λ name. inl (still (is_named answer.name name) (dialog_at name dialogs));
+    goes = λ name. inl (still (is_dialog_id answer.name name) (dialog_at name dialogs));
   }
   case_moves (reply.Reliable number) dialogs apart named =
       let found = dialog_at answer.name dialogs in
@@ -309,7 +309,7 @@ module _ (event : Option Id) (client : Client) (answer : ReceivedResponse)
       (prack_goes client.kind number found (named refl))
   case_moves reply.Passed dialogs apart named = record {
     apart = apart;
-    goes = λ name. inl (still (is_named answer.name name) (dialog_at name dialogs));
+    goes = λ name. inl (still (is_dialog_id answer.name name) (dialog_at name dialogs));
   }
   case_moves reply.Early dialogs apart named =
       let found = dialog_at answer.name dialogs in
@@ -317,5 +317,5 @@ module _ (event : Option Id) (client : Client) (answer : ReceivedResponse)
       (opened_goes found (named refl))
   case_moves reply.Told dialogs apart named = record {
     apart = apart;
-    goes = λ name. inl (still (is_named answer.name name) (dialog_at name dialogs));
+    goes = λ name. inl (still (is_dialog_id answer.name name) (dialog_at name dialogs));
   }

@@ -16,7 +16,7 @@ use Rattle.sip_reliable.specs.Inbound.{offered}
 use Rattle.sip_common.specs.declared.pending_request.PendingRequest.TheVariants.{Prack, Ack}
 use Rattle.sip_common.specs.declared.held_dialog.DialogId.{DialogId}
 use Rattle.sip_common.specs.declared.held_dialog.HeldDialog.{HeldDialog}
-use Rattle.sip_common.specs.Dialogs.{Dialogs, dialog_at, is_named}
+use Rattle.sip_common.specs.Dialogs.{Dialogs, dialog_at, is_dialog_id}
 use Rattle.sip_common.specs.Requests.{is_final, is_success}
 use Rattle.sip_common.specs.Sent.{NumberedFrom, name_of_dialog, number_before, requests_made}
 use Rattle.sip_common.specs.declared.pending_request.PendingRequest.{PendingRequest}
@@ -40,7 +40,7 @@ use Rattle.sip_clients.specs.Clients.{reply_name, reply_of}
 use Rattle.sip_clients.specs.Dialogs.{dialog_for_provisional, accepted, accepted_in, dialog_by_response}
 use Rattle.sip_clients.specs.Happenings.{reply_brings, success_brings}
 use Rattle.sip_clients.specs.Replied.{Replied, after_dialog, by_reply_case, ends_dialog, request_over, heard_first, automatic_body, prack_owed, reply_taken, ack_owed, dialogs_with}
-use Rattle.sip_clients.specs.ReceivedResponse.{offer_case, heard_of, is_inviting, is_last, is_dialog_response, has_dialog, reliable_case, reply_case, rseq_of}
+use Rattle.sip_clients.specs.ReceivedResponse.{offer_case, heard_of, is_invite_kind, is_last, is_dialog_response, has_dialog, reliable_case, reply_case, rseq_of}
 use Rattle.sip_clients.specs.Outputs.{request_said}
 use Rattle.sip_clients.specs.Owing.{asked_for, is_direct, is_of_prack}
 use Rattle.sip_clients.specs.Provisionals.{is_response}
@@ -136,7 +136,7 @@ module _ (event : Event) (id : Id) (call_id : List ℕ) (response : Message) (st
 
     -- the dialog of the name, as it is opened, has its tags
     opened_named : (o : Option HeldDialog) → found ≡ o → IsNamedSo client answer found
-        → is_named own (name_of_dialog (dialog_for_provisional client answer o).dialog) ≡ true
+        → is_dialog_id own (name_of_dialog (dialog_for_provisional client answer o).dialog) ≡ true
     opened_named None is so = so is
     opened_named (Some held) is so = named own held is
 
@@ -165,11 +165,11 @@ module _ (event : Event) (id : Id) (call_id : List ℕ) (response : Message) (st
 
     goes_out : (case : ReplyCase) → Named case → (name : DialogId)
         → change_cseqs name (by_reply_case case client found answer).3
-        ≡ cond (is_named own name) (case_cseqs case found) []
+        ≡ cond (is_dialog_id own name) (case_cseqs case found) []
     unfolding prack_owed
-    goes_out reply.Repeated so name = sym (none_either (is_named own name))
-    goes_out reply.Accepted so name = sym (none_either (is_named own name))
-    goes_out reply.Late so name = sym (none_either (is_named own name))
+    goes_out reply.Repeated so name = sym (none_either (is_dialog_id own name))
+    goes_out reply.Accepted so name = sym (none_either (is_dialog_id own name))
+    goes_out reply.Late so name = sym (none_either (is_dialog_id own name))
     goes_out (reply.Reliable number) so name =
         let held = dialog_for_provisional client answer found in
         let last_rseq = heard_first client.kind number held in
@@ -177,22 +177,22 @@ module _ (event : Event) (id : Id) (call_id : List ℕ) (response : Message) (st
         let pending = Prack number ((client.request).cseq).number in
         said_change name event call_id own (prack_owed number client held answer).1
         ∙ owed_sent name own event last_rseq
-        (ap (λ dialog. is_named own (name_of_dialog dialog)) same
+        (ap (λ dialog. is_dialog_id own (name_of_dialog dialog)) same
         ∙ opened_named found refl (so refl))
         pending (automatic_body client response)
-        ∙ ap (λ dialog. cond (is_named own name)
+        ∙ ap (λ dialog. cond (is_dialog_id own name)
         (discharge_cseqs pending (automatic_body client response) dialog) []) same
-    goes_out reply.Passed so name = sym (none_either (is_named own name))
-    goes_out reply.Early so name = sym (none_either (is_named own name))
-    goes_out reply.Told so name = sym (none_either (is_named own name))
+    goes_out reply.Passed so name = sym (none_either (is_dialog_id own name))
+    goes_out reply.Early so name = sym (none_either (is_dialog_id own name))
+    goes_out reply.Told so name = sym (none_either (is_dialog_id own name))
 
     changes : (case : ReplyCase) → Named case → (name : DialogId)
         → change_sent name (by_reply_case case client found answer).3
-        ≡ cond (is_named own name) (case_begun (Some event.id) client answer refl case found) []
+        ≡ cond (is_dialog_id own name) (case_begun (Some event.id) client answer refl case found) []
     changes case so name =
         ap requests_made (goes_out case so name)
-        ∙ sym (made_either (is_named own name) (case_cseqs case found))
-        ∙ ap (λ life. cond (is_named own name) life []) (begun_made case)
+        ∙ sym (made_either (is_dialog_id own name) (case_cseqs case found))
+        ∙ ap (λ life. cond (is_dialog_id own name) life []) (begun_made case)
 
     -- with the next numbers
     abbrev start : Opening
@@ -218,9 +218,9 @@ module _ (event : Event) (id : Id) (call_id : List ℕ) (response : Message) (st
         (change_cseqs name (by_reply_case case client found answer).3)
     numbered_so case so name =
         subst (NumberedFrom (number_before (Some start) (dialog_at name dialogs)))
-        (sym (goes_out case so name)) (by_name (is_named own name) refl)
+        (sym (goes_out case so name)) (by_name (is_dialog_id own name) refl)
       where
-        by_name : (b : Bool) → is_named own name ≡ b
+        by_name : (b : Bool) → is_dialog_id own name ≡ b
             → NumberedFrom (number_before (Some start) (dialog_at name dialogs))
             (cond b (case_cseqs case found) [])
         by_name false is = numbered_none (number_before (Some start) (dialog_at name dialogs))
@@ -232,10 +232,10 @@ module _ (event : Event) (id : Id) (call_id : List ℕ) (response : Message) (st
     -- what happens in the dialog of each name
     abbrev brings : ReplyCase → Lives
     brings case name held =
-        cond (is_named own name) (case_success case (success_brings client.kind response held)) []
+        cond (is_dialog_id own name) (case_success case (success_brings client.kind response held)) []
 
     prack_same : (number : ℕ) (name : DialogId) (held : HeldDialog)
-        → dialog_at name dialogs ≡ Some held → (b : Bool) → is_named own name ≡ b
+        → dialog_at name dialogs ≡ Some held → (b : Bool) → is_dialog_id own name ≡ b
         → cond b (prack_life (Some event.id) client answer refl number held.dialog) []
         ≡ cond b (prack_life (Some event.id) client answer refl number
         (dialog_for_provisional client answer found).dialog) []
@@ -253,11 +253,11 @@ module _ (event : Event) (id : Id) (call_id : List ℕ) (response : Message) (st
     lives reply.Accepted so name held at = sym (append-nil (brings reply.Accepted name held))
     lives reply.Late so name held at = sym (append-nil (brings reply.Late name held))
     lives (reply.Reliable number) so name held at =
-        prack_same number name held at (is_named own name) refl
+        prack_same number name held at (is_dialog_id own name) refl
         ∙ sym (changes (reply.Reliable number) so name)
         ∙ ap (λ xs. xs ++ change_sent name (by_reply_case (reply.Reliable number) client found
         answer).3)
-        (sym (none_either (is_named own name)))
+        (sym (none_either (is_dialog_id own name)))
     lives reply.Passed so name held at = sym (append-nil (brings reply.Passed name held))
     lives reply.Early so name held at = sym (append-nil (brings reply.Early name held))
     lives reply.Told so name held at = sym (append-nil (brings reply.Told name held))
@@ -270,9 +270,9 @@ module _ (event : Event) (id : Id) (call_id : List ℕ) (response : Message) (st
     brings_so : is_last client.kind status ≡ false → (name : DialogId) (held : HeldDialog)
         → dialog_at name dialogs ≡ Some held
         → brings case_now name held ≡ reply_brings status asker response name held
-    brings_so last name held at = by_name (is_named own name) refl
+    brings_so last name held at = by_name (is_dialog_id own name) refl
       where
-        by_name : (b : Bool) → is_named own name ≡ b
+        by_name : (b : Bool) → is_dialog_id own name ≡ b
             → cond b (case_success case_now (success_brings client.kind response held)) []
             ≡ spec_by b name held
         by_name false is = refl
@@ -284,13 +284,13 @@ module _ (event : Event) (id : Id) (call_id : List ℕ) (response : Message) (st
             (has_dialog client.kind (Some held)) (is_dialog_response answer)
             (heard_of client.kind client (Some held)) (rseq_of response)
             (success_brings client.kind response held) (success_final status)
-            (not_last (is_final status) (is_success status) (is_inviting client.kind) last)
+            (not_last (is_final status) (is_success status) (is_invite_kind client.kind) last)
 
     -- the last response does nothing in a dialog that stays
     last_brings : is_last client.kind status ≡ true → (name : DialogId) (held : HeldDialog)
         → reply_brings status asker response name held ≡ []
     last_brings last name held =
-        by_kind client.kind (is_named own name) (is_success status)
+        by_kind client.kind (is_dialog_id own name) (is_success status)
         (not (has_answer own client.answers)) (has_dialog client.kind (Some held)) last
       where
         never : (final : Bool) → (final && false) ≡ true → ⊥
@@ -298,7 +298,7 @@ module _ (event : Event) (id : Id) (call_id : List ℕ) (response : Message) (st
         never false e = absurd cc
 
         by_kind : (kind : RequestKind) (named success first there : Bool)
-            → (is_final status && not (is_inviting kind && success)) ≡ true
+            → (is_final status && not (is_invite_kind kind && success)) ≡ true
             → (if named && (success && first) && there then success_brings kind response held else
             [])
             ≡ []
@@ -337,13 +337,13 @@ module _ (event : Event) (id : Id) (call_id : List ℕ) (response : Message) (st
         let so : Named case_now = reply_names client answer found (name_kept asker.kind) in
         let moves = case_moves (Some event.id) client answer refl case_now dialogs apart so in
         let came : DialogId → Option ℕ =
-        λ name. heard_number case_now client.kind (is_named own name) in (
+        λ name. heard_number case_now client.kind (is_dialog_id own name) in (
           came,
           moves_as (Some event.id) (Some (ByResponse client.request response)) came
               (in_one own (case_life (Some event.id) client answer refl case_now))
               (λ name held. reply_brings status asker response name held
               ++ change_sent name done.3)
-              (λ name. cond (is_named own name)
+              (λ name. cond (is_dialog_id own name)
               (case_begun (Some event.id) client answer refl case_now found) [])
               (λ name. change_sent name done.3) dialogs after
               (λ name held at. lives case_now so name held at
@@ -426,26 +426,26 @@ module _ (event : Event) (id : Id) (call_id : List ℕ) (response : Message) (st
     -- of each name
     abbrev LeavesIn : List PendingRequest → Dialogs → DialogId → Type 0
     LeavesIn left after name =
-        Owes (Some event.id) (λ pending_requests. pending_requests ++ cond (is_named own name) left [])
+        Owes (Some event.id) (λ pending_requests. pending_requests ++ cond (is_dialog_id own name) left [])
         (dialog_at name dialogs) (dialog_at name after)
 
     nothing_left : (name : DialogId) → LeavesIn [] dialogs name
     nothing_left name =
         let held = dialog_at name dialogs in
-        owes_as (Some event.id) unchanged (λ pending_requests. pending_requests ++ cond (is_named own name) [] []) held
-        held (λ pending_requests. sym (ap (λ xs. pending_requests ++ xs) (none_either (is_named own name))
+        owes_as (Some event.id) unchanged (λ pending_requests. pending_requests ++ cond (is_dialog_id own name) [] []) held
+        held (λ pending_requests. sym (ap (λ xs. pending_requests ++ xs) (none_either (is_dialog_id own name))
         ∙ append-nil pending_requests)) (inl (still_same held))
 
     put_leaves : (left : List PendingRequest) (after : HeldDialog)
         → Owes (Some event.id) (λ pending_requests. pending_requests ++ left) found (Some after) → (name : DialogId)
-        → LeavesIn left (insert_entry is_named dialogs own after) name
+        → LeavesIn left (insert_entry is_dialog_id dialogs own after) name
     put_leaves left after here name =
-        subst (Owes (Some event.id) (λ pending_requests. pending_requests ++ cond (is_named own name) left [])
+        subst (Owes (Some event.id) (λ pending_requests. pending_requests ++ cond (is_dialog_id own name) left [])
         (dialog_at name dialogs))
         (sym (entries.found_inserted name_laws own name after dialogs))
-        (by_name (is_named own name) refl)
+        (by_name (is_dialog_id own name) refl)
       where
-        by_name : (b : Bool) → is_named own name ≡ b
+        by_name : (b : Bool) → is_dialog_id own name ≡ b
             → Owes (Some event.id) (λ pending_requests. pending_requests ++ cond b left []) (dialog_at name dialogs)
             (cond b (Some after) (dialog_at name dialogs))
         by_name true is =
@@ -478,7 +478,7 @@ module _ (event : Event) (id : Id) (call_id : List ℕ) (response : Message) (st
     given name outs change (Prack rseq number) = list_any is_of_prack (change_cseqs name change)
 
     prack_given : (rseq : ℕ) (name : DialogId) → IsNamedSo client answer found
-        → is_named own name ≡ true
+        → is_dialog_id own name ≡ true
         → list_any is_of_prack (change_cseqs name
         (request_said event call_id own (pracked_so rseq found).1).1)
         ≡ goes (pracked_so rseq found).1
@@ -487,10 +487,10 @@ module _ (event : Event) (id : Id) (call_id : List ℕ) (response : Message) (st
         let held = dialog_for_provisional client answer found in
         ap (list_any is_of_prack) (said_change name event call_id own (pracked_so rseq found).1)
         ∙ prack_owes name own event (heard_first client.kind rseq held)
-        (ap (λ dialog. is_named own (name_of_dialog dialog)) (heard_dialog client.kind rseq held)
+        (ap (λ dialog. is_dialog_id own (name_of_dialog dialog)) (heard_dialog client.kind rseq held)
         ∙ opened_named found refl so) same rseq invite_number (automatic_body client response)
 
-    case_given : (case : ReplyCase) → Named case → (name : DialogId) → is_named own name ≡ true
+    case_given : (case : ReplyCase) → Named case → (name : DialogId) → is_dialog_id own name ≡ true
         → let done = by_reply_case case client found answer in
         case_owes (given name done.2 done.3) ack_debt prack_debt case ≡ case_left case
     case_given reply.Repeated so name same = refl
@@ -506,7 +506,7 @@ module _ (event : Event) (id : Id) (call_id : List ℕ) (response : Message) (st
     -- what is owed by what is given
     abbrev pub leaves : DialogId → Replied → List PendingRequest
     leaves name done =
-        if is_named own name && has_dialog asker.kind (dialog_at name dialogs)
+        if is_dialog_id own name && has_dialog asker.kind (dialog_at name dialogs)
         then left_by (list_any is_response done.2) (given name done.2 done.3)
         (asked_for status asker response) else []
 
@@ -515,10 +515,10 @@ module _ (event : Event) (id : Id) (call_id : List ℕ) (response : Message) (st
 
     case_now_leaves : is_last asker.kind status ≡ false → (name : DialogId)
         → leaves name (after_dialog own dialogs (by_reply_case case_now client found answer))
-        ≡ cond (is_named own name) (case_left case_now) []
-    case_now_leaves last name = by_name (is_named own name) refl
+        ≡ cond (is_dialog_id own name) (case_left case_now) []
+    case_now_leaves last name = by_name (is_dialog_id own name) refl
       where
-        by_name : (b : Bool) → is_named own name ≡ b
+        by_name : (b : Bool) → is_dialog_id own name ≡ b
             → (if b && has_dialog asker.kind (dialog_at name dialogs)
             then left_by (list_any is_response done_now.2) (given name done_now.2 done_now.3)
             (asked_for status asker response) else [])
@@ -532,7 +532,7 @@ module _ (event : Event) (id : Id) (call_id : List ℕ) (response : Message) (st
             (is_success status) (has_answer own client.answers) (has_dialog client.kind found)
             (is_dialog_response answer) (heard_of client.kind client found) (rseq_of response)
             (success_final status)
-            (not_last (is_final status) (is_success status) (is_inviting client.kind) last)
+            (not_last (is_final status) (is_success status) (is_invite_kind client.kind) last)
             ∙ case_given case_now (reply_names client answer found (name_kept asker.kind)) name is
 
     abbrev RepliedOwes : Replied → Type 0
@@ -550,12 +550,12 @@ module _ (event : Event) (id : Id) (call_id : List ℕ) (response : Message) (st
         (dialog_at name done.1)
         (λ pending_requests. sym (ap (λ xs. pending_requests ++ xs)
         (last_asks (given name done.2 done.3) ack_debt prack_debt asker.kind before
-        (is_named own name) (is_final status) (is_success status) (is_dialog_response answer)
+        (is_dialog_id own name) (is_final status) (is_success status) (is_dialog_response answer)
         (list_any is_response done.2) (rseq_of response) last) ∙ append-nil pending_requests))
         (inl (ended_same client (ends_dialog status) dialogs apart name))
     last_owes false last name =
         let done = after_dialog own dialogs (by_reply_case case_now client found answer) in
-        owes_as (Some event.id) (λ pending_requests. pending_requests ++ cond (is_named own name) (case_left case_now) [])
+        owes_as (Some event.id) (λ pending_requests. pending_requests ++ cond (is_dialog_id own name) (case_left case_now) [])
         (λ pending_requests. pending_requests ++ leaves name done) (dialog_at name dialogs) (dialog_at name done.1)
         (λ pending_requests. ap (λ xs. pending_requests ++ xs) (sym (case_now_leaves last name)))
         (case_leaves case_now name)

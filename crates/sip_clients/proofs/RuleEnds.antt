@@ -16,7 +16,7 @@ use Rattle.sip_clients.specs.Client.{Clients, Side, ClientTaken, client_at}
 use Rattle.sip_clients.specs.Clients.{lost_of, request_lost}
 use Rattle.sip_clients.specs.Dialogs.{ended_with, own_ended}
 use Rattle.sip_clients.specs.Rules.Ends.{is_over, request_is_lost, client_due, request_over, client_tick}
-use Rattle.sip_clients.specs.Rules.Requests.{life_of}
+use Rattle.sip_clients.specs.Rules.Requests.{dialog_of_kind}
 use Rattle.sip_clients.specs.Tick.{clients_ticked, next_removal}
 
 -- ---- a request that is over
@@ -27,7 +27,7 @@ both false b x y = refl
 
 own_same : (kind : RequestKind) (gone : Bool) (dialogs : Dialogs)
     → option_map_or (λ life. if gone && lives dialogs life
-    then ended_at life.name dialogs else (dialogs, [])) (life_of kind) (dialogs, [])
+    then ended_at life.name dialogs else (dialogs, [])) (dialog_of_kind kind) (dialogs, [])
     ≡ own_ended kind gone dialogs
 own_same InitialInvite gone dialogs = refl
 own_same (ReInvite life) gone dialogs =

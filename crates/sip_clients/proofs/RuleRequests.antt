@@ -33,7 +33,7 @@ use Rattle.sip_common.specs.declared.held_dialog.HeldDialog.{HeldDialog}
 use Rattle.sip_common.specs.declared.item.CallOut.{CallOut}
 use Rattle.sip_common.specs.declared.refusal.Refusal.{Refusal}
 use Rattle.sip_common.specs.declared.refusal.Refusal.TheVariants as refusal
-use Rattle.sip_common.specs.Dialogs.{dialog_at, is_named, Dialogs}
+use Rattle.sip_common.specs.Dialogs.{dialog_at, is_dialog_id, Dialogs}
 use Rattle.sip_common.specs.Ids.{is_id}
 use Rattle.sip_common.specs.Notices.{refused}
 use Rattle.sip_common.specs.Refusal.{first_refusal}
@@ -58,7 +58,7 @@ use Rattle.sip_clients.specs.Pending.{dropped_if_sent, is_same_pending, is_of, p
 use Rattle.sip_clients.specs.Outputs.{ack_said, request_said, start_command}
 use Rattle.sip_clients.specs.Outside.{bare_request, supporting, through, with_contact}
 use Rattle.sip_clients.specs.SendOutcome.{Outcome, discharged, refusal_for_fault, sending_in}
-use Rattle.sip_clients.specs.ReceivedResponse.{is_inviting}
+use Rattle.sip_clients.specs.ReceivedResponse.{is_invite_kind}
 use Rattle.sip_clients.specs.Rules.Requests as rule
 use Rattle.sip_clients.specs.Rules.Requests.{ack_command, cancel_command, invite_command, plain_command, prack_command, request_command}
 use Rattle.sip_clients.proofs.Served.{found_passes}
@@ -178,7 +178,7 @@ module _ (event : Event) (command : DialogRequest) (side : Side) where
 
   abbrev request_step : Option HeldDialog → ClientTaken
   request_step found = request_done (option_map_or
-      (λ held. (set_value (is_named own_name) side.dialogs (serve held).0, (serve held).1)) found
+      (λ held. (set_value (is_dialog_id own_name) side.dialogs (serve held).0, (serve held).1)) found
       (side.dialogs, service.Refused refusal.NoSuchDialog))
 
   abbrev refuse : Refusal → ClientTaken
@@ -187,17 +187,17 @@ module _ (event : Event) (command : DialogRequest) (side : Side) where
   abbrev sent_in : HeldDialog → ClientTaken
   sent_in held =
       let sent = rule.start (side.clients, [])
-      (rule.request_within event own_name command.method None command.content held) in
-      let dialogs = set_value (is_named own_name) side.dialogs (rule.with_number held) in
+      (rule.request_with_next_number event own_name command.method None command.content held) in
+      let dialogs = set_value (is_dialog_id own_name) side.dialogs (rule.with_number held) in
       let ended = bye_ended own_name command.method (service.Sent (sending_in event command.method None
       command.content held)) dialogs in
       (record { dialogs = ended.0; clients = sent.0 }, sent.1 ++ ended.1)
 
   by_refusal : (held : HeldDialog) (why : Option Refusal)
-      → set_value (is_named own_name) side.dialogs held ≡ side.dialogs
+      → set_value (is_dialog_id own_name) side.dialogs held ≡ side.dialogs
       → option_map_or refuse why (sent_in held) ≡ request_done
       (let done = sent_unless why (sending_in event command.method None command.content held) held
-      in (set_value (is_named own_name) side.dialogs done.0, done.1))
+      in (set_value (is_dialog_id own_name) side.dialogs done.0, done.1))
   unfolding start_command with_content_of
   by_refusal held None same = refl
   by_refusal held (Some why) same =
@@ -218,7 +218,7 @@ module _ (event : Event) (command : DialogRequest) (side : Side) where
       ap (λ why. option_map_or refuse why (sent_in held))
       (request_refusal held.dialog command.method)
       ∙ by_refusal held (first_refusal (request_refusals held.dialog command.method) None)
-      (set_value_same (is_named own_name) side.dialogs held at)
+      (set_value_same (is_dialog_id own_name) side.dialogs held at)
 
 pub request_same : (event : Event) (command : DialogRequest) (side : Side)
     → rule.request_command event command side ≡ request_by_user event command side
@@ -372,7 +372,7 @@ module _ (event : Event) (command : DialogBody) (side : Side) where
       let sent = fold rule.start (rule.ack_kept pending asked_name done.ack side.clients, done.outs)
       done.prack in (
         record {
-          dialogs = set_value (is_named asked_name) side.dialogs done.dialog;
+          dialogs = set_value (is_dialog_id asked_name) side.dialogs done.dialog;
           clients = sent.0;
         },
         sent.1,
@@ -413,7 +413,7 @@ module _ (event : Event) (command : DialogBody) (side : Side) where
 
   abbrev at_name : (HeldDialog → Outcome) → Option HeldDialog → Dialogs × SendOutcome
   at_name serve found = option_map_or
-      (λ held. (set_value (is_named asked_name) side.dialogs (serve held).0, (serve held).1)) found
+      (λ held. (set_value (is_dialog_id asked_name) side.dialogs (serve held).0, (serve held).1)) found
       (side.dialogs, service.Waits)
 
   -- ---- the command Ack
@@ -436,7 +436,7 @@ module _ (event : Event) (command : DialogBody) (side : Side) where
       let after : rule_paid held pending ≡ ack_after pending (at_name (paid event pending command.content)
       (Some held)) = served_as held pending ∙ (λ i. (
         record {
-          dialogs = set_value (is_named asked_name) side.dialogs (dropped_in held pending i);
+          dialogs = set_value (is_dialog_id asked_name) side.dialogs (dropped_in held pending i);
           clients = kept_same pending asked_name said.1 side.clients i;
         },
         said.0,
@@ -503,7 +503,7 @@ module _ (event : Event) (command : DialogBody) (side : Side) where
         prack = started_by (request_said event command.call_id asked_name done.1).1;
         outs = (request_said event command.call_id asked_name done.1).0;
       })) (dropped_in held pending)
-      ∙ prack_by_service pending (set_value (is_named asked_name) side.dialogs
+      ∙ prack_by_service pending (set_value (is_dialog_id asked_name) side.dialogs
       (dropped_if_sent pending done.1 done.0)) done.1 refl
       ∙ ap (λ found. prack_after (at_name (paid event pending command.content) found)) (sym at)
 
@@ -590,7 +590,7 @@ module _ (event : Event) (command : Cancel) (side : Side) where
   cancel_by invite true false provisional (Waits id) at = refl
   cancel_by invite true false provisional Sent at = refl
 
-  inviting_same : (kind : RequestKind) → rule.is_inviting kind ≡ is_inviting kind
+  inviting_same : (kind : RequestKind) → rule.is_invite_kind kind ≡ is_invite_kind kind
   inviting_same InitialInvite = refl
   inviting_same (ReInvite life) = refl
   inviting_same (InDialog life) = refl
@@ -598,14 +598,14 @@ module _ (event : Event) (command : Cancel) (side : Side) where
 
   cancel_in : (found : Option Client) → client_at command.id side.clients ≡ found
       → option_map_or (λ (invite : Client).
-      if not (rule.is_inviting invite.kind) then refuse_cancel refusal.NoSuchRequest
+      if not (rule.is_invite_kind invite.kind) then refuse_cancel refusal.NoSuchRequest
       else (if is_some invite.removal then refuse_cancel refusal.AlreadyFinal
       else (if rule.is_asked invite.cancel then (side, [])
       else cancel_asked invite invite.provisional))) found (refuse_cancel refusal.NoSuchRequest)
       ≡ with_clients (cancelled_of found event command side.clients)
   cancel_in None at = refl
   cancel_in (Some invite) at =
-      cancel_by invite (rule.is_inviting invite.kind) (is_some invite.removal) invite.provisional
+      cancel_by invite (rule.is_invite_kind invite.kind) (is_some invite.removal) invite.provisional
       invite.cancel at
       ∙ ap (λ inviting. with_clients (cancelled_as
       (if not inviting then case.Refused refusal.NoSuchRequest

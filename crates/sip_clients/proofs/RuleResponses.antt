@@ -21,9 +21,9 @@ use Rattle.sip_common.specs.declared.held_dialog.DialogReference.{DialogReferenc
 use Rattle.sip_common.specs.declared.held_dialog.DialogId.{DialogId}
 use Rattle.sip_common.specs.declared.held_dialog.HeldDialog.{HeldDialog}
 use Rattle.sip_common.specs.declared.item.CallOut.{CallOut}
-use Rattle.sip_common.specs.Dialogs.{confirmed, dialog_at, is_named, retargeted, Dialogs}
+use Rattle.sip_common.specs.Dialogs.{confirmed, dialog_at, is_dialog_id, retargeted, Dialogs}
 use Rattle.sip_common.specs.Ids.{is_id}
-use Rattle.sip_common.specs.Requests.{is_final, name_of_tags}
+use Rattle.sip_common.specs.Requests.{is_final, dialog_id_of_tags}
 use Rattle.sip_clients.specs.declared.answers.SentAck.{SentAck}
 use Rattle.sip_clients.specs.declared.client.Cancelling.{Cancelling}
 use Rattle.sip_clients.specs.declared.client.Cancelling.TheVariants.{NotAsked, Waits, Sent}
@@ -280,7 +280,7 @@ module _ (answer : ReceivedResponse) (side : Side) (cancel : Option Client) wher
   abbrev with_served : (Option SentAck → Client) → rule.PendingOutcome → Outcome
   with_served after done = record {
     request = Some (after done.ack);
-    dialogs = insert_entry is_named side.dialogs answer.name done.dialog;
+    dialogs = insert_entry is_dialog_id side.dialogs answer.name done.dialog;
     outs = response_notice answer ∷ done.outs;
     prack = done.prack;
   }
@@ -300,19 +300,19 @@ module _ (answer : ReceivedResponse) (side : Side) (cancel : Option Client) wher
       ours (with_served (λ ack. held_after_success answer ack client) done))
       (owed_same answer.event answer.call_id answer.name pending content held)
       ∙ stays (held_after_success answer said.1 client)
-      (insert_entry is_named side.dialogs answer.name done.0) (response_notice answer ∷ said.0)
+      (insert_entry is_dialog_id side.dialogs answer.name done.0) (response_notice answer ∷ said.0)
 
   prack_asked : (after : Client) (content : Option Content) (rseq number : ℕ) (held : HeldDialog)
       → ours (with_served (λ ack. after) (asked_for content (Prack rseq number) held))
       ≡ (let done = kept_pending answer.event (Prack rseq number) content held in
       let told = told_of_prack answer done.1 in
-      theirs (after, insert_entry is_named side.dialogs answer.name done.0, told.0, told.1))
+      theirs (after, insert_entry is_dialog_id side.dialogs answer.name done.0, told.0, told.1))
   prack_asked after content rseq number held =
       let done = kept_pending answer.event (Prack rseq number) content held in
       ap (λ (done : rule.PendingOutcome). ours (with_served (λ ack. after) done))
       (owed_same answer.event answer.call_id answer.name (Prack rseq number) content held)
       ∙ prack_put answer.event answer.id side cancel after
-      (insert_entry is_named side.dialogs answer.name done.0) answer.call_id answer.name
+      (insert_entry is_dialog_id side.dialogs answer.name done.0) answer.call_id answer.name
       (response_notice answer) done.1
 
   -- ---- no INVITE
@@ -374,11 +374,11 @@ module _ (answer : ReceivedResponse) (side : Side) (cancel : Option Client) wher
       → Same (initial client)
   unfolding prack_owed
   early_of_first client None None f d at is =
-      rw (f, d, at, is) (stays (initial client) (insert_entry is_named side.dialogs answer.name
+      rw (f, d, at, is) (stays (initial client) (insert_entry is_dialog_id side.dialogs answer.name
       (dialog_made_by answer client)) (notice answer))
   early_of_first client (Some held) None f d at is =
       rw (f, d, at, is) (stays (initial client)
-      (insert_entry is_named side.dialogs answer.name held) (notice answer))
+      (insert_entry is_dialog_id side.dialogs answer.name held) (notice answer))
   early_of_first client None (Some rseq) f d at is =
       rw (f, d, at, is) (prack_asked (initial client) (automatic_body client answer.response) rseq
       ((client.request).cseq).number
@@ -406,7 +406,7 @@ module _ (answer : ReceivedResponse) (side : Side) (cancel : Option Client) wher
           let told = told_of_prack answer done.1 in
           theirs (
             initial client,
-            insert_entry is_named side.dialogs answer.name done.0,
+            insert_entry is_dialog_id side.dialogs answer.name done.0,
             told.0,
             told.1,
           )) (sym hears)
@@ -486,7 +486,7 @@ module _ (life : DialogReference) (given : ReceivedResponse) (side : Side) (canc
   unfolding prack_owed
   early_of_again client held None f d l at is =
       rw (f, at, l, d, is) (stays own side cancel (again client)
-      (insert_entry is_named side.dialogs own.name held) (notice own))
+      (insert_entry is_dialog_id side.dialogs own.name held) (notice own))
   early_of_again client held (Some rseq) f d l at is =
       by_next (is_next client.last_rseq rseq) refl (goes client.last_rseq rseq)
     where
@@ -514,7 +514,7 @@ module _ (life : DialogReference) (given : ReceivedResponse) (side : Side) (canc
           let told = told_of_prack own done.1 in
           theirs own side cancel (
             after,
-            insert_entry is_named side.dialogs own.name done.0,
+            insert_entry is_dialog_id side.dialogs own.name done.0,
             told.0,
             told.1,
           )) (sym hears_it)
@@ -593,8 +593,8 @@ module _ (life : DialogReference) (given : ReceivedResponse) (side : Side) (canc
 -- the response of this name to a request of this kind
 abbrev name_by : RequestKind → Client → Message → DialogId
 name_by kind client message =
-    option_map_or (λ life. life.name) (rule.life_of kind)
-    (name_of_tags (tag_of (client.request).from) (tag_of message.to))
+    option_map_or (λ life. life.name) (rule.dialog_of_kind kind)
+    (dialog_id_of_tags (tag_of (client.request).from) (tag_of message.to))
 
 name_same : (kind : RequestKind) (client : Client) (message : Message)
     → name_by kind client message ≡ reply_name kind client message

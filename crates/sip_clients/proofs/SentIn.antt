@@ -21,7 +21,7 @@ use Rattle.sip_common.specs.declared.held_dialog.HeldDialog.{HeldDialog}
 use Rattle.sip_common.specs.declared.item.CallOut.{CallOut}
 use Rattle.sip_common.specs.declared.refusal.Refusal.{Refusal}
 use Rattle.sip_common.specs.declared.refusal.Refusal.TheVariants.{BadMethod}
-use Rattle.sip_common.specs.Dialogs.{Dialogs, dialog_at, is_named}
+use Rattle.sip_common.specs.Dialogs.{Dialogs, dialog_at, is_dialog_id}
 use Rattle.sip_common.specs.Refusal.{first_refusal}
 use Rattle.sip_common.specs.Sent.{NumberedAfter, cseq_of_request, cseqs_in, name_of_dialog, requests_made}
 use Rattle.sip_common.proofs.Entries as entries
@@ -58,20 +58,20 @@ module _ (name own : DialogId) where
 
   -- a request of the agent that takes a number
   sent_once : (event : Event) (method : List ℕ) (rack : Option RAck) (content : Content)
-      (held : HeldDialog) → is_named own (name_of_dialog held.dialog) ≡ true
+      (held : HeldDialog) → is_dialog_id own (name_of_dialog held.dialog) ≡ true
       → numbered method ≡ true
       → cons_option (cseq_of_request name (sending_in event method rack content held).message) []
-      ≡ cond (is_named own name) (next_cseq method held.dialog ∷ []) []
+      ≡ cond (is_dialog_id own name) (next_cseq method held.dialog ∷ []) []
   sent_once event method rack content held named numbers =
       let number = held.dialog.local_cseq + 1 in
       ap (λ o. cons_option o [])
       (made_in name own held.dialog method number content (branch_of event) event.local named)
-      ∙ (λ i. cons_option (if numbers i && is_named own name
+      ∙ (λ i. cons_option (if numbers i && is_dialog_id own name
       then Some (cseq_for number method) else None) [])
-      ∙ as_list (is_named own name) (cseq_for number method)
+      ∙ as_list (is_dialog_id own name) (cseq_for number method)
 
   acknowledged : (dialog : Dialog) (number : ℕ) (content : Content) (event : Event)
-      → is_named own (name_of_dialog dialog) ≡ true
+      → is_dialog_id own (name_of_dialog dialog) ≡ true
       → cseq_of_request name (ack_in dialog number content (branch_of event) event.local) ≡ None
   acknowledged dialog number content event named =
       made_in name own dialog (codes "ACK") number content (branch_of event) event.local named
@@ -145,27 +145,27 @@ number_of_user false true prack e = absurd cc
 number_of_user false false prack e = refl
 
 module _ (name own : DialogId) (event : Event) (held : HeldDialog)
-    (named : is_named own (name_of_dialog held.dialog) ≡ true) where
+    (named : is_dialog_id own (name_of_dialog held.dialog) ≡ true) where
   by_ack_fault : (number : ℕ) (content : Content) (fault : Option DialogFault) (sending : OutgoingRequest)
       → cseq_of_request name sending.message ≡ None
-      → service_cseqs name (service_by fault sending) ≡ cond (is_named own name) [] []
+      → service_cseqs name (service_by fault sending) ≡ cond (is_dialog_id own name) [] []
   by_ack_fault number content None sending none =
-      ap (λ o. cons_option o []) none ∙ sym (none_either (is_named own name))
-  by_ack_fault number content (Some fault) sending none = sym (none_either (is_named own name))
+      ap (λ o. cons_option o []) none ∙ sym (none_either (is_dialog_id own name))
+  by_ack_fault number content (Some fault) sending none = sym (none_either (is_dialog_id own name))
 
   by_prack_fault : (rack : Option RAck) (content : Content) (fault : Option DialogFault)
       → service_cseqs name (service_by fault (sending_in event (codes "PRACK") rack content held))
-      ≡ cond (is_named own name) (asks (codes "PRACK") fault held.dialog) []
+      ≡ cond (is_dialog_id own name) (asks (codes "PRACK") fault held.dialog) []
   by_prack_fault rack content None =
       sent_once name own event (codes "PRACK") rack content held named refl
-  by_prack_fault rack content (Some fault) = sym (none_either (is_named own name))
+  by_prack_fault rack content (Some fault) = sym (none_either (is_dialog_id own name))
 
   pub discharged_sent : (pending : PendingRequest) (offer : Option Content)
       → service_cseqs name (discharged event pending offer held).1
-      ≡ cond (is_named own name) (discharge_cseqs pending offer held.dialog) []
+      ≡ cond (is_dialog_id own name) (discharge_cseqs pending offer held.dialog) []
   unfolding discharged
-  discharged_sent (Ack invite number) None = sym (none_either (is_named own name))
-  discharged_sent (Prack rseq number) None = sym (none_either (is_named own name))
+  discharged_sent (Ack invite number) None = sym (none_either (is_dialog_id own name))
+  discharged_sent (Prack rseq number) None = sym (none_either (is_dialog_id own name))
   discharged_sent (Ack invite number) (Some content) =
       by_ack_fault number content (ack_fault held.dialog) _
       (acknowledged name own held.dialog number content event named)
@@ -174,27 +174,27 @@ module _ (name own : DialogId) (event : Event) (held : HeldDialog)
 
   pub owed_sent : (pending : PendingRequest) (offer : Option Content)
       → service_cseqs name (kept_pending event pending offer held).1
-      ≡ cond (is_named own name) (discharge_cseqs pending offer held.dialog) []
+      ≡ cond (is_dialog_id own name) (discharge_cseqs pending offer held.dialog) []
   unfolding kept_pending
   owed_sent pending offer = discharged_sent pending offer
 
   pub paid_sent : (pending : PendingRequest) (content : Content)
       → service_cseqs name (paid event pending content held).1
-      ≡ cond (is_named own name) (discharge_cseqs pending (Some content) held.dialog) []
+      ≡ cond (is_dialog_id own name) (discharge_cseqs pending (Some content) held.dialog) []
   unfolding paid
   paid_sent pending content = discharged_sent pending (Some content)
 
   by_refusal : (method : List ℕ) (content : Content) (refusal : Option Refusal)
       → (refusal ≡ None → numbered method ≡ true)
       → service_cseqs name (sent_unless refusal (sending_in event method None content held) held).1
-      ≡ cond (is_named own name) (unless_refused refusal method held.dialog) []
+      ≡ cond (is_dialog_id own name) (unless_refused refusal method held.dialog) []
   by_refusal method content None numbers =
       sent_once name own event method None content held named (numbers refl)
-  by_refusal method content (Some refusal) numbers = sym (none_either (is_named own name))
+  by_refusal method content (Some refusal) numbers = sym (none_either (is_dialog_id own name))
 
   pub request_sent_in : (method : List ℕ) (content : Content)
       → service_cseqs name (request_in_held event method content held).1
-      ≡ cond (is_named own name) (request_cseqs method held.dialog) []
+      ≡ cond (is_dialog_id own name) (request_cseqs method held.dialog) []
   unfolding request_in_held
   request_sent_in method content =
       by_refusal method content (first_refusal (request_refusals held.dialog method) None)
@@ -209,21 +209,21 @@ module _ (name own : DialogId) (event : Event) (held : HeldDialog)
 pub served_sent : (own : DialogId) (serve : HeldDialog → Outcome) (otherwise : SendOutcome)
     (cseqs : HeldDialog → List CSeq) (dialogs : Dialogs) (name : DialogId)
     → ((held : HeldDialog) → dialog_at own dialogs ≡ Some held
-    → service_cseqs name (serve held).1 ≡ cond (is_named own name) (cseqs held) [])
+    → service_cseqs name (serve held).1 ≡ cond (is_dialog_id own name) (cseqs held) [])
     → service_cseqs name otherwise ≡ [] → (held : HeldDialog) → dialog_at name dialogs ≡ Some held
-    → cond (is_named own name) (cseqs held) [] ≡ service_cseqs name
+    → cond (is_dialog_id own name) (cseqs held) [] ≡ service_cseqs name
     (served_at own serve otherwise dialogs).1
 served_sent own serve otherwise cseqs dialogs name sends none held at =
-    by_name (is_named own name) refl
+    by_name (is_dialog_id own name) refl
   where
     by_found : (found : Option HeldDialog) → dialog_at own dialogs ≡ found
-        → is_named own name ≡ false
+        → is_dialog_id own name ≡ false
         → [] ≡ service_cseqs name (served_in own serve otherwise dialogs found).1
     by_found None is apart = sym none
     by_found (Some there) is apart =
         sym (sends there is ∙ ap (λ b. cond b (cseqs there) []) apart)
 
-    by_name : (b : Bool) → is_named own name ≡ b
+    by_name : (b : Bool) → is_dialog_id own name ≡ b
         → cond b (cseqs held) [] ≡ service_cseqs name (served_at own serve otherwise dialogs).1
     by_name false apart = by_found (dialog_at own dialogs) refl apart
     by_name true named =

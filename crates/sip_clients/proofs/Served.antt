@@ -11,7 +11,7 @@ use Rattle.sip_dialog.specs.declared.fault.DialogFault.TheVariants as fault
 use Rattle.sip_dialog.specs.Dialog.{is_early, is_ended}
 use Rattle.sip_dialog.specs.Fault.{request_fault}
 use Rattle.sip_dialog.specs.Route.{is_strict}
-use Rattle.sip_common.specs.Dialogs.{dialog_at, dialog_changed, is_named, lived, Dialogs}
+use Rattle.sip_common.specs.Dialogs.{dialog_at, dialog_changed, is_dialog_id, lived, Dialogs}
 use Rattle.sip_common.specs.Refusal.{first_refusal}
 use Rattle.sip_common.specs.declared.held_dialog.DialogId.{DialogId}
 use Rattle.sip_common.specs.declared.held_dialog.HeldDialog.{HeldDialog}
@@ -57,7 +57,7 @@ module _ (name : DialogId) (serve : HeldDialog → Outcome) (otherwise : SendOut
     (dialogs : Dialogs) where
   abbrev pub served_in : Option HeldDialog → Dialogs × SendOutcome
   served_in found =
-      option_map_or (λ held. (set_value (is_named name) dialogs (serve held).0, (serve held).1))
+      option_map_or (λ held. (set_value (is_dialog_id name) dialogs (serve held).0, (serve held).1))
       found (dialogs, otherwise)
 
   pub served_dialogs : (served_at name serve otherwise dialogs).0
@@ -65,7 +65,7 @@ module _ (name : DialogId) (serve : HeldDialog → Outcome) (otherwise : SendOut
   served_dialogs = by_found (dialog_at name dialogs)
     where
       by_found : (found : Option HeldDialog) → (served_in found).0
-          ≡ option_map_or (λ held. set_value (is_named name) dialogs (serve held).0) found dialogs
+          ≡ option_map_or (λ held. set_value (is_dialog_id name) dialogs (serve held).0) found dialogs
       by_found None = refl
       by_found (Some held) = refl
 
@@ -80,8 +80,8 @@ module _ (name : DialogId) (serve : HeldDialog → Outcome) (otherwise : SendOut
           → (served_in found).1 ≡ Refused refusal → (served_in found).0 ≡ dialogs
       by_found None at is = refl
       by_found (Some held) at is =
-          ap (set_value (is_named name) dialogs) (same held is)
-          ∙ set_value_same (is_named name) dialogs held at
+          ap (set_value (is_dialog_id name) dialogs) (same held is)
+          ∙ set_value_same (is_dialog_id name) dialogs held at
 
 -- ---- why a request isn't sent
 

@@ -24,7 +24,7 @@ use Rattle.sip_clients.specs.ClientLife.{ClientHappening, Outgoing, AsksCancel, 
 use Rattle.sip_clients.specs.ClientRules.{AllLive, EachFits, Fits, IsAskedFor, IsCancelOf}
 use Rattle.sip_clients.specs.ClientStory.{ClientStory, asked_first, cancelling_of, client_told, first_success, is_cancel_sent, is_provisional_response, is_success_response, lives_on}
 use Rattle.sip_clients.specs.ClientTelling.{ClientStories, begin_story, happens_to}
-use Rattle.sip_clients.specs.ReceivedResponse.{is_inviting}
+use Rattle.sip_clients.specs.ReceivedResponse.{is_invite_kind}
 use Rattle.sip_clients.proofs.ClientRecords.{any_more, asked_by, asked_more}
 use Rattle.sip_clients.proofs.StoryBegins.{freed_out, sent_as}
 
@@ -223,10 +223,10 @@ module _ (story : ClientStory) where
   none_removed (Some moment) change none = absurd (true≢false none)
 
   pub asks_fit : (invite : Client) → client_told story ≡ invite
-      → is_inviting invite.kind ≡ true → is_some invite.removal ≡ false
+      → is_invite_kind invite.kind ≡ true → is_some invite.removal ≡ false
       → IsAskedFor story story.life
   asks_fit invite is inviting none = record {
-    inviting = ap (λ (client : Client). is_inviting client.kind) is ∙ inviting;
+    inviting = ap (λ (client : Client). is_invite_kind client.kind) is ∙ inviting;
     unanswered = none_removed (first_success story.life) _
         (ap (λ (client : Client). is_some client.removal) is ∙ none);
   }

@@ -41,7 +41,7 @@ use Rattle.sip_clients.specs.OwnCall.{on_side}
 use Rattle.sip_clients.specs.Outputs.{ack_said, request_said}
 use Rattle.sip_clients.specs.Outside.{invite_of, plain_of}
 use Rattle.sip_clients.specs.Replied.{reply_taken}
-use Rattle.sip_clients.specs.ReceivedResponse.{is_inviting}
+use Rattle.sip_clients.specs.ReceivedResponse.{is_invite_kind}
 use Rattle.sip_clients.specs.Tick.{clients_ticked, is_over}
 use Rattle.sip_clients.proofs.ReplyStarts.{replies}
 use Rattle.sip_clients.proofs.StartBounds.{StartsFresh, said_fresh}
@@ -258,4 +258,4 @@ cancel_waits event command side all = by_found (client_at command.id side.client
         → AllWait (cancelled_of o event command side.clients).0
     by_found None at = all
     by_found (Some invite) at =
-        by_kind event command side all invite at (is_inviting invite.kind)
+        by_kind event command side all invite at (is_invite_kind invite.kind)

@@ -17,7 +17,7 @@ use Rattle.sip_clients.specs.declared.client.Client.{Client}
 use Rattle.sip_clients.specs.declared.event.Event.{Event}
 use Rattle.sip_clients.specs.Client.{Clients, Side, ClientTaken, client_at, client_changed, client_for, with_client}
 use Rattle.sip_clients.specs.Outputs.{start_command}
-use Rattle.sip_clients.specs.ReceivedResponse.{is_inviting}
+use Rattle.sip_clients.specs.ReceivedResponse.{is_invite_kind}
 
 -- ---- the CANCEL
 
@@ -43,7 +43,7 @@ asking_case provisional Sent = case.Repeated
 -- of an INVITE alone, and not once a 2xx came
 abbrev pub cancel_case : Client → CancelCase
 cancel_case client =
-    if not (is_inviting client.kind) then case.Refused NoSuchRequest
+    if not (is_invite_kind client.kind) then case.Refused NoSuchRequest
     else (if is_some client.removal then case.Refused AlreadyFinal
     else asking_case client.provisional client.cancel)
 

@@ -16,14 +16,14 @@ use Rattle.sip_clients.specs.ClientLife.{ClientHappening, Outgoing, AsksCancel, 
 use Rattle.sip_clients.specs.ClientStory.{ClientStory, answers_of, asked_first, first_success, is_cancel_sent, is_provisional_response}
 use Rattle.sip_clients.specs.ClientTelling.{ClientStories, AreTold}
 use Rattle.sip_clients.specs.Clients.{status_of}
-use Rattle.sip_clients.specs.ReceivedResponse.{is_inviting}
+use Rattle.sip_clients.specs.ReceivedResponse.{is_invite_kind}
 
 -- A CANCEL that goes out after this life is the only one, of an INVITE to which a provisional
 -- response came and no 2xx. It goes out under the id of the command that asked for it first, with
 -- the branch of the INVITE, to where that was sent.
 pub record IsCancelOf (story : ClientStory) (before : List ClientHappening) (cancel : Outgoing)
     : Type 0 where
-  pub inviting : is_inviting story.kind ≡ true
+  pub inviting : is_invite_kind story.kind ≡ true
   pub provisional : list_any is_provisional_response before ≡ true
   pub unanswered : first_success before ≡ None
   pub alone : list_any is_cancel_sent before ≡ false
@@ -34,7 +34,7 @@ pub record IsCancelOf (story : ClientStory) (before : List ClientHappening) (can
 
 -- a command cancels an INVITE before its first 2xx
 pub record IsAskedFor (story : ClientStory) (before : List ClientHappening) : Type 0 where
-  pub inviting : is_inviting story.kind ≡ true
+  pub inviting : is_invite_kind story.kind ≡ true
   pub unanswered : first_success before ≡ None
 
 -- What happens goes with what happened before; an ACK that answers a 2xx again is the one that went

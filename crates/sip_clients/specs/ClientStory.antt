@@ -9,7 +9,7 @@ use Rattle.sip_message.specs.declared.addr.Addr.{Addr}
 use Rattle.sip_message.specs.declared.id.Id.{Id}
 use Rattle.sip_message.specs.declared.message.Message.{Message}
 use Rattle.sip_timers.specs.declared.estimate.TheConstants.{T1}
-use Rattle.sip_common.specs.Dialogs.{is_named}
+use Rattle.sip_common.specs.Dialogs.{is_dialog_id}
 use Rattle.sip_clients.specs.declared.client.Cancelling.{Cancelling}
 use Rattle.sip_clients.specs.declared.client.Cancelling.TheVariants.{NotAsked, Waits, Sent}
 use Rattle.sip_clients.specs.declared.client.Client.{Client}
@@ -62,8 +62,8 @@ first_success (_ ∷ later) = first_success later
 -- by one thing after another: the dialogs of the 2xx responses, as they came first, each with the
 -- ACK that went out last for it
 abbrev pub with_answer : AnswerList → ClientHappening → AnswerList
-with_answer answers (GetsSuccess name moment) = insert_entry is_named answers name None
-with_answer answers (SendsAck name ack) = insert_entry is_named answers name (Some ack)
+with_answer answers (GetsSuccess name moment) = insert_entry is_dialog_id answers name None
+with_answer answers (SendsAck name ack) = insert_entry is_dialog_id answers name (Some ack)
 with_answer answers _ = answers
 
 -- all of them

@@ -18,9 +18,9 @@ use Rattle.sip_common.specs.declared.held_dialog.DialogId.{DialogId}
 use Rattle.sip_common.specs.declared.item.CallOut.{CallOut}
 use Rattle.sip_common.specs.declared.refusal.Refusal.{Refusal}
 use Rattle.sip_common.specs.declared.refusal.Refusal.TheVariants.{BadMethod}
-use Rattle.sip_common.specs.Dialogs.{is_named}
+use Rattle.sip_common.specs.Dialogs.{is_dialog_id}
 use Rattle.sip_common.specs.Notices.{refused}
-use Rattle.sip_common.specs.Requests.{is_final, name_of_tags}
+use Rattle.sip_common.specs.Requests.{is_final, dialog_id_of_tags}
 use Rattle.sip_common.specs.Ids.{is_id}
 use Rattle.sip_clients.specs.declared.answers.SentAck.{SentAck}
 use Rattle.sip_clients.specs.declared.client.RequestKind.{RequestKind}
@@ -54,10 +54,10 @@ settled event id (Starts client) clients = started event client clients
 
 -- the name of the dialog that it makes, or that its request was sent in
 abbrev pub reply_name : RequestKind → Client → Message → DialogId
-reply_name InitialInvite client response = name_of_tags (tag_of (client.request).from) (tag_of response.to)
+reply_name InitialInvite client response = dialog_id_of_tags (tag_of (client.request).from) (tag_of response.to)
 reply_name (ReInvite life) client response = life.name
 reply_name (InDialog life) client response = life.name
-reply_name OutOfDialog client response = name_of_tags (tag_of (client.request).from) (tag_of response.to)
+reply_name OutOfDialog client response = dialog_id_of_tags (tag_of (client.request).from) (tag_of response.to)
 
 -- the status of a response
 abbrev pub status_of : StartLine → Option ℕ
@@ -156,7 +156,7 @@ request_by_user event command side =
 -- the ACK that the user gave is that of its 2xx
 abbrev pub acked_with : DialogId → SentAck → Client → Client
 acked_with name ack client =
-    record client { answers = insert_entry is_named client.answers name (Some ack) }
+    record client { answers = insert_entry is_dialog_id client.answers name (Some ack) }
 
 -- the ACK is kept, to be sent again where the 2xx comes again
 abbrev pub ack_kept : PendingRequest → DialogId → Option SentAck → Clients → Clients

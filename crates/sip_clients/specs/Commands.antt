@@ -20,7 +20,7 @@ use Rattle.sip_common.specs.declared.refusal.Refusal.{Refusal}
 use Rattle.sip_common.specs.declared.refusal.Refusal.TheVariants.{NoSuchDialog, BadMethod, DialogEnded, StrictRoute, SequenceUsedUp, NothingToAck, NothingToPrack}
 use Rattle.sip_common.specs.Dialogs.{dialog_at, ended_at, lived, tag_text, Dialogs}
 use Rattle.sip_common.specs.Refusal.{first_refusal}
-use Rattle.sip_common.specs.Requests.{name_of_tags}
+use Rattle.sip_common.specs.Requests.{dialog_id_of_tags}
 use Rattle.sip_clients.specs.declared.answers.SentAck.{SentAck}
 use Rattle.sip_clients.specs.declared.pending.PendingKind.{PendingKind}
 use Rattle.sip_clients.specs.declared.pending.PendingKind.TheVariants as kind
@@ -142,4 +142,4 @@ prack_asked event name pending command dialogs =
 
 -- the name of the dialog that a command is for
 abbrev pub name_in : Option (List ℕ) → Option (List ℕ) → DialogId
-name_in local remote = name_of_tags (tag_text local) (tag_text remote)
+name_in local remote = dialog_id_of_tags (tag_text local) (tag_text remote)

@@ -12,7 +12,7 @@ use Rattle.sip_common.specs.declared.held_dialog.DialogReference.{DialogReferenc
 use Rattle.sip_common.specs.declared.held_dialog.DialogId.{DialogId}
 use Rattle.sip_common.specs.declared.held_dialog.HeldDialog.{HeldDialog}
 use Rattle.sip_common.specs.declared.item.CallOut.{CallOut}
-use Rattle.sip_common.specs.Dialogs.{confirmed, dialog_at, early_ended, ended_at, is_named, lives, retargeted, Dialogs}
+use Rattle.sip_common.specs.Dialogs.{confirmed, dialog_at, early_ended, ended_at, is_dialog_id, lives, retargeted, Dialogs}
 use Rattle.sip_clients.specs.declared.client.RequestKind.{RequestKind}
 use Rattle.sip_clients.specs.declared.client.RequestKind.TheVariants.{InitialInvite, ReInvite, InDialog, OutOfDialog}
 use Rattle.sip_clients.specs.declared.client.Client.{Client}
@@ -70,7 +70,7 @@ hearing rseq held = record held { last_rseq = latest_after (offered held.last_rs
 -- becomes of it
 abbrev pub served_at : DialogId → (HeldDialog → Outcome) → SendOutcome → Dialogs → Dialogs × SendOutcome
 served_at name serve otherwise dialogs =
-    option_map_or (λ held. (set_value (is_named name) dialogs (serve held).0, (serve held).1))
+    option_map_or (λ held. (set_value (is_dialog_id name) dialogs (serve held).0, (serve held).1))
     (dialog_at name dialogs) (dialogs, otherwise)
 
 -- what is owed in it

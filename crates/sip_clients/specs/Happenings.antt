@@ -9,7 +9,7 @@ use Rattle.sip_dialog.specs.Life.{Happening}
 use Rattle.sip_dialog.specs.Opening.{Opening, ByResponse, contact_uri}
 use Rattle.sip_common.specs.declared.held_dialog.DialogId.{DialogId}
 use Rattle.sip_common.specs.declared.held_dialog.HeldDialog.{HeldDialog}
-use Rattle.sip_common.specs.Dialogs.{confirms, is_named, retargets}
+use Rattle.sip_common.specs.Dialogs.{confirms, is_dialog_id, retargets}
 use Rattle.sip_common.specs.Requests.{is_success}
 use Rattle.sip_clients.specs.declared.client.Client.{Client}
 use Rattle.sip_clients.specs.declared.client.RequestKind.{RequestKind}
@@ -35,7 +35,7 @@ is_first_success status client name = is_success status && not (has_answer name 
 abbrev pub reply_brings : ℕ → Client → Message → DialogId → HeldDialog → List Happening
 reply_brings status client response name held =
     let own = reply_name client.kind client response in
-    if is_named own name && is_first_success status client own && has_dialog client.kind (Some held)
+    if is_dialog_id own name && is_first_success status client own && has_dialog client.kind (Some held)
     then success_brings client.kind response held else []
 
 -- the response to the request of this id

@@ -14,7 +14,7 @@ use Rattle.sip_common.specs.declared.held_dialog.DialogId.{DialogId}
 use Rattle.sip_common.specs.declared.held_dialog.HeldDialog.{HeldDialog}
 use Rattle.sip_common.specs.declared.item.CallOut.{CallOut}
 use Rattle.sip_common.specs.declared.item.CallOut.TheVariants as out
-use Rattle.sip_common.specs.Dialogs.{is_named}
+use Rattle.sip_common.specs.Dialogs.{is_dialog_id}
 use Rattle.sip_common.specs.Requests.{is_success}
 use Rattle.sip_common.specs.Sent.{cseqs_in}
 use Rattle.sip_clients.specs.declared.client.Client.{Client}
@@ -67,7 +67,7 @@ owed_if_told name outs pending =
 abbrev pub reply_owes : ℕ → Client → Message → DialogId → Option HeldDialog → List CallOut
     → List PendingRequest
 reply_owes status client response name found outs =
-    if is_named (reply_name client.kind client response) name && has_dialog client.kind found
+    if is_dialog_id (reply_name client.kind client response) name && has_dialog client.kind found
     then option_map_or (owed_if_told name outs) (asked_for status client response) [] else []
 
 -- the same of the response to the request of this id
@@ -90,7 +90,7 @@ oldest_paid kind pending_requests =
 -- so it is after a command for the dialog of the name, where one of the kind goes out
 abbrev pub command_pays : PendingKind → DialogBody → DialogId → List CallOut → List PendingRequest → List PendingRequest
 command_pays kind command name outs pending_requests =
-    if is_named (name_in command.local_tag command.remote_tag) name && goes_out kind name outs
+    if is_dialog_id (name_in command.local_tag command.remote_tag) name && goes_out kind name outs
     then oldest_paid kind pending_requests else pending_requests
 
 -- the command Ack

@@ -7,7 +7,7 @@ use Rattle.sip_common.specs.declared.held_dialog.DialogReference.{DialogReferenc
 use Rattle.sip_common.specs.declared.item.CallOut.{CallOut}
 use Rattle.sip_common.specs.declared.item.CallOut.TheVariants.{Notice}
 use Rattle.sip_common.specs.declared.notice.Notice.TheVariants as notice
-use Rattle.sip_common.specs.Dialogs.{is_named}
+use Rattle.sip_common.specs.Dialogs.{is_dialog_id}
 use Rattle.sip_common.specs.Requests.{is_final, has_to_tag}
 use Rattle.sip_common.specs.Ids.{is_id}
 use Rattle.sip_clients.specs.declared.client.RequestKind.{RequestKind}
@@ -25,9 +25,9 @@ pub data AnInvite : Type 0 where
 -- dialog.
 abbrev pub is_for : AnInvite → DialogReference → Id → Client → RequestKind → Message → Bool
 is_for OfTheCall life id client InitialInvite response =
-    is_named life.name (reply_name InitialInvite client response)
+    is_dialog_id life.name (reply_name InitialInvite client response)
 is_for (InTheDialog invite) life id client (ReInvite own) response =
-    is_id id invite && (is_named life.name own.name && is_id own.created_by life.created_by)
+    is_id id invite && (is_dialog_id life.name own.name && is_id own.created_by life.created_by)
 is_for _ life id client _ response = false
 
 -- the RSeq of a reliable provisional response of a dialog: it isn't final and no 100, and has a To

@@ -21,15 +21,15 @@ use Rattle.sip_clients.specs.Answers.{has_answer}
 -- ---- what is asked of a response
 
 -- an INVITE
-abbrev pub is_inviting : RequestKind → Bool
-is_inviting InitialInvite = true
-is_inviting (ReInvite life) = true
-is_inviting (InDialog life) = false
-is_inviting OutOfDialog = false
+abbrev pub is_invite_kind : RequestKind → Bool
+is_invite_kind InitialInvite = true
+is_invite_kind (ReInvite life) = true
+is_invite_kind (InDialog life) = false
+is_invite_kind OutOfDialog = false
 
 -- the final response of its request, or one that rejects an INVITE
 abbrev pub is_last : RequestKind → ℕ → Bool
-is_last kind status = is_final status && not (is_inviting kind && is_success status)
+is_last kind status = is_final status && not (is_invite_kind kind && is_success status)
 
 -- by the held dialog of its name, if there is one: the dialog of an INVITE is held, or may be made
 abbrev pub has_dialog : RequestKind → Option HeldDialog → Bool

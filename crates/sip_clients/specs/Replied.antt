@@ -10,7 +10,7 @@ use Rattle.sip_common.specs.declared.pending_request.PendingRequest.TheVariants.
 use Rattle.sip_common.specs.declared.held_dialog.DialogId.{DialogId}
 use Rattle.sip_common.specs.declared.held_dialog.HeldDialog.{HeldDialog}
 use Rattle.sip_common.specs.declared.item.CallOut.{CallOut}
-use Rattle.sip_common.specs.Dialogs.{dialog_at, is_named, Dialogs}
+use Rattle.sip_common.specs.Dialogs.{dialog_at, is_dialog_id, Dialogs}
 use Rattle.sip_timers.specs.declared.estimate.TheConstants.{LIFETIME}
 use Rattle.sip_clients.specs.declared.answers.SentAck.{SentAck}
 use Rattle.sip_clients.specs.declared.client.RequestKind.{RequestKind}
@@ -112,7 +112,7 @@ ack_again client answer =
 -- the INVITE is held for 64*T1 after its first 2xx
 abbrev pub held_after_success : ReceivedResponse → Option SentAck → Client → Client
 held_after_success answer ack client = record client {
-  answers = insert_entry is_named client.answers answer.name ack;
+  answers = insert_entry is_dialog_id client.answers answer.name ack;
   removal = Some (unwrap_or client.removal ((answer.event).moment + LIFETIME));
 }
 
@@ -157,7 +157,7 @@ replied_in client found answer = by_reply_case (reply_case client found answer) 
 -- the dialogs with that one
 abbrev pub dialogs_with : DialogId → Option HeldDialog → Dialogs → Dialogs
 dialogs_with name None dialogs = dialogs
-dialogs_with name (Some held) dialogs = insert_entry is_named dialogs name held
+dialogs_with name (Some held) dialogs = insert_entry is_dialog_id dialogs name held
 
 -- the dialogs with that one after it
 abbrev pub after_dialog : DialogId → Dialogs → InOneDialog → Replied

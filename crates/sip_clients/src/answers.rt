@@ -3,7 +3,7 @@
 ghost use Rattle.std.specs.Prelude.{◌≡◌, [], IfOk, OnOk};
 ghost use Rattle.std.specs.Option.{option_copied};
 ghost use Rattle.indexmap.specs.IndexMap.{insert_entry};
-ghost use Rattle.sip_common.specs.Dialogs.{is_named};
+ghost use Rattle.sip_common.specs.Dialogs.{is_dialog_id};
 ghost use Rattle.sip_clients.specs.Answers as spec;
 
 use indexmap::IndexMap;
@@ -71,7 +71,7 @@ impl Answers {
 
     /// Notes one of this dialog, with its ACK where one was sent.
     pub(crate) fn note(&mut self, name: DialogId, ack: Option<SentAck>) -> Result<(), AllocError>
-        ensures { OnOk result (self.new ≡ insert_entry is_named self.old name ack) }
+        ensures { OnOk result (self.new ≡ insert_entry is_dialog_id self.old name ack) }
     {
         self.acks.insert(name, ack)?;
         Ok(())

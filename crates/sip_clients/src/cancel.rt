@@ -8,7 +8,7 @@ use crate::client::{Cancelling, Client, RequestKind, client_for};
 use crate::event::Event;
 use crate::held::{ClientMap, hold};
 use crate::outputs::start_command;
-use crate::reply::is_inviting;
+use crate::reply::is_invite_kind;
 use sip_common::outputs::refused;
 use sip_common::{CallOut, Cancel, Refusal};
 use sip_message::{Id, cancel_for};
@@ -93,7 +93,7 @@ pub(crate) fn take_cancel(
 fn cancel_case(invite: &Client) -> CancelCase
     ensures { result ≡ spec.cancel_case invite.now }
 {
-    if !is_inviting(&invite.kind) {
+    if !is_invite_kind(&invite.kind) {
         CancelCase::Refused(Refusal::NoSuchRequest)
     } else if invite.removal.is_some() {
         CancelCase::Refused(Refusal::AlreadyFinal)

@@ -2,7 +2,7 @@
 
 ghost use Rattle.std.specs.Prelude.{◌≡◌, IfOk, OnOk};
 ghost use Rattle.indexmap.specs.IndexMap.{insert_entry};
-ghost use Rattle.sip_common.specs.Dialogs.{is_named};
+ghost use Rattle.sip_common.specs.Dialogs.{is_dialog_id};
 ghost use Rattle.sip_clients.specs.Dialogs as spec;
 
 use crate::client::{Client, RequestKind};
@@ -43,7 +43,7 @@ pub(crate) fn hold(
     made: HeldDialog,
 ) -> Result<(), AllocError>
     ensures { OnOk result (dialogs.new.entries
-        ≡ insert_entry is_named dialogs.old.entries name made) }
+        ≡ insert_entry is_dialog_id dialogs.old.entries name made) }
 {
     dialogs.insert(name, made)?;
     Ok(())

@@ -92,7 +92,7 @@ pub(crate) enum ReplyCase {
 pub(crate) fn is_last(kind: &RequestKind, status: u16) -> bool
     ensures { result ≡ spec.is_last kind.now status }
 {
-    is_final(status) && !(is_inviting(kind) && is_success(status))
+    is_final(status) && !(is_invite_kind(kind) && is_success(status))
 }
 
 /// The first case that fits, by the held dialog of its name.
@@ -138,8 +138,8 @@ fn reliable_case(last_rseq: Inbound, rseq: Option<u32>) -> ReplyCase
 }
 
 /// Whether a request is an INVITE.
-pub(crate) fn is_inviting(kind: &RequestKind) -> bool
-    ensures { result ≡ spec.is_inviting kind.now }
+pub(crate) fn is_invite_kind(kind: &RequestKind) -> bool
+    ensures { result ≡ spec.is_invite_kind kind.now }
 {
     match kind {
         RequestKind::InitialInvite | RequestKind::ReInvite(_) => true,

@@ -23,8 +23,8 @@ use Rattle.sip_common.specs.declared.held_dialog.HeldDialog.{HeldDialog}
 use Rattle.sip_common.specs.declared.item.CallOut.{CallOut}
 use Rattle.sip_common.specs.declared.item.CallOut.TheVariants.{Notice}
 use Rattle.sip_common.specs.declared.notice.Notice.TheVariants.{Ended}
-use Rattle.sip_common.specs.Dialogs.{Dialogs, dialog_at, dialog_changed, early_ended, ended_at, ended_notice, happened, is_early_of, is_named}
-use Rattle.sip_common.specs.Requests.{name_of_tags}
+use Rattle.sip_common.specs.Dialogs.{Dialogs, dialog_at, dialog_changed, early_ended, ended_at, ended_notice, happened, is_early_of, is_dialog_id}
+use Rattle.sip_common.specs.Requests.{dialog_id_of_tags}
 use Rattle.sip_common.specs.Sent.{name_of_dialog}
 use Rattle.sip_common.proofs.Entries as entries
 use Rattle.sip_common.proofs.Heard.{AreApart, name_laws}
@@ -34,7 +34,7 @@ use Rattle.sip_common.proofs.Heard.{AreApart, name_laws}
 -- the dialog of whose end an output tells the user
 abbrev pub name_ended_by : CallOut → Option DialogId
 name_ended_by (Notice (Ended call_id local_tag remote_tag)) =
-    Some (name_of_tags local_tag remote_tag)
+    Some (dialog_id_of_tags local_tag remote_tag)
 name_ended_by _ = None
 
 abbrev pub names_ended : List CallOut → List DialogId
@@ -42,7 +42,7 @@ names_ended outs = filter_map name_ended_by outs
 
 -- how often outputs tell of the end of the dialog of a name
 abbrev pub ends_told : DialogId → List CallOut → ℕ
-ends_told name outs = count_by (is_named name) (names_ended outs)
+ends_told name outs = count_by (is_dialog_id name) (names_ended outs)
 
 abbrev pub once : Bool → ℕ
 once b = cond b 1 0
@@ -54,24 +54,24 @@ silent_both xs ys no_x no_y =
 
 pub none_told : (name : DialogId) (outs : List CallOut) → names_ended outs ≡ []
     → ends_told name outs ≡ 0
-none_told name outs none = ap (λ names. count_by (is_named name) names) none
+none_told name outs none = ap (λ names. count_by (is_dialog_id name) names) none
 
 pub told_both : (name : DialogId) (xs ys : List CallOut)
     → ends_told name (xs ++ ys) ≡ ends_told name xs + ends_told name ys
 told_both name xs ys =
-    ap (λ names. count_by (is_named name) names) (filter_map-append name_ended_by xs ys)
-    ∙ sum_by-append (λ other. cond (is_named name other) 1 0) (names_ended xs) (names_ended ys)
+    ap (λ names. count_by (is_dialog_id name) names) (filter_map-append name_ended_by xs ys)
+    ∙ sum_by-append (λ other. cond (is_dialog_id name other) 1 0) (names_ended xs) (names_ended ys)
 
 pub told_one : (name own : DialogId) (held : HeldDialog)
-    → is_named own (name_of_dialog held.dialog) ≡ true
-    → ends_told name (ended_notice held ∷ []) ≡ once (is_named own name)
+    → is_dialog_id own (name_of_dialog held.dialog) ≡ true
+    → ends_told name (ended_notice held ∷ []) ≡ once (is_dialog_id own name)
 told_one name own held named =
     let tags = name_of_dialog held.dialog in
-    let same : is_named name tags ≡ is_named own name =
+    let same : is_dialog_id name tags ≡ is_dialog_id own name =
     name_laws.symm name tags ∙ sym (name_laws.congr own tags name named) in
-    let first = sum_by-cons (λ other. cond (is_named name other) 1 0) tags [] in
-    let none : count_by (is_named name) [] ≡ 0 = refl in
-    let told : once (is_named name tags) ≡ once (is_named own name) = ap once same in
+    let first = sum_by-cons (λ other. cond (is_dialog_id name other) 1 0) tags [] in
+    let none : count_by (is_dialog_id name) [] ≡ 0 = refl in
+    let told : once (is_dialog_id name tags) ≡ once (is_dialog_id own name) = ap once same in
     omega (arith, first, none, told)
 
 -- ---- one dialog
@@ -129,7 +129,7 @@ ended_alike b (Some held) (Some other) same = refl
 -- each dialog is held under the name of its tags
 abbrev pub AreNamed : Dialogs → Type 0
 AreNamed dialogs = (name : DialogId) (held : HeldDialog) → dialog_at name dialogs ≡ Some held
-    → is_named name (name_of_dialog held.dialog) ≡ true
+    → is_dialog_id name (name_of_dialog held.dialog) ≡ true
 
 confirmed_name : (side : Side) (dialog : Dialog) (response : Message)
     → name_of_dialog (confirmed_at side dialog response) ≡ name_of_dialog dialog
@@ -157,17 +157,17 @@ pub changed_named : (own : DialogId) (change : HeldDialog → HeldDialog)
     → ((held : HeldDialog) → name_of_dialog (change held).dialog ≡ name_of_dialog held.dialog)
     → (dialogs : Dialogs) → AreNamed dialogs → AreNamed (dialog_changed own change dialogs)
 changed_named own change same dialogs named name held at =
-    by_name (is_named own name) (dialog_at name dialogs) refl
+    by_name (is_dialog_id own name) (dialog_at name dialogs) refl
     (sym (entries.found_changed name_laws own name change dialogs) ∙ at)
   where
     by_name : (b : Bool) (o : Option HeldDialog) → dialog_at name dialogs ≡ o
         → cond b (option_map change o) o ≡ Some held
-        → is_named name (name_of_dialog held.dialog) ≡ true
+        → is_dialog_id name (name_of_dialog held.dialog) ≡ true
     by_name true None is found = absurd cc
     by_name true (Some before) is found =
         let it : change before ≡ held = cc in
-        ap (λ (held : HeldDialog). is_named name (name_of_dialog held.dialog)) (sym it)
-        ∙ ap (is_named name) (same before) ∙ named name before is
+        ap (λ (held : HeldDialog). is_dialog_id name (name_of_dialog held.dialog)) (sym it)
+        ∙ ap (is_dialog_id name) (same before) ∙ named name before is
     by_name false None is found = absurd cc
     by_name false (Some before) is found = named name held (is ∙ found)
 
@@ -183,19 +183,19 @@ filtered_named p dialogs apart named name held at =
     by_test before false found = absurd cc
 
     by_found : (o : Option HeldDialog) → dialog_at name dialogs ≡ o
-        → option_filter p o ≡ Some held → is_named name (name_of_dialog held.dialog) ≡ true
+        → option_filter p o ≡ Some held → is_dialog_id name (name_of_dialog held.dialog) ≡ true
     by_found None is found = absurd cc
     by_found (Some before) is found = named name held (is ∙ by_test before (p before) found)
 
 -- the same, of the entries
 abbrev pub EachNamed : Dialogs → Type 0
 EachNamed dialogs = AllByRecursion
-    (λ (entry : DialogId × HeldDialog). is_named entry.0 (name_of_dialog entry.1.dialog) ≡ true)
+    (λ (entry : DialogId × HeldDialog). is_dialog_id entry.0 (name_of_dialog entry.1.dialog) ≡ true)
     dialogs
 
 -- no later entry has the name of the first
-none_later : (own name : DialogId) (dialogs : Dialogs) → is_named own name ≡ true
-    → AllByRecursion (λ key. is_named own key ≡ false) (keys_of dialogs)
+none_later : (own name : DialogId) (dialogs : Dialogs) → is_dialog_id own name ≡ true
+    → AllByRecursion (λ key. is_dialog_id own key ≡ false) (keys_of dialogs)
     → dialog_at name dialogs ≡ None
 none_later own name [] same others = refl
 none_later own name (entry ∷ dialogs) same others =
@@ -208,11 +208,11 @@ each_named [] apart named = tt
 each_named (entry ∷ dialogs) apart named = (
   named entry.0 entry.1
       (ap (λ b. cond b (Some entry.1) (dialog_at entry.0 dialogs)) (name_laws.refl entry.0)),
-  each_named dialogs (IsDistinct-tail is_named entry.0 (keys_of dialogs) apart)
-      (λ name held at. by_bool (is_named name entry.0)
+  each_named dialogs (IsDistinct-tail is_dialog_id entry.0 (keys_of dialogs) apart)
+      (λ name held at. by_bool (is_dialog_id name entry.0)
       (λ same. absurd (never name held (none_later entry.0 name dialogs
       (name_laws.symm entry.0 name ∙ same)
-      (IsDistinct-head is_named entry.0 (keys_of dialogs) apart)) at))
+      (IsDistinct-head is_dialog_id entry.0 (keys_of dialogs) apart)) at))
       (λ other. named name held
       (ap (λ b. cond b (Some entry.1) (dialog_at name dialogs)) other ∙ at))),
 )
@@ -224,9 +224,9 @@ each_named (entry ∷ dialogs) apart named = (
 -- ---- the dialogs that pass a test are told of, each once
 
 told_first : (name own : DialogId) (held : HeldDialog) (rest : List HeldDialog) (b : Bool)
-    → is_named own (name_of_dialog held.dialog) ≡ true
+    → is_dialog_id own (name_of_dialog held.dialog) ≡ true
     → ends_told name (map ended_notice (cond b (held ∷ rest) rest))
-    ≡ once (b && is_named own name) + ends_told name (map ended_notice rest)
+    ≡ once (b && is_dialog_id own name) + ends_told name (map ended_notice rest)
 told_first name own held rest true named =
     told_both name (ended_notice held ∷ []) (map ended_notice rest)
     ∙ ap (λ n. n + ends_told name (map ended_notice rest)) (told_one name own held named)
@@ -255,20 +255,20 @@ told_filtered p name (entry ∷ dialogs) apart named =
     let rest = filter p (values_of dialogs) in
     let all = told_first name entry.0 entry.1 rest (p entry.1) named.0 in
     let later = told_filtered p name dialogs
-    (IsDistinct-tail is_named entry.0 (keys_of dialogs) apart) named.1 in
-    by_bool (is_named name entry.0)
-    (λ same. let own : is_named entry.0 name ≡ true = name_laws.symm entry.0 name ∙ same in
+    (IsDistinct-tail is_dialog_id entry.0 (keys_of dialogs) apart) named.1 in
+    by_bool (is_dialog_id name entry.0)
+    (λ same. let own : is_dialog_id entry.0 name ≡ true = name_laws.symm entry.0 name ∙ same in
     let none = none_later entry.0 name dialogs own
-    (IsDistinct-head is_named entry.0 (keys_of dialogs) apart) in
+    (IsDistinct-head is_dialog_id entry.0 (keys_of dialogs) apart) in
     no_more (ends_told name (map ended_notice (filter p (values_of (entry ∷ dialogs)))))
-    (once (p entry.1 && is_named entry.0 name)) (ends_told name (map ended_notice rest)) all
+    (once (p entry.1 && is_dialog_id entry.0 name)) (ends_told name (map ended_notice rest)) all
     (later ∙ ap (λ o. once (ended_of p o)) none)
-    ∙ and_right (p entry.1) (is_named entry.0 name) own
+    ∙ and_right (p entry.1) (is_dialog_id entry.0 name) own
     ∙ ap (λ b. once (ended_of p (cond b (Some entry.1) (dialog_at name dialogs)))) (sym same))
     (λ other. none_first
     (ends_told name (map ended_notice (filter p (values_of (entry ∷ dialogs)))))
-    (once (p entry.1 && is_named entry.0 name)) (ends_told name (map ended_notice rest)) all
-    (and_none (p entry.1) (is_named entry.0 name) (name_laws.symm entry.0 name ∙ other))
+    (once (p entry.1 && is_dialog_id entry.0 name)) (ends_told name (map ended_notice rest)) all
+    (and_none (p entry.1) (is_dialog_id entry.0 name) (name_laws.symm entry.0 name ∙ other))
     ∙ later
     ∙ ap (λ b. once (ended_of p (cond b (Some entry.1) (dialog_at name dialogs)))) (sym other))
 
@@ -324,7 +324,7 @@ pub changed_held : (own : DialogId) (change : HeldDialog → HeldDialog) (dialog
     ≡ is_some (dialog_at name dialogs)
 changed_held own change dialogs name =
     ap (λ o. is_some o) (entries.found_changed name_laws own name change dialogs)
-    ∙ by_name (is_named own name) (dialog_at name dialogs)
+    ∙ by_name (is_dialog_id own name) (dialog_at name dialogs)
   where
     by_name : (b : Bool) (o : Option HeldDialog)
         → is_some (cond b (option_map change o) o) ≡ is_some o
@@ -366,29 +366,29 @@ goes_beside opens ends before after xs ys none goes = record {
 
 -- the dialog of a name ends, which has the name of its tags
 pub goes_removed : (own : DialogId) (dialogs : Dialogs) → AreApart dialogs → AreNamed dialogs
-    → Goes no_name (λ name held. is_named own name) dialogs (ended_at own dialogs).0
+    → Goes no_name (λ name held. is_dialog_id own name) dialogs (ended_at own dialogs).0
     (ended_at own dialogs).1
 goes_removed own dialogs apart named = record {
   held = λ name. ap (λ o. is_some o)
-      (lookup-remove_entry name_laws (is_named own) (λ y z e. name_laws.congr own y z e) name
+      (lookup-remove_entry name_laws (is_dialog_id own) (λ y z e. name_laws.congr own y z e) name
       dialogs apart)
-      ∙ left_all (is_named own name) (dialog_at name dialogs);
+      ∙ left_all (is_dialog_id own name) (dialog_at name dialogs);
   told = λ name. by_own name (dialog_at own dialogs) refl;
 }
   where
     by_own : (name : DialogId) (o : Option HeldDialog) → dialog_at own dialogs ≡ o
         → ends_told name (option_map_or (λ held. ended_notice held ∷ []) o [])
-        ≡ once (ended_of (λ held. is_named own name) (dialog_at name dialogs))
+        ≡ once (ended_of (λ held. is_dialog_id own name) (dialog_at name dialogs))
     by_own name None is =
-        by_bool (is_named own name)
-        (λ same. ap (λ o. once (ended_of (λ held. is_named own name) o))
+        by_bool (is_dialog_id own name)
+        (λ same. ap (λ o. once (ended_of (λ held. is_dialog_id own name) o))
         (sym (entries.same_key name_laws own name dialogs same ∙ is)))
         (λ other. ended_none (dialog_at name dialogs)
         ∙ ap (λ b. once (ended_of (λ held. b) (dialog_at name dialogs))) (sym other))
     by_own name (Some held) is =
         told_one name own held (named own held is)
-        ∙ by_bool (is_named own name)
-        (λ same. ap (λ o. once (ended_of (λ held. is_named own name) o))
+        ∙ by_bool (is_dialog_id own name)
+        (λ same. ap (λ o. once (ended_of (λ held. is_dialog_id own name) o))
         (sym (entries.same_key name_laws own name dialogs same ∙ is)))
         (λ other. ap once other ∙ ended_none (dialog_at name dialogs)
         ∙ ap (λ b. once (ended_of (λ held. b) (dialog_at name dialogs))) (sym other))

@@ -16,7 +16,7 @@ use Rattle.sip_dialog.specs.Opening.{Opening, opened}
 use Rattle.sip_reliable.specs.Inbound.{latest_after, offered}
 use Rattle.sip_common.specs.declared.held_dialog.DialogId.{DialogId}
 use Rattle.sip_common.specs.declared.held_dialog.HeldDialog.{HeldDialog}
-use Rattle.sip_common.specs.Dialogs.{dialog_at, dialog_changed, happened, is_named, tag_text, Dialogs}
+use Rattle.sip_common.specs.Dialogs.{dialog_at, dialog_changed, happened, is_dialog_id, tag_text, Dialogs}
 use Rattle.sip_common.specs.Ids.{is_id}
 use Rattle.sip_common.specs.Lives.{AllFit}
 use Rattle.sip_common.specs.Sent.{name_of_dialog}
@@ -27,7 +27,7 @@ use Rattle.sip_common.proofs.Entries as entries
 and_true : (x y : Bool) → x ≡ true → y ≡ true → (x && y) ≡ true
 and_true x y e f = λ i. e i && f i
 
-pub name_laws : IsEquivalence is_named
+pub name_laws : IsEquivalence is_dialog_id
 name_laws = record {
   refl = λ x. and_true (pointwise nat_eq x.local x.local) (pointwise nat_eq x.remote x.remote)
       (nat_list_eq_equiv.refl x.local) (nat_list_eq_equiv.refl x.remote);
@@ -155,7 +155,7 @@ quiet name held = []
 
 -- this in the dialog of this name alone
 abbrev pub in_one : DialogId → Life → Lives
-in_one name life other held = cond (is_named name other) (life held) []
+in_one name life other held = cond (is_dialog_id name other) (life held) []
 
 -- their names differ still, and of each name the dialog stays, or is over
 pub record Leads (lives : Lives) (before after : Dialogs) : Type 0 where
@@ -205,7 +205,7 @@ leads_changed name change life keeps dialogs apart = record {
   apart = entries.apart_changed name_laws name change dialogs (dialog_at name dialogs) apart;
   stays = λ other. subst (Stays None (in_one name life other) (dialog_at other dialogs))
       (sym (entries.found_changed name_laws name other change dialogs))
-      (changed_so (is_named name other) (dialog_at other dialogs));
+      (changed_so (is_dialog_id name other) (dialog_at other dialogs));
 }
   where
     changed_so : (b : Bool) (o : Option HeldDialog)
@@ -215,9 +215,9 @@ leads_changed name change life keeps dialogs apart = record {
     changed_so false o = stays_same o
 
 pub leads_removed : (name : DialogId) (dialogs : Dialogs) → AreApart dialogs
-    → Leads quiet dialogs (remove_entry (is_named name) dialogs)
+    → Leads quiet dialogs (remove_entry (is_dialog_id name) dialogs)
 leads_removed name dialogs apart = record {
-  apart = entries.apart_removed name_laws (is_named name) dialogs apart;
+  apart = entries.apart_removed name_laws (is_dialog_id name) dialogs apart;
   stays =
       λ other. entries.by_removal name_laws (Stays None nothing) stays_same stays_over name other
       dialogs apart;
@@ -236,7 +236,7 @@ leads_filtered p dialogs apart = record {
 -- the dialog of a name is made by this opening, which has its tags
 abbrev pub OpensBy : Option Opening → DialogId → Opening → Type 0
 OpensBy start name opening =
-    (start ≡ Some opening) × (is_named name (name_of_dialog (opened opening)) ≡ true)
+    (start ≡ Some opening) × (is_dialog_id name (name_of_dialog (opened opening)) ≡ true)
 
 -- of each name the dialog stays, is over, or was made by the event; a number may have come in it
 pub record Moves (event : Option Id) (start : Option Opening) (came : DialogId → Option ℕ)
@@ -282,34 +282,34 @@ moves_as event start came lives others begun later before after same same_begun 
         Begins event (OpensBy start name) (came name) life x (Some y)) (same_begun name) begins)
 
 -- what has the tags of a dialog of the name has the name
-pub same_name : (name other tags : DialogId) → is_named name tags ≡ true
-    → is_named name other ≡ true → is_named other tags ≡ true
+pub same_name : (name other tags : DialogId) → is_dialog_id name tags ≡ true
+    → is_dialog_id name other ≡ true → is_dialog_id other tags ≡ true
 same_name name other tags own same = sym (name_laws.congr name other tags same) ∙ own
 
 pub moves_made : (event : Id) (lives : Lives) (name : DialogId) (held : HeldDialog)
-    (opening : Opening) → is_named name (name_of_dialog (opened opening)) ≡ true
-    → ((other : DialogId) (held : HeldDialog) → is_named name other ≡ false
+    (opening : Opening) → is_dialog_id name (name_of_dialog (opened opening)) ≡ true
+    → ((other : DialogId) (held : HeldDialog) → is_dialog_id name other ≡ false
     → lives other held ≡ [])
     → held.created_by ≡ event → held.last_rseq ≡ None → held.dialog ≡ opened opening
     → (dialogs : Dialogs) → AreApart dialogs
     → Moves (Some event) (Some opening) none_came lives (λ other. []) dialogs
-    (insert_entry is_named dialogs name held)
+    (insert_entry is_dialog_id dialogs name held)
 moves_made event lives name held opening own still created_by none is dialogs apart = record {
   apart = entries.apart_inserted name_laws name held dialogs apart;
   goes = λ other. subst (Goes (Some event) (OpensBy (Some opening) other) None (lives other) []
       (dialog_at other dialogs))
       (sym (entries.found_inserted name_laws name other held dialogs))
-      (by_name other (is_named name other) refl (dialog_at other dialogs));
+      (by_name other (is_dialog_id name other) refl (dialog_at other dialogs));
 }
   where
-    still_there : (other : DialogId) → is_named name other ≡ false → (o : Option HeldDialog)
+    still_there : (other : DialogId) → is_dialog_id name other ≡ false → (o : Option HeldDialog)
         → Stays None (lives other) o o
     still_there other apart None = tt
     still_there other apart (Some there) =
         subst (λ (life : List Happening). Keeps None life there there)
         (sym (still other there apart)) (keeps_same there)
 
-    by_name : (other : DialogId) (b : Bool) → is_named name other ≡ b → (o : Option HeldDialog)
+    by_name : (other : DialogId) (b : Bool) → is_dialog_id name other ≡ b → (o : Option HeldDialog)
         → Goes (Some event) (OpensBy (Some opening) other) None (lives other) [] o
         (cond b (Some held) o)
     by_name other true named o =

@@ -7,7 +7,7 @@ use Rattle.sip_message.specs.declared.id.Id.{Id}
 use Rattle.sip_common.specs.declared.pending_request.PendingRequest.{PendingRequest}
 use Rattle.sip_common.specs.declared.held_dialog.DialogId.{DialogId}
 use Rattle.sip_common.specs.declared.held_dialog.HeldDialog.{HeldDialog}
-use Rattle.sip_common.specs.Dialogs.{Dialogs, dialog_at, dialog_changed, is_named}
+use Rattle.sip_common.specs.Dialogs.{Dialogs, dialog_at, dialog_changed, is_dialog_id}
 use Rattle.sip_common.proofs.Entries as entries
 use Rattle.sip_common.proofs.Heard.{AreApart, name_laws}
 
@@ -79,7 +79,7 @@ same_then x y z first second name =
     (second name)
 
 pub removed_same : (name : DialogId) (dialogs : Dialogs) → AreApart dialogs
-    → OweSame dialogs (remove_entry (is_named name) dialogs)
+    → OweSame dialogs (remove_entry (is_dialog_id name) dialogs)
 removed_same name dialogs apart other =
     entries.by_removal name_laws (OwesStill unchanged) still_same still_over name other dialogs
     apart

@@ -13,7 +13,7 @@ use Rattle.sip_dialog.specs.Step.{confirmed_at}
 use Rattle.sip_common.specs.declared.held_dialog.DialogId.{DialogId}
 use Rattle.sip_common.specs.declared.held_dialog.HeldDialog.{HeldDialog}
 use Rattle.sip_common.specs.declared.item.CallOut.{CallOut}
-use Rattle.sip_common.specs.Dialogs.{Dialogs, dialog_at, dialog_changed, early_ended, ended_at, ended_notice, happened, is_early_of, is_named}
+use Rattle.sip_common.specs.Dialogs.{Dialogs, dialog_at, dialog_changed, early_ended, ended_at, ended_notice, happened, is_early_of, is_dialog_id}
 use Rattle.sip_common.specs.OwnCall.{AreDialogsOf, AreNoticesOf, IsDialogOf, IsNoticeOf}
 use Rattle.sip_common.proofs.Each as each
 
@@ -47,12 +47,12 @@ module _ (call_id : List ℕ) where
       → (dialogs : Dialogs) → AreDialogsOf call_id dialogs
       → AreDialogsOf call_id (dialog_changed name change dialogs)
   changed_dialog name change same dialogs all =
-      each.each_changed (IsDialogOf call_id) (is_named name) change
+      each.each_changed (IsDialogOf call_id) (is_dialog_id name) change
       (λ held is. same held ∙ is) dialogs all
 
   pub dialog_own : (name : DialogId) (dialogs : Dialogs) → AreDialogsOf call_id dialogs
       → IfSome (dialog_at name dialogs) (IsDialogOf call_id)
-  dialog_own name dialogs all = each.found_one (IsDialogOf call_id) (is_named name) dialogs all
+  dialog_own name dialogs all = each.found_one (IsDialogOf call_id) (is_dialog_id name) dialogs all
 
   -- the dialogs, and what is told
   abbrev pub AreEndedOf : Dialogs × List CallOut → Type 0
@@ -67,7 +67,7 @@ module _ (call_id : List ℕ) where
   pub ended_own : (name : DialogId) (dialogs : Dialogs) → AreDialogsOf call_id dialogs
       → AreEndedOf (ended_at name dialogs)
   ended_own name dialogs all = (
-    each.each_but_one (IsDialogOf call_id) (is_named name) dialogs all,
+    each.each_but_one (IsDialogOf call_id) (is_dialog_id name) dialogs all,
     notice_own (dialog_at name dialogs) (dialog_own name dialogs all),
   )
 

@@ -11,8 +11,8 @@ use Rattle.sip_message.specs.Party.{party_of, tag_of}
 use Rattle.sip_dialog.specs.declared.dialog.Dialog.{Dialog}
 use Rattle.sip_dialog.specs.Request.{bare_request_in, request_in}
 use Rattle.sip_common.specs.declared.held_dialog.DialogId.{DialogId}
-use Rattle.sip_common.specs.Dialogs.{is_named, tag_text}
-use Rattle.sip_common.specs.Requests.{name_of_tags}
+use Rattle.sip_common.specs.Dialogs.{is_dialog_id, tag_text}
+use Rattle.sip_common.specs.Requests.{dialog_id_of_tags}
 use Rattle.sip_common.specs.Sent.{cseq_of_request, name_of_dialog}
 use Rattle.sip_common.proofs.Heard.{name_laws}
 
@@ -35,15 +35,15 @@ cseq_for number method = record { number = number; method = method }
 
 pub made_in : (name own : DialogId) (dialog : Dialog) (method : List ℕ) (number : ℕ)
     (content : Content) (branch : List ℕ) (local : Addr)
-    → is_named own (name_of_dialog dialog) ≡ true
+    → is_dialog_id own (name_of_dialog dialog) ≡ true
     → cseq_of_request name (request_in dialog method number content branch local)
-    ≡ (if numbered method && is_named own name then Some (cseq_for number method) else None)
+    ≡ (if numbered method && is_dialog_id own name then Some (cseq_for number method) else None)
 made_in name own dialog method number content branch local named =
     let tags = name_of_dialog dialog in
-    let same : is_named name tags ≡ is_named own name =
+    let same : is_dialog_id name tags ≡ is_dialog_id own name =
     name_laws.symm name tags ∙ sym (name_laws.congr own tags name named) in
     content_kept name (bare_request_in dialog method number branch local) content
-    ∙ (λ i. if numbered method && is_named name (name_of_tags
+    ∙ (λ i. if numbered method && is_dialog_id name (dialog_id_of_tags
     (party_tag dialog.local.uri dialog.local.tag i)
     (party_tag dialog.remote.uri dialog.remote.tag i)) then Some (cseq_for number method) else None)
     ∙ (λ i. if numbered method && same i then Some (cseq_for number method) else None)

@@ -26,18 +26,18 @@ abbrev pub Dialogs : Type 0
 Dialogs = List (DialogId × HeldDialog)
 
 -- the name of a dialog is this one
-abbrev pub is_named : DialogId → DialogId → Bool
-is_named name other =
+abbrev pub is_dialog_id : DialogId → DialogId → Bool
+is_dialog_id name other =
     pointwise nat_eq name.local other.local && pointwise nat_eq name.remote other.remote
 
 -- the held dialog of a name
 abbrev pub dialog_at : DialogId → Dialogs → Option HeldDialog
-dialog_at name dialogs = lookup (is_named name) dialogs
+dialog_at name dialogs = lookup (is_dialog_id name) dialogs
 
 -- the held dialog of a name is changed so
 abbrev pub dialog_changed : DialogId → (HeldDialog → HeldDialog) → Dialogs → Dialogs
 dialog_changed name change dialogs =
-    option_map_or (λ held. set_value (is_named name) dialogs (change held))
+    option_map_or (λ held. set_value (is_dialog_id name) dialogs (change held))
     (dialog_at name dialogs) dialogs
 
 -- a dialog that was made so is still held
@@ -46,13 +46,13 @@ lives dialogs life =
     option_map_or (λ held. is_id held.created_by life.created_by) (dialog_at life.name dialogs) false
 
 -- the dialog of this name, as it is now
-abbrev pub dialog_life_at : DialogId → Dialogs → Option DialogReference
-dialog_life_at name dialogs =
+abbrev pub reference_at : DialogId → Dialogs → Option DialogReference
+reference_at name dialogs =
     option_map (λ held. record { name = name; created_by = held.created_by }) (dialog_at name dialogs)
 
 -- the life of the held dialog that a request with a To tag is in
-abbrev pub own_dialog : Message → DialogId → Dialogs → Option DialogReference
-own_dialog request name dialogs = if has_to_tag request then dialog_life_at name dialogs else None
+abbrev pub dialog_of_request : Message → DialogId → Dialogs → Option DialogReference
+dialog_of_request request name dialogs = if has_to_tag request then reference_at name dialogs else None
 
 -- ---- what happens in a dialog
 
@@ -121,7 +121,7 @@ ended_notice held =
 -- the dialog of a name ends
 abbrev pub ended_at : DialogId → Dialogs → Dialogs × List CallOut
 ended_at name dialogs = (
-  remove_entry (is_named name) dialogs,
+  remove_entry (is_dialog_id name) dialogs,
   option_map_or (λ held. ended_notice held ∷ []) (dialog_at name dialogs) [],
 )
 

@@ -53,13 +53,13 @@ abbrev pub local_tag_of : Message → List ℕ → List ℕ
 local_tag_of request made = if length (tag_of request.to) == 0 then made else tag_of request.to
 
 -- the name of a dialog of these tags
-abbrev pub name_of_tags : List ℕ → List ℕ → DialogId
-name_of_tags local remote =
+abbrev pub dialog_id_of_tags : List ℕ → List ℕ → DialogId
+dialog_id_of_tags local remote =
     record { local = str_to_ascii_lowercase local; remote = str_to_ascii_lowercase remote }
 
 -- the name of the dialog that a request is in, or that its answer makes
-abbrev pub dialog_name : Message → List ℕ → DialogId
-dialog_name request made = name_of_tags (local_tag_of request made) (tag_of request.from)
+abbrev pub dialog_id_of : Message → List ℕ → DialogId
+dialog_id_of request made = dialog_id_of_tags (local_tag_of request made) (tag_of request.from)
 
 -- classes of status codes; 101 to 199 are the provisional ones that a user gives
 abbrev pub is_provisional : ℕ → Bool

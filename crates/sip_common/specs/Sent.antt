@@ -14,12 +14,12 @@ use Rattle.sip_common.specs.declared.held_dialog.DialogId.{DialogId}
 use Rattle.sip_common.specs.declared.held_dialog.HeldDialog.{HeldDialog}
 use Rattle.sip_common.specs.declared.item.CallOut.{CallOut}
 use Rattle.sip_common.specs.declared.item.CallOut.TheVariants as out
-use Rattle.sip_common.specs.Dialogs.{is_named, tag_text}
-use Rattle.sip_common.specs.Requests.{is_cancel, is_method, name_of_tags}
+use Rattle.sip_common.specs.Dialogs.{is_dialog_id, tag_text}
+use Rattle.sip_common.specs.Requests.{is_cancel, is_method, dialog_id_of_tags}
 
 -- the name of a dialog, by its tags
 abbrev pub name_of_dialog : Dialog → DialogId
-name_of_dialog dialog = name_of_tags (tag_text dialog.local.tag) (tag_text dialog.remote.tag)
+name_of_dialog dialog = dialog_id_of_tags (tag_text dialog.local.tag) (tag_text dialog.remote.tag)
 
 -- an ACK and a CANCEL have the number of the request that they are for
 abbrev pub has_own_number : Message → Bool
@@ -29,7 +29,7 @@ has_own_number request = not (is_method (codes "ACK") request || is_cancel reque
 abbrev pub cseq_of_request : DialogId → Message → Option CSeq
 cseq_of_request name request =
     if has_own_number request
-    && is_named name (name_of_tags (tag_of request.from) (tag_of request.to))
+    && is_dialog_id name (dialog_id_of_tags (tag_of request.from) (tag_of request.to))
     then Some request.cseq else None
 
 -- by what is asked of a transaction

@@ -39,13 +39,13 @@ pub fn lives(dialogs: &Dialogs, life: &DialogReference) -> bool
 }
 
 /// The dialog of this name, as it is now, where the request is inside of one.
-pub fn own_dialog(
+pub fn dialog_of_request(
     dialogs: &Dialogs,
     request: &Message,
     name: &DialogId,
 ) -> Result<Option<DialogReference>, AllocError>
     ensures { IfOk result (λ dialog. dialog
-        ≡ spec.own_dialog request.now name.now dialogs.now.entries) }
+        ≡ spec.dialog_of_request request.now name.now dialogs.now.entries) }
 {
     if has_to_tag(request) {
         life_at(dialogs, name)
@@ -55,7 +55,7 @@ pub fn own_dialog(
 }
 
 fn life_at(dialogs: &Dialogs, name: &DialogId) -> Result<Option<DialogReference>, AllocError>
-    ensures { IfOk result (λ dialog. dialog ≡ spec.dialog_life_at name.now dialogs.now.entries) }
+    ensures { IfOk result (λ dialog. dialog ≡ spec.reference_at name.now dialogs.now.entries) }
 {
     let Some(held) = dialogs.get(name) else {
         return Ok(None);

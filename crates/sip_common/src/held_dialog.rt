@@ -1,7 +1,7 @@
 //! A dialog that is held.
 
 ghost use Rattle.std.specs.Prelude.{◌≡◌, IfOk};
-ghost use Rattle.sip_common.specs.Requests.{name_of_tags};
+ghost use Rattle.sip_common.specs.Requests.{dialog_id_of_tags};
 
 use crate::pending_request::PendingRequest;
 use sip_dialog::Dialog;
@@ -22,7 +22,7 @@ pub struct DialogId {
 impl DialogId {
     /// The name of the dialog of these tags.
     pub fn of_tags(alloc: Global, local: &[u8], remote: &[u8]) -> Result<DialogId, AllocError>
-        ensures { IfOk result (λ name. name ≡ name_of_tags local.now remote.now) }
+        ensures { IfOk result (λ name. name ≡ dialog_id_of_tags local.now remote.now) }
     {
         Ok(DialogId {
             local: LowerText::of(alloc, local)?.into_text(),

@@ -99,8 +99,8 @@ pub fn own_tag(alloc: Global, request: &Message) -> Result<Option<Token>, AllocE
 }
 
 /// The name of the dialog that a request is in, or that its answer makes.
-pub fn dialog_name(alloc: Global, request: &Message, made: &Token) -> Result<DialogId, AllocError>
-    ensures { IfOk result (λ name. name ≡ requests.dialog_name request.now made.now) }
+pub fn dialog_id_of(alloc: Global, request: &Message, made: &Token) -> Result<DialogId, AllocError>
+    ensures { IfOk result (λ name. name ≡ requests.dialog_id_of request.now made.now) }
 {
     DialogId::of_tags(alloc, local_tag(request, made), request.from.tag())
 }

@@ -12,7 +12,7 @@ use Rattle.sip_dialog.specs.Opening.{opened}
 use Rattle.sip_transactions.specs.Ids.{IdsRise}
 use Rattle.sip_common.specs.declared.held_dialog.DialogId.{DialogId}
 use Rattle.sip_common.specs.declared.held_dialog.HeldDialog.{HeldDialog}
-use Rattle.sip_common.specs.Dialogs.{dialog_at, is_named}
+use Rattle.sip_common.specs.Dialogs.{dialog_at, is_dialog_id}
 use Rattle.sip_common.specs.Sent.{NumberedAfter, NumberedFrom, cseqs_in, name_of_dialog, number_before}
 use Rattle.sip_served.specs.declared.held_request.HeldRequest.{HeldRequest}
 use Rattle.sip_served.specs.Acknowledgment.{awaits_ack}
@@ -50,7 +50,7 @@ pub record HasItsHistory (config : Config) (rounds : List Round) (call_id : List
   pub of_its_inputs : history_of (calls_of config) name (call_inputs_of config rounds call_id)
       ≡ Some history
   pub value : dialog ≡ dialog_after history.opening history.life
-  pub named : is_named name (name_of_dialog dialog) ≡ true
+  pub named : is_dialog_id name (name_of_dialog dialog) ≡ true
   pub local : dialog.local_cseq ≡ (opened history.opening).local_cseq + length history.sent
   pub numbers : NumberedAfter (opened history.opening).local_cseq history.sent
   pub said : (earlier : List CSeq)

@@ -21,12 +21,12 @@ use Rattle.sip_common.specs.declared.held_dialog.HeldDialog.{HeldDialog}
 use Rattle.sip_common.specs.declared.item.CallOut.{CallOut}
 use Rattle.sip_common.specs.declared.item.Item.{Item}
 use Rattle.sip_common.specs.declared.item.Item.TheVariants as item
-use Rattle.sip_common.specs.Dialogs.{Dialogs, dialog_at, dialog_changed, early_ended, ended_at, is_named, lived, refreshes, retargets, takes, visited}
+use Rattle.sip_common.specs.Dialogs.{Dialogs, dialog_at, dialog_changed, early_ended, ended_at, is_dialog_id, lived, refreshes, retargets, takes, visited}
 use Rattle.sip_dialog.specs.Dialog.{is_ended}
 use Rattle.sip_dialog.specs.Life.{Accepts, Refreshes}
 use Rattle.sip_dialog.specs.Opening.{contact_uri}
 use Rattle.sip_dialog.specs.declared.fault.DialogFault.TheVariants as fault
-use Rattle.sip_common.specs.Requests.{dialog_name, is_bye, is_cancel, has_to_tag, is_invite, is_prack, is_unknown_option}
+use Rattle.sip_common.specs.Requests.{dialog_id_of, is_bye, is_cancel, has_to_tag, is_invite, is_prack, is_unknown_option}
 use Rattle.sip_served.specs.declared.arrival.Arrival.{Arrival}
 use Rattle.sip_served.specs.declared.arrival.ArrivalCase.TheVariants.{Merged, BadExtension, Acknowledges, AcknowledgesNothing, ForUser}
 use Rattle.sip_served.specs.declared.held_request.HeldRequest.{HeldRequest}
@@ -178,12 +178,12 @@ module _ (state : State) (call_id : List ℕ) (name : DialogId) (arrival : Arriv
   same_noted held at taken =
       let change : (HeldDialog → HeldDialog) → Option HeldDialog → State =
       λ change o. record state {
-        dialogs = option_map_or (λ held. set_value (is_named name) state.dialogs (change held)) o
+        dialogs = option_map_or (λ held. set_value (is_dialog_id name) state.dialogs (change held)) o
             state.dialogs;
       } in
       ap (change (visited arrival.request)) at
       ∙ ap (λ (after : HeldDialog). record state {
-        dialogs = set_value (is_named name) state.dialogs after;
+        dialogs = set_value (is_dialog_id name) state.dialogs after;
       }) (visited_same arrival.request held taken)
       ∙ sym (ap (change (after_request arrival.request)) at)
 
@@ -280,7 +280,7 @@ pub arrival_same : (state : State) (call_id : List ℕ) (arrival : Arrival) (now
 unfolding request_received
 arrival_same state call_id arrival now =
     let request = arrival.request in
-    let name = dialog_name request arrival.tag in
+    let name = dialog_id_of request arrival.tag in
     first (λ one. by_case one state call_id name arrival) (is_cancel request)
     (not (has_to_tag request) && list_any (is_merged request) state.requests)
     (list_any is_unknown_option request.require) (has_to_tag request)

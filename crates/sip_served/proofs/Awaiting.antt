@@ -21,7 +21,7 @@ use Rattle.sip_common.specs.declared.held_dialog.DialogReference.{DialogReferenc
 use Rattle.sip_common.specs.declared.item.CallOut.{CallOut}
 use Rattle.sip_common.specs.declared.item.CallOut.TheVariants as out
 use Rattle.sip_common.specs.Ids.{is_id}
-use Rattle.sip_common.specs.Requests.{dialog_name, is_final, is_invite, is_provisional, is_success, requires_100rel, supports_100rel}
+use Rattle.sip_common.specs.Requests.{dialog_id_of, is_final, is_invite, is_provisional, is_success, requires_100rel, supports_100rel}
 use Rattle.sip_served.specs.declared.held_request.HeldRequest.{HeldRequest}
 use Rattle.sip_served.specs.declared.held_request.Success.{Success}
 use Rattle.sip_served.specs.declared.held_request.SuccessEnd.{SuccessEnd}
@@ -183,7 +183,7 @@ given_waits : (response : Message) (event : Id) (r : Answer) (now : ℕ) (held :
     → awaits_ack (after_answer event r response now held)
     ≡ waits_now r response now held (is_success r.status)
 given_waits response event r now held =
-    let made : DialogReference = record { name = dialog_name held.request held.tag; created_by = event } in
+    let made : DialogReference = record { name = dialog_id_of held.request held.tag; created_by = event } in
     elim (makes_dialog held r.status) as (λ b. awaits_ack (answered r.status r.reliability response
     now (went_on (if b then MakesDialog made ∷ [] else []) held))
     ≡ waits_now r response now held (is_success r.status)) [

@@ -31,8 +31,8 @@ use Rattle.sip_served.specs.Acknowledgment.{ack_noted, ack_taken, acknowledged_i
 use Rattle.sip_served.specs.Arrival.{arrival_of, by_case, bye_taken, case_inside, case_of, case_outside, is_merged, named_invite, noted, prack_case, request_held}
 use Rattle.sip_served.specs.Cancel.{by_cancelled, cancelled_request, is_unanswered_invite}
 use Rattle.sip_served.specs.Happenings.{accepts, answer_confirms, answer_opens, is_of_name, success_confirms}
-use Rattle.sip_common.specs.Dialogs.{confirmed, confirms, dialog_at, dialog_changed, early_ended, ended_at, is_early_of, is_named, takes, visited, happenings_by_request, Dialogs}
-use Rattle.sip_common.specs.Requests.{dialog_name, is_bye, is_cancel, has_to_tag, is_prack, is_unknown_option, name_of_tags}
+use Rattle.sip_common.specs.Dialogs.{confirmed, confirms, dialog_at, dialog_changed, early_ended, ended_at, is_early_of, is_dialog_id, takes, visited, happenings_by_request, Dialogs}
+use Rattle.sip_common.specs.Requests.{dialog_id_of, is_bye, is_cancel, has_to_tag, is_prack, is_unknown_option, dialog_id_of_tags}
 use Rattle.sip_common.specs.Sent.{name_of_dialog, responses_out}
 use Rattle.sip_served.specs.Respond.{answer_to, by_refusal, by_request, confirms_dialog, makes_or_confirms_dialog, made_dialog, makes_dialog, refusal_for, rejects, respond_taken}
 use Rattle.sip_served.specs.State.{State, ServedTaken, has_id}
@@ -149,7 +149,7 @@ module _ (requests : List HeldRequest) (dialogs : Dialogs) (request : Message) (
     (other : DialogId) (held : HeldDialog) (at : dialog_at other dialogs ≡ Some held) where
   -- by whether it has a To tag
   abbrev name_by : Bool → DialogId
-  name_by outside = name_of_tags (if outside then tag else tag_of request.to) (tag_of request.from)
+  name_by outside = dialog_id_of_tags (if outside then tag else tag_of request.to) (tag_of request.from)
 
   abbrev case_by : Bool → Bool → ArrivalCase
   case_by outside unknown =
@@ -159,7 +159,7 @@ module _ (requests : List HeldRequest) (dialogs : Dialogs) (request : Message) (
       then case_inside requests (name_by outside) request (dialog_at (name_by outside) dialogs)
       else case_outside request))
 
-  by_name : (unknown named : Bool) → is_named (name_by false) other ≡ named
+  by_name : (unknown named : Bool) → is_dialog_id (name_by false) other ≡ named
       → cond (notes (case_by false unknown)) (cond named (happenings_by_request request held) []) []
       ≡ (if named && true && not unknown && takes held request.cseq.number
       then happenings_by_request request held else [])
@@ -172,15 +172,15 @@ module _ (requests : List HeldRequest) (dialogs : Dialogs) (request : Message) (
   by_outside : (outside unknown : Bool)
       → cond (notes (case_by outside unknown))
       (cond (not outside) (in_one (name_by outside) (happenings_by_request request) other held) []) []
-      ≡ (if (not outside && is_named (name_by false) other) && true && not unknown
+      ≡ (if (not outside && is_dialog_id (name_by false) other) && true && not unknown
       && takes held request.cseq.number then happenings_by_request request held else [])
   by_outside true unknown = none_either (notes (case_by true unknown))
   by_outside false unknown =
-      by_name unknown (is_named (name_by false) other) refl
+      by_name unknown (is_dialog_id (name_by false) other) refl
 
   case_accepts : is_cancel request ≡ false
-      → case_life (case_of requests dialogs (dialog_name request tag) request) request
-      (dialog_name request tag) other held ≡ accepts request other held
+      → case_life (case_of requests dialogs (dialog_id_of request tag) request) request
+      (dialog_id_of request tag) other held ≡ accepts request other held
   case_accepts none =
       by_outside (length (tag_of request.to) == 0) (list_any is_unknown_option request.require)
       ∙ ap (λ b. if is_of_name request other && not b
@@ -206,7 +206,7 @@ arrival_leads : (state : State) (call_id : List ℕ) (arrival : Arrival) (now : 
     → Leads (accepts arrival.request) state.dialogs
     ((arrival_taken state call_id arrival now).0).dialogs
 arrival_leads state call_id arrival now apart =
-    let name = dialog_name arrival.request arrival.tag in
+    let name = dialog_id_of arrival.request arrival.tag in
     let case = case_of state.requests state.dialogs name arrival.request in
     by_bool (is_cancel arrival.request)
     (λ e. rw e (leads_as quiet (accepts arrival.request) state.dialogs
@@ -245,7 +245,7 @@ both_not false e = absurd cc
 
 -- the dialog that it makes has the name of its tags
 made_name : (request : HeldRequest) (status : ℕ) → makes_dialog request status ≡ true
-    → is_named (dialog_name request.request request.tag)
+    → is_dialog_id (dialog_id_of request.request request.tag)
     (name_of_dialog (opened (ByRequest request.request request.tag status))) ≡ true
 made_name request status makes =
     let message = request.request in
@@ -254,10 +254,10 @@ made_name request status makes =
     (second_so (makes_or_confirms_dialog request status) (not (has_to_tag message))
     (first_so (makes_or_confirms_dialog request status && not (has_to_tag message)) (is_none request.dialog)
     makes)) in
-    let same : dialog_name message request.tag ≡ tags =
-    λ i. name_of_tags (if outside i then request.tag else tag_of message.to)
+    let same : dialog_id_of message request.tag ≡ tags =
+    λ i. dialog_id_of_tags (if outside i then request.tag else tag_of message.to)
     (sym (tag_kept (tag_of message.from)) i) in
-    ap (λ name. is_named name tags) same ∙ name_laws.refl tags
+    ap (λ name. is_dialog_id name tags) same ∙ name_laws.refl tags
 
 one_or_none : {X : Type 0} (b : Bool) (xs : List X)
     → cond b xs [] ≡ (if b && true then xs ++ [] else [])
@@ -271,14 +271,14 @@ neither false xs = refl
 module _ (event : Id) (request : HeldRequest) (r : Answer) (response : Message)
     (dialogs : Dialogs) (apart : AreApart dialogs) where
   abbrev name : DialogId
-  name = dialog_name request.request request.tag
+  name = dialog_id_of request.request request.tag
 
   abbrev start : Opening
   start = ByRequest request.request request.tag r.status
 
   abbrev confirmed_by : Bool → List CallOut → Lives
   confirmed_by success outs other held =
-      if is_named name other && success
+      if is_dialog_id name other && success
       then flat_map (λ response. confirms response held)
       (responses_out (out.Command request.id (order.Answer request.key response) ∷ outs)) else []
 
@@ -288,7 +288,7 @@ module _ (event : Id) (request : HeldRequest) (r : Answer) (response : Message)
 
   dialogs_move : (fresh success rejected : Bool) → makes_dialog request r.status ≡ fresh
       → Given success (cond {A = Dialogs × List CallOut} fresh
-      (insert_entry is_named dialogs name (made_dialog event request r.status), [])
+      (insert_entry is_dialog_id dialogs name (made_dialog event request r.status), [])
       (cond success (dialog_changed name (confirmed response) dialogs, [])
       (cond rejected (early_ended request.id dialogs) (dialogs, []))))
   dialogs_move true success rejected makes =
@@ -301,19 +301,19 @@ module _ (event : Id) (request : HeldRequest) (r : Answer) (response : Message)
       let after = dialog_changed name (confirmed response) dialogs in
       moves_led (Some event) (Some start) (λ other. []) (confirmed_by true []) dialogs after
       (leads_as (in_one name (confirms response)) (confirmed_by true []) dialogs after
-      (λ other held at. one_or_none (is_named name other) (confirms response held))
+      (λ other held at. one_or_none (is_dialog_id name other) (confirms response held))
       (leads_changed name (confirmed response) (confirms response)
       (λ held. (refl, refl, ((cases_fit held).confirms response, refl))) dialogs apart))
   dialogs_move false false true makes =
       let ended = early_ended request.id dialogs in
       moves_led (Some event) (Some start) (λ other. []) (confirmed_by false ended.1) dialogs ended.0
       (leads_as quiet (confirmed_by false ended.1) dialogs ended.0
-      (λ other held at. neither (is_named name other) _)
+      (λ other held at. neither (is_dialog_id name other) _)
       (leads_filtered (λ dialog. not (is_early_of request.id dialog)) dialogs apart))
   dialogs_move false false false makes =
       moves_led (Some event) (Some start) (λ other. []) (confirmed_by false []) dialogs dialogs
       (leads_as quiet (confirmed_by false []) dialogs dialogs
-      (λ other held at. neither (is_named name other) _) (leads_same dialogs apart))
+      (λ other held at. neither (is_dialog_id name other) _) (leads_same dialogs apart))
 
 module _ (event : Id) (state : State) (r : Answer) (now : ℕ) (apart : AreApart state.dialogs) where
   abbrev Answered : Option HeldRequest → ServedTaken → Type 0
@@ -330,7 +330,7 @@ module _ (event : Id) (state : State) (r : Answer) (now : ℕ) (apart : AreApart
       let life : Lives = λ name held. success_confirms request r.status [] name held in
       moves_led (Some event) (Some start) (λ other. []) life state.dialogs state.dialogs
       (leads_as quiet life state.dialogs state.dialogs
-      (λ name held at. sym (none_either (is_named (dialog_name request.request request.tag) name
+      (λ name held at. sym (none_either (is_dialog_id (dialog_id_of request.request request.tag) name
       && confirms_dialog request r.status)))
       (leads_same state.dialogs apart))
   by_reason request None =

@@ -33,8 +33,8 @@ use Rattle.sip_common.specs.declared.held_dialog.HeldDialog.{HeldDialog}
 use Rattle.sip_common.specs.declared.item.CallOut.{CallOut}
 use Rattle.sip_common.specs.declared.item.CallOut.TheVariants as out
 use Rattle.sip_common.specs.declared.refusal.Refusal.{Refusal}
-use Rattle.sip_common.specs.Dialogs.{Dialogs, confirmed, dialog_at, dialog_changed, early_ended, ended_at, is_early_of, is_named, takes, visited, happenings_by_request}
-use Rattle.sip_common.specs.Requests.{dialog_name, is_bye, is_cancel, has_to_tag, is_invite, is_prack, is_provisional, is_success, is_unknown_option, name_of_tags}
+use Rattle.sip_common.specs.Dialogs.{Dialogs, confirmed, dialog_at, dialog_changed, early_ended, ended_at, is_early_of, is_dialog_id, takes, visited, happenings_by_request}
+use Rattle.sip_common.specs.Requests.{dialog_id_of, is_bye, is_cancel, has_to_tag, is_invite, is_prack, is_provisional, is_success, is_unknown_option, dialog_id_of_tags}
 use Rattle.sip_served.specs.Acknowledgment.{ack_noted, ack_taken, acknowledged_invite}
 use Rattle.sip_served.specs.Arrival.{arrival_of, by_case, bye_taken, case_inside, case_of, case_outside, is_merged, noted, prack_case, request_held, request_taken}
 use Rattle.sip_served.specs.Cancel.{by_cancelled, cancel_taken, cancelled_request, is_unanswered_invite, request_terminated, termination_told}
@@ -101,11 +101,11 @@ is_user ForUser = true
 
 abbrev case_ends : ArrivalCase → Message → DialogId → Which
 case_ends case request own name held =
-    (is_user case && (has_to_tag request && is_bye request)) && is_named own name
+    (is_user case && (has_to_tag request && is_bye request)) && is_dialog_id own name
 
 bye_goes : (b : Bool) (state : State) (name : DialogId) → AreApart state.dialogs
     → AreNamed state.dialogs
-    → Closes (λ other held. b && is_named name other) state (cond {A = ServedTaken} b
+    → Closes (λ other held. b && is_dialog_id name other) state (cond {A = ServedTaken} b
     (record state { dialogs = (ended_at name state.dialogs).0 }, (ended_at name state.dialogs).1)
     (state, []))
 bye_goes true state name apart named = goes_removed name state.dialogs apart named
@@ -132,7 +132,7 @@ case_goes ForUser state call_id name arrival apart named =
     let done = bye_taken request name held.0 in
     goes_before no_name (case_ends ForUser request name) state.dialogs (done.0).dialogs held.1
     done.1 refl
-    (goes_named_then (λ other. bye && is_named name other) state.dialogs before.dialogs
+    (goes_named_then (λ other. bye && is_dialog_id name other) state.dialogs before.dialogs
     (done.0).dialogs done.1 (noted_held state name request)
     (bye_goes bye held.0 name (noted_apart state name request apart)
     (noted_named state name request named)))
@@ -175,7 +175,7 @@ module _ (requests : List HeldRequest) (dialogs : Dialogs) (request : Message) (
     (name : DialogId) (held : HeldDialog) (at : dialog_at name dialogs ≡ Some held) where
   -- by whether it has a To tag
   abbrev own : Bool → DialogId
-  own outside = name_of_tags (if outside then tag else tag_of request.to) (tag_of request.from)
+  own outside = dialog_id_of_tags (if outside then tag else tag_of request.to) (tag_of request.from)
 
   abbrev case_by : Bool → Bool → ArrivalCase
   case_by outside unknown =
@@ -206,7 +206,7 @@ module _ (requests : List HeldRequest) (dialogs : Dialogs) (request : Message) (
   all_true true = refl
   all_true false = refl
 
-  by_name : (unknown named : Bool) → is_named (own false) name ≡ named → is_bye request ≡ true
+  by_name : (unknown named : Bool) → is_dialog_id (own false) name ≡ named → is_bye request ≡ true
       → ((is_user (case_by false unknown) && true) && named)
       ≡ (true && (true && named) && not unknown && takes held request.cseq.number)
   by_name unknown true is bye =
@@ -216,17 +216,17 @@ module _ (requests : List HeldRequest) (dialogs : Dialogs) (request : Message) (
   by_name unknown false is bye = never_other (is_user (case_by false unknown) && true)
 
   by_outside : (outside unknown bye : Bool) → is_bye request ≡ bye
-      → ((is_user (case_by outside unknown) && (not outside && bye)) && is_named (own outside) name)
-      ≡ (bye && (not outside && is_named (own false) name) && not unknown
+      → ((is_user (case_by outside unknown) && (not outside && bye)) && is_dialog_id (own outside) name)
+      ≡ (bye && (not outside && is_dialog_id (own false) name) && not unknown
       && takes held request.cseq.number)
   by_outside outside unknown false is =
-      never_bye (is_user (case_by outside unknown)) (not outside) (is_named (own outside) name)
+      never_bye (is_user (case_by outside unknown)) (not outside) (is_dialog_id (own outside) name)
   by_outside true unknown true is =
-      never_outside (is_user (case_by true unknown)) (is_named (own true) name)
-  by_outside false unknown true is = by_name unknown (is_named (own false) name) refl is
+      never_outside (is_user (case_by true unknown)) (is_dialog_id (own true) name)
+  by_outside false unknown true is = by_name unknown (is_dialog_id (own false) name) refl is
 
-  ends_by_bye : case_ends (case_of requests dialogs (dialog_name request tag) request) request
-      (dialog_name request tag) name held ≡ ended_by_bye request name held
+  ends_by_bye : case_ends (case_of requests dialogs (dialog_id_of request tag) request) request
+      (dialog_id_of request tag) name held ≡ ended_by_bye request name held
   ends_by_bye =
       by_outside (length (tag_of request.to) == 0) (list_any is_unknown_option request.require)
       (is_bye request) refl
@@ -248,7 +248,7 @@ arrival_goes state call_id arrival now apart named =
         named
     by_cancel false =
         let request = arrival.request in
-        let name = dialog_name request arrival.tag in
+        let name = dialog_id_of request arrival.tag in
         let case = case_of state.requests state.dialogs name request in
         goes_as no_name no_name (case_ends case request name) (ended_by_bye request)
         state.dialogs ((by_case case state call_id name arrival).0).dialogs
@@ -305,10 +305,10 @@ confirms_not_rejects request status is =
 module _ (event : Id) (request : HeldRequest) (r : Answer) (response : Message)
     (dialogs : Dialogs) (apart : AreApart dialogs) (named : AreNamed dialogs) where
   abbrev its_name : DialogId
-  its_name = dialog_name request.request request.tag
+  its_name = dialog_id_of request.request request.tag
 
   abbrev Given : Bool → Bool → Dialogs × List CallOut → Type 0
-  Given makes rejected done = Goes (λ name. makes && is_named its_name name)
+  Given makes rejected done = Goes (λ name. makes && is_dialog_id its_name name)
       (λ name held. rejected && is_early_of request.id held) dialogs done.0 done.1
 
   put_held : (made : HeldDialog) (name : DialogId) (b : Bool) (o : Option HeldDialog)
@@ -320,17 +320,17 @@ module _ (event : Id) (request : HeldRequest) (r : Answer) (response : Message)
   dialogs_go : (makes success rejected : Bool) → (makes ≡ true → rejected ≡ false)
       → (success ≡ true → rejected ≡ false)
       → Given makes rejected (cond {A = Dialogs × List CallOut} makes
-      (insert_entry is_named dialogs its_name (made_dialog event request r.status), [])
+      (insert_entry is_dialog_id dialogs its_name (made_dialog event request r.status), [])
       (cond success (dialog_changed its_name (confirmed response) dialogs, [])
       (cond rejected (early_ended request.id dialogs) (dialogs, []))))
   dialogs_go true success rejected no_made no_success =
       let made = made_dialog event request r.status in
       subst (λ (rejected : Bool). Given true rejected
-      (insert_entry is_named dialogs its_name made, []))
+      (insert_entry is_dialog_id dialogs its_name made, []))
       (sym (no_made refl)) record {
         held = λ name.
             ap (λ o. is_some o) (entries.found_inserted name_laws its_name name made dialogs)
-            ∙ put_held made name (is_named its_name name) (dialog_at name dialogs);
+            ∙ put_held made name (is_dialog_id its_name name) (dialog_at name dialogs);
         told = λ name. ended_none (dialog_at name dialogs);
       }
   dialogs_go false true rejected no_made no_success =
@@ -346,7 +346,7 @@ module _ (event : Id) (state : State) (r : Answer) (now : ℕ) (apart : AreApart
   Answered o taken = Goes
       (λ name. option_map_or (λ request. list_any (λ out. is_some (response_in out)) taken.1
       && makes_dialog request r.status
-      && is_named (dialog_name request.request request.tag) name) o false)
+      && is_dialog_id (dialog_id_of request.request request.tag) name) o false)
       (λ name held. option_map_or (λ request. list_any (λ out. is_some (response_in out)) taken.1
       && rejects request r.status && is_early_of request.id held) o false)
       state.dialogs (taken.0).dialogs taken.1
@@ -357,7 +357,7 @@ module _ (event : Id) (state : State) (r : Answer) (now : ℕ) (apart : AreApart
   by_reason request None =
       let response = answer_to state.local request r in
       goes_before (λ name. makes_dialog request r.status
-      && is_named (dialog_name request.request request.tag) name)
+      && is_dialog_id (dialog_id_of request.request request.tag) name)
       (λ name held. rejects request r.status && is_early_of request.id held) state.dialogs _
       (out.Command request.id (order.Answer request.key response) ∷ []) _ refl
       (dialogs_go event request r response state.dialogs apart named (makes_dialog request r.status)

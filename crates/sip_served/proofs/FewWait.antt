@@ -30,7 +30,7 @@ use Rattle.sip_served.specs.Acknowledgment.{ack_noted, acknowledged_invite, succ
 use Rattle.sip_served.specs.declared.held_request.SuccessEnd.TheVariants.{Acknowledged}
 use Rattle.sip_served.specs.Arrival.{arrival_of, by_case, bye_taken, case_of, first_rseq, noted, pracked}
 use Rattle.sip_served.specs.Cancel.{by_cancelled, cancelled_request, is_unanswered_invite, request_terminated}
-use Rattle.sip_common.specs.Requests.{dialog_name, is_bye, is_cancel, has_to_tag, is_final}
+use Rattle.sip_common.specs.Requests.{dialog_id_of, is_bye, is_cancel, has_to_tag, is_final}
 use Rattle.sip_served.specs.Respond.{after_answer, answered, by_refusal, by_request, finished, is_sent_reliably, makes_dialog, refusal_for, sent_as, with_dialog}
 use Rattle.sip_served.specs.Run.{Event, Takes, Ticks, FewWaitEach, event_taken, server_state_after}
 use Rattle.sip_served.specs.State.{State, empty_at, has_id}
@@ -136,7 +136,7 @@ cancel_keeps state call_id arrival now (Some held) all =
 arrival_keeps : (state : State) (call_id : List ℕ) (arrival : Arrival) (now : ℕ)
     → IsKeptEach state → IsKeptEach (arrival_taken state call_id arrival now).0
 arrival_keeps state call_id arrival now all =
-    let name = dialog_name arrival.request arrival.tag in
+    let name = dialog_id_of arrival.request arrival.tag in
     by_bool (is_cancel arrival.request)
     (λ e. rw e (cancel_keeps state call_id arrival now
     (cancelled_request arrival.key state.requests) all))

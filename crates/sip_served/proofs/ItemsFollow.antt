@@ -18,10 +18,10 @@ use Rattle.sip_common.specs.declared.item.CallOut.TheVariants as out
 use Rattle.sip_common.specs.declared.notice.Notice.TheVariants as notice
 use Rattle.sip_common.specs.declared.refusal.Refusal.{Refusal}
 use Rattle.sip_common.specs.declared.refusal.Refusal.TheVariants.{NoSuchRequest}
-use Rattle.sip_common.specs.Dialogs.{Dialogs, confirmed, dialog_at, dialog_changed, early_ended, ended_at, ended_notice, is_early_of, is_named, own_dialog}
+use Rattle.sip_common.specs.Dialogs.{Dialogs, confirmed, dialog_at, dialog_changed, early_ended, ended_at, ended_notice, is_early_of, is_dialog_id, dialog_of_request}
 use Rattle.sip_common.specs.Ids.{is_id}
 use Rattle.sip_common.specs.Notices.{refused}
-use Rattle.sip_common.specs.Requests.{dialog_name, is_bye, is_cancel, has_to_tag}
+use Rattle.sip_common.specs.Requests.{dialog_id_of, is_bye, is_cancel, has_to_tag}
 use Rattle.sip_common.proofs.Heard.{id_laws}
 use Rattle.sip_served.specs.declared.arrival.Arrival.{Arrival}
 use Rattle.sip_served.specs.declared.arrival.ArrivalCase.{ArrivalCase}
@@ -165,7 +165,7 @@ module _ {X : Type 0} (reading : Reading X) (invite : Id) (told : IsTold X readi
       let of_bye = has_to_tag arrival.request && is_bye arrival.request in
       let ended = ended_at name held.dialogs in
       let outs = first.1 ++ bye.1 in
-      let own = own_dialog arrival.request name before.dialogs in
+      let own = dialog_of_request arrival.request name before.dialogs in
       let silent : Silent reading outs =
       silent_both reading first.1 bye.1 (λ x. told.request call_id arrival.id _ _ _ _ x)
       (bye_silent of_bye held (record held { dialogs = ended.0 }) ended.1
@@ -220,7 +220,7 @@ module _ {X : Type 0} (reading : Reading X) (invite : Id) (told : IsTold X readi
       ((arrival_taken state call_id arrival now).0).requests
       (arrival_taken state call_id arrival now).1
   arrival_follows state call_id arrival now fresh =
-      let name = dialog_name arrival.request arrival.tag in
+      let name = dialog_id_of arrival.request arrival.tag in
       by_bool (is_cancel arrival.request)
       (λ e. rw e (cancel_follows state call_id arrival now
       (cancelled_request arrival.key state.requests) fresh))
@@ -267,10 +267,10 @@ module _ {X : Type 0} (reading : Reading X) (invite : Id) (told : IsTold X readi
 
         ends : Silent reading (dialogs_answered event held r.status response state.dialogs).1
         ends =
-            let name = dialog_name held.request held.tag in
+            let name = dialog_id_of held.request held.tag in
             dialogs_silent (makes_dialog held r.status) (confirms_dialog held r.status)
             (rejects held r.status)
-            (insert_entry is_named state.dialogs name (made_dialog event held r.status))
+            (insert_entry is_dialog_id state.dialogs name (made_dialog event held r.status))
             (dialog_changed name (confirmed response) state.dialogs) state.dialogs held.id
             state.dialogs
 

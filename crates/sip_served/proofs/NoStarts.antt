@@ -31,8 +31,8 @@ use Rattle.sip_served.specs.Provisionals.{of_numbers}
 use Rattle.sip_served.specs.Acknowledgment.{ack_noted, acknowledged_invite}
 use Rattle.sip_served.specs.Arrival.{arrival_of, by_case, case_of, noted, request_held}
 use Rattle.sip_served.specs.Cancel.{by_cancelled, cancelled_request, is_unanswered_invite}
-use Rattle.sip_common.specs.Dialogs.{confirmed, dialog_changed, early_ended, ended_at, is_named, Dialogs}
-use Rattle.sip_common.specs.Requests.{dialog_name, is_bye, is_cancel, has_to_tag}
+use Rattle.sip_common.specs.Dialogs.{confirmed, dialog_changed, early_ended, ended_at, is_dialog_id, Dialogs}
+use Rattle.sip_common.specs.Requests.{dialog_id_of, is_bye, is_cancel, has_to_tag}
 use Rattle.sip_served.specs.Respond.{answer_to, by_refusal, by_request, confirms_dialog, made_dialog, makes_dialog, refusal_for, rejects, respond_taken}
 use Rattle.sip_served.specs.State.{State, ServedTaken, has_id}
 use Rattle.sip_served.specs.Step.{arrival_taken, kind_taken}
@@ -70,7 +70,7 @@ cancel_starts state call_id arrival now (Some held) =
 arrival_starts : (state : State) (call_id : List ℕ) (arrival : Arrival) (now : ℕ)
     → starts (arrival_taken state call_id arrival now).1 ≡ []
 arrival_starts state call_id arrival now =
-    let name = dialog_name arrival.request arrival.tag in
+    let name = dialog_id_of arrival.request arrival.tag in
     by_bool (is_cancel arrival.request)
     (λ e. rw e (cancel_starts state call_id arrival now
     (cancelled_request arrival.key state.requests)))
@@ -107,9 +107,9 @@ refusal_starts state event r now held (Some refusal) = refl
 refusal_starts state event r now held None =
     dialogs_start (makes_dialog held r.status) (confirms_dialog held r.status)
     (rejects held r.status)
-    (insert_entry is_named state.dialogs (dialog_name held.request held.tag)
+    (insert_entry is_dialog_id state.dialogs (dialog_id_of held.request held.tag)
     (made_dialog event held r.status))
-    (dialog_changed (dialog_name held.request held.tag)
+    (dialog_changed (dialog_id_of held.request held.tag)
     (confirmed (answer_to state.local held r)) state.dialogs) state.dialogs held.id
     state.dialogs
 

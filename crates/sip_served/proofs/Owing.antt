@@ -13,8 +13,8 @@ use Rattle.sip_common.specs.declared.held_dialog.DialogId.{DialogId}
 use Rattle.sip_common.specs.declared.held_dialog.HeldDialog.{HeldDialog}
 use Rattle.sip_common.specs.declared.item.CallOut.{CallOut}
 use Rattle.sip_common.specs.declared.refusal.Refusal.{Refusal}
-use Rattle.sip_common.specs.Dialogs.{Dialogs, confirmed, dialog_at, dialog_changed, early_ended, ended_at, is_early_of, is_named, visited}
-use Rattle.sip_common.specs.Requests.{dialog_name, is_bye, is_cancel, has_to_tag}
+use Rattle.sip_common.specs.Dialogs.{Dialogs, confirmed, dialog_at, dialog_changed, early_ended, ended_at, is_early_of, is_dialog_id, visited}
+use Rattle.sip_common.specs.Requests.{dialog_id_of, is_bye, is_cancel, has_to_tag}
 use Rattle.sip_common.proofs.Entries as entries
 use Rattle.sip_common.proofs.Heard.{AreApart, name_laws}
 use Rattle.sip_served.specs.declared.arrival.Arrival.{Arrival}
@@ -91,7 +91,7 @@ arrival_same : (state : State) (call_id : List ℕ) (arrival : Arrival) (now : �
     → AreApart state.dialogs
     → OweSame state.dialogs ((arrival_taken state call_id arrival now).0).dialogs
 arrival_same state call_id arrival now apart =
-    let name = dialog_name arrival.request arrival.tag in
+    let name = dialog_id_of arrival.request arrival.tag in
     let case = case_of state.requests state.dialogs name arrival.request in
     by_bool (is_cancel arrival.request)
     (λ e. rw e (cancel_same state call_id arrival now
@@ -121,11 +121,11 @@ module _ (event : Id) where
       → Owes (Some event) unchanged (dialog_at name before) (dialog_at name after)
 
   made_owes : (own : DialogId) (held : HeldDialog) → held.created_by ≡ event → held.pending_requests ≡ []
-      → (dialogs : Dialogs) → Owe dialogs (insert_entry is_named dialogs own held)
+      → (dialogs : Dialogs) → Owe dialogs (insert_entry is_dialog_id dialogs own held)
   made_owes own held created_by none dialogs name =
       subst (Owes (Some event) unchanged (dialog_at name dialogs))
       (sym (entries.found_inserted name_laws own name held dialogs))
-      (by_name (is_named own name))
+      (by_name (is_dialog_id own name))
     where
       by_name : (b : Bool) → Owes (Some event) unchanged (dialog_at name dialogs)
           (cond b (Some held) (dialog_at name dialogs))
@@ -134,16 +134,16 @@ module _ (event : Id) where
 
   dialogs_owe : (request : HeldRequest) (status : ℕ) (response : Message) (dialogs : Dialogs)
       (fresh success rejected : Bool) → AreApart dialogs
-      → let name = dialog_name request.request request.tag in
+      → let name = dialog_id_of request.request request.tag in
       Owe dialogs (cond {A = Dialogs × List CallOut} fresh
-      (insert_entry is_named dialogs name (made_dialog event request status), [])
+      (insert_entry is_dialog_id dialogs name (made_dialog event request status), [])
       (cond success (dialog_changed name (confirmed response) dialogs, [])
       (cond rejected (early_ended request.id dialogs) (dialogs, [])))).0
   dialogs_owe request status response dialogs true success rejected apart name =
-      made_owes (dialog_name request.request request.tag) (made_dialog event request status) refl
+      made_owes (dialog_id_of request.request request.tag) (made_dialog event request status) refl
       refl dialogs name
   dialogs_owe request status response dialogs false true rejected apart name =
-      inl (changed_same (dialog_name request.request request.tag) (confirmed response)
+      inl (changed_same (dialog_id_of request.request request.tag) (confirmed response)
       (λ held. (refl, refl)) dialogs name)
   dialogs_owe request status response dialogs false false true apart name =
       inl (filtered_same (λ dialog. not (is_early_of request.id dialog)) dialogs apart name)

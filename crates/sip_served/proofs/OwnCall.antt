@@ -33,11 +33,11 @@ use Rattle.sip_served.specs.Acknowledgment.{ack_noted, acknowledged_invite, succ
 use Rattle.sip_served.specs.declared.held_request.SuccessEnd.TheVariants.{Acknowledged}
 use Rattle.sip_served.specs.Arrival.{arrival_of, by_case, bye_taken, case_of, noted, pracked, request_held}
 use Rattle.sip_served.specs.Cancel.{by_cancelled, cancelled_request, invite_terminated, is_unanswered_invite, request_terminated}
-use Rattle.sip_common.specs.Dialogs.{confirmed, confirms, is_named, visited, happenings_by_request, Dialogs}
+use Rattle.sip_common.specs.Dialogs.{confirmed, confirms, is_dialog_id, visited, happenings_by_request, Dialogs}
 use Rattle.sip_common.specs.OwnCall.{AreDialogsOf, AreNoticesOf, IsDialogOf, IsItemOf, IsKindOf, IsNoticeOf}
 use Rattle.sip_served.specs.OwnCall.{AreRequestsOf, IsEventOf, IsStateOf}
 use Rattle.sip_served.specs.Provisionals.{of_numbers}
-use Rattle.sip_common.specs.Requests.{dialog_name, is_bye, is_cancel, has_to_tag}
+use Rattle.sip_common.specs.Requests.{dialog_id_of, is_bye, is_cancel, has_to_tag}
 use Rattle.sip_served.specs.Respond.{after_answer, answer_to, answers, by_refusal, by_request, confirms_dialog, dialogs_answered, finished, made_dialog, makes, makes_dialog, refusal_for, rejects, respond_taken, with_dialog}
 use Rattle.sip_served.specs.Run.{Event, Takes, Ticks, event_taken}
 use Rattle.sip_served.specs.State.{State, ServedTaken, changed_at, empty_at, followed, has_id}
@@ -179,7 +179,7 @@ module _ (call_id : List ℕ) where
       → its_call ≡ call_id → arrival.request.call_id ≡ call_id → IsStateOf call_id state
       → IsTakenOf (arrival_taken state its_call arrival now)
   arrival_is state its_call arrival now of_call of_request its =
-      let name = dialog_name arrival.request arrival.tag in
+      let name = dialog_id_of arrival.request arrival.tag in
       by_bool (is_cancel arrival.request)
       (λ e. rw e (cancel_is state its_call arrival now
       (cancelled_request arrival.key state.requests) of_call its))
@@ -206,10 +206,10 @@ module _ (call_id : List ℕ) where
       → AreDialogsOf call_id (dialogs_answered event held r.status response dialogs).0
       × AreNoticesOf call_id (dialogs_answered event held r.status response dialogs).1
   dialogs_is event held r response dialogs of_request all =
-      let name = dialog_name held.request held.tag in
+      let name = dialog_id_of held.request held.tag in
       by_bool (makes_dialog held r.status)
       (λ e. rw e (
-        each.each_inserted (IsDialogOf call_id) is_named name
+        each.each_inserted (IsDialogOf call_id) is_dialog_id name
             (made_dialog event held r.status) of_request dialogs all,
         tt,
       ))

@@ -23,14 +23,14 @@ use Rattle.sip_common.specs.declared.item.CallOut.{CallOut}
 use Rattle.sip_common.specs.declared.item.CallOut.TheVariants.{Command}
 use Rattle.sip_common.specs.declared.refusal.Refusal.{Refusal}
 use Rattle.sip_common.specs.declared.refusal.Refusal.TheVariants.{AlreadyFinal, BadStatus, DialogEnded, NoSuchRequest, ReliablePending, NotSupported, SequenceUsedUp}
-use Rattle.sip_common.specs.Dialogs.{Dialogs, confirmed, dialog_changed, early_ended, is_named, lived}
+use Rattle.sip_common.specs.Dialogs.{Dialogs, confirmed, dialog_changed, early_ended, is_dialog_id, lived}
 use Rattle.sip_dialog.specs.Dialog.{is_ended}
 use Rattle.sip_dialog.specs.Life.{Confirms}
 use Rattle.sip_dialog.specs.Step.{confirmed_by}
 use Rattle.sip_dialog.specs.declared.fault.DialogFault.TheVariants as fault
 use Rattle.sip_common.specs.Notices.{refused}
 use Rattle.sip_common.specs.Refusal.{first_refusal}
-use Rattle.sip_common.specs.Requests.{dialog_name, is_final, has_to_tag, is_invite, is_provisional, is_success, supports_100rel}
+use Rattle.sip_common.specs.Requests.{dialog_id_of, is_final, has_to_tag, is_invite, is_provisional, is_success, supports_100rel}
 use Rattle.sip_served.specs.declared.held_request.HeldRequest.{HeldRequest}
 use Rattle.sip_served.specs.RequestLife.{MakesDialog, went_on}
 use Rattle.sip_served.specs.Respond.{after_answer, answer_given, answer_to, answered, by_refusal, by_request, dialogs_answered, has_ended, if_so, makes_or_confirms_dialog, is_reliable, is_sent_reliably, is_user_status, makes_dialog, made_dialog, may_be_reliable, refusal_for, refusal_of_fault, rejects, reliable_refusal, respond_taken, sends_as, with_routes, with_rseq}
@@ -173,9 +173,9 @@ dialogs_same : (event : Id) (held : HeldRequest) (status : ℕ) (response : Mess
     (dialogs : Dialogs) → dialogs_answered event held status response dialogs
     ≡ dialogs_after event held status response dialogs
 dialogs_same event held status response dialogs =
-    let name = dialog_name held.request held.tag in
+    let name = dialog_id_of held.request held.tag in
     λ i. cond (makes_same held status i)
-    (insert_entry is_named dialogs name (made_dialog event held status), [])
+    (insert_entry is_dialog_id dialogs name (made_dialog event held status), [])
     (cond (confirms_same (is_invite held.request) (is_provisional status) (is_success status)
     (has_to_tag held.request) i)
     (dialog_changed name (λ held. by_2xx_same response held i) dialogs, [])
@@ -186,7 +186,7 @@ dialogs_same event held status response dialogs =
 module _ (event : Id) (held : HeldRequest) (respond : Respond) (response : Message) (now : ℕ)
   where
     abbrev life : DialogReference
-    life = record { name = dialog_name held.request held.tag; created_by = event }
+    life = record { name = dialog_id_of held.request held.tag; created_by = event }
 
     abbrev in_dialog : Option DialogReference → HeldRequest
     in_dialog dialog = record held { dialog = dialog }

@@ -21,7 +21,7 @@ use Rattle.sip_common.specs.declared.held_dialog.DialogReference.{DialogReferenc
 use Rattle.sip_common.specs.declared.item.CallOut.TheVariants as out
 use Rattle.sip_common.specs.declared.notice.Notice.TheVariants as notice
 use Rattle.sip_common.specs.Ids.{is_id}
-use Rattle.sip_common.specs.Requests.{dialog_name, is_final}
+use Rattle.sip_common.specs.Requests.{dialog_id_of, is_final}
 use Rattle.sip_served.specs.declared.held_request.HeldRequest.{HeldRequest}
 use Rattle.sip_served.specs.declared.held_request.Success.{Success}
 use Rattle.sip_served.specs.declared.provisionals.ReliableResponse.{ReliableResponse}
@@ -203,7 +203,7 @@ pub given_as : (read : HeldRequest → List ℕ) (by : HeldRequest → List ℕ 
     → (held : HeldRequest)
     → read (after_answer event r response now held) ≡ by held (read held)
 given_as read by same response event r now answers held =
-    let made : DialogReference = record { name = dialog_name held.request held.tag; created_by = event } in
+    let made : DialogReference = record { name = dialog_id_of held.request held.tag; created_by = event } in
     elim (makes_dialog held r.status) as (λ b. read (answered r.status r.reliability response now
     (went_on (if b then MakesDialog made ∷ [] else []) held)) ≡ by held (read held)) [
       | true ↦ answers record held { dialog = Some made } ∙ same held (Some made)

@@ -2,8 +2,8 @@
 -- which is one of the user's or one of its own, first or again.
 use Rattle.indexmap.specs.IndexMap.{insert_entry}
 use Rattle.sip_common.proofs.Each.{both, filtered}
-use Rattle.sip_common.specs.Dialogs.{Dialogs, confirmed, dialog_changed, early_ended, is_named, dialog_at, ended_at, ended_notice, is_early_of, tag_text}
-use Rattle.sip_common.specs.Requests.{dialog_name, is_bye, is_cancel, is_final, has_to_tag, is_invite, is_success, is_unknown_option}
+use Rattle.sip_common.specs.Dialogs.{Dialogs, confirmed, dialog_changed, early_ended, is_dialog_id, dialog_at, ended_at, ended_notice, is_early_of, tag_text}
+use Rattle.sip_common.specs.Requests.{dialog_id_of, is_bye, is_cancel, is_final, has_to_tag, is_invite, is_success, is_unknown_option}
 use Rattle.sip_common.specs.declared.command.Respond.{Respond as RespondCommand}
 use Rattle.sip_common.specs.declared.held_dialog.DialogReference.{DialogReference}
 use Rattle.sip_common.specs.declared.held_dialog.DialogId.{DialogId}
@@ -272,7 +272,7 @@ module _ (P : CallOut → Type 0) (Given : Message → Type 0) (allows : AllowsS
     arrival_fits : (state : State) (call_id : List ℕ) (arrival : Arrival) (now : ℕ)
         → StateGiven state → ServedFits (arrival_taken state call_id arrival now)
     arrival_fits state call_id arrival now given =
-        let name = dialog_name arrival.request arrival.tag in
+        let name = dialog_id_of arrival.request arrival.tag in
         by_bool (is_cancel arrival.request)
         (λ e. rw e (cancel_fits state call_id arrival now
         (cancelled_request arrival.key state.requests) given))
@@ -336,7 +336,7 @@ module _ (P : CallOut → Type 0) (Given : Message → Type 0) (allows : AllowsS
         went_given (answers made r.status r.reliability response now) made
         (went_given (makes event held r.status) held keeps
         (makes_given (makes_dialog held r.status)
-        (record { name = dialog_name held.request held.tag; created_by = event })))
+        (record { name = dialog_id_of held.request held.tag; created_by = event })))
         (answers_given (is_sent_reliably made r.status r.reliability) (is_final r.status)
         (send_answer made.ledger) r.status response now here)
 
@@ -358,9 +358,9 @@ module _ (P : CallOut → Type 0) (Given : Message → Type 0) (allows : AllowsS
             allows.answer held.id held.key (here state.local held),
             dialogs_fit (makes_dialog held r.status) (confirms_dialog held r.status)
                 (rejects held r.status)
-                (insert_entry is_named state.dialogs (dialog_name held.request held.tag)
+                (insert_entry is_dialog_id state.dialogs (dialog_id_of held.request held.tag)
                 (made_dialog event held r.status))
-                (dialog_changed (dialog_name held.request held.tag) (confirmed response)
+                (dialog_changed (dialog_id_of held.request held.tag) (confirmed response)
                 state.dialogs) state.dialogs held.id state.dialogs,
           ),
         )

@@ -33,7 +33,7 @@ use Rattle.sip_served.specs.Acknowledgment.{ack_noted, acknowledged_invite}
 use Rattle.sip_served.specs.Arrival.{arrival_of, by_case, bye_taken, case_of}
 use Rattle.sip_served.specs.Cancel.{by_cancelled, cancelled_request, is_unanswered_invite}
 use Rattle.sip_common.specs.Dialogs.{Dialogs}
-use Rattle.sip_common.specs.Requests.{dialog_name, is_bye, is_cancel, has_to_tag}
+use Rattle.sip_common.specs.Requests.{dialog_id_of, is_bye, is_cancel, has_to_tag}
 use Rattle.sip_served.specs.Provisionals.{of_numbers}
 use Rattle.sip_served.specs.Respond.{answer_to, by_refusal, by_request, confirms_dialog, dialogs_answered, makes_dialog, refusal_for, rejects}
 use Rattle.sip_served.specs.Run.{Event, Takes, Ticks, event_taken}
@@ -137,7 +137,7 @@ kind_shows : (state : State) (tag : List ℕ) (up : Up) (kind : Kind) (now : ℕ
     → shown (kind_taken state tag up kind now).1 ≡ for_user_of state tag up kind
 kind_shows state tag up (Request request reply_to) now =
     let arrival = arrival_of up request reply_to tag in
-    let name = dialog_name request arrival.tag in
+    let name = dialog_id_of request arrival.tag in
     by_bool (is_cancel request)
     (λ e. rw e (cancel_shows state up.call_id arrival now
     (cancelled_request up.key state.requests)))
@@ -204,7 +204,7 @@ case_often p one ForUser false is = rw is (omega arith)
 kind_often : (state : State) (id : Id) (tag : List ℕ) (up : Up) (kind : Kind)
     → often (is_id id) (for_user_of state tag up kind) ≤ cond (is_request kind (is_id id up.id)) 1 0
 kind_often state id tag up (Request request reply_to) =
-    let name = dialog_name request (arrival_of up request reply_to tag).tag in
+    let name = dialog_id_of request (arrival_of up request reply_to tag).tag in
     by_bool (is_cancel request) (λ e. rw e (omega arith))
     (λ e. rw e (case_often (is_id id) up.id (case_of state.requests state.dialogs name request)
     (is_id id up.id) refl))

@@ -17,7 +17,7 @@ use Rattle.sip_common.specs.declared.held_dialog.DialogId.{DialogId}
 use Rattle.sip_common.specs.declared.item.Item.TheVariants as item
 use Rattle.sip_common.specs.declared.refusal.Refusal.{Refusal}
 use Rattle.sip_common.specs.Dialogs.{ended_at}
-use Rattle.sip_common.specs.Requests.{dialog_name, is_bye, is_cancel, has_to_tag}
+use Rattle.sip_common.specs.Requests.{dialog_id_of, is_bye, is_cancel, has_to_tag}
 use Rattle.sip_served.specs.declared.arrival.Arrival.{Arrival}
 use Rattle.sip_served.specs.declared.arrival.ArrivalCase.{ArrivalCase}
 use Rattle.sip_served.specs.declared.arrival.ArrivalCase.TheVariants.{Merged, BadExtension, NoDialog, OutOfOrder, Acknowledges, AcknowledgesNothing, ForUser}
@@ -89,7 +89,7 @@ module _ (state : State) (stories : Stories) (told : AreTold state.requests stor
       → AreTold ((arrival_taken state call_id arrival now).0).requests
       (arrival_told state arrival now stories)
   arrival_on call_id arrival now =
-      let name = dialog_name arrival.request arrival.tag in
+      let name = dialog_id_of arrival.request arrival.tag in
       by_bool (is_cancel arrival.request)
       (λ e. rw e (cancel_told call_id arrival now
       (cancelled_request arrival.key state.requests)))

@@ -26,7 +26,7 @@ use Rattle.sip_common.specs.declared.held_dialog.DialogReference.{DialogReferenc
 use Rattle.sip_common.specs.declared.refusal.Refusal.{Refusal}
 use Rattle.sip_common.specs.declared.refusal.Refusal.TheVariants as bad
 use Rattle.sip_common.specs.Dialogs.{Dialogs}
-use Rattle.sip_common.specs.Requests.{dialog_name, is_final, is_invite, is_success, supports_100rel}
+use Rattle.sip_common.specs.Requests.{dialog_id_of, is_final, is_invite, is_success, supports_100rel}
 use Rattle.sip_served.specs.declared.held_request.HeldRequest.{HeldRequest}
 use Rattle.sip_served.specs.declared.held_request.Success.{Success}
 use Rattle.sip_served.specs.declared.held_request.SuccessEnd.TheVariants.{GivenUp}
@@ -305,7 +305,7 @@ module _ (event : Id) (r : Answer) (response : Message) (now : ℕ) (held : Held
       (λ e. by_bool (is_final r.status) (λ f. rw (e, f) (tt, tt)) (λ f. rw (e, f) tt))
 
   abbrev made : DialogReference
-  made = record { name = dialog_name held.request held.tag; created_by = event }
+  made = record { name = dialog_id_of held.request held.tag; created_by = event }
 
   pub answer_fits : Numbered r held → AllFit held answer_happens
   answer_fits has_number =

@@ -25,8 +25,8 @@ use Rattle.sip_common.specs.declared.item.CallOut.{CallOut}
 use Rattle.sip_common.specs.declared.item.CallOut.TheVariants.{Notice, Command}
 use Rattle.sip_common.specs.declared.notice.Notice.{Notice as ANotice}
 use Rattle.sip_common.specs.declared.notice.Notice.TheVariants.{Prack, Request}
-use Rattle.sip_common.specs.Dialogs.{dialog_at, dialog_changed, ended_at, is_named, own_dialog, takes, visited, Dialogs}
-use Rattle.sip_common.specs.Requests.{dialog_name, is_bye, has_to_tag, is_invite, is_prack, is_unknown_option, local_tag_of, supports_100rel}
+use Rattle.sip_common.specs.Dialogs.{dialog_at, dialog_changed, ended_at, is_dialog_id, dialog_of_request, takes, visited, Dialogs}
+use Rattle.sip_common.specs.Requests.{dialog_id_of, is_bye, has_to_tag, is_invite, is_prack, is_unknown_option, local_tag_of, supports_100rel}
 use Rattle.sip_common.specs.Ids.{is_id}
 use Rattle.sip_served.specs.RequestLife.{TakesPrack, went_on}
 use Rattle.sip_served.specs.State.{State, ServedTaken, changed_at, followed, quiet}
@@ -74,7 +74,7 @@ is_merged request held =
 -- the request belongs to this dialog
 abbrev pub is_in_dialog : DialogId → Id → HeldRequest → Bool
 is_in_dialog name created_by held =
-    option_map_or (λ life. is_named life.name name && is_id life.created_by created_by) held.dialog false
+    option_map_or (λ life. is_dialog_id life.name name && is_id life.created_by created_by) held.dialog false
 
 -- the RAck of a PRACK names a reliable provisional response to this INVITE that waits for one
 abbrev pub is_named_by : RAck → HeldRequest → Bool
@@ -173,7 +173,7 @@ request_notice call_id arrival =
 -- a request in the dialog of this name, where it came in one
 abbrev pub in_its_dialog : Dialogs → DialogId → Arrival → HeldRequest
 in_its_dialog dialogs name arrival =
-    held_first (own_dialog arrival.request name dialogs) arrival
+    held_first (dialog_of_request arrival.request name dialogs) arrival
 
 -- it is held so
 abbrev pub request_held : State → List ℕ → DialogId → Arrival → ServedTaken
@@ -224,5 +224,5 @@ by_case ForUser state call_id name arrival =
 -- a request of a transaction of this Call-ID
 abbrev pub request_taken : State → List ℕ → Arrival → ServedTaken
 request_taken state call_id arrival =
-    let name = dialog_name arrival.request arrival.tag in
+    let name = dialog_id_of arrival.request arrival.tag in
     by_case (case_of state.requests state.dialogs name arrival.request) state call_id name arrival

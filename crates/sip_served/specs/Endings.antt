@@ -9,8 +9,8 @@ use Rattle.sip_common.specs.declared.command.Respond.{Respond}
 use Rattle.sip_common.specs.declared.held_dialog.DialogId.{DialogId}
 use Rattle.sip_common.specs.declared.held_dialog.HeldDialog.{HeldDialog}
 use Rattle.sip_common.specs.declared.item.CallOut.{CallOut}
-use Rattle.sip_common.specs.Dialogs.{is_early_of, is_named, takes}
-use Rattle.sip_common.specs.Requests.{dialog_name, is_bye, is_cancel, is_unknown_option}
+use Rattle.sip_common.specs.Dialogs.{is_early_of, is_dialog_id, takes}
+use Rattle.sip_common.specs.Requests.{dialog_id_of, is_bye, is_cancel, is_unknown_option}
 use Rattle.sip_common.specs.Sent.{response_in}
 use Rattle.sip_served.specs.Cancel.{cancelled_request, is_unanswered_invite}
 use Rattle.sip_served.specs.Happenings.{is_of_name}
@@ -28,7 +28,7 @@ gives_response outs = list_any (λ out. is_some (response_in out)) outs
 abbrev pub opened_by_answer : State → Respond → List CallOut → DialogId → Bool
 opened_by_answer state respond outs name =
     option_map_or (λ request. gives_response outs && makes_dialog request respond.status
-    && is_named (dialog_name request.request request.tag) name)
+    && is_dialog_id (dialog_id_of request.request request.tag) name)
     (find (has_id respond.id) state.requests) false
 
 -- a final response other than a 2xx ends the early dialogs of its INVITE (RFC 3261, section 12.3)

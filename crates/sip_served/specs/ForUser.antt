@@ -10,7 +10,7 @@ use Rattle.sip_served.specs.declared.arrival.ArrivalCase.TheVariants.{ForUser}
 use Rattle.sip_common.specs.declared.item.Item.TheVariants.{Up as FromBelow}
 use Rattle.sip_common.specs.Ids.{is_id}
 use Rattle.sip_common.specs.Notices.{request_told_by}
-use Rattle.sip_common.specs.Requests.{dialog_name, is_cancel}
+use Rattle.sip_common.specs.Requests.{dialog_id_of, is_cancel}
 use Rattle.sip_served.specs.Arrival.{arrival_of, case_of}
 use Rattle.sip_served.specs.Run.{Event, Takes, event_taken}
 use Rattle.sip_served.specs.State.{State}
@@ -31,7 +31,7 @@ if_for_user id _ = []
 
 abbrev pub for_user_of : State → List ℕ → Up → Kind → List Id
 for_user_of state tag up (Request request reply_to) =
-    let name = dialog_name request (arrival_of up request reply_to tag).tag in
+    let name = dialog_id_of request (arrival_of up request reply_to tag).tag in
     if is_cancel request then []
     else if_for_user up.id (case_of state.requests state.dialogs name request)
 for_user_of state tag up _ = []

@@ -11,8 +11,8 @@ use Rattle.sip_common.specs.declared.command.Respond.{Respond}
 use Rattle.sip_common.specs.declared.held_dialog.DialogId.{DialogId}
 use Rattle.sip_common.specs.declared.held_dialog.HeldDialog.{HeldDialog}
 use Rattle.sip_common.specs.declared.item.CallOut.{CallOut}
-use Rattle.sip_common.specs.Dialogs.{confirms, is_named, takes, happenings_by_request}
-use Rattle.sip_common.specs.Requests.{dialog_name, is_cancel, has_to_tag, is_unknown_option, name_of_tags}
+use Rattle.sip_common.specs.Dialogs.{confirms, is_dialog_id, takes, happenings_by_request}
+use Rattle.sip_common.specs.Requests.{dialog_id_of, is_cancel, has_to_tag, is_unknown_option, dialog_id_of_tags}
 use Rattle.sip_common.specs.Sent.{responses_out}
 use Rattle.sip_served.specs.declared.held_request.HeldRequest.{HeldRequest}
 use Rattle.sip_served.specs.Respond.{confirms_dialog}
@@ -21,7 +21,7 @@ use Rattle.sip_served.specs.State.{State, has_id}
 -- a request of the peer has the tags of the dialog
 abbrev pub is_of_name : Message → DialogId → Bool
 is_of_name request name =
-    has_to_tag request && is_named (name_of_tags (tag_of request.to) (tag_of request.from)) name
+    has_to_tag request && is_dialog_id (dialog_id_of_tags (tag_of request.to) (tag_of request.from)) name
 
 -- one whose options the agent knows is accepted where its number is above those before it; a CANCEL
 -- never is
@@ -36,7 +36,7 @@ accepts request name held =
 abbrev pub success_confirms : HeldRequest → ℕ → List Message → DialogId → HeldDialog
     → List Happening
 success_confirms request status responses name held =
-    if is_named (dialog_name request.request request.tag) name && confirms_dialog request status
+    if is_dialog_id (dialog_id_of request.request request.tag) name && confirms_dialog request status
     then flat_map (λ response. confirms response held) responses else []
 
 -- so does the user's answer to the request of its id, where it isn't refused

@@ -9,7 +9,7 @@ use Rattle.std.specs.contracts.prelude.BuildHasherDefaultBuildHasher.TheImpl as 
 use Rattle.std.specs.contracts.prelude.FoldHasherHasher.TheImpl as hasher
 use Rattle.std.below.core.specs.contracts.clone.Clone+copy.TheImpl as copied
 use Rattle.indexmap.specs.contracts.map.IndexMap as index_map
-use Rattle.sip_common.specs.contracts.held_dialog.DialogId as dialog_name
+use Rattle.sip_common.specs.contracts.held_dialog.DialogId as dialog_id_of
 use Rattle.sip_common.specs.contracts.held_dialog.DialogIdHash.TheImpl as name_hash
 use Rattle.sip_common.specs.contracts.held_dialog.DialogIdPartialEq.TheImpl as name_eq
 use Rattle.sip_common.specs.contracts.held_dialog.HeldDialog as held_dialog
@@ -21,7 +21,7 @@ use Rattle.sip_served.specs.State.{State}
 -- the map of the held dialogs, as the logic holds it
 abbrev pub dialogs_row : RattleType
 dialogs_row =
-    index_map.the_row dialog_name.the_row held_dialog.the_row
+    index_map.the_row dialog_id_of.the_row held_dialog.the_row
     (default_builder.the_row fold_hasher.the_row) global.the_row fold_hasher.the_row
     name_eq.ghosts name_hash.ghosts
     (builder.ghosts fold_hasher.the_row hasher.ghosts builder.no_dict

@@ -27,8 +27,8 @@ use Rattle.sip_common.specs.declared.refusal.Refusal.{Refusal}
 use Rattle.sip_common.specs.declared.refusal.Refusal.TheVariants.{NoSuchRequest, AlreadyFinal, BadStatus, ReliablePending, NotSupported, SequenceUsedUp, DialogEnded}
 use Rattle.sip_common.specs.Notices.{refused}
 use Rattle.sip_common.specs.Refusal.{first_refusal}
-use Rattle.sip_common.specs.Dialogs.{confirmed, dialog_changed, early_ended, is_named, lives, Dialogs}
-use Rattle.sip_common.specs.Requests.{dialog_name, is_final, has_to_tag, is_invite, is_provisional, is_success, requires_100rel, supports_100rel}
+use Rattle.sip_common.specs.Dialogs.{confirmed, dialog_changed, early_ended, is_dialog_id, lives, Dialogs}
+use Rattle.sip_common.specs.Requests.{dialog_id_of, is_final, has_to_tag, is_invite, is_provisional, is_success, requires_100rel, supports_100rel}
 use Rattle.sip_served.specs.RequestLife.{RequestHappening, Finishes, MakesDialog, SendsReliably, went_on}
 use Rattle.sip_served.specs.State.{State, ServedTaken, changed_at, has_id}
 
@@ -178,9 +178,9 @@ rejects held status = is_invite held.request && nat_le 300 status
 -- the dialogs after it: one more, one confirmed, or the early ones of a rejected INVITE ended
 abbrev pub dialogs_answered : Id → HeldRequest → ℕ → Message → Dialogs → Dialogs × List CallOut
 dialogs_answered event held status response dialogs =
-    let name = dialog_name held.request held.tag in
+    let name = dialog_id_of held.request held.tag in
     if makes_dialog held status
-    then (insert_entry is_named dialogs name (made_dialog event held status), [])
+    then (insert_entry is_dialog_id dialogs name (made_dialog event held status), [])
     else (if confirms_dialog held status then (dialog_changed name (confirmed response) dialogs, [])
     else (if rejects held status then early_ended held.id dialogs
     else (dialogs, [])))
@@ -189,7 +189,7 @@ dialogs_answered event held status response dialogs =
 abbrev pub makes : Id → HeldRequest → ℕ → List RequestHappening
 makes event held status =
     if makes_dialog held status
-    then MakesDialog record { name = dialog_name held.request held.tag; created_by = event } ∷ []
+    then MakesDialog record { name = dialog_id_of held.request held.tag; created_by = event } ∷ []
     else []
 
 -- the held request after that

@@ -11,7 +11,7 @@ use Rattle.sip_common.specs.declared.command.UserCommand.TheVariants as command
 use Rattle.sip_common.specs.declared.held_dialog.DialogId.{DialogId}
 use Rattle.sip_common.specs.declared.item.Item.{Item}
 use Rattle.sip_common.specs.declared.item.Item.TheVariants as item
-use Rattle.sip_common.specs.Requests.{dialog_name, is_cancel}
+use Rattle.sip_common.specs.Requests.{dialog_id_of, is_cancel}
 use Rattle.sip_served.specs.declared.arrival.Arrival.{Arrival}
 use Rattle.sip_served.specs.declared.arrival.ArrivalCase.{ArrivalCase}
 use Rattle.sip_served.specs.declared.arrival.ArrivalCase.TheVariants.{Acknowledges, ForUser}
@@ -55,7 +55,7 @@ told_by_cancel now (Some held) stories =
 -- a request that comes up
 abbrev pub arrival_told : State → Arrival → ℕ → Stories → Stories
 arrival_told state arrival now stories =
-    let name = dialog_name arrival.request arrival.tag in
+    let name = dialog_id_of arrival.request arrival.tag in
     if is_cancel arrival.request
     then told_by_cancel now (cancelled_request arrival.key state.requests) stories
     else told_by_case (case_of state.requests state.dialogs name arrival.request) state name arrival

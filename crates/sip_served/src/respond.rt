@@ -2,8 +2,8 @@
 
 ghost use Rattle.std.specs.Prelude.{◌≡◌, ◌≤◌, ◌^◌, IfOk, OnOk, Some, codes};
 ghost use Rattle.indexmap.specs.IndexMap.{insert_entry};
-ghost use Rattle.sip_common.specs.Dialogs.{is_named};
-ghost use Rattle.sip_common.specs.Requests.{dialog_name};
+ghost use Rattle.sip_common.specs.Dialogs.{is_dialog_id};
+ghost use Rattle.sip_common.specs.Requests.{dialog_id_of};
 ghost use Rattle.sip_served.specs.RequestLife as life;
 ghost use Rattle.sip_served.specs.Respond as spec;
 
@@ -11,7 +11,7 @@ use crate::held_request::{HeldRequest, Retransmission, Success};
 use crate::provisionals::ReliableResponse;
 use sip_common::dialogs::{confirm, end_early, lives};
 use sip_common::request::{
-    dialog_name, has_to_tag, is_final, is_invite, is_provisional, is_success, requires_100rel,
+    dialog_id_of, has_to_tag, is_final, is_invite, is_provisional, is_success, requires_100rel,
     supports_100rel,
 };
 use sip_common::{CallOut, DialogReference, Dialogs, HeldDialog, Refusal, Reliability, Respond};
@@ -267,7 +267,7 @@ pub(crate) fn answer_dialogs(
         return Ok(Vec::new(alloc));
     }
     if confirms_dialog(held, status) {
-        let name = dialog_name(alloc, held.request.get(), &held.tag)?;
+        let name = dialog_id_of(alloc, held.request.get(), &held.tag)?;
         confirm(dialogs, &name, response)?;
         return Ok(Vec::new(alloc));
     }
@@ -308,13 +308,13 @@ fn make_dialog(
     requires low { 101 ≤ status }
     requires high { status ≤ 699 }
     ensures dialogs { OnOk result (dialogs.new.entries
-        ≡ insert_entry is_named dialogs.old.entries (dialog_name held.old.request held.old.tag)
+        ≡ insert_entry is_dialog_id dialogs.old.entries (dialog_id_of held.old.request held.old.tag)
         (spec.made_dialog event held.old status)) }
     ensures request { OnOk result (held.new ≡ record held.old {
-      dialog = Some record { name = dialog_name held.old.request held.old.tag; created_by = event };
+      dialog = Some record { name = dialog_id_of held.old.request held.old.tag; created_by = event };
     }) }
 {
-    let name = dialog_name(alloc, held.request.get(), &held.tag)?;
+    let name = dialog_id_of(alloc, held.request.get(), &held.tag)?;
     let made = made_dialog(alloc, event, held, StatusCode::from_code(status))?;
     dialogs.insert(name.clone()?, made)?;
     held.dialog = Some(DialogReference {

@@ -27,9 +27,9 @@ use crate::requests::place_of;
 use crate::respond::{answer_dialogs, answer_to, note_answer, refusal_for};
 use crate::tick::{is_kept, next_due, tick_requests};
 use indexmap::IndexMap;
-use sip_common::dialogs::{end, end_early, own_dialog, visit};
+use sip_common::dialogs::{dialog_of_request, end, end_early, visit};
 use sip_common::outputs::{joined, one, refused, tell};
-use sip_common::request::{dialog_name, has_to_tag, is_bye, is_cancel, own_tag};
+use sip_common::request::{dialog_id_of, has_to_tag, is_bye, is_cancel, own_tag};
 use sip_common::{CallOut, DialogId, Dialogs, Item, Notice, Refusal, Respond, UserCommand};
 use sip_message::{Addr, CallId, Id, Message, Token};
 use sip_text::Boxed;
@@ -248,7 +248,7 @@ impl ServerSide {
         ensures { IfOk result (λ outs. (self.new, outs.items)
             ≡ arrived.request_taken self.old call_id arrival) }
     {
-        let name = dialog_name(self.alloc, arrival.request.get(), &arrival.tag)?;
+        let name = dialog_id_of(self.alloc, arrival.request.get(), &arrival.tag)?;
         let case = case_of(
             self.requests.as_slice(),
             &self.dialogs,
@@ -350,7 +350,7 @@ impl ServerSide {
             ≡ arrived.request_held self.old call_id name.now arrival) }
     {
         let notice = notice_of_request(self.alloc, call_id, &arrival)?;
-        let dialog = own_dialog(&self.dialogs, arrival.request.get(), name)?;
+        let dialog = dialog_of_request(&self.dialogs, arrival.request.get(), name)?;
         // Most calls hold one request, and a list that grows by itself begins with four places.
         if self.requests.is_empty() {
             self.requests.reserve_exact(1)?;

@@ -35,7 +35,7 @@ use Rattle.sip_transactions.specs.declared.step.Pace.TheVariants.{Doubled, Cappe
 use Rattle.sip_transactions.specs.declared.step.Sent.{Sent}
 use Rattle.sip_transactions.specs.declared.step.Sent.TheVariants as send
 use Rattle.sip_transactions.specs.declared.step.Step.{Step}
-use Rattle.sip_transactions.specs.declared.trigger.Class.TheVariants as class
+use Rattle.sip_transactions.specs.declared.trigger.Class.TheVariants as class_of_status
 use Rattle.sip_transactions.specs.declared.trigger.Trigger.{Trigger}
 use Rattle.sip_transactions.specs.declared.trigger.Trigger.TheVariants as on
 use Rattle.sip_transactions.specs.Dues.{Dues}
@@ -46,7 +46,7 @@ use Rattle.sip_transactions.specs.Steps.Life as steps
 use Rattle.sip_transactions.specs.Steps.Output.{handed_out, kind_of, made_bytes, made_of, outputs_of, sent_bytes}
 use Rattle.sip_transactions.specs.Rows.{Row, client_rows, invite_client_rows, invite_server_rows, row_of, rows_of, server_rows}
 use Rattle.sip_transactions.specs.Timers.{rearmed}
-use Rattle.sip_transactions.specs.Rules.Step.{acted, begun, came, handed_up, step_at, text_sent}
+use Rattle.sip_transactions.specs.Rules.Step.{row_applied, context_at_first, trigger_of_message, handed_up, step_at, text_sent}
 use Rattle.sip_transactions.specs.Rules.Tables.{client, invite_client, invite_server, server, table}
 use Rattle.sip_transactions.specs.Rules.Timers.{timers_after}
 
@@ -64,10 +64,10 @@ abbrev InState : (Option State → Trigger → Step) → List Row → Option Sta
 InState table rows s =
     At table rows s on.Start × At table rows s on.RetransmitDue × At table rows s on.TimeoutDue
     × At table rows s on.Failed × At table rows s on.Request × At table rows s on.Ack
-    × At table rows s (on.Response class.Trying) × At table rows s (on.Response class.Provisional)
-    × At table rows s (on.Response class.Success) × At table rows s (on.Response class.Failure)
-    × At table rows s (on.Answer class.Trying) × At table rows s (on.Answer class.Provisional)
-    × At table rows s (on.Answer class.Success) × At table rows s (on.Answer class.Failure)
+    × At table rows s (on.Response class_of_status.Trying) × At table rows s (on.Response class_of_status.Provisional)
+    × At table rows s (on.Response class_of_status.Success) × At table rows s (on.Response class_of_status.Failure)
+    × At table rows s (on.Answer class_of_status.Trying) × At table rows s (on.Answer class_of_status.Provisional)
+    × At table rows s (on.Answer class_of_status.Success) × At table rows s (on.Answer class_of_status.Failure)
 
 in_state : (t : Option State → Trigger → Step) (rows : List Row) (s : Option State)
     → InState t rows s → (trigger : Trigger) → At t rows s trigger
@@ -77,14 +77,14 @@ in_state t rows s e on.TimeoutDue = e.2
 in_state t rows s e on.Failed = e.3
 in_state t rows s e on.Request = e.4
 in_state t rows s e on.Ack = e.5
-in_state t rows s e (on.Response class.Trying) = e.6
-in_state t rows s e (on.Response class.Provisional) = e.7
-in_state t rows s e (on.Response class.Success) = e.8
-in_state t rows s e (on.Response class.Failure) = e.9
-in_state t rows s e (on.Answer class.Trying) = e.10
-in_state t rows s e (on.Answer class.Provisional) = e.11
-in_state t rows s e (on.Answer class.Success) = e.12
-in_state t rows s e (on.Answer class.Failure) = e.13
+in_state t rows s e (on.Response class_of_status.Trying) = e.6
+in_state t rows s e (on.Response class_of_status.Provisional) = e.7
+in_state t rows s e (on.Response class_of_status.Success) = e.8
+in_state t rows s e (on.Response class_of_status.Failure) = e.9
+in_state t rows s e (on.Answer class_of_status.Trying) = e.10
+in_state t rows s e (on.Answer class_of_status.Provisional) = e.11
+in_state t rows s e (on.Answer class_of_status.Success) = e.12
+in_state t rows s e (on.Answer class_of_status.Failure) = e.13
 
 abbrev EachState : (Option State → Trigger → Step) → List Row → Type 0
 EachState t rows =
@@ -245,7 +245,7 @@ next_is Same state = refl
 next_is Ended state = refl
 next_is (Become new) state = refl
 
--- how a message that came is handed up
+-- how a message that trigger_of_message is handed up
 abbrev kind_in : Option Input → Option Kind
 kind_in input = option_map (λ a. kind_of a.0.start a.0 a.1) (arrived_in input)
 
@@ -268,11 +268,11 @@ up_is key context arrived up.NoTransaction = refl
 -- what a row makes of a state and a context, in the words of the rules
 abbrev by_row : Key → ℕ → Option State → Context → Option Message → Option Kind → Step
     → Option Life × List Out
-by_row key now state context message came row = (
+by_row key now state context message trigger_of_message row = (
   option_map (life_in (moved context (option_or (text_sent context message row.sent) context.last)
       (timers_after row.due now context.timers)))
       (elim row.next [ Same ↦ state | Ended ↦ None | Become new ↦ Some new ]),
-  option_to_list (handed_up (hand key context) context came row.handed)
+  option_to_list (handed_up (hand key context) context trigger_of_message row.handed)
       ++ option_to_list (option_map (Send key context.to) (text_sent context message row.sent)),
 )
 
@@ -294,36 +294,36 @@ row_is key now input state context row =
 -- ---- an input
 
 abbrev context_in : Option Life → Context → Context
-context_in held begun = option_map_or (λ life. life.context) held begun
+context_in held context_at_first = option_map_or (λ life. life.context) held context_at_first
 
-idle_is : (key : Key) (now : ℕ) (held : Option Life) (begun : Context) (message : Option Message)
-    (came : Option Kind)
-    → by_row key now (state_of held) (context_in held begun) message came (row_or None)
+idle_is : (key : Key) (now : ℕ) (held : Option Life) (context_at_first : Context) (message : Option Message)
+    (trigger_of_message : Option Kind)
+    → by_row key now (state_of held) (context_in held context_at_first) message trigger_of_message (row_or None)
     ≡ (held, [])
-idle_is key now None begun message came = refl
-idle_is key now (Some life) begun message came = refl
+idle_is key now None context_at_first message trigger_of_message = refl
+idle_is key now (Some life) context_at_first message trigger_of_message = refl
 
 -- an input that has something at hand
-found_is : (key : Key) (now : ℕ) (input : Option Input) (held : Option Life) (begun : Context)
-    → context_of (role_of key) held input ≡ Some (context_in held begun) → (found : Option Step)
-    → by_row key now (state_of held) (context_in held begun) (message_in input) (kind_in input)
+found_is : (key : Key) (now : ℕ) (input : Option Input) (held : Option Life) (context_at_first : Context)
+    → context_of (role_of key) held input ≡ Some (context_in held context_at_first) → (found : Option Step)
+    → by_row key now (state_of held) (context_in held context_at_first) (message_in input) (kind_in input)
     (row_or found)
     ≡ stepped_by key held now input found
-found_is key now input held begun has None =
-    idle_is key now held begun (message_in input) (kind_in input)
-found_is key now input held begun has (Some step) =
-    row_is key now input (state_of held) (context_in held begun) step
+found_is key now input held context_at_first has None =
+    idle_is key now held context_at_first (message_in input) (kind_in input)
+found_is key now input held context_at_first has (Some step) =
+    row_is key now input (state_of held) (context_in held context_at_first) step
     ∙ λ i. steps.acted_if key now input (state_of held) (sym has i) step
 
-acted_is : (key : Key) (now : ℕ) (input : Option Input) (held : Option Life) (begun : Context)
-    (trigger : Trigger) → context_of (role_of key) held input ≡ Some (context_in held begun)
-    → acted key now held begun trigger (message_in input) (kind_in input)
+acted_is : (key : Key) (now : ℕ) (input : Option Input) (held : Option Life) (context_at_first : Context)
+    (trigger : Trigger) → context_of (role_of key) held input ≡ Some (context_in held context_at_first)
+    → row_applied key now held context_at_first trigger (message_in input) (kind_in input)
     ≡ stepped_by key held now input (row_of (rows_of (role_of key)) (state_of held) trigger)
-unfolding acted
-acted_is key now input held begun trigger has =
-    ap (by_row key now (state_of held) (context_in held begun) (message_in input) (kind_in input))
+unfolding row_applied
+acted_is key now input held context_at_first trigger has =
+    ap (by_row key now (state_of held) (context_in held context_at_first) (message_in input) (kind_in input))
     (table_is key (state_of held) trigger)
-    ∙ found_is key now input held begun has (row_of (rows_of (role_of key)) (state_of held) trigger)
+    ∙ found_is key now input held context_at_first has (row_of (rows_of (role_of key)) (state_of held) trigger)
 
 by_ack : (ack : Bool) (message : Message) (reply_to : Addr)
     → ◌≡◌ {A = Trigger × Kind}
@@ -335,7 +335,7 @@ by_ack true message reply_to = refl
 by_ack false message reply_to = refl
 
 came_is : (line : StartLine) (message : Message) (reply_to : Addr)
-    → came line message reply_to
+    → trigger_of_message line message reply_to
     ≡ (arrival_of line message.cseq.method, kind_of line message reply_to)
 came_is (start.Request uri) message reply_to =
     by_ack (is_same_method message.cseq.method (codes "ACK")) message reply_to
@@ -351,16 +351,16 @@ received_is : (key : Key) (now : ℕ) (held : Option Life) (id : Id) (message : 
     })
 unfolding step_at stepped step_for steps.begun
 received_is key now held id message reply_to =
-    (λ i. acted key now held (begun id message.call_id reply_to None)
+    (λ i. row_applied key now held (context_at_first id message.call_id reply_to None)
     (came_is message.start message reply_to i).0 (Some message)
     (Some (came_is message.start message reply_to i).1))
     ∙ acted_is key now (Some (input.Receive id message reply_to)) held
-    (begun id message.call_id reply_to None) (arrival_of message.start message.cseq.method)
+    (context_at_first id message.call_id reply_to None) (arrival_of message.start message.cseq.method)
     (has held)
   where
     has : (held : Option Life)
         → context_of (role_of key) held (Some (input.Receive id message reply_to))
-        ≡ Some (context_in held (begun id message.call_id reply_to None))
+        ≡ Some (context_in held (context_at_first id message.call_id reply_to None))
     has None = refl
     has (Some life) = refl
 
@@ -372,14 +372,14 @@ kept : (invite : Bool) (message : Message)
 kept true message = refl
 kept false message = refl
 
-no_start : (invite : Bool) (key : Key) (now : ℕ) (begun : Context) (message : Option Message)
+no_start : (invite : Bool) (key : Key) (now : ℕ) (context_at_first : Context) (message : Option Message)
     (input : Input)
-    → by_row key now None begun message None
+    → by_row key now None context_at_first message None
     (row_or (row_of (rows_of (if invite then InviteServer else Server)) None on.Start))
     ≡ stepped_by key None now (Some input)
     (row_of (rows_of (if invite then InviteServer else Server)) None on.Start)
-no_start true key now begun message input = refl
-no_start false key now begun message input = refl
+no_start true key now context_at_first message input = refl
+no_start false key now context_at_first message input = refl
 
 started_at_client : (branch method : List ℕ) (now : ℕ) (held : Option Life) (id : Id)
     (call_id : List ℕ) (message : Message) (to : Addr)
@@ -391,16 +391,16 @@ started_at_client : (branch method : List ℕ) (now : ℕ) (held : Option Life) 
 unfolding step_at stepped step_for steps.begun
 started_at_client branch method now held id call_id message to =
     acted_is (key.Client branch method) now (Some (input.Start id call_id message to)) held
-    (begun id call_id to (if bytes_eq method (codes "INVITE") then Some message else None)) on.Start
+    (context_at_first id call_id to (if bytes_eq method (codes "INVITE") then Some message else None)) on.Start
     (has held)
   where
     has : (held : Option Life)
         → context_of (role_of (key.Client branch method)) held
         (Some (input.Start id call_id message to))
         ≡ Some (context_in held
-        (begun id call_id to (if bytes_eq method (codes "INVITE") then Some message else None)))
+        (context_at_first id call_id to (if bytes_eq method (codes "INVITE") then Some message else None)))
     has None = λ i.
-        Some (begun id call_id to (kept (is_same_method method (codes "INVITE")) message i))
+        Some (context_at_first id call_id to (kept (is_same_method method (codes "INVITE")) message i))
     has (Some life) = refl
 
 started_at_server : (branch : List ℕ) (sent_by : SentBy) (method : List ℕ) (now : ℕ)
@@ -411,9 +411,9 @@ started_at_server : (branch : List ℕ) (sent_by : SentBy) (method : List ℕ) (
       moment = now;
       input = Some (input.Start id call_id message to);
     })
-unfolding step_at stepped step_for steps.begun acted
+unfolding step_at stepped step_for steps.begun row_applied
 started_at_server branch sent_by method now None id call_id message to =
-    let first : Context = begun id call_id to
+    let first : Context = context_at_first id call_id to
     (if bytes_eq method (codes "INVITE") then Some message else None) in
     ap (by_row (key.Server branch sent_by method) now None first (Some message) None)
     (table_is (key.Server branch sent_by method) None on.Start)
@@ -422,7 +422,7 @@ started_at_server branch sent_by method now None id call_id message to =
 started_at_server branch sent_by method now (Some life) id call_id message to =
     acted_is (key.Server branch sent_by method) now (Some (input.Start id call_id message to))
     (Some life)
-    (begun id call_id to (if bytes_eq method (codes "INVITE") then Some message else None))
+    (context_at_first id call_id to (if bytes_eq method (codes "INVITE") then Some message else None))
     on.Start refl
 
 -- an answer
@@ -437,7 +437,7 @@ answered_is key now life id message = by message.start
         (elim line [
           | start.Request uri ↦ (Some life, [])
           | start.Response status reason ↦
-              acted key now (Some life) life.context (on.Answer (class_of status)) (Some message)
+              row_applied key now (Some life) life.context (on.Answer (class_of status)) (Some message)
               None
         ])
         (stepped_by key (Some life) now (Some (input.Answer id message))
@@ -465,8 +465,8 @@ ticked_is key now life =
   where
     by : (ending repeat : Bool)
         → ◌≡◌ {A = Option Life × List Out}
-        (if ending then acted key now (Some life) life.context on.TimeoutDue None None
-        else if repeat then acted key now (Some life) life.context on.RetransmitDue None None
+        (if ending then row_applied key now (Some life) life.context on.TimeoutDue None None
+        else if repeat then row_applied key now (Some life) life.context on.RetransmitDue None None
         else (Some life, []))
         (stepped_by key (Some life) now None
         (option_and_then (row_of (rows_of (role_of key)) (Some life.state))

@@ -12,7 +12,7 @@ use Rattle.sip_common.specs.Dialogs.{early_ended, ended_at, is_early_of, lives, 
 use Rattle.sip_common.specs.Ids.{is_id}
 use Rattle.sip_clients.specs.declared.client.Client.{Client}
 use Rattle.sip_clients.specs.Client.{Clients, ClientTaken, Side}
-use Rattle.sip_clients.specs.Rules.Requests.{life_of}
+use Rattle.sip_clients.specs.Rules.Requests.{dialog_of_kind}
 
 -- The early dialogs that a request made end with it, and where `gone` also the dialog that it was
 -- sent in, if that is held still (RFC 3261, section 12.2.1.2).
@@ -21,7 +21,7 @@ request_over client gone dialogs =
     let early = early_ended client.id dialogs in
     let own = option_map_or (λ life. if gone && lives early.0 life
     then ended_at life.name early.0 else (early.0, []))
-    (life_of client.kind) (early.0, []) in
+    (dialog_of_kind client.kind) (early.0, []) in
     (own.0, early.1 ++ own.1)
 
 -- A request is over whose message could not be sent, or whose transaction timed out: that counts as

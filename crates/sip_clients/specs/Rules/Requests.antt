@@ -44,11 +44,11 @@ use Rattle.sip_common.specs.declared.item.CallOut.{CallOut}
 use Rattle.sip_common.specs.declared.item.CallOut.TheVariants.{Command, Direct}
 use Rattle.sip_common.specs.declared.refusal.Refusal.{Refusal}
 use Rattle.sip_common.specs.declared.refusal.Refusal.TheVariants.{AlreadyFinal, BadMethod, DialogEnded, NoSuchDialog, NoSuchRequest, NothingToAck, NothingToPrack, SequenceUsedUp, StrictRoute}
-use Rattle.sip_common.specs.Dialogs.{ended_at, is_named, tag_text}
+use Rattle.sip_common.specs.Dialogs.{ended_at, is_dialog_id, tag_text}
 use Rattle.sip_common.specs.Ids.{is_id}
 use Rattle.sip_common.specs.Notices.{refused}
 use Rattle.sip_common.specs.Refusal.{first_refusal}
-use Rattle.sip_common.specs.Requests.{name_of_tags}
+use Rattle.sip_common.specs.Requests.{dialog_id_of_tags}
 use Rattle.sip_clients.specs.declared.answers.SentAck.{SentAck}
 use Rattle.sip_clients.specs.declared.client.Cancelling.{Cancelling}
 use Rattle.sip_clients.specs.declared.client.Cancelling.TheVariants.{NotAsked, Sent, Waits}
@@ -63,17 +63,17 @@ use Rattle.sip_clients.specs.Event.{branch_of, from_tag_of}
 -- ---- client requests
 
 -- an INVITE: an initial one (`InitialInvite`) or a re-INVITE (`ReInvite`)
-abbrev pub is_inviting : RequestKind → Bool
-is_inviting InitialInvite = true
-is_inviting (ReInvite life) = true
-is_inviting _ = false
+abbrev pub is_invite_kind : RequestKind → Bool
+is_invite_kind InitialInvite = true
+is_invite_kind (ReInvite life) = true
+is_invite_kind _ = false
 
 -- the dialog of a re-INVITE or of another request in a dialog (`InDialog`); an initial INVITE and a
 -- request outside of dialogs (`OutOfDialog`) have none
-abbrev pub life_of : RequestKind → Option DialogReference
-life_of (ReInvite life) = Some life
-life_of (InDialog life) = Some life
-life_of _ = None
+abbrev pub dialog_of_kind : RequestKind → Option DialogReference
+dialog_of_kind (ReInvite life) = Some life
+dialog_of_kind (InDialog life) = Some life
+dialog_of_kind _ = None
 
 -- a client request that is just sent, known by the event that sends it
 abbrev pub new_request : Id → RequestKind → Message → Addr → Client
@@ -170,9 +170,9 @@ refusals_in dialog method =
     ∷ []
 
 -- a request in a dialog with its next number: a re-INVITE or another
-abbrev pub request_within : Event → DialogId → List ℕ → Option RAck → Content → HeldDialog
+abbrev pub request_with_next_number : Event → DialogId → List ℕ → Option RAck → Content → HeldDialog
     → Client
-request_within event name method rack content held =
+request_with_next_number event name method rack content held =
     let life : DialogReference = record { name = name; created_by = held.created_by } in
     let message = request_in held.dialog method (held.dialog.local_cseq + 1) content
     (branch_of event) event.local in
@@ -191,8 +191,8 @@ request_in_dialog event command side name held =
     (first_refusal
     ((has_command command.method, BadMethod) ∷ refusals_in held.dialog command.method) None)
     (let sent = start (side.clients, [])
-    (request_within event name command.method None command.content held) in
-    let dialogs = set_value (is_named name) side.dialogs (with_number held) in
+    (request_with_next_number event name command.method None command.content held) in
+    let dialogs = set_value (is_dialog_id name) side.dialogs (with_number held) in
     let ended = if bytes_eq command.method (codes "BYE") then ended_at name dialogs
     else (dialogs, []) in
     (record { dialogs = ended.0; clients = sent.0 }, sent.1 ++ ended.1))
@@ -200,8 +200,8 @@ request_in_dialog event command side name held =
 -- The command Request is for the held dialog of its tags.
 unfoldable pub request_command : Event → DialogRequest → Side → ClientTaken
 request_command event command side =
-    let name = name_of_tags (tag_text command.local_tag) (tag_text command.remote_tag) in
-    option_map_or (request_in_dialog event command side name) (lookup (is_named name) side.dialogs)
+    let name = dialog_id_of_tags (tag_text command.local_tag) (tag_text command.remote_tag) in
+    option_map_or (request_in_dialog event command side name) (lookup (is_dialog_id name) side.dialogs)
     (refuse event command.call_id side NoSuchDialog)
 
 -- ---- the ACK of a 2xx, and the PRACK of a reliable provisional response
@@ -231,7 +231,7 @@ pending_sent event name (Prack rseq number) content held =
     record {
       dialog = with_number held;
       ack = None;
-      prack = request_within event name (codes "PRACK") rack content held ∷ [];
+      prack = request_with_next_number event name (codes "PRACK") rack content held ∷ [];
       outs = [];
     }
 
@@ -272,7 +272,7 @@ is_same_pending _ _ = false
 abbrev pub ack_kept : PendingRequest → DialogId → Option SentAck → Clients → Clients
 ack_kept (Ack invite number) name (Some ack) clients =
     option_map_or (λ client. set_value (is_id invite) clients
-    (record client { answers = insert_entry is_named client.answers name (Some ack) }))
+    (record client { answers = insert_entry is_dialog_id client.answers name (Some ack) }))
     (lookup (is_id invite) clients) clients
 ack_kept _ name ack clients = clients
 
@@ -285,7 +285,7 @@ pending_by_user event command side name held pending =
     let done = pending_outcome event command.call_id name pending (Some command.content) sent held in
     let after = fold start (ack_kept pending name done.ack side.clients, done.outs) done.prack in (
       record {
-        dialogs = set_value (is_named name) side.dialogs done.dialog;
+        dialogs = set_value (is_dialog_id name) side.dialogs done.dialog;
         clients = after.0;
       },
       after.1,
@@ -302,9 +302,9 @@ oldest_pending method nothing event command side name held =
 -- The user's ACK or PRACK is for the oldest that is pending in the held dialog of its tags.
 abbrev pub pending_command : List ℕ → Refusal → Event → DialogBody → Side → ClientTaken
 pending_command method nothing event command side =
-    let name = name_of_tags (tag_text command.local_tag) (tag_text command.remote_tag) in
+    let name = dialog_id_of_tags (tag_text command.local_tag) (tag_text command.remote_tag) in
     option_map_or (oldest_pending method nothing event command side name)
-    (lookup (is_named name) side.dialogs) (refuse event command.call_id side NoSuchDialog)
+    (lookup (is_dialog_id name) side.dialogs) (refuse event command.call_id side NoSuchDialog)
 
 -- the command Ack
 unfoldable pub ack_command : Event → DialogBody → Side → ClientTaken
@@ -329,7 +329,7 @@ is_asked _ = true
 -- response, and otherwise when the first one comes (RFC 3261, section 9.1).
 abbrev pub cancel_of_request : Event → Cancel → Side → Client → ClientTaken
 cancel_of_request event command side invite =
-    if not (is_inviting invite.kind) then refuse event command.call_id side NoSuchRequest
+    if not (is_invite_kind invite.kind) then refuse event command.call_id side NoSuchRequest
     else (if is_some invite.removal then refuse event command.call_id side AlreadyFinal
     else (if is_asked invite.cancel then (side, [])
     else (

@@ -20,9 +20,9 @@ use Rattle.sip_common.specs.declared.held_dialog.HeldDialog.{HeldDialog}
 use Rattle.sip_common.specs.declared.item.CallOut.{CallOut}
 use Rattle.sip_common.specs.declared.item.CallOut.TheVariants.{Direct, Notice}
 use Rattle.sip_common.specs.declared.notice.Notice.TheVariants.{Response}
-use Rattle.sip_common.specs.Dialogs.{is_named, lives, Dialogs}
+use Rattle.sip_common.specs.Dialogs.{is_dialog_id, lives, Dialogs}
 use Rattle.sip_common.specs.Ids.{is_id}
-use Rattle.sip_common.specs.Requests.{is_final, has_to_tag, is_success, name_of_tags, requires_100rel}
+use Rattle.sip_common.specs.Requests.{is_final, has_to_tag, is_success, dialog_id_of_tags, requires_100rel}
 use Rattle.sip_clients.specs.declared.answers.SentAck.{SentAck}
 use Rattle.sip_clients.specs.declared.client.Cancelling.{Cancelling}
 use Rattle.sip_clients.specs.declared.client.Cancelling.TheVariants.{NotAsked, Sent, Waits}
@@ -31,7 +31,7 @@ use Rattle.sip_clients.specs.declared.event.Event.{Event}
 use Rattle.sip_clients.specs.declared.reply.ReceivedResponse.{ReceivedResponse}
 use Rattle.sip_clients.specs.Client.{ClientTaken, Side}
 use Rattle.sip_clients.specs.Rules.Ends.{request_over}
-use Rattle.sip_clients.specs.Rules.Requests.{cancel_request, is_inviting, life_of, pending_outcome, start}
+use Rattle.sip_clients.specs.Rules.Requests.{cancel_request, is_invite_kind, dialog_of_kind, pending_outcome, start}
 
 -- ---- what a response comes to
 
@@ -66,14 +66,14 @@ asks_for pending reply client after held dialogs =
     let done = pending_outcome reply.event reply.call_id reply.name pending content held unsent in
     record {
       request = Some (after done.ack);
-      dialogs = insert_entry is_named dialogs reply.name done.dialog;
+      dialogs = insert_entry is_dialog_id dialogs reply.name done.dialog;
       outs = notice_of reply ∷ done.outs;
       prack = done.prack;
     }
 
 -- an initial INVITE, among INVITEs
 abbrev pub is_initial : Client → Bool
-is_initial client = is_none (life_of client.kind)
+is_initial client = is_none (dialog_of_kind client.kind)
 
 -- the dialog that a response makes (RFC 3261, section 12.1.2)
 abbrev pub dialog_made_by : ReceivedResponse → Client → HeldDialog
@@ -106,7 +106,7 @@ success_again sent_ack client dialogs =
 -- its ACK where that was sent
 abbrev pub accepted : ReceivedResponse → Client → Option SentAck → Client
 accepted reply client ack = record client {
-  answers = insert_entry is_named client.answers reply.name ack;
+  answers = insert_entry is_dialog_id client.answers reply.name ack;
   removal = Some (unwrap_or client.removal (reply.event.moment + LIFETIME));
 }
 
@@ -122,7 +122,7 @@ success_in initial response held =
 -- the first 2xx of a dialog, which it makes where it isn't held; it asks for its ACK
 abbrev pub first_success : ReceivedResponse → Client → Dialogs → Outcome
 first_success reply client dialogs =
-    let found = lookup (is_named reply.name) dialogs in
+    let found = lookup (is_dialog_id reply.name) dialogs in
     asks_for (Ack client.id client.request.cseq.number) reply client (accepted reply client)
     (option_map_or (success_in (is_initial client) reply.response) found
     (dialog_made_by reply client)) dialogs
@@ -144,17 +144,17 @@ reliable_response reply client dialogs held rseq =
 abbrev pub dialog_response : ReceivedResponse → Client → Dialogs → Outcome
 dialog_response reply client dialogs =
     let response = reply.response in
-    let held = unwrap_or (lookup (is_named reply.name) dialogs) (dialog_made_by reply client) in
+    let held = unwrap_or (lookup (is_dialog_id reply.name) dialogs) (dialog_made_by reply client) in
     option_map_or (reliable_response reply client dialogs held)
     (if requires_100rel response then response.rseq else None)
-    (kept client (insert_entry is_named dialogs reply.name held) (notice_of reply ∷ []))
+    (kept client (insert_entry is_dialog_id dialogs reply.name held) (notice_of reply ∷ []))
 
 -- ---- all of them
 
 -- the dialog of an INVITE is held still, or may be made
 abbrev pub has_dialog : Client → Dialogs → Bool
 has_dialog client dialogs =
-    is_inviting client.kind && option_map_or (lives dialogs) (life_of client.kind) true
+    is_invite_kind client.kind && option_map_or (lives dialogs) (dialog_of_kind client.kind) true
 
 -- The first case that fits: the last response; a 2xx that comes again; the first 2xx of a dialog; the
 -- first 2xx of a dialog that has ended (own: it gets no ACK); a provisional response of no dialog
@@ -162,8 +162,8 @@ has_dialog client dialogs =
 abbrev pub outcome_of : ReceivedResponse → Client → Dialogs → Outcome
 outcome_of reply client dialogs =
     let final = is_final reply.status in
-    let sent_ack = lookup (is_named reply.name) client.answers in
-    if final && not (is_inviting client.kind && is_success reply.status)
+    let sent_ack = lookup (is_dialog_id reply.name) client.answers in
+    if final && not (is_invite_kind client.kind && is_success reply.status)
     then last_response reply client dialogs
     else (if final && is_some sent_ack then success_again sent_ack client dialogs
     else (if final && has_dialog client dialogs then first_success reply client dialogs
@@ -199,8 +199,8 @@ response_to event id call_id response side status client =
       event = event;
       id = id;
       call_id = call_id;
-      name = option_map_or (λ life. life.name) (life_of client.kind)
-          (name_of_tags (tag_of client.request.from) (tag_of response.to));
+      name = option_map_or (λ life. life.name) (dialog_of_kind client.kind)
+          (dialog_id_of_tags (tag_of client.request.from) (tag_of response.to));
       status = status;
       response = response;
     } in

@@ -28,9 +28,9 @@ use Rattle.sip_common.specs.declared.item.CallOut.TheVariants.{Notice, Command}
 use Rattle.sip_common.specs.declared.item.Item.{Item}
 use Rattle.sip_common.specs.declared.item.Item.TheVariants as item
 use Rattle.sip_common.specs.declared.notice.Notice.TheVariants.{Ack, Cancel, Prack, Request}
-use Rattle.sip_common.specs.Dialogs.{dialog_at, dialog_changed, early_ended, ended_at, is_named, own_dialog}
+use Rattle.sip_common.specs.Dialogs.{dialog_at, dialog_changed, early_ended, ended_at, is_dialog_id, dialog_of_request}
 use Rattle.sip_common.specs.Ids.{is_id}
-use Rattle.sip_common.specs.Requests.{dialog_name, is_bye, is_cancel, has_to_tag, is_invite, is_prack, is_unknown_option, local_tag_of, supports_100rel}
+use Rattle.sip_common.specs.Requests.{dialog_id_of, is_bye, is_cancel, has_to_tag, is_invite, is_prack, is_unknown_option, local_tag_of, supports_100rel}
 use Rattle.sip_served.specs.declared.arrival.Arrival.{Arrival}
 use Rattle.sip_served.specs.declared.held_request.HeldRequest.{HeldRequest}
 use Rattle.sip_served.specs.declared.held_request.Success.{Success}
@@ -63,7 +63,7 @@ request_for_user state call_id name arrival =
       request = request;
       reply_to = arrival.reply_to;
       tag = arrival.tag;
-      dialog = own_dialog request name state.dialogs;
+      dialog = dialog_of_request request name state.dialogs;
       ledger = record { first = 1; next = 1; supported = supported; closed = false; waiting = [] };
       provisionals = [];
       success = None;
@@ -82,7 +82,7 @@ request_for_user state call_id name arrival =
 -- provisional response went out that the RAck names and that has no PRACK yet
 abbrev pub is_named_by : RAck → DialogId → Id → HeldRequest → Bool
 is_named_by rack name created_by held =
-    option_map_or (λ life. is_named life.name name && is_id life.created_by created_by)
+    option_map_or (λ life. is_dialog_id life.name name && is_id life.created_by created_by)
     held.dialog false
     && is_invite held.request && bytes_eq rack.method held.request.cseq.method
     && (held.request.cseq.number == rack.cseq) && waits_for rack.rseq held.ledger
@@ -204,7 +204,7 @@ request_in_dialog state call_id name arrival held =
 unfoldable pub request_received : State → List ℕ → Arrival → ℕ → ServedTaken
 request_received state call_id arrival now =
     let request = arrival.request in
-    let name = dialog_name request arrival.tag in
+    let name = dialog_id_of request arrival.tag in
     if is_cancel request then cancel_received state call_id arrival now
     else (if not (has_to_tag request) && list_any (is_merged request) state.requests
     then (state, own_response arrival 482 (codes "Loop Detected"))

@@ -26,10 +26,10 @@ use Rattle.sip_common.specs.declared.item.CallOut.{CallOut}
 use Rattle.sip_common.specs.declared.item.CallOut.TheVariants.{Command}
 use Rattle.sip_common.specs.declared.refusal.Refusal.{Refusal}
 use Rattle.sip_common.specs.declared.refusal.Refusal.TheVariants.{NoSuchRequest, AlreadyFinal, BadStatus, ReliablePending, NotSupported, SequenceUsedUp, DialogEnded}
-use Rattle.sip_common.specs.Dialogs.{Dialogs, dialog_changed, early_ended, is_named, lives}
+use Rattle.sip_common.specs.Dialogs.{Dialogs, dialog_changed, early_ended, is_dialog_id, lives}
 use Rattle.sip_common.specs.Notices.{refused}
 use Rattle.sip_common.specs.Refusal.{first_refusal}
-use Rattle.sip_common.specs.Requests.{dialog_name, is_final, has_to_tag, is_invite, is_provisional, is_success, requires_100rel, supports_100rel}
+use Rattle.sip_common.specs.Requests.{dialog_id_of, is_final, has_to_tag, is_invite, is_provisional, is_success, requires_100rel, supports_100rel}
 use Rattle.sip_served.specs.declared.held_request.HeldRequest.{HeldRequest}
 use Rattle.sip_served.specs.declared.held_request.Success.{Success}
 use Rattle.sip_served.specs.State.{State, ServedTaken, changed_at, has_id}
@@ -113,9 +113,9 @@ after_2xx response held =
 abbrev pub dialogs_after : Id → HeldRequest → ℕ → Message → Dialogs → Dialogs × List CallOut
 dialogs_after event held status response dialogs =
     let request = held.request in
-    let name = dialog_name request held.tag in
+    let name = dialog_id_of request held.tag in
     if makes_dialog held status
-    then (insert_entry is_named dialogs name (dialog_by_request event held status), [])
+    then (insert_entry is_dialog_id dialogs name (dialog_by_request event held status), [])
     else (if is_invite request && is_success status && not (has_to_tag request)
     then (dialog_changed name (after_2xx response) dialogs, [])
     else (if is_invite request && nat_le 300 status then early_ended held.id dialogs
@@ -144,7 +144,7 @@ abbrev pub held_after : Id → HeldRequest → Respond → Message → ℕ → H
 held_after event held respond response now =
     let status = respond.status in
     let ledger = held.ledger in
-    let life : DialogReference = record { name = dialog_name held.request held.tag; created_by = event } in
+    let life : DialogReference = record { name = dialog_id_of held.request held.tag; created_by = event } in
     let dialog = if makes_dialog held status then Some life else held.dialog in
     let awaits_ack = is_invite held.request && is_success status in
     if is_sent_reliably held respond

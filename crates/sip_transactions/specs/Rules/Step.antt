@@ -34,16 +34,16 @@ use Rattle.sip_transactions.specs.declared.trigger.Trigger.TheVariants as on
 use Rattle.sip_transactions.specs.Rules.Tables.{table}
 use Rattle.sip_transactions.specs.Rules.Timers.{stopped, timers_after}
 
--- the class of a status code
-abbrev pub class : ℕ → Class
-class code = if code == 100 then Trying else if nat_lt code 200 then Provisional
+-- the class_of_status of a status code
+abbrev pub class_of_status : ℕ → Class
+class_of_status code = if code == 100 then Trying else if nat_lt code 200 then Provisional
     else if nat_lt code 300 then Success else Failure
 
--- a message that came: its trigger, and how it is handed up
-abbrev pub came : StartLine → Message → Addr → Trigger × Kind
-came (start.Response status reason) message reply_to =
-    (on.Response (class status), kind.Response message)
-came (start.Request uri) message reply_to =
+-- a message that trigger_of_message: its trigger, and how it is handed up
+abbrev pub trigger_of_message : StartLine → Message → Addr → Trigger × Kind
+trigger_of_message (start.Response status reason) message reply_to =
+    (on.Response (class_of_status status), kind.Response message)
+trigger_of_message (start.Request uri) message reply_to =
     if bytes_eq message.cseq.method (codes "ACK") then (on.Ack, kind.Ack message)
     else (on.Request, kind.Request message reply_to)
 
@@ -58,20 +58,20 @@ text_sent context message send.Trying =
 text_sent context message send.Ack = option_and_then
     (λ response. option_map (λ invite. written (ack_of invite response)) context.request) message
 
--- what a row hands up of a message that came, or in its place; or that it drops that message
+-- what a row hands up of a message that trigger_of_message, or in its place; or that it drops that message
 abbrev pub handed_up : (Kind → Out) → Context → Option Kind → Handed → Option Out
-handed_up hand context came up.Nothing = None
-handed_up hand context came up.Message = option_map hand came
-handed_up hand context came up.Timeout = Some (hand kind.Timeout)
-handed_up hand context came up.Failed = Some (hand kind.Failed)
-handed_up hand context came up.NoTransaction = Some (Dropped context.id.place NoTransaction)
+handed_up hand context trigger_of_message up.Nothing = None
+handed_up hand context trigger_of_message up.Message = option_map hand trigger_of_message
+handed_up hand context trigger_of_message up.Timeout = Some (hand kind.Timeout)
+handed_up hand context trigger_of_message up.Failed = Some (hand kind.Failed)
+handed_up hand context trigger_of_message up.NoTransaction = Some (Dropped context.id.place NoTransaction)
 
 -- The row for a trigger, at a life or at what an input begins one with: the life after it; and what
 -- it hands up or drops, and then sends. What goes up has the id and the Call-ID of the first input.
-unfoldable pub acted : Key → ℕ → Option Life → Context → Trigger → Option Message → Option Kind
+unfoldable pub row_applied : Key → ℕ → Option Life → Context → Trigger → Option Message → Option Kind
     → Option Life × List Out
-acted key now held begun trigger message came =
-    let context = option_map_or (λ life. life.context) held begun in
+row_applied key now held context_at_first trigger message trigger_of_message =
+    let context = option_map_or (λ life. life.context) held context_at_first in
     let state = option_map (λ life. life.state) held in
     let row = table key state trigger in
     let text = text_sent context message row.sent in
@@ -82,13 +82,13 @@ acted key now held begun trigger message came =
     Up (record { key = key; id = context.id; call_id = context.call_id; kind = kind }) in (
       option_map (λ state. record { state = state; context = after })
           (elim row.next [ Same ↦ state | Ended ↦ None | Become new ↦ Some new ]),
-      option_to_list (handed_up hand context came row.handed)
+      option_to_list (handed_up hand context trigger_of_message row.handed)
           ++ option_to_list (option_map (Send key context.to) text),
     )
 
 -- what is held at first: nothing was sent yet, and no timer runs
-abbrev pub begun : Id → List ℕ → Addr → Option Message → Context
-begun id call_id to request =
+abbrev pub context_at_first : Id → List ℕ → Addr → Option Message → Context
+context_at_first id call_id to request =
     record { id = id; call_id = call_id; to = to; request = request; last = None; timers = stopped }
 
 -- One input of a transaction at a moment, or the moment alone: then the ending timer comes before
@@ -96,20 +96,20 @@ begun id call_id to request =
 -- of an INVITE keeps the INVITE for its ACKs.
 unfoldable pub step_at : Key → Option Life → ℕ → Option Input → Option Life × List Out
 step_at key held now (Some (Receive id message reply_to)) =
-    let (trigger, kind) = came message.start message reply_to in
-    acted key now held (begun id message.call_id reply_to None) trigger (Some message) (Some kind)
+    let (trigger, kind) = trigger_of_message message.start message reply_to in
+    row_applied key now held (context_at_first id message.call_id reply_to None) trigger (Some message) (Some kind)
 step_at key held now (Some (Start id call_id message to)) =
     let invite = if bytes_eq (method_in key) (codes "INVITE") then Some message else None in
-    acted key now held (begun id call_id to invite) on.Start (Some message) None
+    row_applied key now held (context_at_first id call_id to invite) on.Start (Some message) None
 step_at key None now other = (None, [])
 step_at key (Some life) now (Some (Answer id message)) = elim message.start [
   | start.Request uri ↦ (Some life, [])
   | start.Response status reason ↦
-      acted key now (Some life) life.context (on.Answer (class status)) (Some message) None
+      row_applied key now (Some life) life.context (on.Answer (class_of_status status)) (Some message) None
 ]
 step_at key (Some life) now (Some (Failed id)) =
-    acted key now (Some life) life.context on.Failed None None
+    row_applied key now (Some life) life.context on.Failed None None
 step_at key (Some life) now None =
-    let act = acted key now (Some life) life.context in let timers = life.context.timers in
+    let act = row_applied key now (Some life) life.context in let timers = life.context.timers in
     if is_due now timers.ending then act on.TimeoutDue None None
     else if is_due now timers.repeat then act on.RetransmitDue None None else (Some life, [])

@@ -5,7 +5,7 @@ use Rattle.std.proofs.lemmas.Map.Steps.{set_value_same}
 use Rattle.indexmap.specs.IndexMap.{insert_entry}
 use Rattle.sip_common.specs.declared.held_dialog.DialogId.{DialogId}
 use Rattle.sip_common.specs.declared.held_dialog.HeldDialog.{HeldDialog}
-use Rattle.sip_common.specs.Dialogs.{dialog_at, is_named, Dialogs}
+use Rattle.sip_common.specs.Dialogs.{dialog_at, is_dialog_id, Dialogs}
 use Rattle.sip_clients.specs.Replied.{after_dialog, request_over, replied_in, dialogs_with}
 use Rattle.sip_clients.specs.ReceivedResponse.{is_last}
 use Rattle.sip_clients.proofs.Results.{if_ok}
@@ -28,9 +28,9 @@ put_there eq k (e ∷ es) v x is =
 
 put : (name : DialogId) (held : HeldDialog) (after : Option HeldDialog) (dialogs : Dialogs)
     → dialog_at name dialogs ≡ Some held
-    → set_value (is_named name) dialogs (unwrap_or after held) ≡ dialogs_with name after dialogs
-put name held None dialogs is = set_value_same (is_named name) dialogs held is
-put name held (Some after) dialogs is = put_there is_named name dialogs after held is
+    → set_value (is_dialog_id name) dialogs (unwrap_or after held) ≡ dialogs_with name after dialogs
+put name held None dialogs is = set_value_same (is_dialog_id name) dialogs held is
+put name held (Some after) dialogs is = put_there is_dialog_id name dialogs after held is
 
 pub returns-in-Some : goal.returns-in-Some
 returns-in-Some c =
@@ -41,10 +41,10 @@ returns-in-Some c =
     let last : is_last client.kind reply.status ≡ false = search rules in
     let found : dialog_at reply.name dialogs ≡ Some held = search rules in
     let lent : (c.get_mut.follows.lender c.take_in.new.held).entries
-    ≡ set_value (is_named reply.name) dialogs c.take_in.new.held = search rules in
+    ≡ set_value (is_dialog_id reply.name) dialogs c.take_in.new.held = search rules in
     let after = (replied_in client (Some held) reply).1 in
     if_ok c.take_in.result _ _ c.take_in.ensures (λ told is.
-    let kept = lent ∙ (λ i. set_value (is_named reply.name) dialogs (is i).1)
+    let kept = lent ∙ (λ i. set_value (is_dialog_id reply.name) dialogs (is i).1)
     ∙ put reply.name held after dialogs found in
     ◌∙◌ {b = after_dialog reply.name dialogs (replied_in client (Some held) reply)}
     (λ i. ((is i).0, kept i, (is i).2, (is i).3))
