@@ -35,7 +35,7 @@ use Rattle.sip_transactions.specs.declared.step.Pace.TheVariants.{Doubled, Cappe
 use Rattle.sip_transactions.specs.declared.step.Sent.{Sent}
 use Rattle.sip_transactions.specs.declared.step.Sent.TheVariants as send
 use Rattle.sip_transactions.specs.declared.step.Step.{Step}
-use Rattle.sip_transactions.specs.declared.trigger.Class.TheVariants as class_of_status
+use Rattle.sip_transactions.specs.declared.trigger.Class.TheVariants as class
 use Rattle.sip_transactions.specs.declared.trigger.Trigger.{Trigger}
 use Rattle.sip_transactions.specs.declared.trigger.Trigger.TheVariants as on
 use Rattle.sip_transactions.specs.Dues.{Dues}
@@ -64,10 +64,10 @@ abbrev InState : (Option State → Trigger → Step) → List Row → Option Sta
 InState table rows s =
     At table rows s on.Start × At table rows s on.RetransmitDue × At table rows s on.TimeoutDue
     × At table rows s on.Failed × At table rows s on.Request × At table rows s on.Ack
-    × At table rows s (on.Response class_of_status.Trying) × At table rows s (on.Response class_of_status.Provisional)
-    × At table rows s (on.Response class_of_status.Success) × At table rows s (on.Response class_of_status.Failure)
-    × At table rows s (on.Answer class_of_status.Trying) × At table rows s (on.Answer class_of_status.Provisional)
-    × At table rows s (on.Answer class_of_status.Success) × At table rows s (on.Answer class_of_status.Failure)
+    × At table rows s (on.Response class.Trying) × At table rows s (on.Response class.Provisional)
+    × At table rows s (on.Response class.Success) × At table rows s (on.Response class.Failure)
+    × At table rows s (on.Answer class.Trying) × At table rows s (on.Answer class.Provisional)
+    × At table rows s (on.Answer class.Success) × At table rows s (on.Answer class.Failure)
 
 in_state : (t : Option State → Trigger → Step) (rows : List Row) (s : Option State)
     → InState t rows s → (trigger : Trigger) → At t rows s trigger
@@ -77,14 +77,14 @@ in_state t rows s e on.TimeoutDue = e.2
 in_state t rows s e on.Failed = e.3
 in_state t rows s e on.Request = e.4
 in_state t rows s e on.Ack = e.5
-in_state t rows s e (on.Response class_of_status.Trying) = e.6
-in_state t rows s e (on.Response class_of_status.Provisional) = e.7
-in_state t rows s e (on.Response class_of_status.Success) = e.8
-in_state t rows s e (on.Response class_of_status.Failure) = e.9
-in_state t rows s e (on.Answer class_of_status.Trying) = e.10
-in_state t rows s e (on.Answer class_of_status.Provisional) = e.11
-in_state t rows s e (on.Answer class_of_status.Success) = e.12
-in_state t rows s e (on.Answer class_of_status.Failure) = e.13
+in_state t rows s e (on.Response class.Trying) = e.6
+in_state t rows s e (on.Response class.Provisional) = e.7
+in_state t rows s e (on.Response class.Success) = e.8
+in_state t rows s e (on.Response class.Failure) = e.9
+in_state t rows s e (on.Answer class.Trying) = e.10
+in_state t rows s e (on.Answer class.Provisional) = e.11
+in_state t rows s e (on.Answer class.Success) = e.12
+in_state t rows s e (on.Answer class.Failure) = e.13
 
 abbrev EachState : (Option State → Trigger → Step) → List Row → Type 0
 EachState t rows =
@@ -245,7 +245,7 @@ next_is Same state = refl
 next_is Ended state = refl
 next_is (Become new) state = refl
 
--- how a message that trigger_of_message is handed up
+-- how a message that came is handed up
 abbrev kind_in : Option Input → Option Kind
 kind_in input = option_map (λ a. kind_of a.0.start a.0 a.1) (arrived_in input)
 

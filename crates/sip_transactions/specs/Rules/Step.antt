@@ -34,12 +34,12 @@ use Rattle.sip_transactions.specs.declared.trigger.Trigger.TheVariants as on
 use Rattle.sip_transactions.specs.Rules.Tables.{table}
 use Rattle.sip_transactions.specs.Rules.Timers.{stopped, timers_after}
 
--- the class_of_status of a status code
+-- the class of a status code
 abbrev pub class_of_status : ℕ → Class
 class_of_status code = if code == 100 then Trying else if nat_lt code 200 then Provisional
     else if nat_lt code 300 then Success else Failure
 
--- a message that trigger_of_message: its trigger, and how it is handed up
+-- a message that came: its trigger, and how it is handed up
 abbrev pub trigger_of_message : StartLine → Message → Addr → Trigger × Kind
 trigger_of_message (start.Response status reason) message reply_to =
     (on.Response (class_of_status status), kind.Response message)
@@ -58,7 +58,7 @@ text_sent context message send.Trying =
 text_sent context message send.Ack = option_and_then
     (λ response. option_map (λ invite. written (ack_of invite response)) context.request) message
 
--- what a row hands up of a message that trigger_of_message, or in its place; or that it drops that message
+-- what a row hands up of a message that came, or in its place; or that it drops that message
 abbrev pub handed_up : (Kind → Out) → Context → Option Kind → Handed → Option Out
 handed_up hand context trigger_of_message up.Nothing = None
 handed_up hand context trigger_of_message up.Message = option_map hand trigger_of_message
