@@ -60,18 +60,18 @@ text_sent context message send.Ack = option_and_then
 
 -- what a row hands up of a message that came, or in its place; or that it drops that message
 abbrev pub handed_up : (Kind → Out) → Context → Option Kind → Handed → Option Out
-handed_up hand context trigger_of_message up.Nothing = None
-handed_up hand context trigger_of_message up.Message = option_map hand trigger_of_message
-handed_up hand context trigger_of_message up.Timeout = Some (hand kind.Timeout)
-handed_up hand context trigger_of_message up.Failed = Some (hand kind.Failed)
-handed_up hand context trigger_of_message up.NoTransaction = Some (Dropped context.id.place NoTransaction)
+handed_up hand context came up.Nothing = None
+handed_up hand context came up.Message = option_map hand came
+handed_up hand context came up.Timeout = Some (hand kind.Timeout)
+handed_up hand context came up.Failed = Some (hand kind.Failed)
+handed_up hand context came up.NoTransaction = Some (Dropped context.id.place NoTransaction)
 
--- The row for a trigger, at a life or at what an input begins one with: the life after it; and what
+-- The row for a trigger, at a held transaction or, `otherwise`, at what an input begins one with: the life after it; and what
 -- it hands up or drops, and then sends. What goes up has the id and the Call-ID of the first input.
 unfoldable pub row_applied : Key → ℕ → Option Life → Context → Trigger → Option Message → Option Kind
     → Option Life × List Out
-row_applied key now held context_at_first trigger message trigger_of_message =
-    let context = option_map_or (λ life. life.context) held context_at_first in
+row_applied key now held otherwise trigger message came =
+    let context = option_map_or (λ life. life.context) held otherwise in
     let state = option_map (λ life. life.state) held in
     let row = table key state trigger in
     let text = text_sent context message row.sent in
@@ -82,7 +82,7 @@ row_applied key now held context_at_first trigger message trigger_of_message =
     Up (record { key = key; id = context.id; call_id = context.call_id; kind = kind }) in (
       option_map (λ state. record { state = state; context = after })
           (elim row.next [ Same ↦ state | Ended ↦ None | Become new ↦ Some new ]),
-      option_to_list (handed_up hand context trigger_of_message row.handed)
+      option_to_list (handed_up hand context came row.handed)
           ++ option_to_list (option_map (Send key context.to) text),
     )
 
