@@ -66,8 +66,9 @@ handed_up hand context came up.Timeout = Some (hand kind.Timeout)
 handed_up hand context came up.Failed = Some (hand kind.Failed)
 handed_up hand context came up.NoTransaction = Some (Dropped context.id.place NoTransaction)
 
--- The row for a trigger, at a held transaction or, `otherwise`, at what an input begins one with: the life after it; and what
--- it hands up or drops, and then sends. What goes up has the id and the Call-ID of the first input.
+-- The row for a trigger, at a held transaction or, `otherwise`, at what an input begins one with: the
+-- transaction after it; and what it hands up or drops, and then sends. What goes up has the id and
+-- the Call-ID of the first input.
 unfoldable pub row_applied : Key → ℕ → Option Life → Context → Trigger → Option Message → Option Kind
     → Option Life × List Out
 row_applied key now held otherwise trigger message came =
