@@ -82,7 +82,8 @@ retargets_none (Some uri) held = by_end (is_some (ended_fault held.dialog))
     by_end true = refl
     by_end false = refl
 
-visits_none : (request : Message) (held : HeldDialog) → how_many (happenings_by_request request held) ≡ 0
+visits_none : (request : Message) (held : HeldDialog)
+    → how_many (happenings_by_request request held) ≡ 0
 visits_none request held =
     let number = request.cseq.number in
     none_of_both (numbers number held) (refreshes request held) (by_order (takes held number))

@@ -165,7 +165,8 @@ module _ (life : DialogReference) where
       → KeptStep (event_in input) (number_in OfTheCall life input (side_held state))
       (side_held state).dialogs (call_step calls state input now)
   by_input calls state input now apart =
-      subst (λ (taken : Taken). KeptStep (event_in input) (number_in OfTheCall life input (side_held state))
+      subst (λ (taken : Taken). KeptStep (event_in input)
+      (number_in OfTheCall life input (side_held state))
       (side_held state).dialogs taken)
       (sym (same_step calls state input now)) (by_input_taken calls state input now apart)
 

@@ -232,7 +232,8 @@ input_goes_taken calls (Some call) (Some (id, User command)) now orderly =
 pub input_goes : (calls : Calls) (state : Option Call) (input : Option CallItem) (now : ℕ)
     → Orderly state → InputGoes state input now (call_step calls state input now)
 input_goes calls state input now orderly =
-    subst (λ (taken : Taken). InputGoes state input now taken) (sym (same_step calls state input now))
+    subst (λ (taken : Taken). InputGoes state input now taken)
+    (sym (same_step calls state input now))
     (input_goes_taken calls state input now orderly)
 
 input_sound_taken : (calls : Calls) (state : Option Call) (input : Option CallItem) (now : ℕ)

@@ -57,13 +57,15 @@ born_of event after = option_map_or
 abbrev next_history : Bool → Option Opening → List CSeq → List Happening → Option History
     → Option History
 next_history created_by start cseqs more history =
-    if created_by then option_map (begun_with cseqs) start else option_map (with_more more cseqs) history
+    if created_by then option_map (begun_with cseqs) start else option_map (with_more more cseqs)
+    history
 
 pub not_born : (event : Option Id) (ids : List Id) (held after : HeldDialog)
     → after.created_by ≡ held.created_by → NoneOf held.created_by (cons_option event ids)
     → born_of event (Some after) ≡ false
 not_born None ids held after same others = refl
-not_born (Some id) ids held after same others = ap (λ created_by. is_id created_by id) same ∙ others.0
+not_born (Some id) ids held after same others =
+    ap (λ created_by. is_id created_by id) same ∙ others.0
 
 others_left : (created_by : Id) (event : Option Id) (ids : List Id)
     → NoneOf created_by (cons_option event ids) → NoneOf created_by ids

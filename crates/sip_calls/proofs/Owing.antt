@@ -41,7 +41,8 @@ use Rattle.sip_calls.proofs.LifeSteps.{dialogs_of, first_none}
 -- ---- one input
 
 -- of each name what is owed changes so
-abbrev OwesTo : Option Id → (DialogId → List PendingRequest → List PendingRequest) → Dialogs → Dialogs → Type 0
+abbrev OwesTo : Option Id → (DialogId → List PendingRequest → List PendingRequest) → Dialogs
+    → Dialogs → Type 0
 OwesTo event change before after =
     (name : DialogId) → Owes event (change name) (dialog_at name before) (dialog_at name after)
 
@@ -98,7 +99,8 @@ command_owes call calls id now (Cancel cancel) apart named name =
 
 -- where nothing was held, nothing is told of a response
 none_owed : (local : Calls) (id : Id) (k : Kind) (name : DialogId) (outs : List CallOut)
-    (pending_requests : List PendingRequest) → owed_by_kind (new_call local.local) id k name outs pending_requests ≡ pending_requests
+    (pending_requests : List PendingRequest) → owed_by_kind (new_call local.local) id k name outs
+    pending_requests ≡ pending_requests
 none_owed local id (kind.Request request reply_to) name outs pending_requests = refl
 none_owed local id (kind.Ack ack) name outs pending_requests = refl
 none_owed local id (kind.Response response) name outs pending_requests = append-nil pending_requests
@@ -109,7 +111,8 @@ none_held : (event : Option Id) (change : DialogId → List PendingRequest → L
     → OwesTo event change [] []
 none_held event change name = inl tt
 
-kept_to : (event : Option Id) (change : DialogId → List PendingRequest → List PendingRequest) (before : Dialogs)
+kept_to : (event : Option Id) (change : DialogId → List PendingRequest → List PendingRequest)
+    (before : Dialogs)
     (taken : CallTaken) → OwesTo event change before (dialogs_of taken.0)
     → OwesTo event change before (side_held (kept taken).0).dialogs
 kept_to event change before taken owes =
@@ -169,18 +172,23 @@ next_owing : (name : DialogId) (event : Option Id) (ids : List Id)
     (change : List PendingRequest → List PendingRequest) (before after : Option HeldDialog)
     (history : Option History) (pending_requests : List PendingRequest)
     → Stands name before history (cons_option event ids) → Owes event change before after
-    → Owing before pending_requests → Owing after (change (if born_of event after then [] else pending_requests))
+    → Owing before pending_requests → Owing after (change
+    (if born_of event after then [] else pending_requests))
 next_owing name event ids change before None history pending_requests stands owes owing = tt
-next_owing name event ids change None (Some after) history pending_requests stands (inl still) owing =
+next_owing name event ids change None (Some after) history pending_requests stands (inl still)
+    owing =
     absurd still
-next_owing name event ids change (Some held) (Some after) None pending_requests stands (inl still) owing =
+next_owing name event ids change (Some held) (Some after) None pending_requests stands (inl still)
+    owing =
     absurd stands
-next_owing name event ids change (Some held) (Some after) (Some history) pending_requests stands (inl still)
+next_owing name event ids change (Some held) (Some after) (Some history) pending_requests stands
+    (inl still)
     owing =
     still.1 ∙ ap change owing
     ∙ ap (λ (b : Bool). change (if b then [] else pending_requests))
     (sym (not_born event ids held after still.0 stands.2))
-next_owing name event ids change before (Some after) history pending_requests stands (inr begins) owing =
+next_owing name event ids change before (Some after) history pending_requests stands (inr begins)
+    owing =
     begins.1 ∙ ap (λ (b : Bool). change (if b then [] else pending_requests))
     (sym (ap (λ event. born_of event (Some after)) begins.0 ∙ id_laws.refl after.created_by))
 

@@ -128,4 +128,5 @@ pub refused_alone : RefusedAlone
 refused_alone calls call id command now =
     subst (λ (taken : Taken).
     IsRefusedAlone (option_and_then kept_call call) (call_of_command command) id taken)
-    (sym (same_step calls call (Some (id, User command)) now)) (refused_taken calls call id command now)
+    (sym (same_step calls call (Some (id, User command)) now))
+    (refused_taken calls call id command now)

@@ -92,7 +92,8 @@ call_refusal held command = if held then None else Some NoSuchCall
 
 -- a command that isn't refused so
 abbrev pub used_command : Call → Event → UserCommand → CallTaken
-used_command call event (Invite invite) = with_clients call (invite_command event invite call.clients)
+used_command call event (Invite invite) =
+    with_clients call (invite_command event invite call.clients)
 used_command call event (Plain plain) = with_clients call (plain_command event plain call.clients)
 used_command call event (Request request) =
     by_clients call (request_command event request (side_of call))
@@ -100,7 +101,8 @@ used_command call event (Respond respond) =
     by_server call (respond_command call.served event.id respond event.moment)
 used_command call event (Ack ack) = by_clients call (ack_command event ack (side_of call))
 used_command call event (Prack prack) = by_clients call (prack_command event prack (side_of call))
-used_command call event (Cancel cancel) = by_clients call (cancel_command event cancel (side_of call))
+used_command call event (Cancel cancel) =
+    by_clients call (cancel_command event cancel (side_of call))
 
 -- ---- the machine
 

@@ -53,8 +53,8 @@ abbrev pub is_early_response : ℕ → Message → Bool
 is_early_response status response =
     not (is_final status) && (not (status == 100) && has_to_tag response)
 
--- the dialog of its tags opens by each such response to that INVITE, and by the first 2xx (RFC 3261,
--- sections 12.1.2 and 13.2.2.4)
+-- the dialog of its tags opens by each such response to that INVITE, and by the first 2xx (RFC
+-- 3261, sections 12.1.2 and 13.2.2.4)
 abbrev pub opened_by_reply : ℕ → Client → Message → DialogId → Bool
 opened_by_reply status client response name =
     let own = reply_name client.kind client response in
@@ -73,8 +73,10 @@ opened_by_response id response clients name =
 -- the dialog that a request was sent in, as it was then
 abbrev pub was_sent_in : RequestKind → DialogId → HeldDialog → Bool
 was_sent_in InitialInvite name held = false
-was_sent_in (ReInvite life) name held = is_dialog_id life.name name && is_id held.created_by life.created_by
-was_sent_in (InDialog life) name held = is_dialog_id life.name name && is_id held.created_by life.created_by
+was_sent_in (ReInvite life) name held =
+    is_dialog_id life.name name && is_id held.created_by life.created_by
+was_sent_in (InDialog life) name held =
+    is_dialog_id life.name name && is_id held.created_by life.created_by
 was_sent_in OutOfDialog name held = false
 
 -- With a request that is over end the early dialogs that it made and, where the peer has the dialog
@@ -220,8 +222,8 @@ HeldUntilItEnds = (calls : Calls) (inputs : List (Timed CallItem)) (name : Dialo
     → is_some (dialog_at name (side_held (call_from calls None inputs)).dialogs)
     ≡ held_from calls name None false inputs
 
--- Whatever came to a call before: the user is told of the end of a dialog by the input that ends it,
--- once, and by no other.
+-- Whatever came to a call before: the user is told of the end of a dialog by the input that ends
+-- it, once, and by no other.
 abbrev pub EachEndIsToldOnce : Type 0
 EachEndIsToldOnce = (calls : Calls) (inputs : List (Timed CallItem)) (input : Timed CallItem)
     (name : DialogId) → let call = call_from calls None inputs in

@@ -37,7 +37,8 @@ pub same_due : (call : Call) → call_due call ≡ due_taken call
 same_due call =
     ap (λ due. if holds_any call then earlier due (client_due call.clients) else Some 0)
     (due_same call.served)
-    ∙ ap (λ due. if holds_any call then earlier (served.next_server_due call.served) due else Some 0)
+    ∙ ap (λ due. if holds_any call then earlier (served.next_server_due call.served) due else Some
+    0)
     (removal_same call.clients)
 
 due_at_once : (now : ℕ) → is_due now (Some 0) ≡ true
@@ -72,7 +73,8 @@ held_is_calm calls now key call some calm =
     let later : is_due now (next_due call) ≡ false =
     sym (ap (λ b. is_due now (if b then next_due call else Some 0)) some)
     ∙ ap (is_due now) (sym (same_due call)) ∙ calm in
-    ap (λ (taken : CallTaken). (kept_call taken.0, taken.1)) (same_tick call now ∙ calm_tick now call later)
+    ap (λ (taken : CallTaken). (kept_call taken.0, taken.1))
+    (same_tick call now ∙ calm_tick now call later)
     ∙ (λ i. (if some i then Some call else None, []))
 
 pub call_ticks_are_idle : (calls : Calls) (now : ℕ)

@@ -26,27 +26,35 @@ use Rattle.sip_calls.specs.Sides.{side_of}
 
 -- what is owed after a message that comes up, by what was owed before it and what is given: a
 -- response may leave more owed
-abbrev pub owed_by_kind : Call → Id → Kind → DialogId → List CallOut → List PendingRequest → List PendingRequest
+abbrev pub owed_by_kind : Call → Id → Kind → DialogId → List CallOut → List PendingRequest
+    → List PendingRequest
 owed_by_kind call id (kind.Response response) name outs pending_requests =
     pending_requests ++ response_owes id response call.clients name
     (dialog_at name (side_of call).dialogs) outs
 owed_by_kind call id _ name outs pending_requests = pending_requests
 
 -- after a command of the user: its ACKs and PRACKs leave less
-abbrev pub owed_by_command : UserCommand → DialogId → List CallOut → List PendingRequest → List PendingRequest
-owed_by_command (Ack command) name outs pending_requests = owed_after_ack command name outs pending_requests
-owed_by_command (Prack command) name outs pending_requests = owed_after_prack command name outs pending_requests
+abbrev pub owed_by_command : UserCommand → DialogId → List CallOut → List PendingRequest
+    → List PendingRequest
+owed_by_command (Ack command) name outs pending_requests =
+    owed_after_ack command name outs pending_requests
+owed_by_command (Prack command) name outs pending_requests =
+    owed_after_prack command name outs pending_requests
 owed_by_command _ name outs pending_requests = pending_requests
 
 -- after an item
-abbrev pub owed_by : Call → Item → DialogId → List CallOut → List PendingRequest → List PendingRequest
-owed_by call (Up up) name outs pending_requests = owed_by_kind call up.id up.kind name outs pending_requests
-owed_by call (User command) name outs pending_requests = owed_by_command command name outs pending_requests
+abbrev pub owed_by : Call → Item → DialogId → List CallOut → List PendingRequest
+    → List PendingRequest
+owed_by call (Up up) name outs pending_requests =
+    owed_by_kind call up.id up.kind name outs pending_requests
+owed_by call (User command) name outs pending_requests =
+    owed_by_command command name outs pending_requests
 
 -- after an input
 abbrev pub owed_in : Option Call → Option CallItem → DialogId → List CallOut → List PendingRequest
     → List PendingRequest
-owed_in (Some call) (Some (id, item)) name outs pending_requests = owed_by call item name outs pending_requests
+owed_in (Some call) (Some (id, item)) name outs pending_requests =
+    owed_by call item name outs pending_requests
 owed_in _ _ name outs pending_requests = pending_requests
 
 -- ---- a list of inputs
@@ -57,13 +65,16 @@ module _ (calls : Calls) (name : DialogId) where
   owed_next call pending_requests timed =
       let done = call_step calls call timed.input timed.moment in
       owed_in call timed.input name done.1
-      (if is_born_of name (event_in timed.input) (side_held done.0).dialogs then [] else pending_requests)
+      (if is_born_of name (event_in timed.input) (side_held done.0).dialogs then [] else
+      pending_requests)
 
   -- after a list of inputs, by what was held and owed
-  abbrev pub owed_from : Option Call → List PendingRequest → List (Timed CallItem) → List PendingRequest
+  abbrev pub owed_from : Option Call → List PendingRequest → List (Timed CallItem)
+      → List PendingRequest
   owed_from call pending_requests [] = pending_requests
   owed_from call pending_requests (input ∷ inputs) =
-      owed_from (call_step calls call input.input input.moment).0 (owed_next call pending_requests input)
+      owed_from (call_step calls call input.input input.moment).0
+      (owed_next call pending_requests input)
       inputs
 
 -- Whatever comes to a call: in a held dialog are owed, the oldest first, the ACK of each 2xx and

@@ -174,7 +174,8 @@ fn take_next(
     item: Item,
 ) -> Result<Vec<CallOut>, AllocError>
     requires { event.moment ≤ 2 ^ 62 }
-    ensures { IfOk result (λ outs. (call.new, outs.items) ≡ spec.item_of_call true call.old event item) }
+    ensures { IfOk result (λ outs. (call.new, outs.items)
+        ≡ spec.item_of_call true call.old event item) }
 {
     match item {
         Item::Up(up) => take_up(alloc, call, event, up),

@@ -126,10 +126,11 @@ pub fn a_client_request_holds_its_history()
 /// Whatever comes to a call: a dialog of a name is held where an input opened it, and none ended it
 /// since. It opens by the first response of 101 to 299 that goes out to an INVITE outside of
 /// dialogs; at the caller by a response of 101 to 199 with a To tag, and by the first 2xx with its
-/// tags, to such an INVITE (RFC 3261, section 12.1). It ends by a BYE that goes out, or comes up and
-/// is accepted (section 15.1); by a 481 or 408 to a request in it, or where that timed out (section
-/// 12.2.1.2). While it is early it ends by a final response of 300 to 699 to its INVITE, a CANCEL or
-/// the loss of that, and 64*T1 after the first 2xx to it (sections 9.2, 12.3 and 13.2.2.4).
+/// tags, to such an INVITE (RFC 3261, section 12.1). It ends by a BYE that goes out, or comes up
+/// and is accepted (section 15.1); by a 481 or 408 to a request in it, or where that timed out
+/// (section
+/// 12.2.1.2). While it is early it ends by a final response of 300 to 699 to its INVITE, a CANCEL
+/// or the loss of that, and 64*T1 after the first 2xx to it (sections 9.2, 12.3 and 13.2.2.4).
 pub fn a_dialog_is_held_until_it_ends()
     ensures { HeldUntilItEnds }
 {}

@@ -32,7 +32,8 @@ again own client = record client { kind = ReInvite own }
 
 -- ---- the request after a response
 
-pub heard_kept : (case : ReplyCase) (client : Client) (found : Option HeldDialog) (answer : ReceivedResponse)
+pub heard_kept : (case : ReplyCase) (client : Client) (found : Option HeldDialog)
+    (answer : ReceivedResponse)
     → Unheard case → ((by_reply_case case client found answer).0).last_rseq ≡ client.last_rseq
 heard_kept reply.Repeated client found answer none = refl
 heard_kept reply.Accepted client found answer none = refl
@@ -78,7 +79,8 @@ pub lives_same : (life own : DialogReference) (dialogs : Dialogs)
     → (is_dialog_id life.name own.name && is_id own.created_by life.created_by) ≡ true
     → lives dialogs own ≡ lives dialogs life
 lives_same life own dialogs same =
-    let named = first_so (is_dialog_id life.name own.name) (is_id own.created_by life.created_by) same in
+    let named = first_so (is_dialog_id life.name own.name) (is_id own.created_by life.created_by)
+    same in
     let created_by = id_exact own.created_by life.created_by
     (second_so (is_dialog_id life.name own.name) (is_id own.created_by life.created_by) same) in
     λ i. option_map_or (λ (held : HeldDialog). is_id held.created_by (created_by i))

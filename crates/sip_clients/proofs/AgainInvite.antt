@@ -55,7 +55,8 @@ AreApart clients = entries.Apart id_laws clients
 abbrev pub asks_ear : DialogReference → RequestKind → Option ℕ → Option (Option ℕ)
 asks_ear life InitialInvite last_rseq = None
 asks_ear life (ReInvite own) last_rseq =
-    if is_dialog_id life.name own.name && is_id own.created_by life.created_by then Some last_rseq else None
+    if is_dialog_id life.name own.name && is_id own.created_by life.created_by then Some last_rseq
+    else None
 asks_ear life (InDialog own) last_rseq = None
 asks_ear life OutOfDialog last_rseq = None
 
@@ -242,7 +243,8 @@ module _ (life : DialogReference) (invite : Id) (event : Option Id) where
   pub keeps_invite : (of : Event) (command : Invite) → event ≡ Some of.id → (clients : Clients)
       → AreApart clients → Keeps clients (invite_taken of command clients).0
   keeps_invite of command made clients apart =
-      keeps_started of.id (client_for of.id InitialInvite (invite_of of command) command.address) made refl
+      keeps_started of.id (client_for of.id InitialInvite (invite_of of command) command.address)
+      made refl
       clients apart
 
   keeps_either : (b : Bool) (refused sent : List CallOut) (clients after : Clients)
@@ -268,7 +270,8 @@ module _ (life : DialogReference) (invite : Id) (event : Option Id) where
       keeps_settled of of.id (request_said of command.call_id name service).1 made
       (said_fresh of command.call_id name service) side.clients apart
 
-  keeps_noted : (pending : PendingRequest) (name : DialogId) (ack : Option SentAck) (clients : Clients)
+  keeps_noted : (pending : PendingRequest) (name : DialogId) (ack : Option SentAck)
+      (clients : Clients)
       → AreApart clients → Keeps clients (ack_kept pending name ack clients)
   keeps_noted (Ack of number) name None clients apart = keeps_same clients apart
   keeps_noted (Ack of number) name (Some ack) clients apart =
@@ -282,7 +285,8 @@ module _ (life : DialogReference) (invite : Id) (event : Option Id) where
       paid_either (λ taken. Keeps side.clients (taken.0).clients) of command
       (ack_paid of command name) side (pending_for kind.Ack name side.dialogs)
       (λ refusal. keeps_same side.clients apart)
-      (λ pending. keeps_noted pending name (ack_asked of name pending command side.dialogs).2 side.clients
+      (λ pending. keeps_noted pending name (ack_asked of name pending command side.dialogs).2
+      side.clients
       apart)
 
   pub keeps_prack : (of : Event) (command : DialogBody) → event ≡ Some of.id → (side : Side)

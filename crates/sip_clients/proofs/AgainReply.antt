@@ -79,12 +79,14 @@ module _ (life : DialogReference) (invite : Id) (event : Option Id) (answer : Re
               ),
         )
 
-    now_heard : (last_rseq now : Option ℕ) (after : Option (Option ℕ)) → ear side.clients ≡ Some last_rseq
+    now_heard : (last_rseq now : Option ℕ) (after : Option (Option ℕ)) → ear side.clients
+        ≡ Some last_rseq
         → ear clients ≡ Some now → Silent (event ≡ Some invite) (ear clients) after
         → (after ≡ None) ⊎ (after ≡ Some now)
     now_heard last_rseq now after was is (inl none) = inl none
     now_heard last_rseq now after was is (inr (inl same)) = inr (same ∙ is)
-    now_heard last_rseq now after was is (inr (inr begins)) = absurd (never (sym (once begins.0) ∙ was))
+    now_heard last_rseq now after was is (inr (inr begins)) =
+        absurd (never (sym (once begins.0) ∙ was))
       where
         never : None ≡ Some last_rseq → ⊥
         never e = absurd cc
@@ -182,146 +184,148 @@ module _ (life : DialogReference) (invite : Id) (event : Option Id) (answer : Re
   module _ (own : DialogReference) (client : Client) (named : answer.name ≡ own.name)
       (is : client_at answer.id side.clients ≡ Some (again own client))
       (same : is_id answer.id invite ≡ true)
-      (ours : (is_dialog_id life.name own.name && is_id own.created_by life.created_by) ≡ true) where
-    abbrev found : Client
-    found = again own client
+      (ours : (is_dialog_id life.name own.name && is_id own.created_by life.created_by) ≡ true)
+    where
+      abbrev found : Client
+      found = again own client
 
-    abbrev now : Client
-    now = noting found is found
+      abbrev now : Client
+      now = noting found is found
 
-    abbrev after : Clients
-    after = changed found is
+      abbrev after : Clients
+      after = changed found is
 
-    abbrev held : Option HeldDialog
-    held = dialog_at answer.name side.dialogs
+      abbrev held : Option HeldDialog
+      held = dialog_at answer.name side.dialogs
 
-    abbrev taken_as : ReplyCase → Replied
-    taken_as case = after_dialog answer.name side.dialogs (by_reply_case case now held answer)
+      abbrev taken_as : ReplyCase → Replied
+      taken_as case = after_dialog answer.name side.dialogs (by_reply_case case now held answer)
 
-    abbrev pub DoneSo : Option ℕ → Replied → Type 0
-    DoneSo number done = Done found is number done
+      abbrev pub DoneSo : Option ℕ → Replied → Type 0
+      DoneSo number done = Done found is number done
 
-    was : ear side.clients ≡ Some client.last_rseq
-    was = ap (client_ear life) (there found is same)
-        ∙ (λ i. if ours i then Some client.last_rseq else None)
+      was : ear side.clients ≡ Some client.last_rseq
+      was = ap (client_ear life) (there found is same)
+          ∙ (λ i. if ours i then Some client.last_rseq else None)
 
-    -- it has heard this since
-    abbrev Heard : Replied → Type 0
-    Heard done = ear after ≡ client_ear life (Some done.0)
+      -- it has heard this since
+      abbrev Heard : Replied → Type 0
+      Heard done = ear after ≡ client_ear life (Some done.0)
 
-    now_is : (case : ReplyCase) → Heard (taken_as case) → Unheard case
-        → Silent (event ≡ Some invite) (ear side.clients) (ear after)
-    now_is case last_rseq none =
-        inr (inl (last_rseq ∙ (λ i. asks_ear life ((rest_kept case now held answer).0 i)
-        (heard_kept case now held answer none i))
-        ∙ (λ i. if ours i then Some client.last_rseq else None) ∙ sym was))
+      now_is : (case : ReplyCase) → Heard (taken_as case) → Unheard case
+          → Silent (event ≡ Some invite) (ear side.clients) (ear after)
+      now_is case last_rseq none =
+          inr (inl (last_rseq ∙ (λ i. asks_ear life ((rest_kept case now held answer).0 i)
+          (heard_kept case now held answer none i))
+          ∙ (λ i. if ours i then Some client.last_rseq else None) ∙ sym was))
 
-    over : Heard (request_over now side.dialogs answer)
-        → DoneSo None (request_over now side.dialogs answer)
-    over last_rseq =
-        let done = request_over now side.dialogs answer in
-        finish_silent after (left found is) done.1 done.3 tt
-        (done.2 ++ (settled answer.event answer.id done.3 after).1)
-        (inr (inl (last_rseq ∙ (λ i. if ours i then Some client.last_rseq else None) ∙ sym was)))
+      over : Heard (request_over now side.dialogs answer)
+          → DoneSo None (request_over now side.dialogs answer)
+      over last_rseq =
+          let done = request_over now side.dialogs answer in
+          finish_silent after (left found is) done.1 done.3 tt
+          (done.2 ++ (settled answer.event answer.id done.3 after).1)
+          (inr (inl (last_rseq ∙ (λ i. if ours i then Some client.last_rseq else None) ∙ sym was)))
 
-    unheard : (case : ReplyCase) → Heard (taken_as case) → Unheard case
-        → DoneSo None (taken_as case)
-    unheard case last_rseq none =
-        let done = taken_as case in
-        finish_silent after (left found is) done.1 done.3 (case_fresh case now held answer)
-        (done.2 ++ (settled answer.event answer.id done.3 after).1) (now_is case last_rseq none)
+      unheard : (case : ReplyCase) → Heard (taken_as case) → Unheard case
+          → DoneSo None (taken_as case)
+      unheard case last_rseq none =
+          let done = taken_as case in
+          finish_silent after (left found is) done.1 done.3 (case_fresh case now held answer)
+          (done.2 ++ (settled answer.event answer.id done.3 after).1) (now_is case last_rseq none)
 
-    passed : (number : ℕ) (offer : Offer) → offered client.last_rseq number ≡ offer
-        → taken offer number ≡ [] → ((last : Option ℕ) → latest_after offer last number ≡ last)
-        → lives side.dialogs life ≡ true → Heard (taken_as reply.Passed)
-        → DoneSo (Some number) (taken_as reply.Passed)
-    passed number offer is_offered none kept alive last_rseq =
-        finish_heard after (left found is) side.dialogs Stays tt [] number client.last_rseq alive was
-        (last_rseq ∙ (λ i. if ours i then Some client.last_rseq else None)
-        ∙ ap (λ h. Some h) (sym (ap (λ o. latest_after o client.last_rseq number) is_offered
-        ∙ kept client.last_rseq)))
-        (sym (ap (λ o. taken o number) is_offered ∙ none))
+      passed : (number : ℕ) (offer : Offer) → offered client.last_rseq number ≡ offer
+          → taken offer number ≡ [] → ((last : Option ℕ) → latest_after offer last number ≡ last)
+          → lives side.dialogs life ≡ true → Heard (taken_as reply.Passed)
+          → DoneSo (Some number) (taken_as reply.Passed)
+      passed number offer is_offered none kept alive last_rseq =
+          finish_heard after (left found is) side.dialogs Stays tt [] number client.last_rseq alive
+          was
+          (last_rseq ∙ (λ i. if ours i then Some client.last_rseq else None)
+          ∙ ap (λ h. Some h) (sym (ap (λ o. latest_after o client.last_rseq number) is_offered
+          ∙ kept client.last_rseq)))
+          (sym (ap (λ o. taken o number) is_offered ∙ none))
 
-    by_offer : (number : ℕ) (offer : Offer) → offered client.last_rseq number ≡ offer
-        → has_dialog (ReInvite own) held ≡ true → lives side.dialogs life ≡ true
-        → Heard (taken_as (offer_case offer number))
-        → DoneSo (Some number) (taken_as (offer_case offer number))
-    unfolding prack_owed
-    by_offer number Taken is_offered there alive last_rseq =
-        let done = taken_as (reply.Reliable number) in
-        finish_heard after (left found is) done.1 done.3
-        (case_fresh (reply.Reliable number) now held answer)
-        (done.2 ++ (settled answer.event answer.id done.3 after).1) number client.last_rseq
-        (lives_owed life own number (noting found is client) side.dialogs answer held refl there
-        ∙ alive) was
-        (last_rseq ∙ (λ i. if ours i then Some
-        (latest_after (offered client.last_rseq number) client.last_rseq number) else None))
-        (told_once number answer answer.id
-        (prack_owed number now (dialog_for_provisional now answer held) answer).1 after
-        ∙ ap (λ o. taken o number) (sym is_offered))
-    by_offer number Repeat is_offered there alive last_rseq =
-        passed number Repeat is_offered refl (λ last. refl) alive last_rseq
-    by_offer number Gap is_offered there alive last_rseq =
-        passed number Gap is_offered refl (λ last. refl) alive last_rseq
+      by_offer : (number : ℕ) (offer : Offer) → offered client.last_rseq number ≡ offer
+          → has_dialog (ReInvite own) held ≡ true → lives side.dialogs life ≡ true
+          → Heard (taken_as (offer_case offer number))
+          → DoneSo (Some number) (taken_as (offer_case offer number))
+      unfolding prack_owed
+      by_offer number Taken is_offered there alive last_rseq =
+          let done = taken_as (reply.Reliable number) in
+          finish_heard after (left found is) done.1 done.3
+          (case_fresh (reply.Reliable number) now held answer)
+          (done.2 ++ (settled answer.event answer.id done.3 after).1) number client.last_rseq
+          (lives_owed life own number (noting found is client) side.dialogs answer held refl there
+          ∙ alive) was
+          (last_rseq ∙ (λ i. if ours i then Some
+          (latest_after (offered client.last_rseq number) client.last_rseq number) else None))
+          (told_once number answer answer.id
+          (prack_owed number now (dialog_for_provisional now answer held) answer).1 after
+          ∙ ap (λ o. taken o number) (sym is_offered))
+      by_offer number Repeat is_offered there alive last_rseq =
+          passed number Repeat is_offered refl (λ last. refl) alive last_rseq
+      by_offer number Gap is_offered there alive last_rseq =
+          passed number Gap is_offered refl (λ last. refl) alive last_rseq
 
-    by_number : (number : Option ℕ) (case : ReplyCase) → has_dialog (ReInvite own) held ≡ true
-        → lives side.dialogs life ≡ true → Heard (taken_as case)
-        → Decided Unheard client.last_rseq number case → DoneSo number (taken_as case)
-    by_number None case there alive last_rseq none = unheard case last_rseq none
-    by_number (Some number) case there alive last_rseq case_is =
-        subst (λ c. DoneSo (Some number) (taken_as c)) (sym case_is)
-        (by_offer number (offered client.last_rseq number) refl there alive
-        (subst (λ c. Heard (taken_as c)) case_is last_rseq))
+      by_number : (number : Option ℕ) (case : ReplyCase) → has_dialog (ReInvite own) held ≡ true
+          → lives side.dialogs life ≡ true → Heard (taken_as case)
+          → Decided Unheard client.last_rseq number case → DoneSo number (taken_as case)
+      by_number None case there alive last_rseq none = unheard case last_rseq none
+      by_number (Some number) case there alive last_rseq case_is =
+          subst (λ c. DoneSo (Some number) (taken_as c)) (sym case_is)
+          (by_offer number (offered client.last_rseq number) refl there alive
+          (subst (λ c. Heard (taken_as c)) case_is last_rseq))
 
-    by_gone : (number : Option ℕ) (case : ReplyCase) → lives side.dialogs life ≡ false
-        → Heard (taken_as case) → Gone number case → DoneSo number (taken_as case)
-    by_gone None case dead last_rseq none = unheard case last_rseq none
-    by_gone (Some number) case dead last_rseq case_is =
-        let told = subst (λ c. Heard (taken_as c)) case_is last_rseq in
-        subst (λ c. DoneSo (Some number) (taken_as c)) (sym case_is)
-        (finish_gone after (left found is) side.dialogs Stays tt (notice answer ++ [])
-        (Some number) dead (now_is reply.Told told refl))
+      by_gone : (number : Option ℕ) (case : ReplyCase) → lives side.dialogs life ≡ false
+          → Heard (taken_as case) → Gone number case → DoneSo number (taken_as case)
+      by_gone None case dead last_rseq none = unheard case last_rseq none
+      by_gone (Some number) case dead last_rseq case_is =
+          let told = subst (λ c. Heard (taken_as c)) case_is last_rseq in
+          subst (λ c. DoneSo (Some number) (taken_as c)) (sym case_is)
+          (finish_gone after (left found is) side.dialogs Stays tt (notice answer ++ [])
+          (Some number) dead (now_is reply.Told told refl))
 
-    abbrev inside : Bool
-    inside = not (answer.status == 100) && has_to_tag answer.response
+      abbrev inside : Bool
+      inside = not (answer.status == 100) && has_to_tag answer.response
 
-    abbrev rseq : Option ℕ
-    rseq = rseq_of answer.response
+      abbrev rseq : Option ℕ
+      rseq = rseq_of answer.response
 
-    abbrev decides : Bool → Bool → ReplyCase
-    decides final alive = case_by final inside alive (success_case now held answer.name)
-        client.last_rseq rseq
+      abbrev decides : Bool → Bool → ReplyCase
+      decides final alive = case_by final inside alive (success_case now held answer.name)
+          client.last_rseq rseq
 
-    in_dialog : (final : Bool) → Heard (taken_as (decides final (has_dialog (ReInvite own) held)))
-        → DoneSo (number_by final inside rseq)
-        (taken_as (decides final (has_dialog (ReInvite own) held)))
-    in_dialog final last_rseq =
-        let case = decides final (has_dialog (ReInvite own) held) in
-        let number = number_by final inside rseq in
-        let winning = success_case now held answer.name in
-        let none = success_unheard own (noting found is client) answer held in
-        let lives_is : has_dialog (ReInvite own) held ≡ lives side.dialogs life =
-        ap (λ name. has_dialog (ReInvite own) (dialog_at name side.dialogs)) named
-        ∙ lives_same life own side.dialogs ours in
-        by_bool (has_dialog (ReInvite own) held)
-        (λ there. by_number number case there (sym lives_is ∙ there) last_rseq
-        (subst (λ b. Decided Unheard client.last_rseq number (decides final b)) (sym there)
-        (decided final inside winning client.last_rseq rseq none)))
-        (λ dead. by_gone number case (sym lives_is ∙ dead) last_rseq
-        (subst (λ b. Gone number (decides final b)) (sym dead)
-        (gone final inside winning client.last_rseq rseq none)))
+      in_dialog : (final : Bool) → Heard (taken_as (decides final (has_dialog (ReInvite own) held)))
+          → DoneSo (number_by final inside rseq)
+          (taken_as (decides final (has_dialog (ReInvite own) held)))
+      in_dialog final last_rseq =
+          let case = decides final (has_dialog (ReInvite own) held) in
+          let number = number_by final inside rseq in
+          let winning = success_case now held answer.name in
+          let none = success_unheard own (noting found is client) answer held in
+          let lives_is : has_dialog (ReInvite own) held ≡ lives side.dialogs life =
+          ap (λ name. has_dialog (ReInvite own) (dialog_at name side.dialogs)) named
+          ∙ lives_same life own side.dialogs ours in
+          by_bool (has_dialog (ReInvite own) held)
+          (λ there. by_number number case there (sym lives_is ∙ there) last_rseq
+          (subst (λ b. Decided Unheard client.last_rseq number (decides final b)) (sym there)
+          (decided final inside winning client.last_rseq rseq none)))
+          (λ dead. by_gone number case (sym lives_is ∙ dead) last_rseq
+          (subst (λ b. Gone number (decides final b)) (sym dead)
+          (gone final inside winning client.last_rseq rseq none)))
 
-    by_last : (final success : Bool)
-        → Heard (cond {A = Replied} (final && not success) (request_over now side.dialogs answer)
-        (taken_as (decides final (has_dialog (ReInvite own) held))))
-        → DoneSo (number_by final inside rseq)
-        (cond {A = Replied} (final && not success) (request_over now side.dialogs answer)
-        (taken_as (decides final (has_dialog (ReInvite own) held))))
-    by_last true false last_rseq = over last_rseq
-    by_last true true last_rseq = in_dialog true last_rseq
-    by_last false success last_rseq = in_dialog false last_rseq
+      by_last : (final success : Bool)
+          → Heard (cond {A = Replied} (final && not success) (request_over now side.dialogs answer)
+          (taken_as (decides final (has_dialog (ReInvite own) held))))
+          → DoneSo (number_by final inside rseq)
+          (cond {A = Replied} (final && not success) (request_over now side.dialogs answer)
+          (taken_as (decides final (has_dialog (ReInvite own) held))))
+      by_last true false last_rseq = over last_rseq
+      by_last true true last_rseq = in_dialog true last_rseq
+      by_last false success last_rseq = in_dialog false last_rseq
 
-    pub invite_replied : DoneSo (provisional_number (Some answer.status) answer.response)
-        (reply_taken now side.dialogs answer)
-    invite_replied =
-        by_last (is_final answer.status) (is_success answer.status) (ear_own found is same)
+      pub invite_replied : DoneSo (provisional_number (Some answer.status) answer.response)
+          (reply_taken now side.dialogs answer)
+      invite_replied =
+          by_last (is_final answer.status) (is_success answer.status) (ear_own found is same)

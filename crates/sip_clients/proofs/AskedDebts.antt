@@ -87,7 +87,8 @@ again_untold : (o : Option SentAck)
 again_untold None = refl
 again_untold (Some ack) = refl
 
-pub case_told : (case : ReplyCase) (client : Client) (found : Option HeldDialog) (answer : ReceivedResponse)
+pub case_told : (case : ReplyCase) (client : Client) (found : Option HeldDialog)
+    (answer : ReceivedResponse)
     → list_any is_response (by_reply_case case client found answer).2 ≡ told_as case
 case_told reply.Repeated client found answer = again_untold (ack_of answer.name client.answers)
 case_told reply.Accepted client found answer = refl

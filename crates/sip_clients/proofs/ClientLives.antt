@@ -88,7 +88,8 @@ module _ (event : Event) (side : Side) (apart : AreApart side.dialogs)
   -- an ACK takes no number
   ack_takes_none : (command : DialogBody) (found : Option HeldDialog) (other : DialogId)
       (held : HeldDialog)
-      → paid_in command (option_map_or (oldest_pending kind.Ack) found (Err NoSuchDialog)) other held
+      → paid_in command (option_map_or (oldest_pending kind.Ack) found (Err NoSuchDialog)) other
+      held
       ≡ []
   ack_takes_none command None other held = refl
   ack_takes_none command (Some there) other held =
@@ -108,7 +109,8 @@ module _ (event : Event) (side : Side) (apart : AreApart side.dialogs)
       let name = name_in command.local_tag command.remote_tag in
       let pending = pending_for kind.Ack name side.dialogs in
       let taken = ack_by_user event command side in
-      silent_outs taken.1 (none_started taken.1 (ack_quiet event command side)) side.dialogs (taken.0).dialogs
+      silent_outs taken.1 (none_started taken.1 (ack_quiet event command side)) side.dialogs
+      (taken.0).dialogs
       (leads_as (paid_in command pending) quiet side.dialogs (taken.0).dialogs
       (λ other held at. ack_takes_none command (dialog_at name side.dialogs) other held)
       (ack_leads event command side apart))
@@ -129,7 +131,8 @@ module _ (event : Event) (side : Side) (apart : AreApart side.dialogs)
       (λ held. discharge_numbered pending (Some command.content) held.dialog)
       (λ other held at. served_sent name (paid event pending command.content) Waits
       (λ held. discharge_cseqs pending (Some command.content) held.dialog) side.dialogs other
-      (λ there is. paid_sent other name event there (named name there is) pending command.content) refl
+      (λ there is. paid_sent other name event there (named name there is) pending command.content)
+      refl
       held at
       ∙ sym (said_sent other event event.id command.call_id name done.1 side.clients)
       ∙ sym (after_silent other said.0 after.1

@@ -1,5 +1,5 @@
--- What the client side of a call gives: notices of the ends of dialogs and of refused commands, ACKs,
--- requests, and notices of responses that come up.
+-- What the client side of a call gives: notices of the ends of dialogs and of refused commands,
+-- ACKs, requests, and notices of responses that come up.
 use Rattle.std.proofs.Common.{◌≡◌, ℕ, Bool, true, false, cond, List, [], ◌∷◌, ◌++◌, map, refl}
 use Rattle.std.specs.Prelude.{Option, None, Some, codes, filter, if◌then◌else◌}
 use Rattle.std.specs.List.{AllByRecursion}
@@ -133,10 +133,12 @@ module _ (P : CallOut → Type 0) (allows : Allows P) where
   again_told None = tt
   again_told (Some ack) = (allows.sent ack, tt)
 
-  case_told : (case : ReplyCase) (client : Client) (found : Option HeldDialog) (answer : ReceivedResponse)
+  case_told : (case : ReplyCase) (client : Client) (found : Option HeldDialog)
+      (answer : ReceivedResponse)
       → P (response_notice answer) → All (by_reply_case case client found answer).2
   unfolding ack_owed prack_owed
-  case_told reply.Repeated client found answer tells = again_told (ack_of answer.name client.answers)
+  case_told reply.Repeated client found answer tells =
+      again_told (ack_of answer.name client.answers)
   case_told reply.Accepted client found answer tells = (
     tells,
     ack_told answer.event answer.call_id
@@ -181,7 +183,8 @@ module _ (P : CallOut → Type 0) (allows : Allows P) where
       both P done.1 (start_command id (cancel_client id invite) ∷ []) told
       (allows.started id (cancel_client id invite), tt)
 
-  replied_told : (answer : ReceivedResponse) (client : Client) (side : Side) → P (response_notice answer)
+  replied_told : (answer : ReceivedResponse) (client : Client) (side : Side)
+      → P (response_notice answer)
       → All (reply_settled answer client side).1
   replied_told answer client side tells =
       let final = is_final answer.status in
@@ -211,7 +214,8 @@ module _ (P : CallOut → Type 0) (allows : Allows P) where
       response) client side
       (tells event id call_id (reply_name client.kind client response) status is)
 
-  pub response_told : (event : Event) (id : Id) (call_id : List ℕ) (response : Message) (side : Side)
+  pub response_told : (event : Event) (id : Id) (call_id : List ℕ) (response : Message)
+      (side : Side)
       → ResponseAllowed response → All (response_taken event id call_id response side).1
   response_told event id call_id response side tells =
       found_told event id call_id response (status_of response.start) (client_at id side.clients)
@@ -241,7 +245,8 @@ module _ (P : CallOut → Type 0) (allows : Allows P) where
   pub invite_told : (event : Event) (invite : InviteCommand) (clients : Clients)
       → All (invite_taken event invite clients).1
   invite_told event invite clients =
-      start_told event (client_for event.id asks.InitialInvite (invite_of event invite) invite.address)
+      start_told event (client_for event.id asks.InitialInvite (invite_of event invite)
+      invite.address)
       clients
 
   plain_by : (b : Bool) (event : Event) (plain : PlainCommand) (clients : Clients)
@@ -277,11 +282,13 @@ module _ (P : CallOut → Type 0) (allows : Allows P) where
   ack_command_told event command side =
       let name = name_in command.local_tag command.remote_tag in
       paid_either (λ taken. All taken.1) event command (ack_paid event command name) side
-      (pending_for pending.Ack name side.dialogs) (λ refusal. (allows.refusal command.call_id event.id.place refusal, tt))
+      (pending_for pending.Ack name side.dialogs) (λ refusal.
+      (allows.refusal command.call_id event.id.place refusal, tt))
       (λ pending. ack_told event command.call_id
       (paid_at name event pending command.content side.dialogs).1)
 
-  prack_paid_told : (event : Event) (command : DialogBody) (name : DialogId) (pending_requests : PendingRequest)
+  prack_paid_told : (event : Event) (command : DialogBody) (name : DialogId)
+      (pending_requests : PendingRequest)
       (side : Side) → All (prack_paid event command name pending_requests side).1
   prack_paid_told event command name pending_requests side =
       let paid = paid_at name event pending_requests command.content side.dialogs in
@@ -295,7 +302,8 @@ module _ (P : CallOut → Type 0) (allows : Allows P) where
   prack_command_told event command side =
       let name = name_in command.local_tag command.remote_tag in
       paid_either (λ taken. All taken.1) event command (prack_paid event command name) side
-      (pending_for pending.Prack name side.dialogs) (λ refusal. (allows.refusal command.call_id event.id.place refusal, tt))
+      (pending_for pending.Prack name side.dialogs) (λ refusal.
+      (allows.refusal command.call_id event.id.place refusal, tt))
       (λ pending_requests. prack_paid_told event command name pending_requests side)
 
   cancel_by : (as_case : CancelCase) (event : Event) (command : CancelCommand) (invite : Client)

@@ -90,9 +90,11 @@ module _ (event : Event) (command : DialogBody) (side : Side) where
   nothing_paid kind outs none name =
       let held = dialog_at name side.dialogs in
       still_as unchanged (command_pays kind command name outs) held held
-      (λ pending_requests. sym (ap (λ b. if is_dialog_id asked_name name && b then oldest_paid kind pending_requests
+      (λ pending_requests. sym (ap (λ b. if is_dialog_id asked_name name
+      && b then oldest_paid kind pending_requests
       else pending_requests) (none name)
-      ∙ neither_way (is_dialog_id asked_name name) (oldest_paid kind pending_requests) pending_requests)) (still_same held)
+      ∙ neither_way (is_dialog_id asked_name name) (oldest_paid kind pending_requests)
+      pending_requests)) (still_same held)
 
   refused_pays : (kind : PendingKind) (refusal : Refusal)
       → Pays kind (refused event.id command.call_id refusal) side.dialogs
@@ -101,8 +103,10 @@ module _ (event : Event) (command : DialogBody) (side : Side) where
   refused_pays kind.Prack refusal =
       nothing_paid kind.Prack (refused event.id command.call_id refusal) (λ name. refl)
 
-  debt_paid : (kind : PendingKind) (pending : PendingRequest) (held : HeldDialog) (outs : List CallOut)
-      → dialog_at asked_name side.dialogs ≡ Some held → find (is_of kind) held.pending_requests ≡ Some pending
+  debt_paid : (kind : PendingKind) (pending : PendingRequest) (held : HeldDialog)
+      (outs : List CallOut)
+      → dialog_at asked_name side.dialogs ≡ Some held → find (is_of kind) held.pending_requests
+      ≡ Some pending
       → ((name : DialogId) → is_dialog_id asked_name name ≡ true
       → goes_out kind name outs ≡ goes (paid event pending command.content held).1)
       → Pays kind outs (paid_at asked_name event pending command.content side.dialogs).0
@@ -121,22 +125,26 @@ module _ (event : Event) (command : DialogBody) (side : Side) where
       by_name false is =
           let there = dialog_at name side.dialogs in
           still_as unchanged (command_pays kind command name outs) there there
-          (λ pending_requests i. if sym is i && goes_out kind name outs then oldest_paid kind pending_requests
+          (λ pending_requests i. if sym is i && goes_out kind name outs then oldest_paid kind
+          pending_requests
           else pending_requests) (still_same there)
       by_name true is =
           let there : dialog_at name side.dialogs ≡ Some held =
           entries.same_key name_laws asked_name name side.dialogs is ∙ at in
           let less = paid_drops event pending command.content held in
-          let pays : (if goes (paid event pending command.content held).1 then all_but pending held.pending_requests
+          let pays : (if goes (paid event pending command.content held).1 then all_but pending
+          held.pending_requests
           else held.pending_requests) ≡ command_pays kind command name outs held.pending_requests =
           sym (λ i. if is i && goes_so name is i
-          then option_map_or (λ pending. all_but pending held.pending_requests) (oldest i) held.pending_requests
+          then option_map_or (λ pending. all_but pending held.pending_requests) (oldest i)
+          held.pending_requests
           else held.pending_requests) in
           subst (λ (o : Option HeldDialog). OwesStill (command_pays kind command name outs) o
           (option_map (paid_of pending) o)) (sym there) (less.0, less.1 ∙ pays)
 
   -- what becomes of it where the dialog is held
-  served_as : (pending : PendingRequest) (held : HeldDialog) → dialog_at asked_name side.dialogs ≡ Some held
+  served_as : (pending : PendingRequest) (held : HeldDialog) → dialog_at asked_name side.dialogs
+      ≡ Some held
       → (paid_at asked_name event pending command.content side.dialogs).1
       ≡ (paid event pending command.content held).1
   served_as pending held at =
@@ -144,7 +152,8 @@ module _ (event : Event) (command : DialogBody) (side : Side) where
       (served_in asked_name (paid event pending command.content) Waits side.dialogs found).1) at
 
   by_owed : (kind : PendingKind) (pay : PendingRequest → Side → ClientTaken)
-      → ((pending : PendingRequest) (held : HeldDialog) → dialog_at asked_name side.dialogs ≡ Some held
+      → ((pending : PendingRequest) (held : HeldDialog) → dialog_at asked_name side.dialogs
+      ≡ Some held
       → find (is_of kind) held.pending_requests ≡ Some pending
       → Pays kind (pay pending side).1 ((pay pending side).0).dialogs)
       → (o : Option HeldDialog) → dialog_at asked_name side.dialogs ≡ o
@@ -160,7 +169,8 @@ module _ (event : Event) (command : DialogBody) (side : Side) where
       by_oldest None is = refused_pays kind (nothing_pending kind)
       by_oldest (Some pending) is = pays pending held at is
 
-  ack_paid_off : (pending : PendingRequest) (held : HeldDialog) → dialog_at asked_name side.dialogs ≡ Some held
+  ack_paid_off : (pending : PendingRequest) (held : HeldDialog) → dialog_at asked_name side.dialogs
+      ≡ Some held
       → find (is_of kind.Ack) held.pending_requests ≡ Some pending
       → let taken = ack_paid event command asked_name pending side in
       Pays kind.Ack taken.1 (taken.0).dialogs
@@ -176,7 +186,8 @@ module _ (event : Event) (command : DialogBody) (side : Side) where
       (dialog_at asked_name side.dialogs) refl
 
   module _ (named : AreNamed side.dialogs) where
-    prack_out : (pending : PendingRequest) (held : HeldDialog) → dialog_at asked_name side.dialogs ≡ Some held
+    prack_out : (pending : PendingRequest) (held : HeldDialog) → dialog_at asked_name side.dialogs
+        ≡ Some held
         → is_of kind.Prack pending ≡ true → (name : DialogId) → is_dialog_id asked_name name ≡ true
         → let done = paid_at asked_name event pending command.content side.dialogs in
         let said = request_said event command.call_id asked_name done.1 in
@@ -206,7 +217,8 @@ module _ (event : Event) (command : DialogBody) (side : Side) where
         let said = request_said event command.call_id asked_name done.1 in
         debt_paid kind.Prack pending held
         (said.0 ++ (settled event event.id said.1 side.clients).1) at is
-        (prack_out pending held at (found_passes (is_of kind.Prack) held.pending_requests pending is))
+        (prack_out pending held at (found_passes (is_of kind.Prack) held.pending_requests pending
+        is))
 
     pub prack_pays_off : Pays kind.Prack (prack_by_user event command side).1
         ((prack_by_user event command side).0).dialogs

@@ -37,8 +37,10 @@ sends_made : (method : List ℕ) (fault : Option DialogFault) (dialog : Dialog)
 sends_made method None dialog = ((tt, tt), refl)
 sends_made method (Some fault) dialog = (tt, refl)
 
-discharged_keeps : (event : Event) (pending : PendingRequest) (offer : Option Content) (held : HeldDialog)
-    → Keeps None (discharge_life pending offer held.dialog) held (discharged event pending offer held).0
+discharged_keeps : (event : Event) (pending : PendingRequest) (offer : Option Content)
+    (held : HeldDialog)
+    → Keeps None (discharge_life pending offer held.dialog) held
+    (discharged event pending offer held).0
 unfolding discharged
 discharged_keeps event (Ack invite number) None held = keeps_same held
 discharged_keeps event (Prack rseq number) None held = keeps_same held
@@ -59,8 +61,10 @@ if_sent_keeps pending (Sent sending) held = (refl, refl, (tt, refl))
 if_sent_keeps pending Waits held = keeps_same held
 if_sent_keeps pending (Refused refusal) held = keeps_same held
 
-pub owed_keeps : (event : Event) (pending : PendingRequest) (offer : Option Content) (held : HeldDialog)
-    → Keeps None (discharge_life pending offer held.dialog) held (kept_pending event pending offer held).0
+pub owed_keeps : (event : Event) (pending : PendingRequest) (offer : Option Content)
+    (held : HeldDialog)
+    → Keeps None (discharge_life pending offer held.dialog) held
+    (kept_pending event pending offer held).0
 unfolding kept_pending
 owed_keeps event pending offer held =
     let done = discharged event pending offer held in

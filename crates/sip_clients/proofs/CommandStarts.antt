@@ -56,7 +56,8 @@ module _ (event : Event) where
   pub invite_fits : (command : Invite) (clients : Clients)
       → OwnOf clients (invite_taken event command clients)
   invite_fits command clients =
-      started_fits (client_for event.id InitialInvite (invite_of event command) command.address) clients
+      started_fits (client_for event.id InitialInvite (invite_of event command) command.address)
+      clients
       refl
 
   plain_by : (b : Bool) (client : Client) (clients : Clients) (refused : List CallOut)
@@ -117,7 +118,8 @@ module _ (event : Event) where
       (none_started ends.1 (bye_quiet name command.method done.1 done.0))
       (said_fits command.call_id name done.1 side.clients)
 
-  noted_fewer : (pending : PendingRequest) (name : DialogId) (ack : Option SentAck) (clients : Clients)
+  noted_fewer : (pending : PendingRequest) (name : DialogId) (ack : Option SentAck)
+      (clients : Clients)
       (id : Id) → how_many id (waiting (ack_kept pending name ack clients))
       ≤ how_many id (waiting clients)
   noted_fewer (Ack invite number) name None clients id = at_most_same clients id

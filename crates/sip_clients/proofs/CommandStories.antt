@@ -104,7 +104,8 @@ pub invite_holds : (event : Event) (invite : Invite)
     → HoldsStories (on_side (invite_taken event invite))
     (λ side outs stories. invite_told outs stories)
 invite_holds event invite side stories told =
-    started_on event InitialInvite (client_for event.id InitialInvite (invite_of event invite) invite.address)
+    started_on event InitialInvite (client_for event.id InitialInvite (invite_of event invite)
+    invite.address)
     side.clients stories refl told
 
 pub plain_holds : (event : Event) (plain : PlainCommand)
@@ -120,7 +121,8 @@ plain_holds event plain side stories told = by_method (is_bad_outside plain.meth
         AreTold taken.0 (plain_told taken.1 stories)
     by_method true = told
     by_method false =
-        started_on event OutOfDialog (client_for event.id OutOfDialog (plain_of event plain) plain.address)
+        started_on event OutOfDialog (client_for event.id OutOfDialog (plain_of event plain)
+        plain.address)
         side.clients stories refl told
 
 -- ---- requests in a dialog
@@ -206,7 +208,8 @@ request_holds event command side stories told =
     (request_born event command.method command.content) (λ created_by. tt))
     (bye_quiet name command.method done.1 done.0) told
 
-service_born : (created_by : Id) (o : Option DialogFault) (sending : OutgoingRequest) → sending.created_by ≡ created_by
+service_born : (created_by : Id) (o : Option DialogFault) (sending : OutgoingRequest)
+    → sending.created_by ≡ created_by
     → IsBorn created_by (service_by o sending)
 service_born created_by None sending is = is
 service_born created_by (Some fault) sending is = tt
@@ -259,7 +262,8 @@ same_on id more clients stories told same =
     by_found None at = refl
     by_found (Some client) at = set_value_same (is_id id) clients client at
 
-ack_on : (event : Event) (call_id : List ℕ) (name : DialogId) (pending : PendingRequest) (service : SendOutcome)
+ack_on : (event : Event) (call_id : List ℕ) (name : DialogId) (pending : PendingRequest)
+    (service : SendOutcome)
     (clients : Clients) (stories : ClientStories) → AreTold clients stories
     → let said = ack_said event call_id service in
     AreTold (ack_kept pending name said.1 clients)
@@ -415,7 +419,8 @@ invite_rules event invite =
 
 pub plain_rules : (event : Event) (plain : PlainCommand)
     → HoldsRules (on_side (plain_taken event plain)) (λ side outs stories. plain_told outs stories)
-plain_rules event plain = begun_rules (on_side (plain_taken event plain)) (λ side request. OutOfDialog)
+plain_rules event plain =
+    begun_rules (on_side (plain_taken event plain)) (λ side request. OutOfDialog)
 
 pub request_rules : (event : Event) (command : DialogRequest)
     → HoldsRules (request_by_user event command) (λ side outs stories.

@@ -50,9 +50,11 @@ either_same false name dialogs apart = same_owed dialogs
 own_same : (kind : RequestKind) (ends : Bool) (dialogs : Dialogs) → AreApart dialogs
     → OweSame dialogs (own_ended kind ends dialogs).0
 own_same InitialInvite ends dialogs apart = same_owed dialogs
-own_same (ReInvite life) true dialogs apart = either_same (lives dialogs life) life.name dialogs apart
+own_same (ReInvite life) true dialogs apart =
+    either_same (lives dialogs life) life.name dialogs apart
 own_same (ReInvite life) false dialogs apart = same_owed dialogs
-own_same (InDialog life) true dialogs apart = either_same (lives dialogs life) life.name dialogs apart
+own_same (InDialog life) true dialogs apart =
+    either_same (lives dialogs life) life.name dialogs apart
 own_same (InDialog life) false dialogs apart = same_owed dialogs
 own_same OutOfDialog ends dialogs apart = same_owed dialogs
 
@@ -87,7 +89,8 @@ goes (Refused refusal) = false
 abbrev pub unless_out : Bool → PendingRequest → List PendingRequest
 unless_out out pending = if not out then pending ∷ [] else []
 
-discharged_kept : (event : Event) (pending : PendingRequest) (offer : Option Content) (held : HeldDialog)
+discharged_kept : (event : Event) (pending : PendingRequest) (offer : Option Content)
+    (held : HeldDialog)
     → OwesStill unchanged (Some held) (Some (discharged event pending offer held).0)
 unfolding discharged
 discharged_kept event (Ack invite number) None held = (refl, refl)
@@ -96,35 +99,44 @@ discharged_kept event (Ack invite number) (Some content) held = (refl, refl)
 discharged_kept event (Prack rseq number) (Some content) held = (refl, refl)
 
 kept_adds : (pending : PendingRequest) (service : SendOutcome) (held : HeldDialog)
-    → OwesStill (λ pending_requests. pending_requests ++ unless_out (goes service) pending) (Some held)
+    → OwesStill (λ pending_requests. pending_requests ++ unless_out (goes service) pending)
+    (Some held)
     (Some (kept_unless_sent pending service held))
 kept_adds pending (Sent sending) held = (refl, sym (append-nil held.pending_requests))
 kept_adds pending Waits held = (refl, refl)
 kept_adds pending (Refused refusal) held = (refl, refl)
 
 abbrev pub all_but : PendingRequest → List PendingRequest → List PendingRequest
-all_but pending pending_requests = filter (λ other. not (is_same_pending pending other)) pending_requests
+all_but pending pending_requests =
+    filter (λ other. not (is_same_pending pending other)) pending_requests
 
 drops : (pending : PendingRequest) (service : SendOutcome) (held : HeldDialog)
-    → OwesStill (λ pending_requests. if goes service then all_but pending pending_requests else pending_requests) (Some held)
+    → OwesStill (λ pending_requests. if goes service then all_but pending pending_requests else
+    pending_requests) (Some held)
     (Some (dropped_if_sent pending service held))
 drops pending (Sent sending) held = (refl, refl)
 drops pending Waits held = (refl, refl)
 drops pending (Refused refusal) held = (refl, refl)
 
-pub owed_adds : (event : Event) (pending : PendingRequest) (offer : Option Content) (held : HeldDialog)
-    → OwesStill (λ pending_requests. pending_requests ++ unless_out (goes (kept_pending event pending offer held).1) pending)
+pub owed_adds : (event : Event) (pending : PendingRequest) (offer : Option Content)
+    (held : HeldDialog)
+    → OwesStill (λ pending_requests. pending_requests
+    ++ unless_out (goes (kept_pending event pending offer held).1) pending)
     (Some held) (Some (kept_pending event pending offer held).0)
 unfolding kept_pending
 owed_adds event pending offer held =
     let done = discharged event pending offer held in
     let kept = discharged_kept event pending offer held in
-    let adds = kept_adds pending done.1 done.0 in
-    (adds.0 ∙ kept.0, adds.1 ∙ ap (λ pending_requests. pending_requests ++ unless_out (goes done.1) pending) kept.1)
+    let adds = kept_adds pending done.1 done.0 in (
+      adds.0 ∙ kept.0,
+      adds.1 ∙ ap (λ pending_requests. pending_requests
+          ++ unless_out (goes done.1) pending) kept.1,
+    )
 
 pub paid_drops : (event : Event) (pending : PendingRequest) (content : Content) (held : HeldDialog)
     → OwesStill
-    (λ pending_requests. if goes (paid event pending content held).1 then all_but pending pending_requests else pending_requests)
+    (λ pending_requests. if goes (paid event pending content held).1 then all_but pending
+    pending_requests else pending_requests)
     (Some held) (Some (paid event pending content held).0)
 unfolding paid
 paid_drops event pending content held =
@@ -132,7 +144,8 @@ paid_drops event pending content held =
     let kept = discharged_kept event pending (Some content) held in
     let less = drops pending done.1 done.0 in (
       less.0 ∙ kept.0,
-      less.1 ∙ ap (λ pending_requests. if goes done.1 then all_but pending pending_requests else pending_requests) kept.1,
+      less.1 ∙ ap (λ pending_requests. if goes done.1 then all_but pending pending_requests else
+          pending_requests) kept.1,
     )
 
 pub heard_kept : (kind : RequestKind) (number : ℕ) (held : HeldDialog)
@@ -158,7 +171,8 @@ ack_goes event call_id Waits = refl
 ack_goes event call_id (Refused refusal) = refl
 
 module _ (name own : DialogId) (event : Event) (held : HeldDialog)
-    (named : is_dialog_id own (name_of_dialog held.dialog) ≡ true) (same : is_dialog_id own name ≡ true)
+    (named : is_dialog_id own (name_of_dialog held.dialog) ≡ true)
+    (same : is_dialog_id own name ≡ true)
   where
     prack_discharged : (rseq number : ℕ) (offer : Option Content)
         → list_any is_of_prack
@@ -180,7 +194,8 @@ module _ (name own : DialogId) (event : Event) (held : HeldDialog)
         by_fault (Some fault) sending = refl
 
     pub prack_owes : (rseq number : ℕ) (offer : Option Content)
-        → list_any is_of_prack (service_cseqs name (kept_pending event (Prack rseq number) offer held).1)
+        → list_any is_of_prack (service_cseqs name (kept_pending event (Prack rseq number) offer
+        held).1)
         ≡ goes (kept_pending event (Prack rseq number) offer held).1
     unfolding kept_pending
     prack_owes rseq number offer = prack_discharged rseq number offer

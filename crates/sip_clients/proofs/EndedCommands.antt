@@ -244,7 +244,8 @@ prack_goes event command side =
 
 -- ---- a CANCEL
 
-cancel_by : (as_case : CancelCase) (event : Event) (command : Cancel) (invite : Client) (side : Side)
+cancel_by : (as_case : CancelCase) (event : Event) (command : Cancel) (invite : Client)
+    (side : Side)
     → Goes no_name none_ends side.dialogs side.dialogs
     (cancelled_as as_case event command invite side.clients).1
 cancel_by (ask.Refused refusal) event command invite side = goes_same side.dialogs _ refl
@@ -282,11 +283,13 @@ invite_silent event invite clients = refl
 plain_by : (b : Bool) (event : Event) (plain : PlainCommand) (clients : Clients)
     → names_ended (cond {A = Clients × List CallOut} b
     (clients, refused event.id plain.call_id BadMethod)
-    (started event (client_for event.id OutOfDialog (plain_of event plain) plain.address) clients)).1
+    (started event (client_for event.id OutOfDialog (plain_of event plain) plain.address)
+    clients)).1
     ≡ []
 plain_by true event plain clients = refl
 plain_by false event plain clients =
-    start_silent event (client_for event.id OutOfDialog (plain_of event plain) plain.address) clients
+    start_silent event (client_for event.id OutOfDialog (plain_of event plain) plain.address)
+    clients
 
 pub plain_silent : (event : Event) (plain : PlainCommand) (clients : Clients)
     → names_ended (plain_taken event plain clients).1 ≡ []

@@ -177,7 +177,8 @@ heard_same OutOfDialog rseq client = refl
 abbrev Own : Client → ReceivedResponse → Client × ClientChange → Type 0
 Own client answer done = (done.0.id ≡ client.id) × StartsOwn answer.event done.1
 
-case_own : (case : ReplyCase) (client : Client) (found : Option HeldDialog) (answer : ReceivedResponse)
+case_own : (case : ReplyCase) (client : Client) (found : Option HeldDialog)
+    (answer : ReceivedResponse)
     → Own client answer (
       (by_reply_case case client found answer).0,
       (by_reply_case case client found answer).3,
@@ -261,7 +262,8 @@ invite_sound event command clients sound =
 plain_by : (b : Bool) (event : Event) (plain : PlainCommand) (clients : Clients)
     → AreSound clients → AreSound (cond {A = Clients × List CallOut} b
     (clients, refused event.id plain.call_id BadMethod)
-    (started event (client_for event.id OutOfDialog (plain_of event plain) plain.address) clients)).0
+    (started event (client_for event.id OutOfDialog (plain_of event plain) plain.address)
+    clients)).0
 plain_by true event plain clients sound = sound
 plain_by false event plain clients sound =
     sound_put event.id (client_for event.id OutOfDialog (plain_of event plain) plain.address)
@@ -280,7 +282,8 @@ request_sound event command side sound =
     sound_settled event event.id (request_said event command.call_id name service).1
     (said_own event command.call_id name service) side.clients sound
 
-noted_sound : (pending : PendingRequest) (name : DialogId) (ack : Option SentAck) (clients : Clients)
+noted_sound : (pending : PendingRequest) (name : DialogId) (ack : Option SentAck)
+    (clients : Clients)
     → AreSound clients → AreSound (ack_kept pending name ack clients)
 noted_sound (Ack of number) name None clients sound = sound
 noted_sound (Ack of number) name (Some ack) clients sound =
@@ -293,7 +296,8 @@ ack_sound event command side sound =
     let name = name_in command.local_tag command.remote_tag in
     paid_either (λ taken. AreSound (taken.0).clients) event command
     (ack_paid event command name) side (pending_for kind.Ack name side.dialogs) (λ refusal. sound)
-    (λ pending. noted_sound pending name (ack_asked event name pending command side.dialogs).2 side.clients
+    (λ pending. noted_sound pending name (ack_asked event name pending command side.dialogs).2
+    side.clients
     sound)
 
 pub prack_sound : (event : Event) (command : DialogBody) (side : Side) → AreSound side.clients
@@ -301,7 +305,8 @@ pub prack_sound : (event : Event) (command : DialogBody) (side : Side) → AreSo
 prack_sound event command side sound =
     let name = name_in command.local_tag command.remote_tag in
     paid_either (λ taken. AreSound (taken.0).clients) event command
-    (prack_paid event command name) side (pending_for kind.Prack name side.dialogs) (λ refusal. sound)
+    (prack_paid event command name) side (pending_for kind.Prack name side.dialogs)
+    (λ refusal. sound)
     (λ pending. let service = (paid_at name event pending command.content side.dialogs).1 in
     sound_settled event event.id (request_said event command.call_id name service).1
     (said_own event command.call_id name service) side.clients sound)

@@ -43,8 +43,10 @@ use Rattle.sip_common.proofs.EndedDialogs.{AreNamed, Goes, Which, early_told, en
 -- the dialog that it was sent in, as it was then
 abbrev pub was_sent_in : RequestKind → Which
 was_sent_in InitialInvite name held = false
-was_sent_in (ReInvite life) name held = is_dialog_id life.name name && is_id held.created_by life.created_by
-was_sent_in (InDialog life) name held = is_dialog_id life.name name && is_id held.created_by life.created_by
+was_sent_in (ReInvite life) name held =
+    is_dialog_id life.name name && is_id held.created_by life.created_by
+was_sent_in (InDialog life) name held =
+    is_dialog_id life.name name && is_id held.created_by life.created_by
 was_sent_in OutOfDialog name held = false
 
 abbrev pub ends_with : Client → Bool → Which
@@ -59,9 +61,11 @@ module _ (life : DialogReference) (dialogs : Dialogs) (apart : AreApart dialogs)
   -- what is held under its name is that dialog where that lives
   lives_as : (name : DialogId) (held : HeldDialog) → dialog_at name dialogs ≡ Some held
       → (lives_so : Bool) → lives dialogs life ≡ lives_so → (b : Bool)
-      → is_dialog_id life.name name ≡ b → (b && lives_so) ≡ (b && is_id held.created_by life.created_by)
+      → is_dialog_id life.name name ≡ b → (b && lives_so)
+      ≡ (b && is_id held.created_by life.created_by)
   lives_as name held at lives_so is true same =
-      sym is ∙ ap (λ o. option_map_or (λ (held : HeldDialog). is_id held.created_by life.created_by) o false)
+      sym is ∙ ap (λ o. option_map_or (λ (held : HeldDialog). is_id held.created_by life.created_by)
+      o false)
       (sym (entries.same_key name_laws life.name name dialogs same) ∙ at)
   lives_as name held at lives_so is false other = refl
 
@@ -152,7 +156,8 @@ pub beside_goes : (opens : DialogId → Bool) (ends : Which) (before after : Dia
 unfolding start_command
 beside_goes opens ends before after None invite done goes = goes
 beside_goes opens ends before after (Some id) invite done goes =
-    goes_beside opens ends before after done.1 (start_command id (cancel_client id invite) ∷ []) refl
+    goes_beside opens ends before after done.1 (start_command id (cancel_client id invite) ∷ [])
+    refl
     goes
 
 -- ---- a response that isn't the last
@@ -427,12 +432,14 @@ module _ (event : Event) (id : Id) (call_id : List ℕ) (response : Message) (si
       response) client side)
   settles status client =
       let final = is_final status in
-      let answer = reply_of event id call_id (reply_name client.kind client response) status response
+      let answer = reply_of event id call_id (reply_name client.kind client response) status
+      response
       in
       let done = reply_taken (after_response final client) side.dialogs answer in
       let clients = set_value (is_id id) side.clients done.0 in
       let after = settled event id done.3 clients in
-      let opens = opened_by_reply event id call_id response status client side.dialogs apart named in
+      let opens = opened_by_reply event id call_id response status client side.dialogs apart named
+      in
       let ends = ended_by_reply event id call_id response status client side.dialogs apart named in
       beside_goes opens ends side.dialogs done.1 (freed_by final client.cancel) client
       (after.0, done.2 ++ after.1)

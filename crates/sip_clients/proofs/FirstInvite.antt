@@ -28,7 +28,8 @@ use Rattle.sip_clients.specs.Outputs.{start_command}
 -- what was heard last in a dialog, where it is that of the life
 abbrev pub ear_in : DialogReference → Option HeldDialog → Option (Option ℕ)
 ear_in life None = None
-ear_in life (Some held) = if is_id held.created_by life.created_by then Some held.last_rseq else None
+ear_in life (Some held) =
+    if is_id held.created_by life.created_by then Some held.last_rseq else None
 
 abbrev is_own : DialogReference → Option HeldDialog → Bool
 is_own life o = option_map_or (λ (held : HeldDialog). is_id held.created_by life.created_by) o false
@@ -39,7 +40,8 @@ id_exact x y e =
     let place = eqb-true x.place y.place (second_so (x.round == y.round) (x.place == y.place) e) in
     λ i. record { round = round i; place = place i }
 
-deaf : (life : DialogReference) (o : Option HeldDialog) → is_own life o ≡ false → ear_in life o ≡ None
+deaf : (life : DialogReference) (o : Option HeldDialog) → is_own life o ≡ false → ear_in life o
+    ≡ None
 deaf life None e = refl
 deaf life (Some held) e = ap (λ b. if b then Some held.last_rseq else None) e
 
@@ -117,7 +119,8 @@ taken_held : (event : Option Id) (life : DialogReference) (number : ℕ) (Opens 
     → Goes event Opens (Some number) lived begun before (Some after)
     → is_id after.created_by life.created_by ≡ true
     → offered (option_and_then (λ held. held.last_rseq) before) number ≡ Taken → shown ≡ number ∷ []
-    → Hears (event ≡ Some life.created_by) (ear_in life before) (ear_in life (Some after)) number shown
+    → Hears (event ≡ Some life.created_by) (ear_in life before) (ear_in life (Some after)) number
+    shown
 taken_held event life number Opens lived begun None after shown (inl stays) own offer is =
     absurd stays
 taken_held event life number Opens lived begun (Some held) after shown (inl stays) own offer is =
@@ -131,7 +134,8 @@ taken_held event life number Opens lived begun (Some held) after shown (inl stay
 taken_held event life number Opens lived begun before after shown (inr begins) own offer is =
     record {
       last = None;
-      was = inr (begins.0 ∙ ap (λ id. Some id) (id_exact after.created_by life.created_by own), refl);
+      was =
+          inr (begins.0 ∙ ap (λ id. Some id) (id_exact after.created_by life.created_by own), refl);
       now = inr (λ i. if own i then Some (begins.1 i) else None);
       shows = is;
     }
@@ -154,7 +158,8 @@ taken_so event life number Opens lived begun before (Some after) true outs own g
 -- where it isn't, nothing changes and nothing is told
 pub passed_so : (Begins : Type 0) (life : DialogReference) (number : ℕ) (held : Option HeldDialog)
     (offer : Offer) (b : Bool) → is_own life held ≡ b
-    → offered (option_and_then (λ held. held.last_rseq) held) number ≡ offer → taken offer number ≡ []
+    → offered (option_and_then (λ held. held.last_rseq) held) number ≡ offer → taken offer number
+    ≡ []
     → ((last : Option ℕ) → latest_after offer last number ≡ last)
     → Listens Begins (ear_in life held) (ear_in life held) (in_life b (Some number))
     (told_of (in_life b (Some number)) [])

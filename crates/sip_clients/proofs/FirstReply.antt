@@ -41,7 +41,8 @@ first client = record client { kind = InitialInvite }
 -- ---- what is told
 
 -- a reliable provisional response that is taken is told once, whatever becomes of its PRACK
-pub told_once : (number : ℕ) (answer : ReceivedResponse) (id : Id) (service : SendOutcome) (clients : Clients)
+pub told_once : (number : ℕ) (answer : ReceivedResponse) (id : Id) (service : SendOutcome)
+    (clients : Clients)
     → map (λ out. number) (filter is_response
     ((told_of_prack answer service).0
     ++ (settled answer.event id (told_of_prack answer service).1 clients).1)) ≡ number ∷ []
@@ -67,7 +68,8 @@ number_by final inside rseq = if final then None else (if inside then rseq else 
 pub decided : (final inside : Bool) (winning : ReplyCase) (last_rseq rseq : Option ℕ)
     → Unheard winning
     → Decided Unheard last_rseq (number_by final inside rseq)
-    (if final then winning else (if inside && true then reliable_case last_rseq rseq else reply.Told))
+    (if final then winning else (if inside && true then reliable_case last_rseq rseq else
+    reply.Told))
 decided true inside winning last_rseq rseq none = none
 decided false true winning last_rseq None none = refl
 decided false true winning last_rseq (Some number) none = refl
@@ -195,7 +197,8 @@ module _ (event : Option Id) (life : DialogReference) (client : Client) (answer 
       → Decided Unheard (option_and_then (λ held. held.last_rseq) found) number case
       → Result (first client) number (taken_as case (first client)) clients
   by_number None case clients own named is =
-      unheard case (first client) clients (λ _. own) (ap (heard_number case InitialInvite) named ∙ is)
+      unheard case (first client) clients (λ _. own) (ap (heard_number case InitialInvite) named
+      ∙ is)
   by_number (Some number) case clients own named is =
       let last_rseq = option_and_then (λ (held : HeldDialog). held.last_rseq) found in
       subst (λ c. Result (first client) (Some number) (taken_as c (first client)) clients) (sym is)
@@ -226,7 +229,8 @@ module _ (event : Option Id) (life : DialogReference) (client : Client) (answer 
       (option_and_then (λ held. held.last_rseq) found) rseq (success_unheard client found answer))
   in_dialog final false clients own named =
       unheard (case_of final) (first client) clients (λ _. own)
-      (ap (heard_number (case_of final) InitialInvite) (name_laws.symm answer.name life.name ∙ named)
+      (ap (heard_number (case_of final) InitialInvite)
+      (name_laws.symm answer.name life.name ∙ named)
       ∙ unnamed_unheard (case_of final) InitialInvite)
 
   by_last : (final success named : Bool) (clients : Clients) → IsNamedSo (first client) answer found

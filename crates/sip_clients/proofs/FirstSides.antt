@@ -137,7 +137,8 @@ module _ (life : DialogReference) where
     settles status client InitialInvite =
         let found = first client in
         first_replied call life (noting status client) (answer_for status found) side.dialogs apart
-        made (replied status found) (is_dialog_id life.name (answer_for status found).name) refl refl
+        made (replied status found) (is_dialog_id life.name (answer_for status found).name) refl
+        refl
     settles status client (ReInvite own) =
         let found = with_asks (ReInvite own) client in
         other_replied call life client (answer_for status found) side.dialogs apart made
@@ -209,7 +210,8 @@ paid_in command (Err refusal) = quiet
 paid_in command (Ok pending) = in_one (name_in command.local_tag command.remote_tag)
     (λ held. discharge_life pending (Some command.content) held.dialog)
 
-pub pay_leads : (event : Event) (command : DialogBody) (pending : PendingRequest) (dialogs : Dialogs)
+pub pay_leads : (event : Event) (command : DialogBody) (pending : PendingRequest)
+    (dialogs : Dialogs)
     → AreApart dialogs
     → Leads (paid_in command (Ok pending)) dialogs
     (paid_at (name_in command.local_tag command.remote_tag) event pending command.content dialogs).0
@@ -219,9 +221,11 @@ pay_leads event command pending dialogs apart =
     (λ held. discharge_life pending (Some command.content) held.dialog)
     (paid_keeps event pending command.content) dialogs apart
 
-by_pay : (event : Event) (command : DialogBody) (pay : PendingRequest → Side → ClientTaken) (side : Side)
+by_pay : (event : Event) (command : DialogBody) (pay : PendingRequest → Side → ClientTaken)
+    (side : Side)
     (o : Result PendingRequest Refusal) → AreApart side.dialogs
-    → ((pending : PendingRequest) → Leads (paid_in command (Ok pending)) side.dialogs ((pay pending side).0).dialogs)
+    → ((pending : PendingRequest) → Leads (paid_in command (Ok pending)) side.dialogs
+    ((pay pending side).0).dialogs)
     → Leads (paid_in command o) side.dialogs
     ((paid_or_refused event command pay o side).0).dialogs
 by_pay event command pay side (Err refusal) apart pays = leads_same side.dialogs apart

@@ -42,15 +42,18 @@ id_itself x = grind (arith, common_steps)
 abbrev pub NoneOf : Id → List Id → Type 0
 NoneOf created_by ids = AllByRecursion (λ id. is_id created_by id ≡ false) ids
 
-none_now : (created_by : Id) (o : Option Id) (rest : List Id) → NoneOf created_by (cons_option o rest)
+none_now : (created_by : Id) (o : Option Id) (rest : List Id)
+    → NoneOf created_by (cons_option o rest)
     → (o ≡ Some created_by → ⊥) × NoneOf created_by rest
 none_now created_by None rest all = (λ e. absurd cc, all)
 none_now created_by (Some id) rest all = (
-  λ e. absurd (false≢true (sym all.0 ∙ ap (is_id created_by) (same_id id created_by e) ∙ id_itself created_by)),
+  λ e. absurd (false≢true (sym all.0 ∙ ap (is_id created_by) (same_id id created_by e)
+      ∙ id_itself created_by)),
   all.1,
 )
 
-pub apart_now : (created_by : Id) (o : Option Id) (rest : List Id) → IsDistinct is_id (cons_option o rest)
+pub apart_now : (created_by : Id) (o : Option Id) (rest : List Id)
+    → IsDistinct is_id (cons_option o rest)
     → IsDistinct is_id rest × (o ≡ Some created_by → NoneOf created_by rest)
 apart_now created_by None rest apart = (apart, λ e. absurd cc)
 apart_now created_by (Some id) rest apart = (
@@ -141,7 +144,8 @@ before_life Begins old new (Some n) now shown came none hears begun later = by_w
 
 module _ {S I : Type 0} (next : S → I → S) (event : I → Option Id) (number : S → I → Option ℕ)
     (shows : S → I → List ℕ) (ear : S → Option (Option ℕ)) (Sound : S → Type 0) (created_by : Id)
-    (step : (state : S) (input : I) → Sound state → (event input ≡ Some created_by → ear state ≡ None)
+    (step : (state : S) (input : I) → Sound state → (event input ≡ Some created_by → ear state
+    ≡ None)
     → Sound (next state input) × Listens (event input ≡ Some created_by) (ear state)
     (ear (next state input)) (number state input) (shows state input)) where
   abbrev pub came_from : S → List I → List ℕ

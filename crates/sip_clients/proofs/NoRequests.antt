@@ -114,7 +114,8 @@ invite_asks event invite clients = refl
 plain_by : (b : Bool) (event : Event) (plain : PlainCommand) (clients : Clients)
     → shown (cond {A = Clients × List CallOut} b
     (clients, refused event.id plain.call_id BadMethod)
-    (started event (client_for event.id OutOfDialog (plain_of event plain) plain.address) clients)).1
+    (started event (client_for event.id OutOfDialog (plain_of event plain) plain.address)
+    clients)).1
     ≡ []
 plain_by true event plain clients = refl
 plain_by false event plain clients =
@@ -138,7 +139,8 @@ request_asks event command side =
     (settled_asks event event.id said.1 side.clients))
     (none_shown bye.1 (bye_quiet name command.method done.1 done.0))
 
-prack_paid_asks : (event : Event) (command : DialogBody) (name : DialogId) (pending : PendingRequest)
+prack_paid_asks : (event : Event) (command : DialogBody) (name : DialogId)
+    (pending : PendingRequest)
     (side : Side) → shown (prack_paid event command name pending side).1 ≡ []
 prack_paid_asks event command name pending side =
     let paid = paid_at name event pending command.content side.dialogs in

@@ -228,13 +228,15 @@ pub invite_no_cancel : (event : Event) (invite : Invite)
     → SendsNoCancel (on_side (invite_taken event invite))
 invite_no_cancel event invite side =
     settled_no_cancel event event.id
-    (Starts (client_for event.id InitialInvite (invite_of event invite) invite.address)) side.clients
+    (Starts (client_for event.id InitialInvite (invite_of event invite) invite.address))
+    side.clients
     (invite_is_none event invite)
 
 pub invite_no_ack : (event : Event) (invite : Invite)
     → SendsNoAck (on_side (invite_taken event invite))
 invite_no_ack event invite side =
-    start_no_ack event.id (client_for event.id InitialInvite (invite_of event invite) invite.address)
+    start_no_ack event.id (client_for event.id InitialInvite (invite_of event invite)
+    invite.address)
 
 none_own : (ack cancel prack invite bye : Bool)
     → (((ack || cancel) || prack) || invite || bye) ≡ false → cancel ≡ false
@@ -404,7 +406,8 @@ pub request_no_ack : (event : Event) (command : DialogRequest)
 unfolding requested_at
 request_no_ack event command side = request_acks event command side
 
-service_none : (o : Option DialogFault) (sending : OutgoingRequest) → is_cancel sending.message ≡ false
+service_none : (o : Option DialogFault) (sending : OutgoingRequest) → is_cancel sending.message
+    ≡ false
     → IsNoCancel (service_by o sending)
 service_none None sending none = none
 service_none (Some fault) sending none = tt

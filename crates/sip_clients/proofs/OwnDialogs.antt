@@ -81,7 +81,8 @@ module _ (call_id : List ℕ) where
       (content_kept (bare_request_in held.dialog (codes "ACK") number (branch_of event) event.local)
       content ∙ own)
 
-  served_own : (event : Event) (pending : PendingRequest) (offer : Option Content) (held : HeldDialog)
+  served_own : (event : Event) (pending : PendingRequest) (offer : Option Content)
+      (held : HeldDialog)
       → IsDialogOf call_id held → IsOutcomeOf (discharged event pending offer held)
   unfolding discharged
   served_own event pending None held own = (own, tt)
@@ -91,13 +92,15 @@ module _ (call_id : List ℕ) where
       requested_own event (codes "PRACK")
       (Some record { rseq = rseq; cseq = number; method = codes "INVITE" }) content held own
 
-  kept_own : (pending : PendingRequest) (service : SendOutcome) (held : HeldDialog) → IsDialogOf call_id held
+  kept_own : (pending : PendingRequest) (service : SendOutcome) (held : HeldDialog)
+      → IsDialogOf call_id held
       → IsDialogOf call_id (kept_unless_sent pending service held)
   kept_own pending (Sent sending) held own = own
   kept_own pending Waits held own = own
   kept_own pending (Refused refusal) held own = own
 
-  pub owed_own : (event : Event) (pending : PendingRequest) (offer : Option Content) (held : HeldDialog)
+  pub owed_own : (event : Event) (pending : PendingRequest) (offer : Option Content)
+      (held : HeldDialog)
       → IsDialogOf call_id held → IsOutcomeOf (kept_pending event pending offer held)
   unfolding kept_pending
   owed_own event pending offer held own =
@@ -105,7 +108,8 @@ module _ (call_id : List ℕ) where
       let so = served_own event pending offer held own in
       (kept_own pending done.1 done.0 so.0, so.1)
 
-  dropped_own : (pending : PendingRequest) (service : SendOutcome) (held : HeldDialog) → IsDialogOf call_id held
+  dropped_own : (pending : PendingRequest) (service : SendOutcome) (held : HeldDialog)
+      → IsDialogOf call_id held
       → IsDialogOf call_id (dropped_if_sent pending service held)
   dropped_own pending (Sent sending) held own = own
   dropped_own pending Waits held own = own

@@ -142,7 +142,8 @@ module _ (call_id : List ℕ) where
       (automatic_body client answer.response) (heard_first client.kind rseq held)
       (heard_own call_id client.kind rseq held own)
 
-  case_own : (case : ReplyCase) (client : Client) (found : Option HeldDialog) (answer : ReceivedResponse)
+  case_own : (case : ReplyCase) (client : Client) (found : Option HeldDialog)
+      (answer : ReceivedResponse)
       → answer.call_id ≡ call_id → IsRequestOf call_id client
       → IfSome found (IsDialogOf call_id) → IsInDialogOf (by_reply_case case client found answer)
   case_own reply.Repeated client found answer is its own = record {
@@ -218,7 +219,8 @@ module _ (call_id : List ℕ) where
             change = so.change;
           }
 
-  replied_own : (answer : ReceivedResponse) (client : Client) (side : Side) → answer.call_id ≡ call_id
+  replied_own : (answer : ReceivedResponse) (client : Client) (side : Side) → answer.call_id
+      ≡ call_id
       → IsRequestOf call_id client → IsSideOf call_id side
       → IsTakenOf (reply_settled answer client side)
   replied_own answer client side is its own =

@@ -93,20 +93,24 @@ request_same event method content held refusal e =
     unless None is = absurd cc
     unless (Some first) is = refl
 
-served_same : (event : Event) (pending_requests : PendingRequest) (content : Content) (held : HeldDialog)
-    (refusal : Refusal) → (discharged event pending_requests (Some content) held).1 ≡ Refused refusal
+served_same : (event : Event) (pending_requests : PendingRequest) (content : Content)
+    (held : HeldDialog)
+    (refusal : Refusal) → (discharged event pending_requests (Some content) held).1
+    ≡ Refused refusal
     → (discharged event pending_requests (Some content) held).0 ≡ held
 unfolding discharged
 served_same event (pending.Ack invite number) content held refusal e = refl
 served_same event (pending.Prack rseq number) content held refusal e =
     requested_same event (codes "PRACK") _ content held refusal e
 
-debt_same : (event : Event) (pending_requests : PendingRequest) (content : Content) (held : HeldDialog)
+debt_same : (event : Event) (pending_requests : PendingRequest) (content : Content)
+    (held : HeldDialog)
     (refusal : Refusal) → (paid event pending_requests content held).1 ≡ Refused refusal
     → (paid event pending_requests content held).0 ≡ held
 unfolding paid
 debt_same event pending_requests content held refusal e =
-    ap (λ service. dropped_if_sent pending_requests service (discharged event pending_requests (Some content) held).0) e
+    ap (λ service. dropped_if_sent pending_requests service
+    (discharged event pending_requests (Some content) held).0) e
     ∙ served_same event pending_requests content held refusal e
 
 -- ---- a request in a dialog, an ACK and a PRACK
@@ -171,22 +175,26 @@ module _ (event : Event) (side : Side) where
 
   abbrev ack_done : DialogId → DialogBody → PendingRequest → Dialogs → SendOutcome → ClientTaken
   ack_done name command pending_requests dialogs service =
-      let said = ack_said event command.call_id service in
-      (record { dialogs = dialogs; clients = ack_kept pending_requests name said.1 side.clients }, said.0)
+      let said = ack_said event command.call_id service in (
+        record { dialogs = dialogs; clients = ack_kept pending_requests name said.1 side.clients },
+        said.0,
+      )
 
   none_noted : (pending_requests : PendingRequest) (name : DialogId) (clients : Clients)
       → ack_kept pending_requests name None clients ≡ clients
   none_noted (pending.Ack invite number) name clients = refl
   none_noted (pending.Prack rseq number) name clients = refl
 
-  ack_by : (name : DialogId) (command : DialogBody) (pending_requests : PendingRequest) (dialogs : Dialogs)
+  ack_by : (name : DialogId) (command : DialogBody) (pending_requests : PendingRequest)
+      (dialogs : Dialogs)
       (service : SendOutcome) → Keeps dialogs service
       → Lonely command.call_id (ack_done name command pending_requests dialogs service)
   ack_by name command pending_requests dialogs (Sent sending) same =
       silent side command.call_id event.id
       (ack_done name command pending_requests dialogs (Sent sending)) refl
   ack_by name command pending_requests dialogs Waits same =
-      silent side command.call_id event.id (ack_done name command pending_requests dialogs Waits) refl
+      silent side command.call_id event.id (ack_done name command pending_requests dialogs Waits)
+      refl
   ack_by name command pending_requests dialogs (Refused refusal) same = λ some. (
     refusal,
     ap (λ (kept : Dialogs). (
@@ -227,7 +235,8 @@ module _ (event : Event) (side : Side) where
       let name = name_in command.local_tag command.remote_tag in
       paid_either (Lonely command.call_id) event command (ack_paid event command name) side
       (pending_for kind.Ack name side.dialogs) (told_alone side command.call_id event.id)
-      (λ pending_requests. ack_by name command pending_requests (paid_at name event pending_requests command.content side.dialogs).0
+      (λ pending_requests. ack_by name command pending_requests
+      (paid_at name event pending_requests command.content side.dialogs).0
       (paid_at name event pending_requests command.content side.dialogs).1
       (paid_same name pending_requests command.content))
 
@@ -237,7 +246,8 @@ module _ (event : Event) (side : Side) where
       let name = name_in command.local_tag command.remote_tag in
       paid_either (Lonely command.call_id) event command (prack_paid event command name) side
       (pending_for kind.Prack name side.dialogs) (told_alone side command.call_id event.id)
-      (λ pending_requests. prack_by name command (paid_at name event pending_requests command.content side.dialogs).0
+      (λ pending_requests. prack_by name command (paid_at name event pending_requests
+      command.content side.dialogs).0
       (paid_at name event pending_requests command.content side.dialogs).1
       (paid_same name pending_requests command.content))
 

@@ -108,7 +108,8 @@ module _ (event : Event) (id : Id) (call_id : List ℕ) (response : Message) (si
     settles : Responded (Some status) (Some client) taken
     settles name =
         owes_as (Some event.id)
-        (λ pending_requests. pending_requests ++ leaves event id call_id response status client side.dialogs apart named
+        (λ pending_requests. pending_requests ++ leaves event id call_id response status client
+        side.dialogs apart named
         name done)
         (λ pending_requests. pending_requests ++ owes_by (Some status) (Some client) name taken.1)
         (dialog_at name side.dialogs) (dialog_at name done.1)
@@ -126,7 +127,8 @@ module _ (event : Event) (id : Id) (call_id : List ℕ) (response : Message) (si
 
   pub response_leaves : (name : DialogId)
       → let taken = response_taken event id call_id response side in
-      Owes (Some event.id) (λ pending_requests. pending_requests ++ response_owes id response side.clients name
+      Owes (Some event.id) (λ pending_requests. pending_requests
+      ++ response_owes id response side.clients name
       (dialog_at name side.dialogs) taken.1) (dialog_at name side.dialogs)
       (dialog_at name (taken.0).dialogs)
   response_leaves = by_client (status_of response.start) (client_at id side.clients)

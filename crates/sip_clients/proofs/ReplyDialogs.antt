@@ -73,7 +73,8 @@ success_keeps OutOfDialog response held = keeps_same held
 makes_first : (kind : RequestKind) (final again inside : Bool) (last_rseq rseq : Option ℕ)
     → may_make (if final then (if again then reply.Repeated
     else (if has_dialog kind None then reply.Accepted else reply.Late))
-    else (if inside && has_dialog kind None then reliable_case last_rseq rseq else reply.Told)) ≡ true
+    else (if inside && has_dialog kind None then reliable_case last_rseq rseq else reply.Told))
+    ≡ true
     → kind ≡ InitialInvite
 makes_first InitialInvite final again inside last_rseq rseq makes = refl
 makes_first (ReInvite life) true true inside last_rseq rseq makes = absurd cc
@@ -102,7 +103,8 @@ first_name client answer found own none =
     let to = (answer.response).to in
     let tags = name_of_dialog (dialog_opened (ByResponse client.request answer.response)) in
     let same : answer.name ≡ tags =
-    own ∙ (λ i. dialog_id_of_tags (sym (tag_kept (tag_of from)) i) (sym (tag_kept (tag_of to)) i)) in
+    own ∙ (λ i. dialog_id_of_tags (sym (tag_kept (tag_of from)) i) (sym (tag_kept (tag_of to)) i))
+    in
     ap (λ name. is_dialog_id name tags) same ∙ name_laws.refl tags
 
 pub reply_names : (client : Client) (answer : ReceivedResponse) (found : Option HeldDialog)
@@ -158,7 +160,8 @@ module _ (event : Option Id) (client : Client) (answer : ReceivedResponse)
   GoesHere case found after =
       (other : DialogId) → is_dialog_id answer.name other ≡ true → GoesTo case found after other
 
-  opens_so : IsNamedSo client answer None → (other : DialogId) → is_dialog_id answer.name other ≡ true
+  opens_so : IsNamedSo client answer None → (other : DialogId) → is_dialog_id answer.name other
+      ≡ true
       → OpensBy (Some start) other start
   opens_so named other same =
       (refl, same_name answer.name other (name_of_dialog (dialog_opened start)) (named refl) same)
@@ -246,7 +249,8 @@ module _ (event : Option Id) (client : Client) (answer : ReceivedResponse)
   Answered case before after = Moves event (Some start)
       (λ name. heard_number case client.kind (is_dialog_id answer.name name))
       (in_one answer.name (case_life case))
-      (λ name. cond (is_dialog_id answer.name name) (case_begun case (dialog_at answer.name before)) [])
+      (λ name. cond (is_dialog_id answer.name name) (case_begun case (dialog_at answer.name before))
+      [])
       before after
 
   still : (b : Bool) (o : Option HeldDialog) → Stays None (λ held. cond b [] []) o o

@@ -146,7 +146,8 @@ module _ (event : Event) (id : Id) (call_id : List ℕ) (response : Message) (st
     case_cseqs reply.Accepted o = []
     case_cseqs reply.Late o = []
     case_cseqs (reply.Reliable number) o =
-        discharge_cseqs (Prack number ((client.request).cseq).number) (automatic_body client response)
+        discharge_cseqs (Prack number ((client.request).cseq).number)
+        (automatic_body client response)
         (dialog_for_provisional client answer o).dialog
     case_cseqs reply.Passed o = []
     case_cseqs reply.Early o = []
@@ -204,10 +205,12 @@ module _ (event : Event) (id : Id) (call_id : List ℕ) (response : Message) (st
     case_numbered reply.Accepted o = numbered_none (number_before (Some start) o)
     case_numbered reply.Late o = numbered_none (number_before (Some start) o)
     case_numbered (reply.Reliable number) None =
-        discharge_numbered (Prack number ((client.request).cseq).number) (automatic_body client response)
+        discharge_numbered (Prack number ((client.request).cseq).number)
+        (automatic_body client response)
         (dialog_for_provisional client answer None).dialog
     case_numbered (reply.Reliable number) (Some held) =
-        discharge_numbered (Prack number ((client.request).cseq).number) (automatic_body client response)
+        discharge_numbered (Prack number ((client.request).cseq).number)
+        (automatic_body client response)
         held.dialog
     case_numbered reply.Passed o = numbered_none (number_before (Some start) o)
     case_numbered reply.Early o = numbered_none (number_before (Some start) o)
@@ -232,7 +235,8 @@ module _ (event : Event) (id : Id) (call_id : List ℕ) (response : Message) (st
     -- what happens in the dialog of each name
     abbrev brings : ReplyCase → Lives
     brings case name held =
-        cond (is_dialog_id own name) (case_success case (success_brings client.kind response held)) []
+        cond (is_dialog_id own name) (case_success case (success_brings client.kind response held))
+        []
 
     prack_same : (number : ℕ) (name : DialogId) (held : HeldDialog)
         → dialog_at name dialogs ≡ Some held → (b : Bool) → is_dialog_id own name ≡ b
@@ -381,7 +385,8 @@ module _ (event : Event) (id : Id) (call_id : List ℕ) (response : Message) (st
     case_left case = case_owes sent_now ack_debt prack_debt case
 
     ack_here : (o : Option HeldDialog)
-        → Owes (Some event.id) (λ pending_requests. pending_requests ++ unless_out (goes (acked_so o).1) ack_debt) o
+        → Owes (Some event.id) (λ pending_requests. pending_requests
+        ++ unless_out (goes (acked_so o).1) ack_debt) o
         (Some (acked_so o).0)
     unfolding ack_owed
     ack_here None =
@@ -397,7 +402,8 @@ module _ (event : Event) (id : Id) (call_id : List ℕ) (response : Message) (st
 
     prack_here : (rseq : ℕ) (o : Option HeldDialog)
         → Owes (Some event.id)
-        (λ pending_requests. pending_requests ++ unless_out (goes (pracked_so rseq o).1) (prack_debt rseq)) o
+        (λ pending_requests. pending_requests ++ unless_out (goes (pracked_so rseq o).1)
+        (prack_debt rseq)) o
         (Some (pracked_so rseq o).0)
     unfolding prack_owed
     prack_here rseq None =
@@ -426,30 +432,37 @@ module _ (event : Event) (id : Id) (call_id : List ℕ) (response : Message) (st
     -- of each name
     abbrev LeavesIn : List PendingRequest → Dialogs → DialogId → Type 0
     LeavesIn left after name =
-        Owes (Some event.id) (λ pending_requests. pending_requests ++ cond (is_dialog_id own name) left [])
+        Owes (Some event.id) (λ pending_requests. pending_requests
+        ++ cond (is_dialog_id own name) left [])
         (dialog_at name dialogs) (dialog_at name after)
 
     nothing_left : (name : DialogId) → LeavesIn [] dialogs name
     nothing_left name =
         let held = dialog_at name dialogs in
-        owes_as (Some event.id) unchanged (λ pending_requests. pending_requests ++ cond (is_dialog_id own name) [] []) held
-        held (λ pending_requests. sym (ap (λ xs. pending_requests ++ xs) (none_either (is_dialog_id own name))
+        owes_as (Some event.id) unchanged (λ pending_requests. pending_requests
+        ++ cond (is_dialog_id own name) [] []) held
+        held (λ pending_requests. sym (ap (λ xs. pending_requests ++ xs)
+        (none_either (is_dialog_id own name))
         ∙ append-nil pending_requests)) (inl (still_same held))
 
     put_leaves : (left : List PendingRequest) (after : HeldDialog)
-        → Owes (Some event.id) (λ pending_requests. pending_requests ++ left) found (Some after) → (name : DialogId)
+        → Owes (Some event.id) (λ pending_requests. pending_requests ++ left) found (Some after)
+        → (name : DialogId)
         → LeavesIn left (insert_entry is_dialog_id dialogs own after) name
     put_leaves left after here name =
-        subst (Owes (Some event.id) (λ pending_requests. pending_requests ++ cond (is_dialog_id own name) left [])
+        subst (Owes (Some event.id) (λ pending_requests. pending_requests
+        ++ cond (is_dialog_id own name) left [])
         (dialog_at name dialogs))
         (sym (entries.found_inserted name_laws own name after dialogs))
         (by_name (is_dialog_id own name) refl)
       where
         by_name : (b : Bool) → is_dialog_id own name ≡ b
-            → Owes (Some event.id) (λ pending_requests. pending_requests ++ cond b left []) (dialog_at name dialogs)
+            → Owes (Some event.id) (λ pending_requests. pending_requests ++ cond b left [])
+            (dialog_at name dialogs)
             (cond b (Some after) (dialog_at name dialogs))
         by_name true is =
-            subst (λ o. Owes (Some event.id) (λ pending_requests. pending_requests ++ left) o (Some after))
+            subst (λ o. Owes (Some event.id) (λ pending_requests. pending_requests ++ left) o
+            (Some after))
             (sym (entries.same_key name_laws own name dialogs is)) here
         by_name false is =
             let held = dialog_at name dialogs in
@@ -487,7 +500,8 @@ module _ (event : Event) (id : Id) (call_id : List ℕ) (response : Message) (st
         let held = dialog_for_provisional client answer found in
         ap (list_any is_of_prack) (said_change name event call_id own (pracked_so rseq found).1)
         ∙ prack_owes name own event (heard_first client.kind rseq held)
-        (ap (λ dialog. is_dialog_id own (name_of_dialog dialog)) (heard_dialog client.kind rseq held)
+        (ap (λ dialog. is_dialog_id own (name_of_dialog dialog))
+        (heard_dialog client.kind rseq held)
         ∙ opened_named found refl so) same rseq invite_number (automatic_body client response)
 
     case_given : (case : ReplyCase) → Named case → (name : DialogId) → is_dialog_id own name ≡ true
@@ -537,7 +551,8 @@ module _ (event : Event) (id : Id) (call_id : List ℕ) (response : Message) (st
 
     abbrev RepliedOwes : Replied → Type 0
     RepliedOwes done = (name : DialogId)
-        → Owes (Some event.id) (λ pending_requests. pending_requests ++ leaves name done) (dialog_at name dialogs)
+        → Owes (Some event.id) (λ pending_requests. pending_requests ++ leaves name done)
+        (dialog_at name dialogs)
         (dialog_at name done.1)
 
     last_owes : (last : Bool) → is_last client.kind status ≡ last
@@ -546,7 +561,8 @@ module _ (event : Event) (id : Id) (call_id : List ℕ) (response : Message) (st
     last_owes true last name =
         let done = request_over client dialogs answer in
         let before = dialog_at name dialogs in
-        owes_as (Some event.id) unchanged (λ pending_requests. pending_requests ++ leaves name done) before
+        owes_as (Some event.id) unchanged (λ pending_requests. pending_requests ++ leaves name done)
+        before
         (dialog_at name done.1)
         (λ pending_requests. sym (ap (λ xs. pending_requests ++ xs)
         (last_asks (given name done.2 done.3) ack_debt prack_debt asker.kind before
@@ -555,8 +571,10 @@ module _ (event : Event) (id : Id) (call_id : List ℕ) (response : Message) (st
         (inl (ended_same client (ends_dialog status) dialogs apart name))
     last_owes false last name =
         let done = after_dialog own dialogs (by_reply_case case_now client found answer) in
-        owes_as (Some event.id) (λ pending_requests. pending_requests ++ cond (is_dialog_id own name) (case_left case_now) [])
-        (λ pending_requests. pending_requests ++ leaves name done) (dialog_at name dialogs) (dialog_at name done.1)
+        owes_as (Some event.id) (λ pending_requests. pending_requests
+        ++ cond (is_dialog_id own name) (case_left case_now) [])
+        (λ pending_requests. pending_requests ++ leaves name done) (dialog_at name dialogs)
+        (dialog_at name done.1)
         (λ pending_requests. ap (λ xs. pending_requests ++ xs) (sym (case_now_leaves last name)))
         (case_leaves case_now name)
 

@@ -32,7 +32,8 @@ use Rattle.sip_clients.proofs.WithoutStarts.{AreQuiet, none_started, ended_quiet
 abbrev pub IsKept : Client → Client → Type 0
 IsKept before after = (after.kind ≡ before.kind) × (after.cancel ≡ before.cancel)
 
-pub rest_kept : (case : ReplyCase) (client : Client) (found : Option HeldDialog) (answer : ReceivedResponse)
+pub rest_kept : (case : ReplyCase) (client : Client) (found : Option HeldDialog)
+    (answer : ReceivedResponse)
     → IsKept client (by_reply_case case client found answer).0
 rest_kept reply.Repeated client found answer = (refl, refl)
 rest_kept reply.Accepted client found answer = (refl, refl)
@@ -48,7 +49,8 @@ rest_kept reply.Passed client found answer = (refl, refl)
 rest_kept reply.Early client found answer = (refl, refl)
 rest_kept reply.Told client found answer = (refl, refl)
 
-pub case_fresh : (case : ReplyCase) (client : Client) (found : Option HeldDialog) (answer : ReceivedResponse)
+pub case_fresh : (case : ReplyCase) (client : Client) (found : Option HeldDialog)
+    (answer : ReceivedResponse)
     → StartsFresh (by_reply_case case client found answer).3
 unfolding prack_owed
 case_fresh reply.Repeated client found answer = tt

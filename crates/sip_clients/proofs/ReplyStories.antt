@@ -339,7 +339,8 @@ module _ (event : Event) (id : Id) (call_id : List ℕ) (response : Message) (st
   prack_for (service.Sent sending) is =
       let message = sending.message in
       record {
-        fresh = (λ i. client_for event.id (kind_in record { name = name; created_by = is.1 i } message)
+        fresh =
+            (λ i. client_for event.id (kind_in record { name = name; created_by = is.1 i } message)
             message sending.to)
             ∙ (λ i. client_for event.id
             (if sym is.0 i then OutOfDialog else for_dialog event name side.dialogs message) message
@@ -536,7 +537,8 @@ module _ (event : Event) (id : Id) (call_id : List ℕ) (response : Message) (st
   case_no_cancel (reply.Reliable rseq) =
       let held = dialog_for_provisional (after_response false client) answer found in
       let pending_requests = prack_owed rseq (after_response false client) held answer in
-      prack_none held.created_by pending_requests.1 (prack_is rseq (after_response false client) held answer)
+      prack_none held.created_by pending_requests.1 (prack_is rseq (after_response false client)
+      held answer)
   case_no_cancel reply.Passed = tt
   case_no_cancel reply.Early = tt
   case_no_cancel reply.Told = tt

@@ -178,7 +178,8 @@ module _ (event : Event) (command : DialogRequest) (side : Side) where
 
   abbrev request_step : Option HeldDialog → ClientTaken
   request_step found = request_done (option_map_or
-      (λ held. (set_value (is_dialog_id own_name) side.dialogs (serve held).0, (serve held).1)) found
+      (λ held. (set_value (is_dialog_id own_name) side.dialogs (serve held).0, (serve held).1))
+      found
       (side.dialogs, service.Refused refusal.NoSuchDialog))
 
   abbrev refuse : Refusal → ClientTaken
@@ -189,7 +190,8 @@ module _ (event : Event) (command : DialogRequest) (side : Side) where
       let sent = rule.start (side.clients, [])
       (rule.request_with_next_number event own_name command.method None command.content held) in
       let dialogs = set_value (is_dialog_id own_name) side.dialogs (rule.with_number held) in
-      let ended = bye_ended own_name command.method (service.Sent (sending_in event command.method None
+      let ended = bye_ended own_name command.method (service.Sent
+      (sending_in event command.method None
       command.content held)) dialogs in
       (record { dialogs = ended.0; clients = sent.0 }, sent.1 ++ ended.1)
 
@@ -230,7 +232,8 @@ request_same event command side =
 -- ---- an ACK or a PRACK
 
 -- which dialog is held after it
-abbrev pub dialog_by : SendOutcome → List PendingRequest → List PendingRequest → HeldDialog → HeldDialog
+abbrev pub dialog_by : SendOutcome → List PendingRequest → List PendingRequest → HeldDialog
+    → HeldDialog
 dialog_by (service.Sent sending) paid owing after = record after { pending_requests = paid }
 dialog_by service.Waits paid owing after = record after { pending_requests = owing }
 dialog_by (service.Refused why) paid owing after = record after { pending_requests = owing }
@@ -241,7 +244,8 @@ started_by change.Over = []
 started_by (change.Starts client) = client ∷ []
 
 -- the same of the step
-abbrev pub served_by : Event → List ℕ → DialogId → PendingRequest → List PendingRequest → List PendingRequest → Outcome
+abbrev pub served_by : Event → List ℕ → DialogId → PendingRequest → List PendingRequest
+    → List PendingRequest → Outcome
     → rule.PendingOutcome
 served_by event call_id name (Ack invite number) paid owing done = record {
   dialog = dialog_by done.1 paid owing done.0;
@@ -289,7 +293,8 @@ module _ (event : Event) (call_id : List ℕ) (name : DialogId) (held : HeldDial
 
   by_debt : (pending : PendingRequest) (content : Content)
       → sent_or pending content (option_map refusal_for_fault (fault_of pending held.dialog))
-      ≡ served_by event call_id name pending paid owing (discharged event pending (Some content) held)
+      ≡ served_by event call_id name pending paid owing
+      (discharged event pending (Some content) held)
   by_debt (Ack invite number) content =
       ack_by_fault invite number content (ack_fault held.dialog) refl
   by_debt (Prack rseq number) content =
@@ -310,7 +315,8 @@ module _ (event : Event) (call_id : List ℕ) (name : DialogId) (held : HeldDial
 
 -- ---- the user's ACK or PRACK
 
-same_debt : (pending other : PendingRequest) → rule.is_same_pending pending other ≡ is_same_pending pending other
+same_debt : (pending other : PendingRequest) → rule.is_same_pending pending other
+    ≡ is_same_pending pending other
 same_debt (Ack invite number) (Ack other_invite other_number) = refl
 same_debt (Ack invite number) (Prack other_rseq other_number) = refl
 same_debt (Prack rseq number) (Ack other_invite other_number) = refl
@@ -327,7 +333,8 @@ is_a_prack : (pending : PendingRequest) → is_for (codes "PRACK") pending ≡ i
 is_a_prack (Ack invite number) = refl
 is_a_prack (Prack rseq number) = refl
 
-pub owed_kept : (event : Event) (pending : PendingRequest) (content : Option Content) (held : HeldDialog)
+pub owed_kept : (event : Event) (pending : PendingRequest) (content : Option Content)
+    (held : HeldDialog)
     → (discharged event pending content held).0.pending_requests ≡ held.pending_requests
 unfolding discharged
 owed_kept event (Ack invite number) None held = refl
@@ -336,16 +343,23 @@ owed_kept event (Ack invite number) (Some content) held = refl
 owed_kept event (Prack rseq number) (Some content) held = refl
 
 -- where nothing is sent the dialog is as it was but for what is owed
-dropped : (pending : PendingRequest) (held after : HeldDialog) (o : SendOutcome) → after.pending_requests ≡ held.pending_requests
-    → dialog_by o (filter (λ other. not (is_same_pending pending other)) held.pending_requests) held.pending_requests after
+dropped : (pending : PendingRequest) (held after : HeldDialog) (o : SendOutcome)
+    → after.pending_requests ≡ held.pending_requests
+    → dialog_by o (filter (λ other. not (is_same_pending pending other)) held.pending_requests)
+    held.pending_requests after
     ≡ dropped_if_sent pending o after
 dropped pending held after (service.Sent sending) same =
     ap (λ (pending_requests : List PendingRequest).
-    record after { pending_requests = filter (λ other. not (is_same_pending pending other)) pending_requests }) (sym same)
+    record after {
+      pending_requests = filter (λ other. not (is_same_pending pending other))
+          pending_requests;
+    }) (sym same)
 dropped pending held after service.Waits same =
-    ap (λ (pending_requests : List PendingRequest). record after { pending_requests = pending_requests }) (sym same)
+    ap (λ (pending_requests : List PendingRequest). record after
+    { pending_requests = pending_requests }) (sym same)
 dropped pending held after (service.Refused why) same =
-    ap (λ (pending_requests : List PendingRequest). record after { pending_requests = pending_requests }) (sym same)
+    ap (λ (pending_requests : List PendingRequest). record after
+    { pending_requests = pending_requests }) (sym same)
 
 kept_same : (pending : PendingRequest) (name : DialogId) (ack : Option SentAck) (clients : Clients)
     → rule.ack_kept pending name ack clients ≡ ack_kept pending name ack clients
@@ -381,11 +395,13 @@ module _ (event : Event) (command : DialogBody) (side : Side) where
   abbrev rule_paid : HeldDialog → PendingRequest → ClientTaken
   rule_paid held pending =
       rule_after pending
-      (rule_served held pending (filter (λ other. not (rule.is_same_pending pending other)) held.pending_requests))
+      (rule_served held pending (filter (λ other. not (rule.is_same_pending pending other))
+      held.pending_requests))
 
   abbrev rule_found : List ℕ → Refusal → HeldDialog → ClientTaken
   rule_found method nothing held =
-      option_map_or (rule_paid held) (find (is_for method) held.pending_requests) (refuse_body nothing)
+      option_map_or (rule_paid held) (find (is_for method) held.pending_requests)
+      (refuse_body nothing)
 
   -- ---- the step
 
@@ -396,16 +412,19 @@ module _ (event : Event) (command : DialogBody) (side : Side) where
   step_served held pending = discharged event pending (Some command.content) held
 
   served_as : (held : HeldDialog) (pending : PendingRequest) → rule_paid held pending
-      ≡ rule_after pending (served_by event command.call_id asked_name pending (left pending held) held.pending_requests
+      ≡ rule_after pending (served_by event command.call_id asked_name pending (left pending held)
+      held.pending_requests
       (step_served held pending))
   served_as held pending =
       ap (rule_after pending) (ap (rule_served held pending)
       (λ i. filter (λ other. not (same_debt pending other i)) held.pending_requests)
-      ∙ served_same event command.call_id asked_name held (left pending held) held.pending_requests pending
+      ∙ served_same event command.call_id asked_name held (left pending held) held.pending_requests
+      pending
       (Some command.content))
 
   dropped_in : (held : HeldDialog) (pending : PendingRequest)
-      → dialog_by (step_served held pending).1 (left pending held) held.pending_requests (step_served held pending).0
+      → dialog_by (step_served held pending).1 (left pending held) held.pending_requests
+      (step_served held pending).0
       ≡ dropped_if_sent pending (step_served held pending).1 (step_served held pending).0
   dropped_in held pending =
       dropped pending held (step_served held pending).0 (step_served held pending).1
@@ -413,7 +432,8 @@ module _ (event : Event) (command : DialogBody) (side : Side) where
 
   abbrev at_name : (HeldDialog → Outcome) → Option HeldDialog → Dialogs × SendOutcome
   at_name serve found = option_map_or
-      (λ held. (set_value (is_dialog_id asked_name) side.dialogs (serve held).0, (serve held).1)) found
+      (λ held. (set_value (is_dialog_id asked_name) side.dialogs (serve held).0, (serve held).1))
+      found
       (side.dialogs, service.Waits)
 
   -- ---- the command Ack
@@ -433,7 +453,8 @@ module _ (event : Event) (command : DialogBody) (side : Side) where
   ack_paid_same held invite number at =
       let pending = Ack invite number in
       let said = ack_said event command.call_id (step_served held pending).1 in
-      let after : rule_paid held pending ≡ ack_after pending (at_name (paid event pending command.content)
+      let after : rule_paid held pending ≡ ack_after pending
+      (at_name (paid event pending command.content)
       (Some held)) = served_as held pending ∙ (λ i. (
         record {
           dialogs = set_value (is_dialog_id asked_name) side.dialogs (dropped_in held pending i);
@@ -445,14 +466,16 @@ module _ (event : Event) (command : DialogBody) (side : Side) where
       (sym at)
 
   ack_owed : (held : HeldDialog) (found : Option PendingRequest)
-      → dialog_at asked_name side.dialogs ≡ Some held → find (is_of kind.Ack) held.pending_requests ≡ found
+      → dialog_at asked_name side.dialogs ≡ Some held → find (is_of kind.Ack) held.pending_requests
+      ≡ found
       → option_map_or (rule_paid held) found (refuse_body refusal.NothingToAck)
       ≡ paid_or_refused event command (ack_paid event command asked_name)
       (debt_or_refusal kind.Ack found) side
   ack_owed held None at is = refl
   ack_owed held (Some (Ack invite number)) at is = ack_paid_same held invite number at
   ack_owed held (Some (Prack rseq number)) at is =
-      absurd (false≢true (found_passes (is_of kind.Ack) held.pending_requests (Prack rseq number) is))
+      absurd (false≢true (found_passes (is_of kind.Ack) held.pending_requests (Prack rseq number)
+      is))
 
   ack_in : (found : Option HeldDialog) → dialog_at asked_name side.dialogs ≡ found
       → option_map_or (rule_found (codes "ACK") refusal.NothingToAck) found
@@ -467,7 +490,8 @@ module _ (event : Event) (command : DialogBody) (side : Side) where
 
   -- ---- the command Prack
 
-  prack_by_service : (pending : PendingRequest) (dialogs : Dialogs) (o : SendOutcome) → is_of kind.Prack pending ≡ true
+  prack_by_service : (pending : PendingRequest) (dialogs : Dialogs) (o : SendOutcome)
+      → is_of kind.Prack pending ≡ true
       → (let said = request_said event command.call_id asked_name o in
       let sent = fold rule.start (rule.ack_kept pending asked_name None side.clients, said.0)
       (started_by said.1) in
@@ -508,14 +532,16 @@ module _ (event : Event) (command : DialogBody) (side : Side) where
       ∙ ap (λ found. prack_after (at_name (paid event pending command.content) found)) (sym at)
 
   prack_owed : (held : HeldDialog) (found : Option PendingRequest)
-      → dialog_at asked_name side.dialogs ≡ Some held → find (is_of kind.Prack) held.pending_requests ≡ found
+      → dialog_at asked_name side.dialogs ≡ Some held
+      → find (is_of kind.Prack) held.pending_requests ≡ found
       → option_map_or (rule_paid held) found (refuse_body refusal.NothingToPrack)
       ≡ paid_or_refused event command (prack_paid event command asked_name)
       (debt_or_refusal kind.Prack found) side
   prack_owed held None at is = refl
   prack_owed held (Some (Prack rseq number)) at is = prack_paid_same held rseq number at
   prack_owed held (Some (Ack invite number)) at is =
-      absurd (false≢true (found_passes (is_of kind.Prack) held.pending_requests (Ack invite number) is))
+      absurd (false≢true (found_passes (is_of kind.Prack) held.pending_requests (Ack invite number)
+      is))
 
   prack_in : (found : Option HeldDialog) → dialog_at asked_name side.dialogs ≡ found
       → option_map_or (rule_found (codes "PRACK") refusal.NothingToPrack) found

@@ -142,7 +142,8 @@ prack_put event id side cancel client dialogs call_id name told (service.Refused
 
 -- ---- what a response asks for
 
-abbrev seen : Event → List ℕ → DialogId → PendingRequest → HeldDialog × SendOutcome → rule.PendingOutcome
+abbrev seen : Event → List ℕ → DialogId → PendingRequest → HeldDialog × SendOutcome
+    → rule.PendingOutcome
 seen event call_id name (Ack invite number) done = record {
   dialog = done.0;
   ack = (ack_said event call_id done.1).1;
@@ -156,18 +157,24 @@ seen event call_id name (Prack rseq number) done = record {
   outs = (request_said event call_id name done.1).0;
 }
 
-kept_in : (pending : PendingRequest) (held after : HeldDialog) (o : SendOutcome) → after.pending_requests ≡ held.pending_requests
-    → dialog_by o held.pending_requests (held.pending_requests ++ pending ∷ []) after ≡ kept_unless_sent pending o after
+kept_in : (pending : PendingRequest) (held after : HeldDialog) (o : SendOutcome)
+    → after.pending_requests ≡ held.pending_requests
+    → dialog_by o held.pending_requests (held.pending_requests ++ pending ∷ []) after
+    ≡ kept_unless_sent pending o after
 kept_in pending held after (service.Sent sending) same =
-    ap (λ (pending_requests : List PendingRequest). record after { pending_requests = pending_requests }) (sym same)
+    ap (λ (pending_requests : List PendingRequest). record after
+    { pending_requests = pending_requests }) (sym same)
 kept_in pending held after service.Waits same =
-    ap (λ (pending_requests : List PendingRequest). record after { pending_requests = pending_requests ++ pending ∷ [] }) (sym same)
+    ap (λ (pending_requests : List PendingRequest). record after
+    { pending_requests = pending_requests ++ pending ∷ [] }) (sym same)
 kept_in pending held after (service.Refused why) same =
-    ap (λ (pending_requests : List PendingRequest). record after { pending_requests = pending_requests ++ pending ∷ [] }) (sym same)
+    ap (λ (pending_requests : List PendingRequest). record after
+    { pending_requests = pending_requests ++ pending ∷ [] }) (sym same)
 
 owed_seen : (event : Event) (call_id : List ℕ) (name : DialogId) (pending : PendingRequest)
     (content : Option Content) (held : HeldDialog)
-    → served_by event call_id name pending held.pending_requests (held.pending_requests ++ pending ∷ [])
+    → served_by event call_id name pending held.pending_requests
+    (held.pending_requests ++ pending ∷ [])
     (discharged event pending content held)
     ≡ seen event call_id name pending (kept_pending event pending content held)
 unfolding kept_pending
@@ -184,10 +191,12 @@ owed_seen event call_id name (Prack rseq number) content held =
 
 owed_same : (event : Event) (call_id : List ℕ) (name : DialogId) (pending : PendingRequest)
     (content : Option Content) (held : HeldDialog)
-    → rule.pending_outcome event call_id name pending content held (record held { pending_requests = held.pending_requests ++ pending ∷ [] })
+    → rule.pending_outcome event call_id name pending content held
+    (record held { pending_requests = held.pending_requests ++ pending ∷ [] })
     ≡ seen event call_id name pending (kept_pending event pending content held)
 owed_same event call_id name pending content held =
-    served_same event call_id name held held.pending_requests (held.pending_requests ++ pending ∷ []) pending content
+    served_same event call_id name held held.pending_requests
+    (held.pending_requests ++ pending ∷ []) pending content
     ∙ owed_seen event call_id name pending content held
 
 -- ---- one response
@@ -274,7 +283,8 @@ module _ (answer : ReceivedResponse) (side : Side) (cancel : Option Client) wher
       ∙ over_put answer.event answer.id side cancel client _ _
 
   abbrev asked_for : Option Content → PendingRequest → HeldDialog → rule.PendingOutcome
-  asked_for content pending held = rule.pending_outcome answer.event answer.call_id answer.name pending content held
+  asked_for content pending held =
+      rule.pending_outcome answer.event answer.call_id answer.name pending content held
       (record held { pending_requests = held.pending_requests ++ pending ∷ [] })
 
   abbrev with_served : (Option SentAck → Client) → rule.PendingOutcome → Outcome
@@ -347,7 +357,8 @@ module _ (answer : ReceivedResponse) (side : Side) (cancel : Option Client) wher
 
   ack_first : (client : Client)
       → ours (with_served (λ ack. held_after_success answer ack (initial client))
-      (asked_for (automatic_body client answer.response) (Ack client.id ((client.request).cseq).number)
+      (asked_for (automatic_body client answer.response)
+      (Ack client.id ((client.request).cseq).number)
       (option_map_or (success_in true answer.response) (dialog_at answer.name side.dialogs)
       (dialog_made_by answer client))))
       ≡ theirs (after_dialog answer.name side.dialogs (accepted_by_ack (initial client)
@@ -355,7 +366,8 @@ module _ (answer : ReceivedResponse) (side : Side) (cancel : Option Client) wher
   ack_first client =
       ap (λ (held : HeldDialog).
       ours (with_served (λ ack. held_after_success answer ack (initial client))
-      (asked_for (automatic_body client answer.response) (Ack client.id ((client.request).cseq).number)
+      (asked_for (automatic_body client answer.response)
+      (Ack client.id ((client.request).cseq).number)
       held)))
       (accepted_first client (dialog_at answer.name side.dialogs))
       ∙ ack_asked (initial client)
@@ -399,7 +411,8 @@ module _ (answer : ReceivedResponse) (side : Side) (cancel : Option Client) wher
           ≡ after_dialog answer.name side.dialogs (reliable rseq (initial client) held answer)
           = rw (f, d, at, is, case) refl in
           let hears : hearing rseq held ≡ last_rseq =
-          ap (λ (last : Option ℕ). record held { last_rseq = last }) (latest held.last_rseq rseq n) in
+          ap (λ (last : Option ℕ). record held { last_rseq = last }) (latest held.last_rseq rseq n)
+          in
           ap ours left ∙ prack_asked (initial client) content rseq number last_rseq
           ∙ ap (λ (last_rseq : HeldDialog).
           let done = kept_pending answer.event (Prack rseq number) content last_rseq in
@@ -438,155 +451,158 @@ module _ (answer : ReceivedResponse) (side : Side) (cancel : Option Client) wher
       (λ s. rw (f, s) (over (initial client)))) (provisional_of_first client)
   -- ---- a re-INVITE: the response is of its dialog
 
-module _ (life : DialogReference) (given : ReceivedResponse) (side : Side) (cancel : Option Client) where
-  abbrev own : ReceivedResponse
-  own = record given { name = life.name }
+module _ (life : DialogReference) (given : ReceivedResponse) (side : Side) (cancel : Option Client)
+  where
+    abbrev own : ReceivedResponse
+    own = record given { name = life.name }
 
-  abbrev again : Client → Client
-  again client = record client { kind = ReInvite life }
+    abbrev again : Client → Client
+    again client = record client { kind = ReInvite life }
 
-  ack_again_owed : (client : Client) (held : HeldDialog)
-      → ours own side cancel
-      (with_served own side cancel (λ ack. held_after_success own ack (again client))
-      (asked_for own side cancel (automatic_body client own.response)
-      (Ack client.id ((client.request).cseq).number) (success_in false own.response held)))
-      ≡ theirs own side cancel (after_dialog own.name side.dialogs
-      (accepted_by_ack (again client) (accepted (again client) own (Some held)) own))
-  ack_again_owed client held =
-      ap (λ (held : HeldDialog). ours own side cancel
-      (with_served own side cancel (λ ack. held_after_success own ack (again client))
-      (asked_for own side cancel (automatic_body client own.response)
-      (Ack client.id ((client.request).cseq).number) held)))
-      (success_again own.response held)
-      ∙ ack_asked own side cancel (again client)
-      (accepted (again client) own (Some held))
+    ack_again_owed : (client : Client) (held : HeldDialog)
+        → ours own side cancel
+        (with_served own side cancel (λ ack. held_after_success own ack (again client))
+        (asked_for own side cancel (automatic_body client own.response)
+        (Ack client.id ((client.request).cseq).number) (success_in false own.response held)))
+        ≡ theirs own side cancel (after_dialog own.name side.dialogs
+        (accepted_by_ack (again client) (accepted (again client) own (Some held)) own))
+    ack_again_owed client held =
+        ap (λ (held : HeldDialog). ours own side cancel
+        (with_served own side cancel (λ ack. held_after_success own ack (again client))
+        (asked_for own side cancel (automatic_body client own.response)
+        (Ack client.id ((client.request).cseq).number) held)))
+        (success_again own.response held)
+        ∙ ack_asked own side cancel (again client)
+        (accepted (again client) own (Some held))
 
-  success_of_again : (client : Client) (found : Option HeldDialog) → is_final own.status ≡ true
-      → nat_lt own.status 300 ≡ true → dialog_at life.name side.dialogs ≡ found
-      → Same own side cancel (again client)
-  success_of_again client found f s at = by_answered (has_answer own.name client.answers) found refl at
-    where
-      by_answered : (b : Bool) (found : Option HeldDialog) → has_answer own.name client.answers ≡ b
-          → dialog_at life.name side.dialogs ≡ found → Same own side cancel (again client)
-      by_answered true found h at =
-          rw (f, s, h) (stays own side cancel (again client) side.dialogs (ack_again client own))
-      by_answered false None h at =
-          rw (f, s, h, at) (stays own side cancel (held_after_success own None (again client))
-          side.dialogs (notice own))
-      by_answered false (Some held) h at =
-          by_bool (is_id held.created_by life.created_by)
-          (λ l. rw (f, s, h, at, l) (ack_again_owed client held))
-          (λ l. rw (f, s, h, at, l) (stays own side cancel
-          (held_after_success own None (again client)) side.dialogs (notice own)))
+    success_of_again : (client : Client) (found : Option HeldDialog) → is_final own.status ≡ true
+        → nat_lt own.status 300 ≡ true → dialog_at life.name side.dialogs ≡ found
+        → Same own side cancel (again client)
+    success_of_again client found f s at =
+        by_answered (has_answer own.name client.answers) found refl at
+      where
+        by_answered : (b : Bool) (found : Option HeldDialog) → has_answer own.name client.answers ≡ b
+            → dialog_at life.name side.dialogs ≡ found → Same own side cancel (again client)
+        by_answered true found h at =
+            rw (f, s, h) (stays own side cancel (again client) side.dialogs (ack_again client own))
+        by_answered false None h at =
+            rw (f, s, h, at) (stays own side cancel (held_after_success own None (again client))
+            side.dialogs (notice own))
+        by_answered false (Some held) h at =
+            by_bool (is_id held.created_by life.created_by)
+            (λ l. rw (f, s, h, at, l) (ack_again_owed client held))
+            (λ l. rw (f, s, h, at, l) (stays own side cancel
+            (held_after_success own None (again client)) side.dialogs (notice own)))
 
-  early_of_again : (client : Client) (held : HeldDialog) (rseq : Option ℕ)
-      → is_final own.status ≡ false → is_dialog_response own ≡ true
-      → is_id held.created_by life.created_by ≡ true → dialog_at life.name side.dialogs ≡ Some held
-      → rseq_of own.response ≡ rseq → Same own side cancel (again client)
-  unfolding prack_owed
-  early_of_again client held None f d l at is =
-      rw (f, at, l, d, is) (stays own side cancel (again client)
-      (insert_entry is_dialog_id side.dialogs own.name held) (notice own))
-  early_of_again client held (Some rseq) f d l at is =
-      by_next (is_next client.last_rseq rseq) refl (goes client.last_rseq rseq)
-    where
-      by_next : (b : Bool) → is_next client.last_rseq rseq ≡ b
-          → Goes b (offer_case (offered client.last_rseq rseq) rseq) rseq
-          → Same own side cancel (again client)
-      by_next true n case =
-          let content = automatic_body client own.response in
-          let number = ((client.request).cseq).number in
-          let after : Client = record (again client) { last_rseq = Some rseq } in
-          let left : outcome_of own (again client) side.dialogs
-          ≡ with_served own side cancel (λ ack. after)
-          (asked_for own side cancel content (Prack rseq number) held)
-          = rw (f, at, l, d, is, n) refl in
-          let right : reply_taken (again client) side.dialogs own
-          ≡ after_dialog own.name side.dialogs (reliable rseq (again client) held own)
-          = rw (f, at, l, d, is, case) refl in
-          let hears_it : hears rseq (again client) ≡ after =
-          ap (λ (last : Option ℕ). record (again client) { last_rseq = last })
-          (latest client.last_rseq rseq n) in
-          ap (ours own side cancel) left
-          ∙ prack_asked own side cancel after content rseq number held
-          ∙ ap (λ (after : Client).
-          let done = kept_pending own.event (Prack rseq number) content held in
-          let told = told_of_prack own done.1 in
-          theirs own side cancel (
-            after,
-            insert_entry is_dialog_id side.dialogs own.name done.0,
-            told.0,
-            told.1,
-          )) (sym hears_it)
-          ∙ ap (theirs own side cancel) (sym right)
-      by_next false n case =
-          let left : outcome_of own (again client) side.dialogs ≡ record {
-            request = Some (again client);
-            dialogs = side.dialogs;
-            outs = [];
-            prack = [];
-          } = rw (f, at, l, d, is, n) refl in
-          let right : reply_taken (again client) side.dialogs own
-          ≡ (again client, side.dialogs, [], Stays)
-          = rw (f, at, l, d, is, case) refl in
-          ap (ours own side cancel) left ∙ stays own side cancel (again client) side.dialogs []
-          ∙ ap (theirs own side cancel) (sym right)
+    early_of_again : (client : Client) (held : HeldDialog) (rseq : Option ℕ)
+        → is_final own.status ≡ false → is_dialog_response own ≡ true
+        → is_id held.created_by life.created_by ≡ true → dialog_at life.name side.dialogs ≡ Some held
+        → rseq_of own.response ≡ rseq → Same own side cancel (again client)
+    unfolding prack_owed
+    early_of_again client held None f d l at is =
+        rw (f, at, l, d, is) (stays own side cancel (again client)
+        (insert_entry is_dialog_id side.dialogs own.name held) (notice own))
+    early_of_again client held (Some rseq) f d l at is =
+        by_next (is_next client.last_rseq rseq) refl (goes client.last_rseq rseq)
+      where
+        by_next : (b : Bool) → is_next client.last_rseq rseq ≡ b
+            → Goes b (offer_case (offered client.last_rseq rseq) rseq) rseq
+            → Same own side cancel (again client)
+        by_next true n case =
+            let content = automatic_body client own.response in
+            let number = ((client.request).cseq).number in
+            let after : Client = record (again client) { last_rseq = Some rseq } in
+            let left : outcome_of own (again client) side.dialogs
+            ≡ with_served own side cancel (λ ack. after)
+            (asked_for own side cancel content (Prack rseq number) held)
+            = rw (f, at, l, d, is, n) refl in
+            let right : reply_taken (again client) side.dialogs own
+            ≡ after_dialog own.name side.dialogs (reliable rseq (again client) held own)
+            = rw (f, at, l, d, is, case) refl in
+            let hears_it : hears rseq (again client) ≡ after =
+            ap (λ (last : Option ℕ). record (again client) { last_rseq = last })
+            (latest client.last_rseq rseq n) in
+            ap (ours own side cancel) left
+            ∙ prack_asked own side cancel after content rseq number held
+            ∙ ap (λ (after : Client).
+            let done = kept_pending own.event (Prack rseq number) content held in
+            let told = told_of_prack own done.1 in
+            theirs own side cancel (
+              after,
+              insert_entry is_dialog_id side.dialogs own.name done.0,
+              told.0,
+              told.1,
+            )) (sym hears_it)
+            ∙ ap (theirs own side cancel) (sym right)
+        by_next false n case =
+            let left : outcome_of own (again client) side.dialogs ≡ record {
+              request = Some (again client);
+              dialogs = side.dialogs;
+              outs = [];
+              prack = [];
+            } = rw (f, at, l, d, is, n) refl in
+            let right : reply_taken (again client) side.dialogs own
+            ≡ (again client, side.dialogs, [], Stays)
+            = rw (f, at, l, d, is, case) refl in
+            ap (ours own side cancel) left ∙ stays own side cancel (again client) side.dialogs []
+            ∙ ap (theirs own side cancel) (sym right)
 
-  abbrev told_alone : Client → Outcome
-  told_alone client = record {
-    request = Some client;
-    dialogs = side.dialogs;
-    outs = notice own;
-    prack = [];
-  }
+    abbrev told_alone : Client → Outcome
+    told_alone client = record {
+      request = Some client;
+      dialogs = side.dialogs;
+      outs = notice own;
+      prack = [];
+    }
 
-  abbrev IsTold : Client → Type 0
-  IsTold client = (outcome_of own client side.dialogs ≡ told_alone client)
-      × (reply_taken client side.dialogs own ≡ (client, side.dialogs, notice own, Stays))
+    abbrev IsTold : Client → Type 0
+    IsTold client = (outcome_of own client side.dialogs ≡ told_alone client)
+        × (reply_taken client side.dialogs own ≡ (client, side.dialogs, notice own, Stays))
 
-  told_only : (client : Client) → IsTold client → Same own side cancel client
-  told_only client told =
-      ap (ours own side cancel) told.0 ∙ stays own side cancel client side.dialogs (notice own)
-      ∙ ap (theirs own side cancel) (sym told.1)
+    told_only : (client : Client) → IsTold client → Same own side cancel client
+    told_only client told =
+        ap (ours own side cancel) told.0 ∙ stays own side cancel client side.dialogs (notice own)
+        ∙ ap (theirs own side cancel) (sym told.1)
 
-  -- it has no dialog, or comes in none, or that has ended
-  told_by : (client : Client) (held : HeldDialog) (d l : Bool) → is_final own.status ≡ false
-      → dialog_at life.name side.dialogs ≡ Some held → is_dialog_response own ≡ d
-      → is_id held.created_by life.created_by ≡ l → (d && l) ≡ false → IsTold (again client)
-  told_by client held true true f at d l none = absurd cc
-  told_by client held true false f at d l none =
-      (rw (f, at, l) refl, rw (f, at, l, d) refl)
-  told_by client held false true f at d l none =
-      (rw (f, at, l, d) refl, rw (f, at, l, d) refl)
-  told_by client held false false f at d l none =
-      (rw (f, at, l) refl, rw (f, at, l, d) refl)
+    -- it has no dialog, or comes in none, or that has ended
+    told_by : (client : Client) (held : HeldDialog) (d l : Bool) → is_final own.status ≡ false
+        → dialog_at life.name side.dialogs ≡ Some held → is_dialog_response own ≡ d
+        → is_id held.created_by life.created_by ≡ l → (d && l) ≡ false → IsTold (again client)
+    told_by client held true true f at d l none = absurd cc
+    told_by client held true false f at d l none =
+        (rw (f, at, l) refl, rw (f, at, l, d) refl)
+    told_by client held false true f at d l none =
+        (rw (f, at, l, d) refl, rw (f, at, l, d) refl)
+    told_by client held false false f at d l none =
+        (rw (f, at, l) refl, rw (f, at, l, d) refl)
 
-  gone : (client : Client) (d : Bool) → is_final own.status ≡ false
-      → dialog_at life.name side.dialogs ≡ None → is_dialog_response own ≡ d
-      → IsTold (again client)
-  gone client true f at d = (rw (f, at) refl, rw (f, at, d) refl)
-  gone client false f at d = (rw (f, at) refl, rw (f, at, d) refl)
+    gone : (client : Client) (d : Bool) → is_final own.status ≡ false
+        → dialog_at life.name side.dialogs ≡ None → is_dialog_response own ≡ d
+        → IsTold (again client)
+    gone client true f at d = (rw (f, at) refl, rw (f, at, d) refl)
+    gone client false f at d = (rw (f, at) refl, rw (f, at, d) refl)
 
-  provisional_of_again : (client : Client) (found : Option HeldDialog)
-      → is_final own.status ≡ false → dialog_at life.name side.dialogs ≡ found
-      → Same own side cancel (again client)
-  provisional_of_again client None f at =
-      told_only (again client) (gone client (is_dialog_response own) f at refl)
-  provisional_of_again client (Some held) f at =
-      by_bool (is_dialog_response own)
-      (λ d. by_bool (is_id held.created_by life.created_by)
-      (λ l. early_of_again client held (rseq_of own.response) f d l at refl)
-      (λ l. told_only (again client) (told_by client held true false f at d l refl)))
-      (λ d. told_only (again client) (told_by client held false (is_id held.created_by life.created_by) f at d
-      refl refl))
+    provisional_of_again : (client : Client) (found : Option HeldDialog)
+        → is_final own.status ≡ false → dialog_at life.name side.dialogs ≡ found
+        → Same own side cancel (again client)
+    provisional_of_again client None f at =
+        told_only (again client) (gone client (is_dialog_response own) f at refl)
+    provisional_of_again client (Some held) f at =
+        by_bool (is_dialog_response own)
+        (λ d. by_bool (is_id held.created_by life.created_by)
+        (λ l. early_of_again client held (rseq_of own.response) f d l at refl)
+        (λ l. told_only (again client) (told_by client held true false f at d l refl)))
+        (λ d. told_only (again client) (told_by client held false
+        (is_id held.created_by life.created_by) f at d
+        refl refl))
 
-  re_invite : (client : Client) → Same own side cancel (again client)
-  re_invite client =
-      by_bool (is_final own.status)
-      (λ f. by_bool (nat_lt own.status 300)
-      (λ s. success_of_again client (dialog_at life.name side.dialogs) f s refl)
-      (λ s. rw (f, s) (over own side cancel (again client))))
-      (λ f. provisional_of_again client (dialog_at life.name side.dialogs) f refl)
+    re_invite : (client : Client) → Same own side cancel (again client)
+    re_invite client =
+        by_bool (is_final own.status)
+        (λ f. by_bool (nat_lt own.status 300)
+        (λ s. success_of_again client (dialog_at life.name side.dialogs) f s refl)
+        (λ s. rw (f, s) (over own side cancel (again client))))
+        (λ f. provisional_of_again client (dialog_at life.name side.dialogs) f refl)
 
 -- ---- any response
 
@@ -609,7 +625,8 @@ any_kind : (kind : RequestKind) (answer : ReceivedResponse) (side : Side) (cance
     (record client { kind = kind })
 any_kind InitialInvite answer side cancel client message =
     first (record answer { name = name_by InitialInvite client message }) side cancel client
-any_kind (ReInvite life) answer side cancel client message = re_invite life answer side cancel client
+any_kind (ReInvite life) answer side cancel client message =
+    re_invite life answer side cancel client
 any_kind (InDialog life) answer side cancel client message =
     other_inside (record answer { name = life.name }) side cancel life client
 any_kind OutOfDialog answer side cancel client message =

@@ -146,7 +146,8 @@ number_of_user false false prack e = refl
 
 module _ (name own : DialogId) (event : Event) (held : HeldDialog)
     (named : is_dialog_id own (name_of_dialog held.dialog) ≡ true) where
-  by_ack_fault : (number : ℕ) (content : Content) (fault : Option DialogFault) (sending : OutgoingRequest)
+  by_ack_fault : (number : ℕ) (content : Content) (fault : Option DialogFault)
+      (sending : OutgoingRequest)
       → cseq_of_request name sending.message ≡ None
       → service_cseqs name (service_by fault sending) ≡ cond (is_dialog_id own name) [] []
   by_ack_fault number content None sending none =

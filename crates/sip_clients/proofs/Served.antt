@@ -36,17 +36,20 @@ use Rattle.sip_clients.specs.Clients.{paid_or_refused}
 pub paid_either : (P : ClientTaken → Type 0) (event : Event) (command : DialogBody)
     (pay : PendingRequest → Side → ClientTaken) (side : Side) (o : Result PendingRequest Refusal)
     → ((refusal : Refusal) → P (side, refused event.id command.call_id refusal))
-    → ((pending : PendingRequest) → P (pay pending side)) → P (paid_or_refused event command pay o side)
+    → ((pending : PendingRequest) → P (pay pending side))
+    → P (paid_or_refused event command pay o side)
 paid_either P event command pay side (Err refusal) refuses pays = refuses refusal
 paid_either P event command pay side (Ok pending) refuses pays = pays pending
 
-pub found_passes : (p : PendingRequest → Bool) (pending_requests : List PendingRequest) (pending : PendingRequest) → find p pending_requests ≡ Some pending
+pub found_passes : (p : PendingRequest → Bool) (pending_requests : List PendingRequest)
+    (pending : PendingRequest) → find p pending_requests ≡ Some pending
     → p pending ≡ true
 found_passes p [] pending is = absurd cc
 found_passes p (first ∷ pending_requests) pending is =
     by_first (p first) refl is (λ later. found_passes p pending_requests pending later)
   where
-    by_first : (b : Bool) → p first ≡ b → cond b (Some first) (find p pending_requests) ≡ Some pending
+    by_first : (b : Bool) → p first ≡ b → cond b (Some first) (find p pending_requests)
+        ≡ Some pending
         → (find p pending_requests ≡ Some pending → p pending ≡ true) → p pending ≡ true
     by_first true passes is rest = let same : first ≡ pending = cc in ap p (sym same) ∙ passes
     by_first false fails is rest = rest is
@@ -65,7 +68,8 @@ module _ (name : DialogId) (serve : HeldDialog → Outcome) (otherwise : SendOut
   served_dialogs = by_found (dialog_at name dialogs)
     where
       by_found : (found : Option HeldDialog) → (served_in found).0
-          ≡ option_map_or (λ held. set_value (is_dialog_id name) dialogs (serve held).0) found dialogs
+          ≡ option_map_or (λ held. set_value (is_dialog_id name) dialogs (serve held).0) found
+          dialogs
       by_found None = refl
       by_found (Some held) = refl
 
@@ -114,7 +118,8 @@ by_dialog false false invite bye false true used is = refl
 by_dialog false false invite bye false false true is = refl
 by_dialog false false invite bye false false false is = refl
 
-sent_by : (method : List ℕ) (fault : Option DialogFault) (sending : OutgoingRequest) (held : HeldDialog)
+sent_by : (method : List ℕ) (fault : Option DialogFault) (sending : OutgoingRequest)
+    (held : HeldDialog)
     → sent_unless (option_map refusal_for_fault fault) sending held
     ≡ (lived (happens_by_sending method fault) held, service_by fault sending)
 sent_by method None sending held = refl

@@ -65,7 +65,8 @@ none_shown (out.Direct to bytes ∷ outs) quiet = none_shown outs quiet.1
 
 -- ---- what is told beside it
 
-pub request_said_quiet : (event : Event) (call_id : List ℕ) (name : DialogId) (service : SendOutcome)
+pub request_said_quiet : (event : Event) (call_id : List ℕ) (name : DialogId)
+    (service : SendOutcome)
     → AreQuiet (request_said event call_id name service).0
 request_said_quiet event call_id name (Sent sending) = tt
 request_said_quiet event call_id name Waits = tt
@@ -130,7 +131,8 @@ again_quiet : (o : Option SentAck) → AreQuiet (option_map_or (λ ack. direct a
 again_quiet None = tt
 again_quiet (Some ack) = (tt, tt)
 
-pub case_quiet : (case : ReplyCase) (client : Client) (found : Option HeldDialog) (answer : ReceivedResponse)
+pub case_quiet : (case : ReplyCase) (client : Client) (found : Option HeldDialog)
+    (answer : ReceivedResponse)
     → AreQuiet (by_reply_case case client found answer).2
 unfolding ack_owed prack_owed
 case_quiet reply.Repeated client found answer = again_quiet (ack_of answer.name client.answers)

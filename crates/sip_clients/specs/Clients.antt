@@ -54,10 +54,12 @@ settled event id (Starts client) clients = started event client clients
 
 -- the name of the dialog that it makes, or that its request was sent in
 abbrev pub reply_name : RequestKind → Client → Message → DialogId
-reply_name InitialInvite client response = dialog_id_of_tags (tag_of (client.request).from) (tag_of response.to)
+reply_name InitialInvite client response =
+    dialog_id_of_tags (tag_of (client.request).from) (tag_of response.to)
 reply_name (ReInvite life) client response = life.name
 reply_name (InDialog life) client response = life.name
-reply_name OutOfDialog client response = dialog_id_of_tags (tag_of (client.request).from) (tag_of response.to)
+reply_name OutOfDialog client response =
+    dialog_id_of_tags (tag_of (client.request).from) (tag_of response.to)
 
 -- the status of a response
 abbrev pub status_of : StartLine → Option ℕ
@@ -129,13 +131,15 @@ request_lost id timed_out side = lost_of id timed_out (client_at id side.clients
 -- the command Invite: an INVITE goes out and is held
 abbrev pub invite_taken : Event → Invite → Clients → Clients × List CallOut
 invite_taken event invite clients =
-    started event (client_for event.id InitialInvite (invite_of event invite) invite.address) clients
+    started event (client_for event.id InitialInvite (invite_of event invite) invite.address)
+    clients
 
 -- the command Plain: a request outside of dialogs, unless its method is none of a user's
 abbrev pub plain_taken : Event → PlainCommand → Clients → Clients × List CallOut
 plain_taken event plain clients =
     if is_bad_outside plain.method then (clients, refused event.id plain.call_id BadMethod)
-    else started event (client_for event.id OutOfDialog (plain_of event plain) plain.address) clients
+    else started event (client_for event.id OutOfDialog (plain_of event plain) plain.address)
+    clients
 
 -- ---- commands in a dialog
 
@@ -179,7 +183,8 @@ prack_paid event command name pending side =
     (record { dialogs = told.0; clients = after.0 }, told.1 ++ after.1)
 
 -- where nothing is owed the command is refused
-abbrev pub paid_or_refused : Event → DialogBody → (PendingRequest → Side → ClientTaken) → Result PendingRequest Refusal
+abbrev pub paid_or_refused : Event → DialogBody → (PendingRequest → Side → ClientTaken)
+    → Result PendingRequest Refusal
     → Side
     → ClientTaken
 paid_or_refused event command pay (Err refusal) side =

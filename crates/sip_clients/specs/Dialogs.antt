@@ -64,18 +64,21 @@ accepted client reply (Some held) = accepted_in client.kind reply.response held
 
 -- a reliable provisional response with this RSeq came
 abbrev pub hearing : ℕ → HeldDialog → HeldDialog
-hearing rseq held = record held { last_rseq = latest_after (offered held.last_rseq rseq) held.last_rseq rseq }
+hearing rseq held =
+    record held { last_rseq = latest_after (offered held.last_rseq rseq) held.last_rseq rseq }
 
 -- something is to be sent in the dialog of this name, if it is held: the dialogs after it, and what
 -- becomes of it
-abbrev pub served_at : DialogId → (HeldDialog → Outcome) → SendOutcome → Dialogs → Dialogs × SendOutcome
+abbrev pub served_at : DialogId → (HeldDialog → Outcome) → SendOutcome → Dialogs → Dialogs
+    × SendOutcome
 served_at name serve otherwise dialogs =
     option_map_or (λ held. (set_value (is_dialog_id name) dialogs (serve held).0, (serve held).1))
     (dialog_at name dialogs) (dialogs, otherwise)
 
 -- what is owed in it
 abbrev pub paid_at : DialogId → Event → PendingRequest → Content → Dialogs → Dialogs × SendOutcome
-paid_at name event pending content dialogs = served_at name (paid event pending content) Waits dialogs
+paid_at name event pending content dialogs =
+    served_at name (paid event pending content) Waits dialogs
 
 -- ---- what ends with a client request
 

@@ -35,7 +35,8 @@ is_first_success status client name = is_success status && not (has_answer name 
 abbrev pub reply_brings : ℕ → Client → Message → DialogId → HeldDialog → List Happening
 reply_brings status client response name held =
     let own = reply_name client.kind client response in
-    if is_dialog_id own name && is_first_success status client own && has_dialog client.kind (Some held)
+    if is_dialog_id own name && is_first_success status client own
+    && has_dialog client.kind (Some held)
     then success_brings client.kind response held else []
 
 -- the response to the request of this id

@@ -42,7 +42,8 @@ kind_in life message = if is_invite message then ReInvite life else InDialog lif
 -- the request that is held from then on
 abbrev pub client_of : Event → DialogId → OutgoingRequest → Client
 client_of event name sending =
-    client_for event.id (kind_in record { name = name; created_by = sending.created_by } sending.message)
+    client_for event.id (kind_in record { name = name; created_by = sending.created_by }
+    sending.message)
     sending.message sending.to
 
 -- what is told of it, and the request that is sent

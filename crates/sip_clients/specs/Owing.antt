@@ -60,7 +60,8 @@ asked_for status client response =
 -- it is owed where the user is told of the response, and it doesn't go out at once
 abbrev pub owed_if_told : DialogId → List CallOut → PendingRequest → List PendingRequest
 owed_if_told name outs pending =
-    if list_any is_response outs && not (goes_out (debt_kind pending) name outs) then pending ∷ [] else []
+    if list_any is_response outs && not (goes_out (debt_kind pending) name outs) then pending
+    ∷ [] else []
 
 -- what a response leaves owed in the dialog of the name, where its INVITE is the first one, which
 -- makes dialogs, or was sent in that dialog
@@ -84,19 +85,25 @@ response_owes id response clients name found outs =
 -- the oldest of the kind is owed no more
 abbrev pub oldest_paid : PendingKind → List PendingRequest → List PendingRequest
 oldest_paid kind pending_requests =
-    option_map_or (λ pending. filter (λ other. not (is_same_pending pending other)) pending_requests)
+    option_map_or (λ pending. filter (λ other. not (is_same_pending pending other))
+    pending_requests)
     (find (is_of kind) pending_requests) pending_requests
 
 -- so it is after a command for the dialog of the name, where one of the kind goes out
-abbrev pub command_pays : PendingKind → DialogBody → DialogId → List CallOut → List PendingRequest → List PendingRequest
+abbrev pub command_pays : PendingKind → DialogBody → DialogId → List CallOut → List PendingRequest
+    → List PendingRequest
 command_pays kind command name outs pending_requests =
     if is_dialog_id (name_in command.local_tag command.remote_tag) name && goes_out kind name outs
     then oldest_paid kind pending_requests else pending_requests
 
 -- the command Ack
-abbrev pub owed_after_ack : DialogBody → DialogId → List CallOut → List PendingRequest → List PendingRequest
-owed_after_ack command name outs pending_requests = command_pays kind.Ack command name outs pending_requests
+abbrev pub owed_after_ack : DialogBody → DialogId → List CallOut → List PendingRequest
+    → List PendingRequest
+owed_after_ack command name outs pending_requests =
+    command_pays kind.Ack command name outs pending_requests
 
 -- the command Prack
-abbrev pub owed_after_prack : DialogBody → DialogId → List CallOut → List PendingRequest → List PendingRequest
-owed_after_prack command name outs pending_requests = command_pays kind.Prack command name outs pending_requests
+abbrev pub owed_after_prack : DialogBody → DialogId → List CallOut → List PendingRequest
+    → List PendingRequest
+owed_after_prack command name outs pending_requests =
+    command_pays kind.Prack command name outs pending_requests

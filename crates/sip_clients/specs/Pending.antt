@@ -34,19 +34,26 @@ is_same_pending (Prack rseq number) (Prack other_rseq other_number) =
 -- owed further, unless it was sent
 abbrev pub kept_unless_sent : PendingRequest → SendOutcome → HeldDialog → HeldDialog
 kept_unless_sent pending (Sent sending) held = held
-kept_unless_sent pending Waits held = record held { pending_requests = held.pending_requests ++ pending ∷ [] }
-kept_unless_sent pending (Refused refusal) held = record held { pending_requests = held.pending_requests ++ pending ∷ [] }
+kept_unless_sent pending Waits held =
+    record held { pending_requests = held.pending_requests ++ pending ∷ [] }
+kept_unless_sent pending (Refused refusal) held =
+    record held { pending_requests = held.pending_requests ++ pending ∷ [] }
 
 -- the dialog after it, and what becomes of what is to be sent
 unfoldable pub kept_pending : Event → PendingRequest → Option Content → HeldDialog → Outcome
 kept_pending event pending offer held =
-    let done = discharged event pending offer held in (kept_unless_sent pending done.1 done.0, done.1)
+    let done = discharged event pending offer held in
+    (kept_unless_sent pending done.1 done.0, done.1)
 
 -- ---- the user serves it: it is owed no more where it is sent
 
 -- all debts but this one
 abbrev pub without_pending : PendingRequest → HeldDialog → HeldDialog
-without_pending pending held = record held { pending_requests = filter (λ other. not (is_same_pending pending other)) held.pending_requests }
+without_pending pending held =
+    record held {
+      pending_requests = filter (λ other. not (is_same_pending pending other))
+          held.pending_requests;
+    }
 
 -- owed no longer, where it was sent
 abbrev pub dropped_if_sent : PendingRequest → SendOutcome → HeldDialog → HeldDialog

@@ -178,7 +178,8 @@ pub(crate) fn note_ack(
     name: DialogId,
     ack: Option<SentAck>,
 ) -> Result<(), AllocError>
-    ensures { OnOk result (clients.new.entries ≡ spec.ack_kept pending name ack clients.old.entries) }
+    ensures { OnOk result (clients.new.entries ≡ spec.ack_kept pending name ack
+        clients.old.entries) }
 {
     match (pending, ack) {
         (PendingRequest::Ack { invite, .. }, Some(ack)) => note_ack_at(clients, invite, name, ack),

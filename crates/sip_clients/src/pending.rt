@@ -28,7 +28,8 @@ pub(crate) fn owe(
     pending: PendingRequest,
     offer: Option<Content>,
 ) -> Result<SendOutcome, AllocError>
-    ensures service { IfOk result (λ service. service ≡ (spec.kept_pending event pending offer held.old).1) }
+    ensures service { IfOk result (λ service. service
+        ≡ (spec.kept_pending event pending offer held.old).1) }
     ensures held { OnOk result (held.new ≡ (spec.kept_pending event pending offer held.old).0) }
 {
     let service = discharge(alloc, held, event, pending, offer)?;
@@ -58,7 +59,8 @@ pub(crate) fn pay(
     pending: PendingRequest,
     content: Content,
 ) -> Result<SendOutcome, AllocError>
-    ensures service { IfOk result (λ service. service ≡ (spec.paid event pending content held.old).1) }
+    ensures service { IfOk result (λ service. service
+        ≡ (spec.paid event pending content held.old).1) }
     ensures held { OnOk result (held.new ≡ (spec.paid event pending content held.old).0) }
 {
     let service = discharge(alloc, held, event, pending, Some(content))?;
@@ -92,7 +94,8 @@ fn drop_debt(alloc: Global, held: &mut HeldDialog, pending: PendingRequest)
 }
 
 fn remove(pending_requests: &mut Vec<PendingRequest>, pending: PendingRequest)
-    ensures { pending_requests.new.items ≡ filter (λ other. not (spec.is_same_pending pending other)) pending_requests.old.items }
+    ensures { pending_requests.new.items ≡ filter (λ other. not
+        (spec.is_same_pending pending other)) pending_requests.old.items }
 {
     pending_requests.retain(|other| !is_same(pending, *other));
 }

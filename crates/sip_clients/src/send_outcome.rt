@@ -139,7 +139,8 @@ fn prack(
 
 // Why a dialog refused, or want of memory.
 fn refused_by(fault: DialogFault) -> Result<SendOutcome, AllocError>
-    ensures service { (found : Option DialogFault) (sending : OutgoingRequest) → fault ≡ or_no_memory found
+    ensures service { (found : Option DialogFault) (sending : OutgoingRequest) → fault
+        ≡ or_no_memory found
         → IfOk result (λ service. service ≡ spec.service_by found sending) }
     ensures held { (found : Option DialogFault) (method : List ℕ) (held : HeldDialog)
         → fault ≡ or_no_memory found → OnOk result (held

@@ -13,21 +13,28 @@ use Rattle.sip_common.proofs.Heard.{AreApart, name_laws}
 
 -- ---- one dialog, before and after
 
-abbrev KeptOwed : (List PendingRequest → List PendingRequest) → HeldDialog → Option HeldDialog → Type 0
+abbrev KeptOwed : (List PendingRequest → List PendingRequest) → HeldDialog → Option HeldDialog
+    → Type 0
 KeptOwed change after None = ⊥
-KeptOwed change after (Some before) = (after.created_by ≡ before.created_by) × (after.pending_requests ≡ change before.pending_requests)
+KeptOwed change after (Some before) =
+    (after.created_by ≡ before.created_by) × (after.pending_requests
+    ≡ change before.pending_requests)
 
 -- it was there and what is owed in it changed so, or it is over
-abbrev pub OwesStill : (List PendingRequest → List PendingRequest) → Option HeldDialog → Option HeldDialog → Type 0
+abbrev pub OwesStill : (List PendingRequest → List PendingRequest) → Option HeldDialog
+    → Option HeldDialog → Type 0
 OwesStill change before None = Unit {0}
 OwesStill change before (Some after) = KeptOwed change after before
 
-abbrev pub OwesAnew : Option Id → (List PendingRequest → List PendingRequest) → Option HeldDialog → Type 0
+abbrev pub OwesAnew : Option Id → (List PendingRequest → List PendingRequest) → Option HeldDialog
+    → Type 0
 OwesAnew event change None = ⊥
-OwesAnew event change (Some after) = (event ≡ Some after.created_by) × (after.pending_requests ≡ change [])
+OwesAnew event change (Some after) =
+    (event ≡ Some after.created_by) × (after.pending_requests ≡ change [])
 
 -- that, or the event made it and nothing was owed in it before
-abbrev pub Owes : Option Id → (List PendingRequest → List PendingRequest) → Option HeldDialog → Option HeldDialog
+abbrev pub Owes : Option Id → (List PendingRequest → List PendingRequest) → Option HeldDialog
+    → Option HeldDialog
     → Type 0
 Owes event change before after = OwesStill change before after ⊎ OwesAnew event change after
 
@@ -41,7 +48,8 @@ still_same (Some held) = (refl, refl)
 pub still_over : (o : Option HeldDialog) → OwesStill unchanged o None
 still_over o = tt
 
-still_then : (change : List PendingRequest → List PendingRequest) (x y z : Option HeldDialog) → OwesStill change x y
+still_then : (change : List PendingRequest → List PendingRequest) (x y z : Option HeldDialog)
+    → OwesStill change x y
     → OwesStill unchanged y z → OwesStill change x z
 still_then change x y None first second = tt
 still_then change x None (Some z) first second = absurd second
@@ -50,14 +58,17 @@ still_then change (Some x) (Some y) (Some z) first second =
     (second.0 ∙ first.0, second.1 ∙ first.1)
 
 pub still_as : (change other : List PendingRequest → List PendingRequest) (x y : Option HeldDialog)
-    → ((pending_requests : List PendingRequest) → change pending_requests ≡ other pending_requests) → OwesStill change x y
+    → ((pending_requests : List PendingRequest) → change pending_requests ≡ other pending_requests)
+    → OwesStill change x y
     → OwesStill other x y
 still_as change other x None same still = tt
 still_as change other None (Some y) same still = absurd still
 still_as change other (Some x) (Some y) same still = (still.0, still.1 ∙ same x.pending_requests)
 
-pub owes_as : (event : Option Id) (change other : List PendingRequest → List PendingRequest) (x y : Option HeldDialog)
-    → ((pending_requests : List PendingRequest) → change pending_requests ≡ other pending_requests) → Owes event change x y
+pub owes_as : (event : Option Id) (change other : List PendingRequest → List PendingRequest)
+    (x y : Option HeldDialog)
+    → ((pending_requests : List PendingRequest) → change pending_requests ≡ other pending_requests)
+    → Owes event change x y
     → Owes event other x y
 owes_as event change other x y same (inl still) = inl (still_as change other x y same still)
 owes_as event change other x None same (inr begins) = absurd begins

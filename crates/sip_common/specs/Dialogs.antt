@@ -43,16 +43,19 @@ dialog_changed name change dialogs =
 -- a dialog that was made so is still held
 abbrev pub lives : Dialogs → DialogReference → Bool
 lives dialogs life =
-    option_map_or (λ held. is_id held.created_by life.created_by) (dialog_at life.name dialogs) false
+    option_map_or (λ held. is_id held.created_by life.created_by) (dialog_at life.name dialogs)
+    false
 
 -- the dialog of this name, as it is now
 abbrev pub reference_at : DialogId → Dialogs → Option DialogReference
 reference_at name dialogs =
-    option_map (λ held. record { name = name; created_by = held.created_by }) (dialog_at name dialogs)
+    option_map (λ held. record { name = name; created_by = held.created_by })
+    (dialog_at name dialogs)
 
 -- the life of the held dialog that a request with a To tag is in
 abbrev pub dialog_of_request : Message → DialogId → Dialogs → Option DialogReference
-dialog_of_request request name dialogs = if has_to_tag request then reference_at name dialogs else None
+dialog_of_request request name dialogs =
+    if has_to_tag request then reference_at name dialogs else None
 
 -- ---- what happens in a dialog
 

@@ -25,7 +25,8 @@ AllFit dialog (one ∷ life) = Fits dialog one × AllFit (happened dialog one) l
 
 -- what a request of the peer, a 2xx and a Contact make happen fits
 pub record CasesFit (held : HeldDialog) : Type 0 where
-  pub happenings_by_request : (request : Message) → AllFit held.dialog (happenings_by_request request held)
+  pub happenings_by_request : (request : Message) → AllFit held.dialog
+      (happenings_by_request request held)
   pub confirms : (response : Message) → AllFit held.dialog (confirms response held)
   pub retargets : (uri : Option (List ℕ)) → AllFit held.dialog (retargets uri held)
 

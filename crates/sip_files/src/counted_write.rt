@@ -26,7 +26,8 @@ pub trait CountedWrite {
     fn write_once(&mut self, bytes: &[u8]) -> io::Result<usize>
         ensures bound { WritesAtMost result bytes.now }
         ensures bytes { WriteAppends (contents self.old) (contents self.new) result bytes.now }
-        ensures failed { Counts (failures self.old) (failures self.new) (failures_of_write result) };
+        ensures failed { Counts (failures self.old) (failures self.new)
+            (failures_of_write result) };
 
     /// One flush, as `Write::flush` does it.
     ///

@@ -130,7 +130,8 @@ fits_by_parts : (line : List ℕ) (o : Option (List ℕ × List ℕ)) (name valu
     → IsTrue (is_other_name (long_name name)) × IsTrue (is_header_value value)
 fits_by_parts line None name value read same = absurd cc
 fits_by_parts line (Some parts) name value read same =
-    fits_by_name line parts (header_named parts.0) name value (line_reads.takes line parts read) refl
+    fits_by_name line parts (header_named parts.0) name value (line_reads.takes line parts read)
+    refl
     same
 
 -- of a line that is one of no header of the table, the name and the value can stay

@@ -59,7 +59,8 @@ headers_with m length = record {
 abbrev pub number_words : Headers → List Numeral
 number_words h =
     h.cseq.number ∷ (option_to_list h.max_forwards
-    ++ (option_to_list h.rseq ++ (flat_map (λ rack. rack.rseq ∷ (rack.cseq ∷ [])) (option_to_list h.rack)
+    ++ (option_to_list h.rseq ++ (flat_map (λ rack. rack.rseq ∷ (rack.cseq ∷ []))
+    (option_to_list h.rack)
     ++ option_to_list h.content_length)))
 
 -- the number

@@ -93,8 +93,8 @@ impl Host {
         Ok(())
     }
 
-    /// The lines of an event as they stand in a session file, the last one without its end: those of
-    /// a command may be headed by its header lines. An event of the next round.
+    /// The lines of an event as they stand in a session file, the last one without its end: those
+    /// of a command may be headed by its header lines. An event of the next round.
     ///
     /// # Errors
     ///

@@ -75,7 +75,8 @@ found_among p q only (x ∷ xs) = by (q x) refl (found_among p q only xs)
         → find p (cond r (x ∷ filter q xs) (filter q xs)) ≡ find p (x ∷ xs)
     by true is more = ap (λ o. cond (p x) (Some x) o) more
     by false is more =
-        let fails : p x ≡ false = false_from_ne_true (p x) (λ h. true≢false (sym (only x h) ∙ is)) in
+        let fails : p x ≡ false = false_from_ne_true (p x) (λ h. true≢false (sym (only x h) ∙ is))
+        in
         rw fails more
 
 -- a name is looked up among the headers with a name of its length
@@ -83,7 +84,8 @@ pub of_its_length : (n : ℕ) (name : List ℕ) → length name ≡ n
     → find (λ header. is_named header name) (filter (has_length n) headers) ≡ header_named name
 of_its_length n name long =
     found_among (λ header. is_named header name) (has_length n)
-    (λ header is. subst (λ m. has_length m header ≡ true) long (named_length header name is)) headers
+    (λ header is. subst (λ m. has_length m header ≡ true) long (named_length header name is))
+    headers
 
 -- there are none with a name of another length
 pub no_other_length : (n : ℕ) → ¬ (n ≡ 1) → ¬ (n ≡ 2) → ¬ (n ≡ 3) → ¬ (n ≡ 4) → ¬ (n ≡ 5)

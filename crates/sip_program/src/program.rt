@@ -34,8 +34,8 @@ impl Gate for Open {
 /// `ua replay` reads an event file from `input` and writes its output file to `output`, and `ua
 /// ladder` writes its ladder there; with `--session` both read a session file too. `ua listen` and
 /// `ua call` read nothing there, and write the lines of their notices to `output`; so does `ua
-/// agent`, which reads commands from the pipe of `rt`. A fault is told on `errors` after `ua: `, and
-/// a fault of the words as `clap` tells it. A write to `errors` that fails is passed over.
+/// agent`, which reads commands from the pipe of `rt`. A fault is told on `errors` after `ua: `,
+/// and a fault of the words as `clap` tells it. A write to `errors` that fails is passed over.
 pub fn ua<T: Threads + Host, S: AsStr, R: Read, W: Write, E: Write>(
     rt: &T,
     alloc: Global,

@@ -27,7 +27,8 @@ Examples:
   ua call --local 127.0.0.1:5080 --to 127.0.0.1:5070 --uri sip:b@127.0.0.1 --turns 200
   ua agent --local 127.0.0.1:5080 --record mine.events < commands
 
-Status: 0 success, 1 no event file or session file, 2 bad words, 3 a refused round, 4 a device that failed, \
+Status: 0 success, 1 no event file or session file, 2 bad words, 3 a refused round, 4 a device that
+failed, \
 5 no memory, 6 not answered";
 
 const REPLAY_EXAMPLE: &str = "\

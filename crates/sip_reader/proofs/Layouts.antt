@@ -252,7 +252,8 @@ no_end text line after is some_line other ends =
     let both : Some ([], other) ≡ Some (line, after) = sym empty ∙ line_again text line after is in
     some_line (ap (λ (p : List ℕ × List ℕ). p.0) (sym (same_Some _ _ both)))
 
-pub skip_again : (n : ℕ) (text start : List ℕ) (lines : List (List ℕ)) (rest : List ℕ) → IsFull start
+pub skip_again : (n : ℕ) (text start : List ℕ) (lines : List (List ℕ)) (rest : List ℕ)
+    → IsFull start
     → IsLines text (replicate n [] ++ (start ∷ lines)) rest
     → IsLines (without_line_ends text) (start ∷ lines) rest
 skip_again zero text start lines rest some_line is =

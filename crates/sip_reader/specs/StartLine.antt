@@ -29,8 +29,8 @@ pub record IsStatusCode (status : ℕ) (text : List ℕ) : Type 0 where
   pub least : 100 ≤ status
   pub most : status ≤ 699
 
--- The version, a space, the status code, a space and the reason. Where the reason is empty the space
--- before it may be missing, which is this project's choice.
+-- The version, a space, the status code, a space and the reason. Where the reason is empty the
+-- space before it may be missing, which is this project's choice.
 pub record IsStatusLine (status : ℕ) (reason line : List ℕ) : Type 0 where
   pub version : List ℕ
   pub code : List ℕ

@@ -101,8 +101,8 @@ pub fn head_of_a_message()
 
 /// What is written for a message with a content of the user's own has the content's headers behind
 /// those of the message, in order: the headers of any name outside the table, the tokens of Require
-/// and those of Supported. The content's contacts stand in place of the message's, where it has any.
-/// No header of the table that may stand once stands twice.
+/// and those of Supported. The content's contacts stand in place of the message's, where it has
+/// any. No header of the table that may stand once stands twice.
 pub fn headers_of_a_content()
     ensures others { (m : Message) (content : Content) (text name : List ℕ)
         (values : List (List ℕ)) → IsWrittenWith content m text → header_named name ≡ None

@@ -22,7 +22,8 @@ abbrev EndsSo : List CSeq → Option History → Type 0
 EndsSo said None = Unit {0}
 EndsSo said (Some history) = (earlier : List CSeq) × (said ≡ earlier ++ history.sent)
 
-ends_on : (said cseqs : List CSeq) (created_by : Bool) (start : Option Opening) (more : List Happening)
+ends_on : (said cseqs : List CSeq) (created_by : Bool) (start : Option Opening)
+    (more : List Happening)
     (history : Option History) → EndsSo said history
     → EndsSo (said ++ cseqs) (if created_by then option_map (begun_with cseqs) start
     else option_map (with_more more cseqs) history)

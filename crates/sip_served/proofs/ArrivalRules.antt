@@ -178,7 +178,8 @@ module _ (state : State) (call_id : List ℕ) (name : DialogId) (arrival : Arriv
   same_noted held at taken =
       let change : (HeldDialog → HeldDialog) → Option HeldDialog → State =
       λ change o. record state {
-        dialogs = option_map_or (λ held. set_value (is_dialog_id name) state.dialogs (change held)) o
+        dialogs =
+            option_map_or (λ held. set_value (is_dialog_id name) state.dialogs (change held)) o
             state.dialogs;
       } in
       ap (change (visited arrival.request)) at

@@ -106,11 +106,13 @@ answer_as : (local : Addr) (held : HeldRequest) (r : Answer)
     ≡ (is_invite held.request && is_success r.status)
 answer_as local held r =
     let plain = response_of held.request r.status r.reason held.tag in
-    let routed = if_so (makes_or_confirms_dialog held r.status) (with_routes local held.request) plain in
+    let routed = if_so (makes_or_confirms_dialog held r.status) (with_routes local held.request)
+    plain in
     let numbered = with_rseq (result_ok (send_answer held.ledger)) in
     content_as (if_so (is_sent_reliably held r.status r.reliability) numbered routed) r.content
     ∙ so_as (is_sent_reliably held r.status r.reliability) numbered (λ response. refl) routed
-    ∙ so_as (makes_or_confirms_dialog held r.status) (with_routes local held.request) (λ response. refl) plain
+    ∙ so_as (makes_or_confirms_dialog held r.status) (with_routes local held.request)
+    (λ response. refl) plain
 
 never_both : (status : ℕ) → nat_lt status 200 ≡ true → nat_le 200 status ≡ false
 never_both status e = grind (arith, common_steps)
@@ -183,7 +185,10 @@ given_waits : (response : Message) (event : Id) (r : Answer) (now : ℕ) (held :
     → awaits_ack (after_answer event r response now held)
     ≡ waits_now r response now held (is_success r.status)
 given_waits response event r now held =
-    let made : DialogReference = record { name = dialog_id_of held.request held.tag; created_by = event } in
+    let made : DialogReference = record {
+      name = dialog_id_of held.request held.tag;
+      created_by = event;
+    } in
     elim (makes_dialog held r.status) as (λ b. awaits_ack (answered r.status r.reliability response
     now (went_on (if b then MakesDialog made ∷ [] else []) held))
     ≡ waits_now r response now held (is_success r.status)) [

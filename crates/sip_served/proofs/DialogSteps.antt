@@ -65,12 +65,14 @@ noted_leads : (state : State) (name : DialogId) (request : Message) → AreApart
     → Leads (noted_life request name) state.dialogs (noted state name request).dialogs
 noted_leads state name request apart =
     elim (has_to_tag request) as (λ b.
-    Leads (λ other held. cond b (in_one name (happenings_by_request request) other held) []) state.dialogs
+    Leads (λ other held. cond b (in_one name (happenings_by_request request) other held) [])
+    state.dialogs
     (if b
     then record state { dialogs = dialog_changed name (visited request) state.dialogs }
     else state).dialogs) [
       | true ↦ leads_changed name (visited request) (happenings_by_request request)
-          (λ held. (refl, refl, ((cases_fit held).happenings_by_request request, refl))) state.dialogs apart
+          (λ held. (refl, refl, ((cases_fit held).happenings_by_request request, refl)))
+          state.dialogs apart
       | false ↦ leads_same state.dialogs apart
     ]
 
@@ -149,7 +151,8 @@ module _ (requests : List HeldRequest) (dialogs : Dialogs) (request : Message) (
     (other : DialogId) (held : HeldDialog) (at : dialog_at other dialogs ≡ Some held) where
   -- by whether it has a To tag
   abbrev name_by : Bool → DialogId
-  name_by outside = dialog_id_of_tags (if outside then tag else tag_of request.to) (tag_of request.from)
+  name_by outside =
+      dialog_id_of_tags (if outside then tag else tag_of request.to) (tag_of request.from)
 
   abbrev case_by : Bool → Bool → ArrivalCase
   case_by outside unknown =
@@ -171,7 +174,8 @@ module _ (requests : List HeldRequest) (dialogs : Dialogs) (request : Message) (
 
   by_outside : (outside unknown : Bool)
       → cond (notes (case_by outside unknown))
-      (cond (not outside) (in_one (name_by outside) (happenings_by_request request) other held) []) []
+      (cond (not outside) (in_one (name_by outside) (happenings_by_request request) other held) [])
+      []
       ≡ (if (not outside && is_dialog_id (name_by false) other) && true && not unknown
       && takes held request.cseq.number then happenings_by_request request held else [])
   by_outside true unknown = none_either (notes (case_by true unknown))
@@ -252,7 +256,8 @@ made_name request status makes =
     let tags = name_of_dialog (opened (ByRequest message request.tag status)) in
     let outside = both_not (length (tag_of message.to) == 0)
     (second_so (makes_or_confirms_dialog request status) (not (has_to_tag message))
-    (first_so (makes_or_confirms_dialog request status && not (has_to_tag message)) (is_none request.dialog)
+    (first_so (makes_or_confirms_dialog request status && not (has_to_tag message))
+    (is_none request.dialog)
     makes)) in
     let same : dialog_id_of message request.tag ≡ tags =
     λ i. dialog_id_of_tags (if outside i then request.tag else tag_of message.to)
@@ -330,7 +335,8 @@ module _ (event : Id) (state : State) (r : Answer) (now : ℕ) (apart : AreApart
       let life : Lives = λ name held. success_confirms request r.status [] name held in
       moves_led (Some event) (Some start) (λ other. []) life state.dialogs state.dialogs
       (leads_as quiet life state.dialogs state.dialogs
-      (λ name held at. sym (none_either (is_dialog_id (dialog_id_of request.request request.tag) name
+      (λ name held at. sym (none_either (is_dialog_id (dialog_id_of request.request request.tag)
+      name
       && confirms_dialog request r.status)))
       (leads_same state.dialogs apart))
   by_reason request None =

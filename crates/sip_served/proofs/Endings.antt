@@ -187,7 +187,8 @@ module _ (requests : List HeldRequest) (dialogs : Dialogs) (request : Message) (
 
   by_number : (in_order prack : Bool) → prack ≡ false
       → is_user (if not in_order then OutOfOrder
-      else (if prack then prack_case requests (own false) held.created_by request.rack else ForUser))
+      else (if prack then prack_case requests (own false) held.created_by request.rack else
+      ForUser))
       ≡ in_order
   by_number in_order true none = absurd cc
   by_number true false none = refl
@@ -216,7 +217,8 @@ module _ (requests : List HeldRequest) (dialogs : Dialogs) (request : Message) (
   by_name unknown false is bye = never_other (is_user (case_by false unknown) && true)
 
   by_outside : (outside unknown bye : Bool) → is_bye request ≡ bye
-      → ((is_user (case_by outside unknown) && (not outside && bye)) && is_dialog_id (own outside) name)
+      → ((is_user (case_by outside unknown) && (not outside && bye))
+      && is_dialog_id (own outside) name)
       ≡ (bye && (not outside && is_dialog_id (own false) name) && not unknown
       && takes held request.cseq.number)
   by_outside outside unknown false is =
@@ -291,7 +293,8 @@ not_both request status is =
 makes_not_rejects : (request : HeldRequest) (status : ℕ) → makes_dialog request status ≡ true
     → rejects request status ≡ false
 makes_not_rejects request status is =
-    not_both request status (first_so (makes_or_confirms_dialog request status) (not (has_to_tag request.request))
+    not_both request status (first_so (makes_or_confirms_dialog request status)
+    (not (has_to_tag request.request))
     (first_so (makes_or_confirms_dialog request status && not (has_to_tag request.request))
     (is_none request.dialog) is))
 

@@ -120,7 +120,8 @@ module _ (event : Id) where
   Owe before after = (name : DialogId)
       → Owes (Some event) unchanged (dialog_at name before) (dialog_at name after)
 
-  made_owes : (own : DialogId) (held : HeldDialog) → held.created_by ≡ event → held.pending_requests ≡ []
+  made_owes : (own : DialogId) (held : HeldDialog) → held.created_by ≡ event → held.pending_requests
+      ≡ []
       → (dialogs : Dialogs) → Owe dialogs (insert_entry is_dialog_id dialogs own held)
   made_owes own held created_by none dialogs name =
       subst (Owes (Some event) unchanged (dialog_at name dialogs))

@@ -203,7 +203,10 @@ pub given_as : (read : HeldRequest → List ℕ) (by : HeldRequest → List ℕ 
     → (held : HeldRequest)
     → read (after_answer event r response now held) ≡ by held (read held)
 given_as read by same response event r now answers held =
-    let made : DialogReference = record { name = dialog_id_of held.request held.tag; created_by = event } in
+    let made : DialogReference = record {
+      name = dialog_id_of held.request held.tag;
+      created_by = event;
+    } in
     elim (makes_dialog held r.status) as (λ b. read (answered r.status r.reliability response now
     (went_on (if b then MakesDialog made ∷ [] else []) held)) ≡ by held (read held)) [
       | true ↦ answers record held { dialog = Some made } ∙ same held (Some made)

@@ -145,7 +145,8 @@ module _ (story : RequestStory) where
   abbrev success_before : Option SuccessStory
   success_before = fold (success_by story.arrival) None story.life
 
-  abbrev held_so : Option DialogReference → Ledger → List ReliableResponse → Option Success → Option ℕ
+  abbrev held_so : Option DialogReference → Ledger → List ReliableResponse → Option Success
+      → Option ℕ
       → HeldRequest
   held_so dialog ledger provisionals success removal = record story.arrival {
     dialog = dialog;

@@ -74,7 +74,8 @@ is_merged request held =
 -- the request belongs to this dialog
 abbrev pub is_in_dialog : DialogId → Id → HeldRequest → Bool
 is_in_dialog name created_by held =
-    option_map_or (λ life. is_dialog_id life.name name && is_id life.created_by created_by) held.dialog false
+    option_map_or (λ life. is_dialog_id life.name name && is_id life.created_by created_by)
+    held.dialog false
 
 -- the RAck of a PRACK names a reliable provisional response to this INVITE that waits for one
 abbrev pub is_named_by : RAck → HeldRequest → Bool

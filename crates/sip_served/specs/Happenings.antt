@@ -21,7 +21,8 @@ use Rattle.sip_served.specs.State.{State, has_id}
 -- a request of the peer has the tags of the dialog
 abbrev pub is_of_name : Message → DialogId → Bool
 is_of_name request name =
-    has_to_tag request && is_dialog_id (dialog_id_of_tags (tag_of request.to) (tag_of request.from)) name
+    has_to_tag request && is_dialog_id (dialog_id_of_tags (tag_of request.to) (tag_of request.from))
+    name
 
 -- one whose options the agent knows is accepted where its number is above those before it; a CANCEL
 -- never is
@@ -36,7 +37,8 @@ accepts request name held =
 abbrev pub success_confirms : HeldRequest → ℕ → List Message → DialogId → HeldDialog
     → List Happening
 success_confirms request status responses name held =
-    if is_dialog_id (dialog_id_of request.request request.tag) name && confirms_dialog request status
+    if is_dialog_id (dialog_id_of request.request request.tag) name
+    && confirms_dialog request status
     then flat_map (λ response. confirms response held) responses else []
 
 -- so does the user's answer to the request of its id, where it isn't refused

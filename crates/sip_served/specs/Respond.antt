@@ -55,7 +55,8 @@ is_sent_reliably held status reliability =
 
 -- it makes or confirms a dialog, or is one of a dialog
 abbrev pub makes_or_confirms_dialog : HeldRequest → ℕ → Bool
-makes_or_confirms_dialog held status = is_invite held.request && (is_provisional status || is_success status)
+makes_or_confirms_dialog held status =
+    is_invite held.request && (is_provisional status || is_success status)
 
 -- the dialog of the request has ended
 abbrev pub has_ended : Dialogs → HeldRequest → Bool

@@ -311,7 +311,10 @@ fn make_dialog(
         ≡ insert_entry is_dialog_id dialogs.old.entries (dialog_id_of held.old.request held.old.tag)
         (spec.made_dialog event held.old status)) }
     ensures request { OnOk result (held.new ≡ record held.old {
-      dialog = Some record { name = dialog_id_of held.old.request held.old.tag; created_by = event };
+      dialog = Some record {
+        name = dialog_id_of held.old.request held.old.tag;
+        created_by = event;
+      };
     }) }
 {
     let name = dialog_id_of(alloc, held.request.get(), &held.tag)?;

@@ -133,7 +133,8 @@ module _ {P X M K S I O D : Type 0} (cmp : K → K → Ordering) (spec : M → M
   all_share (p ∷ ps) alike shared =
       ((alike.0, shared.0.0, shared.0.1), all_share ps alike.1 shared.1)
 
-  what_adds : {E : Type 0} (piece : P) (done : Result D E) → Gives piece done → IfOk done (Adds piece)
+  what_adds : {E : Type 0} (piece : P) (done : Result D E) → Gives piece done
+      → IfOk done (Adds piece)
   what_adds piece (Ok dealt) gives = gives.1
   what_adds piece (Err fault) gives = tt
 
@@ -159,7 +160,8 @@ module _ {P X M K S I O D : Type 0} (cmp : K → K → Ordering) (spec : M → M
       all_mapped (λ shard. machine_of shard ≡ machine) shard_of pieces
       (subst (AllByRecursion (λ shard. machine_of shard ≡ machine)) (sym are_shards) alike)
 
-  module _ {E : Type 0} (pieces : List P) (shards : List X) (are_shards : map shard_of pieces ≡ shards)
+  module _ {E : Type 0} (pieces : List P) (shards : List X)
+  (are_shards : map shard_of pieces ≡ shards)
       (alike : AllByRecursion (λ shard. machine_of shard ≡ machine) shards)
       (dones : List (ℕ × Result D E)) (new : List X) (all_ticks : List (K × List O))
       (all_said : List (ℕ × List O))
@@ -181,6 +183,7 @@ module _ {P X M K S I O D : Type 0} (cmp : K → K → Ordering) (spec : M → M
         (λ piece. held (shard_of piece)) items_of (λ dealt. held (after dealt)) ticks said machine
         now with_tick law pieces (map held shards) parts
         (map_twice held shard_of pieces ∙ ap (map held) are_shards) are_parts
-        (all_share pieces (of_one pieces shards are_shards alike) shared) dones (map held new) all_ticks all_said
+        (all_share pieces (of_one pieces shards are_shards alike) shared) dones (map held new)
+        all_ticks all_said
         (held_ended cmp held after ticks said dones new all_ticks all_said ended)
         (all_add pieces ended.gathered worked)

@@ -42,7 +42,8 @@ come due at = by_bool (due == at) (λ b. rw b) (λ b. rw b) ∙ nat_eq_equiv.sym
 -- the pair is taken out
 gone : (former at : ℕ) → cond (former == at) false (at == former) ≡ false
 gone former at =
-    by_bool (former == at) (λ same. rw same) (λ apart. rw apart (nat_eq_equiv.symm at former ∙ apart))
+    by_bool (former == at) (λ same. rw same) (λ apart. rw apart
+    (nat_eq_equiv.symm at former ∙ apart))
 
 -- a pair is put in, and then the former taken out
 come_gone : (former due at : ℕ) → (former ≡ due → ⊥)
@@ -255,7 +256,8 @@ module _ {K : Type 0} {cmp : K → K → Ordering} (total : IsTotalOrder cmp) wh
         let same : b.0 ≡ a.0 = same_Some b.0 a.0 (sym (at_place j d within)
         ∙ moment_tied total moments all index a.1 b.1 tied ∙ at_place i d within_too) in
         let equal : (a.0 == b.0) ≡ true = eq-eqb a.0 b.0 (sym same) in
-        absurd (false≢true (sym (ap is_eq (Less-from_sorted (due_cmp cmp) all i j d ordered lt within))
+        absurd (false≢true (sym (ap is_eq (Less-from_sorted (due_cmp cmp) all i j d ordered lt
+        within))
         ∙ tied_pair a.0 b.0 (cmp a.1 b.1) ∙ rw (equal, tied) refl)))
         (λ apart. rw (
           get_or-map (λ (p : ℕ × K). p.1) all i d k within_too,

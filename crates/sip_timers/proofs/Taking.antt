@@ -78,7 +78,8 @@ module _ {K : Type 0} {cmp : K → K → Ordering} (total : IsTotalOrder cmp) wh
 
     not_further : (q : K) → is_at (cmp q) e.0 ≡ true → is_due now (moment cmp es q) ≡ false
     not_further q tied =
-        ap (is_due now) (lookup-none (is_at (cmp q)) es (none_past_head (eq_by_cmp_equiv total) q e es
+        ap (is_due now) (lookup-none (is_at (cmp q)) es
+        (none_past_head (eq_by_cmp_equiv total) q e es
         (IsDistinct-from_sorted cmp (keys_of (e ∷ es)) in_order) tied))
 
     -- the first entry isn't due

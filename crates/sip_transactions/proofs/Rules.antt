@@ -296,17 +296,22 @@ row_is key now input state context row =
 abbrev context_in : Option Life → Context → Context
 context_in held context_at_first = option_map_or (λ life. life.context) held context_at_first
 
-idle_is : (key : Key) (now : ℕ) (held : Option Life) (context_at_first : Context) (message : Option Message)
+idle_is : (key : Key) (now : ℕ) (held : Option Life) (context_at_first : Context)
+    (message : Option Message)
     (trigger_of_message : Option Kind)
-    → by_row key now (state_of held) (context_in held context_at_first) message trigger_of_message (row_or None)
+    → by_row key now (state_of held) (context_in held context_at_first) message trigger_of_message
+    (row_or None)
     ≡ (held, [])
 idle_is key now None context_at_first message trigger_of_message = refl
 idle_is key now (Some life) context_at_first message trigger_of_message = refl
 
 -- an input that has something at hand
-found_is : (key : Key) (now : ℕ) (input : Option Input) (held : Option Life) (context_at_first : Context)
-    → context_of (role_of key) held input ≡ Some (context_in held context_at_first) → (found : Option Step)
-    → by_row key now (state_of held) (context_in held context_at_first) (message_in input) (kind_in input)
+found_is : (key : Key) (now : ℕ) (input : Option Input) (held : Option Life)
+    (context_at_first : Context)
+    → context_of (role_of key) held input ≡ Some (context_in held context_at_first)
+    → (found : Option Step)
+    → by_row key now (state_of held) (context_in held context_at_first) (message_in input)
+    (kind_in input)
     (row_or found)
     ≡ stepped_by key held now input found
 found_is key now input held context_at_first has None =
@@ -315,15 +320,19 @@ found_is key now input held context_at_first has (Some step) =
     row_is key now input (state_of held) (context_in held context_at_first) step
     ∙ λ i. steps.acted_if key now input (state_of held) (sym has i) step
 
-acted_is : (key : Key) (now : ℕ) (input : Option Input) (held : Option Life) (context_at_first : Context)
-    (trigger : Trigger) → context_of (role_of key) held input ≡ Some (context_in held context_at_first)
+acted_is : (key : Key) (now : ℕ) (input : Option Input) (held : Option Life)
+    (context_at_first : Context)
+    (trigger : Trigger) → context_of (role_of key) held input
+    ≡ Some (context_in held context_at_first)
     → row_applied key now held context_at_first trigger (message_in input) (kind_in input)
     ≡ stepped_by key held now input (row_of (rows_of (role_of key)) (state_of held) trigger)
 unfolding row_applied
 acted_is key now input held context_at_first trigger has =
-    ap (by_row key now (state_of held) (context_in held context_at_first) (message_in input) (kind_in input))
+    ap (by_row key now (state_of held) (context_in held context_at_first) (message_in input)
+    (kind_in input))
     (table_is key (state_of held) trigger)
-    ∙ found_is key now input held context_at_first has (row_of (rows_of (role_of key)) (state_of held) trigger)
+    ∙ found_is key now input held context_at_first has
+    (row_of (rows_of (role_of key)) (state_of held) trigger)
 
 by_ack : (ack : Bool) (message : Message) (reply_to : Addr)
     → ◌≡◌ {A = Trigger × Kind}
@@ -355,7 +364,8 @@ received_is key now held id message reply_to =
     (came_is message.start message reply_to i).0 (Some message)
     (Some (came_is message.start message reply_to i).1))
     ∙ acted_is key now (Some (input.Receive id message reply_to)) held
-    (context_at_first id message.call_id reply_to None) (arrival_of message.start message.cseq.method)
+    (context_at_first id message.call_id reply_to None)
+    (arrival_of message.start message.cseq.method)
     (has held)
   where
     has : (held : Option Life)
@@ -372,7 +382,8 @@ kept : (invite : Bool) (message : Message)
 kept true message = refl
 kept false message = refl
 
-no_start : (invite : Bool) (key : Key) (now : ℕ) (context_at_first : Context) (message : Option Message)
+no_start : (invite : Bool) (key : Key) (now : ℕ) (context_at_first : Context)
+    (message : Option Message)
     (input : Input)
     → by_row key now None context_at_first message None
     (row_or (row_of (rows_of (if invite then InviteServer else Server)) None on.Start))
@@ -391,16 +402,19 @@ started_at_client : (branch method : List ℕ) (now : ℕ) (held : Option Life) 
 unfolding step_at stepped step_for steps.begun
 started_at_client branch method now held id call_id message to =
     acted_is (key.Client branch method) now (Some (input.Start id call_id message to)) held
-    (context_at_first id call_id to (if bytes_eq method (codes "INVITE") then Some message else None)) on.Start
+    (context_at_first id call_id to (if bytes_eq method (codes "INVITE") then Some message else
+    None)) on.Start
     (has held)
   where
     has : (held : Option Life)
         → context_of (role_of (key.Client branch method)) held
         (Some (input.Start id call_id message to))
         ≡ Some (context_in held
-        (context_at_first id call_id to (if bytes_eq method (codes "INVITE") then Some message else None)))
+        (context_at_first id call_id to (if bytes_eq method (codes "INVITE") then Some message else
+        None)))
     has None = λ i.
-        Some (context_at_first id call_id to (kept (is_same_method method (codes "INVITE")) message i))
+        Some (context_at_first id call_id to (kept (is_same_method method (codes "INVITE")) message
+        i))
     has (Some life) = refl
 
 started_at_server : (branch : List ℕ) (sent_by : SentBy) (method : List ℕ) (now : ℕ)
@@ -422,7 +436,8 @@ started_at_server branch sent_by method now None id call_id message to =
 started_at_server branch sent_by method now (Some life) id call_id message to =
     acted_is (key.Server branch sent_by method) now (Some (input.Start id call_id message to))
     (Some life)
-    (context_at_first id call_id to (if bytes_eq method (codes "INVITE") then Some message else None))
+    (context_at_first id call_id to (if bytes_eq method (codes "INVITE") then Some message else
+    None))
     on.Start refl
 
 -- an answer
@@ -437,7 +452,8 @@ answered_is key now life id message = by message.start
         (elim line [
           | start.Request uri ↦ (Some life, [])
           | start.Response status reason ↦
-              row_applied key now (Some life) life.context (on.Answer (class_of status)) (Some message)
+              row_applied key now (Some life) life.context (on.Answer (class_of status))
+              (Some message)
               None
         ])
         (stepped_by key (Some life) now (Some (input.Answer id message))

@@ -55,7 +55,8 @@ fed_nothing kind (Some text) before = record {
   next = refl;
 }
 
-pub fed_front : (kind : FileKind) (known left : Option (List ℕ)) (before now : List PipeLine) (number : ℕ)
+pub fed_front : (kind : FileKind) (known left : Option (List ℕ)) (before now : List PipeLine)
+    (number : ℕ)
     → IfSome known (λ text. FedSoFar kind text left before now number)
     → IfSome known (PostsFront kind before now)
 fed_front kind None left before now number so_far = tt
@@ -63,14 +64,16 @@ fed_front kind (Some text) left before now number so_far =
     (so_far.said, so_far.rest, so_far.appended, so_far.lines)
 
 -- a line was read of what is left
-pub fed_more : (kind : FileKind) (known left later : Option (List ℕ)) (before now next : List PipeLine) (number : ℕ)
+pub fed_more : (kind : FileKind) (known left later : Option (List ℕ))
+    (before now next : List PipeLine) (number : ℕ)
     (line : List ℕ) (one : PipeLine)
     → IfSome known (λ text. FedSoFar kind text left before now number)
     → IfSome left (λ xs. line ≡ take_through 10 xs) → DropsThrough left later 10
     → 0 < length line → SaysRead kind number line one → next ≡ now ++ one ∷ []
     → IfSome known (λ text. FedSoFar kind text later before next (number + 1))
 fed_more kind None left later before now next number line one so_far front drops some says more = tt
-fed_more kind (Some text) left later before now next number line one so_far front drops some says more =
+fed_more kind (Some text) left later before now next number line one so_far front drops some says
+    more =
     let rest : List ℕ = so_far.rest in
     let first : line ≡ take_through 10 rest =
     subst (λ l. IfSome l (λ xs. line ≡ take_through 10 xs)) so_far.known front in

@@ -36,7 +36,8 @@ is_for_header file_kind.Events text = false
 is_for_header file_kind.Session [] = false
 is_for_header file_kind.Session (b ∷ text) = b == 32
 
--- the command or the header whose line it is, or that it is the line of none; a comment says nothing
+-- the command or the header whose line it is, or that it is the line of none; a comment says
+-- nothing
 abbrev pub Says : FileKind → List ℕ → Said → Type 0
 Says kind text said.Comment = IsTrue (is_comment text)
 Says kind text (said.Command command) =

@@ -60,7 +60,8 @@ display_from is_display text = reading_of (passing is_display) trimmed text
 -- a display text, `<`, a URI, `>` and parameters; or a URI alone and parameters
 abbrev pub Address : (List ℕ → Bool) → List ℕ × Target → List ℕ → Type 0
 Address is_display address text =
-    OnCut (Byte 60) (Both (Display is_display) Bracketed) (Told (λ target. ([], target)) Bare) address text
+    OnCut (Byte 60) (Both (Display is_display) Bracketed) (Told (λ target. ([], target)) Bare)
+    address text
 
 -- what reading an address finds
 abbrev pub address_from : (List ℕ → Bool) → List ℕ → Option (List ℕ × Target)
@@ -77,11 +78,14 @@ party_of address = record { display = address.0; uri = address.1.0; parameters =
 -- the value of a From or a To, whose tag is a token
 abbrev pub IsPartyText : Party → List ℕ → Type 0
 IsPartyText party text =
-    Told party_of (Checked (λ address. has_good_tag address.1.1) (Address is_party_display)) party text
+    Told party_of (Checked (λ address. has_good_tag address.1.1) (Address is_party_display)) party
+    text
 
 -- what reading it finds
 abbrev pub party_from : List ℕ → Option Party
-party_from text = told party_of (checked (λ address. has_good_tag address.1.1) (address_from is_party_display)) text
+party_from text =
+    told party_of (checked (λ address. has_good_tag address.1.1) (address_from is_party_display))
+    text
 
 -- ---- Contact, Route and Record-Route
 

@@ -201,13 +201,14 @@ request_in_dialog event command side name held =
 unfoldable pub request_command : Event → DialogRequest → Side → ClientTaken
 request_command event command side =
     let name = dialog_id_of_tags (tag_text command.local_tag) (tag_text command.remote_tag) in
-    option_map_or (request_in_dialog event command side name) (lookup (is_dialog_id name) side.dialogs)
+    option_map_or (request_in_dialog event command side name)
+    (lookup (is_dialog_id name) side.dialogs)
     (refuse event command.call_id side NoSuchDialog)
 
 -- ---- the ACK of a 2xx, and the PRACK of a reliable provisional response
 
--- what becomes of a pending one: the dialog after it; the ACK that goes out, or the PRACK; and what is
--- given at once: the same ACK, which has no transaction, or that it is refused
+-- what becomes of a pending one: the dialog after it; the ACK that goes out, or the PRACK; and what
+-- is given at once: the same ACK, which has no transaction, or that it is refused
 pub record PendingOutcome : Type 0 where
   pub dialog : HeldDialog
   pub ack : Option SentAck
@@ -254,7 +255,8 @@ pending_with event call_id name pending sent unsent content =
 
 -- Without a content it waits for the user. Where it goes out the dialog is `sent` before, otherwise
 -- `unsent`.
-abbrev pub pending_outcome : Event → List ℕ → DialogId → PendingRequest → Option Content → HeldDialog
+abbrev pub pending_outcome : Event → List ℕ → DialogId → PendingRequest → Option Content
+    → HeldDialog
     → HeldDialog → PendingOutcome
 pending_outcome event call_id name pending content sent unsent =
     option_map_or (pending_with event call_id name pending sent unsent) content
@@ -282,7 +284,8 @@ abbrev pub pending_by_user : Event → DialogBody → Side → DialogId → Held
 pending_by_user event command side name held pending =
     let others = filter (λ other. not (is_same_pending pending other)) held.pending_requests in
     let sent = record held { pending_requests = others } in
-    let done = pending_outcome event command.call_id name pending (Some command.content) sent held in
+    let done = pending_outcome event command.call_id name pending (Some command.content) sent held
+    in
     let after = fold start (ack_kept pending name done.ack side.clients, done.outs) done.prack in (
       record {
         dialogs = set_value (is_dialog_id name) side.dialogs done.dialog;

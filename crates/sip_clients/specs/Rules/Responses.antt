@@ -35,8 +35,8 @@ use Rattle.sip_clients.specs.Rules.Requests.{cancel_request, is_invite_kind, dia
 
 -- ---- what a response comes to
 
--- the request after it, or none if it is over; what is told, and the ACK that goes out, in order; the
--- PRACK that goes out after that
+-- the request after it, or none if it is over; what is told, and the ACK that goes out, in order;
+-- the PRACK that goes out after that
 pub record Outcome : Type 0 where
   pub request : Option Client
   pub dialogs : Dialogs
@@ -54,9 +54,9 @@ abbrev pub kept : Client → Dialogs → List CallOut → Outcome
 kept after dialogs outs =
     record { request = Some after; dialogs = dialogs; outs = outs; prack = [] }
 
--- The user is told of a response that asks for an ACK or a PRACK. That goes out by itself, unless it
--- has to carry an SDP answer (the response has a body and the INVITE had none) or is refused: then it
--- stands last in `pending_requests` (RFC 3261, section 13.2.1; RFC 3262, section 5).
+-- The user is told of a response that asks for an ACK or a PRACK. That goes out by itself, unless
+-- it has to carry an SDP answer (the response has a body and the INVITE had none) or is refused:
+-- then it stands last in `pending_requests` (RFC 3261, section 13.2.1; RFC 3262, section 5).
 abbrev pub asks_for : PendingRequest → ReceivedResponse → Client → (Option SentAck → Client)
     → HeldDialog → Dialogs → Outcome
 asks_for pending reply client after held dialogs =
@@ -88,8 +88,8 @@ dialog_made_by reply client = record {
 
 -- ---- final responses
 
--- The last one: the request is over, and what ends with it ends; on 481 and 408 also the dialog that
--- it was sent in (RFC 3261, section 12.2.1.2).
+-- The last one: the request is over, and what ends with it ends; on 481 and 408 also the dialog
+-- that it was sent in (RFC 3261, section 12.2.1.2).
 abbrev pub last_response : ReceivedResponse → Client → Dialogs → Outcome
 last_response reply client dialogs =
     let gone = (reply.status == 481) || (reply.status == 408) in
@@ -110,8 +110,8 @@ accepted reply client ack = record client {
   removal = Some (unwrap_or client.removal (reply.event.moment + LIFETIME));
 }
 
--- A 2xx to an initial INVITE confirms its dialog, and one to a re-INVITE refreshes the target, unless
--- the dialog has ended (RFC 3261, sections 12.2.1.2 and 13.2.2.4).
+-- A 2xx to an initial INVITE confirms its dialog, and one to a re-INVITE refreshes the target,
+-- unless the dialog has ended (RFC 3261, sections 12.2.1.2 and 13.2.2.4).
 abbrev pub success_in : Bool → Message → HeldDialog → HeldDialog
 success_in initial response held =
     let target = unwrap_or (contact_uri response) held.dialog.target in
@@ -129,8 +129,8 @@ first_success reply client dialogs =
 
 -- ---- provisional responses of a dialog
 
--- A reliable one is the next in this dialog, or to this re-INVITE, or is passed over; it asks for its
--- PRACK (RFC 3262, section 4).
+-- A reliable one is the next in this dialog, or to this re-INVITE, or is passed over; it asks for
+-- its PRACK (RFC 3262, section 4).
 abbrev pub reliable_response : ReceivedResponse → Client → Dialogs → HeldDialog → ℕ → Outcome
 reliable_response reply client dialogs held rseq =
     let initial = is_initial client in
@@ -156,9 +156,9 @@ abbrev pub has_dialog : Client → Dialogs → Bool
 has_dialog client dialogs =
     is_invite_kind client.kind && option_map_or (lives dialogs) (dialog_of_kind client.kind) true
 
--- The first case that fits: the last response; a 2xx that comes again; the first 2xx of a dialog; the
--- first 2xx of a dialog that has ended (own: it gets no ACK); a provisional response of no dialog
--- (RFC 3261, section 12.1); one of a dialog.
+-- The first case that fits: the last response; a 2xx that comes again; the first 2xx of a dialog;
+-- the first 2xx of a dialog that has ended (own: it gets no ACK); a provisional response of no
+-- dialog (RFC 3261, section 12.1); one of a dialog.
 abbrev pub outcome_of : ReceivedResponse → Client → Dialogs → Outcome
 outcome_of reply client dialogs =
     let final = is_final reply.status in
@@ -189,7 +189,8 @@ abbrev pub response_to : Event → Id → List ℕ → Message → Side → ℕ 
 response_to event id call_id response side status client =
     let final = is_final status in
     let waiting = waiting_cancel client.cancel in
-    let cancel = if final then [] else option_map_or (λ by. cancel_request by client ∷ []) waiting []
+    let cancel = if final then [] else option_map_or (λ by. cancel_request by client ∷ []) waiting
+    []
     in
     let after = record client {
       provisional = client.provisional || not final;

@@ -169,8 +169,8 @@ bad_extension state arrival =
     let refused = record refusal { others = unsupported ∷ [] } in
     (state, Command arrival.id (Answer arrival.key refused) ∷ [])
 
--- the number is above those that came before it in the dialog, if any did (RFC 3261, section 12.2.2;
--- own: an equal one is none)
+-- the number is above those that came before it in the dialog, if any did (RFC 3261, section
+-- 12.2.2; own: an equal one is none)
 abbrev pub is_above : HeldDialog → ℕ → Bool
 is_above held number = not (is_ended held.dialog.state)
     && option_map_or (λ last. not (nat_le number last)) held.dialog.remote_cseq true

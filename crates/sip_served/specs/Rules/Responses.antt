@@ -144,13 +144,21 @@ abbrev pub held_after : Id → HeldRequest → Respond → Message → ℕ → H
 held_after event held respond response now =
     let status = respond.status in
     let ledger = held.ledger in
-    let life : DialogReference = record { name = dialog_id_of held.request held.tag; created_by = event } in
+    let life : DialogReference = record {
+      name = dialog_id_of held.request held.tag;
+      created_by = event;
+    } in
     let dialog = if makes_dialog held status then Some life else held.dialog in
     let awaits_ack = is_invite held.request && is_success status in
     if is_sent_reliably held respond
     then record held {
       dialog = dialog;
-      ledger = record ledger { next = ledger.next + 1; waiting = ledger.waiting ++ provisional_sent ledger.next response now ∷ [] };
+      ledger =
+          record ledger {
+            next = ledger.next + 1;
+            waiting = ledger.waiting
+                ++ provisional_sent ledger.next response now ∷ [];
+          };
       provisionals = held.provisionals
           ++ record { number = ledger.next; response = response } ∷ [];
     }

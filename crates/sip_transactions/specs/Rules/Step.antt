@@ -66,10 +66,11 @@ handed_up hand context came up.Timeout = Some (hand kind.Timeout)
 handed_up hand context came up.Failed = Some (hand kind.Failed)
 handed_up hand context came up.NoTransaction = Some (Dropped context.id.place NoTransaction)
 
--- The row for a trigger, at a held transaction or, `otherwise`, at what an input begins one with: the
--- transaction after it; and what it hands up or drops, and then sends. What goes up has the id and
--- the Call-ID of the first input.
-unfoldable pub row_applied : Key → ℕ → Option Life → Context → Trigger → Option Message → Option Kind
+-- The row for a trigger, at a held transaction or, `otherwise`, at what an input begins one with:
+-- the transaction after it; and what it hands up or drops, and then sends. What goes up has the id
+-- and the Call-ID of the first input.
+unfoldable pub row_applied : Key → ℕ → Option Life → Context → Trigger → Option Message
+    → Option Kind
     → Option Life × List Out
 row_applied key now held otherwise trigger message came =
     let context = option_map_or (λ life. life.context) held otherwise in
@@ -98,7 +99,8 @@ context_at_first id call_id to request =
 unfoldable pub step_at : Key → Option Life → ℕ → Option Input → Option Life × List Out
 step_at key held now (Some (Receive id message reply_to)) =
     let (trigger, kind) = trigger_of_message message.start message reply_to in
-    row_applied key now held (context_at_first id message.call_id reply_to None) trigger (Some message) (Some kind)
+    row_applied key now held (context_at_first id message.call_id reply_to None) trigger
+    (Some message) (Some kind)
 step_at key held now (Some (Start id call_id message to)) =
     let invite = if bytes_eq (method_in key) (codes "INVITE") then Some message else None in
     row_applied key now held (context_at_first id call_id to invite) on.Start (Some message) None
@@ -106,7 +108,8 @@ step_at key None now other = (None, [])
 step_at key (Some life) now (Some (Answer id message)) = elim message.start [
   | start.Request uri ↦ (Some life, [])
   | start.Response status reason ↦
-      row_applied key now (Some life) life.context (on.Answer (class_of_status status)) (Some message) None
+      row_applied key now (Some life) life.context (on.Answer (class_of_status status))
+      (Some message) None
 ]
 step_at key (Some life) now (Some (Failed id)) =
     row_applied key now (Some life) life.context on.Failed None None

@@ -1,8 +1,8 @@
 -- The tables of the four machines (RFC 3261, sections 17.1 and 17.2, and RFC 6026, section 7). Each
 -- row has the state and what comes; then the state after it, what goes up, what is sent, and what
 -- becomes of the timers. The first row that fits counts, and by the last one of a table nothing
--- happens. `None` is no transaction. A timer's letter stands beside each row that sets it (+) or in which it fires
--- (!). T1 and T4 are those of RFC 3261, section 17, in ms.
+-- happens. `None` is no transaction. A timer's letter stands beside each row that sets it (+) or in
+-- which it fires (!). T1 and T4 are those of RFC 3261, section 17, in ms.
 use Rattle.std.specs.Prelude.{codes, if◌then◌else◌, Option, None, Some}
 use Rattle.std.specs.Str.{bytes_eq}
 use Rattle.sip_message.specs.declared.key.Key.{Key}
@@ -29,9 +29,9 @@ use Rattle.sip_transactions.specs.declared.step.Pace.TheVariants.{Doubled, Cappe
 abbrev pub row : Next → Handed → Sent → Due → Step
 row next handed sent due = record { next = next; handed = handed; sent = sent; due = due }
 
--- INVITE client transaction: RFC 3261, section 17.1.1, and RFC 6026, section 7.2. The ACK of a 2xx is
--- sent by the call, not by it. A repeats the request, B ends the wait for a response, D absorbs repeated
--- responses, M passes on further 2xx.
+-- INVITE client transaction: RFC 3261, section 17.1.1, and RFC 6026, section 7.2. The ACK of a 2xx
+-- is sent by the call, not by it. A repeats the request, B ends the wait for a response, D absorbs
+-- repeated responses, M passes on further 2xx.
 abbrev pub invite_client : Option State → Trigger → Step
 invite_client None Start = row (To Calling) up.Nothing send.Given Both  -- +A +B
 invite_client None (Response any) = row Ended up.NoTransaction send.Nothing Clear

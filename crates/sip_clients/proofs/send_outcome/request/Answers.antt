@@ -25,7 +25,11 @@ returns-in-Ok-clause-service c =
     (held.dialog.local_cseq + 1) c.args.content branch c.args.event.local)
     c.in_ok-branch.ensures in
     let message = c.with_rack.ensures ∙ ap (with_rack c.args.rack) made in
-    (λ i. Sent record { message = message i; to = c.hop-to.ensures i; created_by = held.created_by })
+    (λ i. Sent record {
+      message = message i;
+      to = c.hop-to.ensures i;
+      created_by = held.created_by;
+    })
     ∙ sent_by _ _ c.in-Ok.ensures.open
 
 pub returns-in-Err-clause-service : goal.returns-in-Err-clause-service

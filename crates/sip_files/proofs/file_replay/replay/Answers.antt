@@ -15,7 +15,8 @@ returns-in_err-file-clause-unwritten g c = untouched _ c.args.writer.now
 
 pub returns-in_err-text-clause-only : goal.returns-in_err-text-clause-only
 returns-in_err-text-clause-only g c =
-    only_memory_known c.args.kind (g.R.CountedRead.remaining c.args.reader.now) c.from_residual.result
+    only_memory_known c.args.kind (g.R.CountedRead.remaining c.args.reader.now)
+    c.from_residual.result
     (search rules)
 
 pub returns-in_err-file-clause-only : goal.returns-in_err-file-clause-only

@@ -11,7 +11,8 @@ pub loop-round-preserved : goal.loop-round-preserved
 loop-round-preserved c =
     one_round _ c.loop-round.rounds_left.now c.in-Some.rounds_after.now c.in-Some.round.now
     (items_of c.loop-round.answers_left.now) (items_of c.in-Some-split_first.answers_after.now)
-    c.in-Some-split_first.outputs.now.items c.loop-round.lines.items _ c.loop-round.before.names.keys
+    c.in-Some-split_first.outputs.now.items c.loop-round.lines.items _
+    c.loop-round.before.names.keys
     _ c.loop-round.invariant c.in-Some.ensures.cases.0
     (ap items_of c.in-Some-split_first.ensures.cases.0)
     (rw c.as_slice.ensures.value at c.in_ok-add_round.ensures)

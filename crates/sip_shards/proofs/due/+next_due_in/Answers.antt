@@ -12,7 +12,8 @@ pub returns-in-len1-up-clause-before : goal.returns-in-len1-up-clause-before
 returns-in-len1-up-clause-before g n c = λ sound now ticks before.
     let shards = c.args.shards.now in
     let some = c.in-len1-up.len_at_least in
-    let parts = first_and_rest (λ shard. IsSome (g.S.KeyShard.held shard)) shards c.shard-item.result _ some
+    let parts = first_and_rest (λ shard. IsSome (g.S.KeyShard.held shard)) shards
+    c.shard-item.result _ some
     c.shard-item.is sound in
     let neither : (ticks ≡ true) → (is_due now c.next_due.result ≡ false)
     × (is_due now c.next_due_in.result ≡ false) =

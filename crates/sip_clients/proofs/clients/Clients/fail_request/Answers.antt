@@ -5,4 +5,5 @@ use Rattle.sip_clients.proofs.clients.Clients.fail_request.Goals as goal
 pub returns-clause-taken : goal.returns-clause-taken
 returns-clause-taken c =
     search rules
-    ∙ sym (lost_same c.args.id c.args.timed_out record { dialogs = c.args.dialogs.now.entries; clients = c.args.self.now })
+    ∙ sym (lost_same c.args.id c.args.timed_out record
+    { dialogs = c.args.dialogs.now.entries; clients = c.args.self.now })

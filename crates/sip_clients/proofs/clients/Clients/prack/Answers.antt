@@ -5,4 +5,5 @@ use Rattle.sip_clients.proofs.clients.Clients.prack.Goals as goal
 pub returns-clause-taken : goal.returns-clause-taken
 returns-clause-taken c =
     search rules
-    ∙ sym (prack_same c.args.event c.args.command.now record { dialogs = c.args.dialogs.now.entries; clients = c.args.self.now })
+    ∙ sym (prack_same c.args.event c.args.command.now record
+    { dialogs = c.args.dialogs.now.entries; clients = c.args.self.now })

@@ -19,7 +19,8 @@ returns-in_default-2 c =
       told =
           reported c.in-Some.placed.now.output None
           (subst (λ told. IsSomeAnd (sent_key (Some c.in-Some.placed.now.output))
-          (λ key. option_to_list told ≡ told_failure key)) c.in_default-2.is c.in_ok-event.ensures.told)
+          (λ key. option_to_list told ≡ told_failure key)) c.in_default-2.is
+          c.in_ok-event.ensures.told)
           _ at c.args.self.now _ (nothing_added c.args.self.now);
       same = search rules;
       fault = search rules;
@@ -34,7 +35,8 @@ returns-in_err-add c =
     c.in-Some.ensures.lookup.3.0 c.in-Some.ensures.lookup.1)) in
     record {
       no_send = λ none.
-          absurd (a_send c.in-Some.placed.now.output c.in_ok-event.field-0 c.in_ok-event.ensures.told _ at none);
+          absurd (a_send c.in-Some.placed.now.output c.in_ok-event.field-0
+          c.in_ok-event.ensures.told _ at none);
       told = search rules;
       same = search rules;
       fault = search rules;
@@ -49,11 +51,13 @@ returns c =
     c.in-Some.ensures.lookup.3.0 c.in-Some.ensures.lookup.1)) in
     record {
       no_send = λ none.
-          absurd (a_send c.in-Some.placed.now.output c.in_ok-event.field-0 c.in_ok-event.ensures.told _ at none);
+          absurd (a_send c.in-Some.placed.now.output c.in_ok-event.field-0
+          c.in_ok-event.ensures.told _ at none);
       told =
           reported c.in-Some.placed.now.output (Some c.in-Some-2.event)
           (subst (λ told. IsSomeAnd (sent_key (Some c.in-Some.placed.now.output))
-          (λ key. option_to_list told ≡ told_failure key)) c.in-Some-2.is c.in_ok-event.ensures.told)
+          (λ key. option_to_list told ≡ told_failure key)) c.in-Some-2.is
+          c.in_ok-event.ensures.told)
           _ at c.args.self.now c.add.new.self c.in_ok-add.ensures.added;
       same = search rules;
       fault = search rules;

@@ -7,4 +7,5 @@ use Rattle.sip_parts.proofs.host.HostBytesByteClass.test.Goals as goal
 pub returns : goal.returns
 unfolding is_host_byte
 returns c = rw c.from.ensures
-    (agree_below_at (λ b. get_or HOST_BYTES b 0 == 120) is_host_byte 256 c.args.byte refl (omega arith))
+    (agree_below_at (λ b. get_or HOST_BYTES b 0 == 120) is_host_byte 256 c.args.byte refl
+    (omega arith))

@@ -7,4 +7,5 @@ use Rattle.sip_text.proofs.parameters.ValueBytesByteClass.test.Goals as goal
 pub returns : goal.returns
 unfolding is_value_byte
 returns c = rw c.from.ensures
-    (agree_below_at (λ b. get_or VALUE_BYTES b 0 == 120) is_value_byte 256 c.args.byte refl (omega arith))
+    (agree_below_at (λ b. get_or VALUE_BYTES b 0 == 120) is_value_byte 256 c.args.byte refl
+    (omega arith))

@@ -8,7 +8,8 @@ pub loop-preserved : goal.loop-preserved
 loop-preserved g c =
     let all = c.self.inside.dues.keys in
     let i = c.loop.counter in
-    let next = next_place (λ d. d.1) all i (c.in-Some.field-0-0, c.in-Some.key) c.pop_first.new.self.keys
+    let next = next_place (λ d. d.1) all i (c.in-Some.field-0-0, c.in-Some.key)
+    c.pop_first.new.self.keys
     (sym c.loop.invariant.dues ∙ c.in-Some.ensures.removal) in
     record {
       len = omega (arith, c.push_reserved.ensures.len, c.loop.invariant.len);
