@@ -57,7 +57,8 @@ Reports output old new = IsSomeAnd (sent_key (output_at old output))
 
 -- whatever rounds the agent stood for, it stands for these and the one of the host's events at this
 -- moment, and the outputs are those with which that one is answered after them, each with its
--- place; its events are kept, no event is left, and no output is taken
+-- place; its events are kept, no event is left, no output is taken, and its next command has the same
+-- headers
 pub record IsAnswered (moment : ℕ) (old new : Host) : Type 0 where
   pub stands : (config : Config) (rounds : List Round)
       → StandsFor shard_of old.agent config rounds
@@ -73,6 +74,7 @@ pub record IsAnswered (moment : ℕ) (old new : Host) : Type 0 where
   pub kept : new.last_events ≡ old.events
   pub no_events : new.events ≡ []
   pub none_taken : new.taken ≡ 0
+  pub headers : new.headers ≡ old.headers
 
 -- ---- all that a call says, by its answer
 
@@ -84,6 +86,7 @@ Answer = Result (Unit {0}) HostFault
 pub record Begins (config : Config) (shards : ℕ) (host : Host) : Type 0 where
   pub stands : StandsFor shard_of host.agent config []
   pub count : shard_count host.agent ≡ shards
+  pub no_headers : host.headers ≡ []
   pub no_events : host.events ≡ []
   pub no_last_events : host.last_events ≡ []
   pub no_outputs : host.outputs.items ≡ []
