@@ -3,9 +3,11 @@
 ghost use Rattle.std.specs.Prelude.{◌≡◌};
 ghost use Rattle.sip_c.specs.Called as spec;
 
-use sip_host::{NextOutput, StartLength};
+use crate::status::number_of_field;
+use sip_host::{HostFault, NextOutput, StartLength};
 use sip_message::{Addr, Id};
 use sip_round::Config;
+use sip_served::{ProvisionalSupport, Reliability};
 
 /// An IPv4 address and a port.
 #[repr(C)]
@@ -151,6 +153,63 @@ pub(crate) fn id_of(id: Option<Id>) -> EventId
             place,
             round,
         },
+    }
+}
+
+/// What is told of a command: the id of its event, or the number of the part that is bad, or 0.
+#[repr(C)]
+#[derive(Clone, Copy)]
+pub struct Asked {
+    pub id: EventId,
+    pub bad_field: u32,
+}
+
+/// Nothing was asked for, and no part is bad.
+pub(crate) fn nothing_asked() -> Asked
+    ensures { result ≡ spec.nothing_asked }
+{
+    Asked {
+        id: id_of(None),
+        bad_field: 0,
+    }
+}
+
+/// What is told of a command's answer.
+pub(crate) fn asked_of(answer: Result<Id, HostFault>) -> Asked
+    ensures { result ≡ spec.asked_of answer }
+{
+    match answer {
+        Ok(id) => Asked {
+            id: id_of(Some(id)),
+            bad_field: 0,
+        },
+        Err(HostFault::BadField(field)) => Asked {
+            id: id_of(None),
+            bad_field: number_of_field(field),
+        },
+        Err(_) => nothing_asked(),
+    }
+}
+
+/// The use of reliable provisional responses that an INVITE asks for.
+pub(crate) fn support_of(supports: bool, requires_it: bool) -> ProvisionalSupport
+    ensures { result ≡ spec.support_of supports requires_it }
+{
+    match (supports, requires_it) {
+        (_, true) => ProvisionalSupport::Required,
+        (true, false) => ProvisionalSupport::Supported,
+        (false, false) => ProvisionalSupport::None,
+    }
+}
+
+/// Whether a response is to be sent reliably.
+pub(crate) fn reliability_of(is_reliable: bool) -> Reliability
+    ensures { result ≡ spec.reliability_of is_reliable }
+{
+    if is_reliable {
+        Reliability::Reliable
+    } else {
+        Reliability::Plain
     }
 }
 

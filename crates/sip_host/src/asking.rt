@@ -19,6 +19,7 @@ use std::alloc::{AllocError, Global};
 
 /// The least and the greatest status of a response of the user.
 const MIN_STATUS: u16 = 101;
+
 const MAX_STATUS: u16 = 699;
 
 /// A first INVITE, without headers.

@@ -57,11 +57,7 @@ fn given_in(alloc: Global, line: &[u8]) -> Result<Option<GivenHeader>, AllocErro
 }
 
 // The value of a header of the profile, where the header is the user's.
-fn known(
-    alloc: Global,
-    header: HeaderName,
-    value: &[u8],
-) -> Result<Option<GivenHeader>, AllocError>
+fn known(alloc: Global, header: HeaderName, value: &[u8]) -> Result<Option<GivenHeader>, AllocError>
     ensures { IfOk result (λ made. made ≡ given.value_given header value.now) }
 {
     match header {
