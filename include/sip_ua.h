@@ -1,6 +1,7 @@
 /* A SIP user agent core (RFC 3261, with reliable provisional responses) for programs that have the
  * socket, the clock and the user themselves. The library has no thread, no socket, no clock and no
- * global state: it is given datagrams, lines and moments, and gives back what is to be sent and told.
+ * global state: it is given datagrams, commands and moments, and gives back what is to be sent and
+ * told.
  *
  * The life of an agent:
  *
@@ -8,7 +9,7 @@
  *     sip_ua_new(&agent, &configuration, 1);
  *     for (;;) {
  *         .. wait for a datagram, a command of the user, or the moment of sip_ua_next_due
- *         sip_ua_datagram(..), sip_ua_event_line(..), sip_ua_event_lines(..), sip_ua_failed(..)
+ *         sip_ua_datagram(..), sip_ua_invite(..), sip_ua_respond(..) .. sip_ua_failed(..)
  *         sip_ua_run(&agent, moment);
  *         while (sip_ua_next_output(&agent, &output, buffer, room) == SIP_UA_OK
  *                && output.kind != SIP_UA_NOTHING)
@@ -45,6 +46,7 @@
 #include <stdbool.h>
 #include <stddef.h>
 #include <stdint.h>
+#include <string.h>
 
 #ifdef __cplusplus
 extern "C" {
@@ -52,9 +54,9 @@ extern "C" {
 
 /* The version: what a program that uses an earlier one of the same major number can go on with. */
 #define SIP_UA_VERSION_MAJOR 0
-#define SIP_UA_VERSION_MINOR 2
+#define SIP_UA_VERSION_MINOR 3
 #define SIP_UA_VERSION_PATCH 0
-#define SIP_UA_VERSION "0.2.0"
+#define SIP_UA_VERSION "0.3.0"
 
 /* An agent, or none. Its fields are not for the program. */
 typedef struct sip_ua {
@@ -109,6 +111,109 @@ typedef struct sip_ua_id {
     uint64_t round;
 } sip_ua_id;
 
+/* Bytes of the program: a text, without an end, or a body. Where `len` is 0, `at` may be NULL. */
+typedef struct sip_ua_bytes {
+    const void *at;
+    size_t len;
+} sip_ua_bytes;
+
+/* A header of a command: its name, the long or the compact one in any case, and its value. */
+typedef struct sip_ua_header {
+    sip_ua_bytes name;
+    sip_ua_bytes value;
+} sip_ua_header;
+
+/* What is told of a command: the id of its event, and after SIP_UA_BAD_FIELD which part is bad. */
+typedef struct sip_ua_asked {
+    sip_ua_id id;
+    uint32_t bad_field;
+} sip_ua_asked;
+
+/* The parts of a command that can be bad. */
+enum {
+    SIP_UA_FIELD_CALL_ID = 1,     /* empty, or with a space, a tab or a line end */
+    SIP_UA_FIELD_METHOD = 2,      /* no token */
+    SIP_UA_FIELD_REQUEST_URI = 3, /* empty, or with a space, a tab, a line end, `<`, `>` or `"` */
+    SIP_UA_FIELD_FROM = 4,        /* the same */
+    SIP_UA_FIELD_TO = 5,          /* the same */
+    SIP_UA_FIELD_LOCAL_TAG = 6,   /* neither empty nor a token */
+    SIP_UA_FIELD_REMOTE_TAG = 7,  /* the same */
+    SIP_UA_FIELD_STATUS = 8,      /* not 101 to 699 */
+    SIP_UA_FIELD_REASON = 9,      /* with a line end */
+    SIP_UA_FIELD_HEADERS = 10     /* a header that isn't the user's, a value that isn't in the form of
+                                     its header, a Route where the command takes none, or any header
+                                     of a cancel */
+};
+
+/* A first INVITE. It goes to `address`, with `request_uri`, and `from` and `to` are URIs too, without
+ * tags. What `requires_100rel` requires is supported as well. Here and below a body is of the type
+ * application/sdp where no header Content-Type says another one. */
+typedef struct sip_ua_invite_fields {
+    sip_ua_bytes call_id;
+    sip_ua_address address;
+    sip_ua_bytes request_uri;
+    sip_ua_bytes from;
+    sip_ua_bytes to;
+    bool supports_100rel;
+    bool requires_100rel;
+    sip_ua_bytes body;
+    const sip_ua_header *headers;
+    size_t header_count;
+} sip_ua_invite_fields;
+
+/* A request outside of any dialog, as REGISTER or OPTIONS. */
+typedef struct sip_ua_plain_fields {
+    sip_ua_bytes call_id;
+    sip_ua_address address;
+    sip_ua_bytes method;
+    sip_ua_bytes request_uri;
+    sip_ua_bytes from;
+    sip_ua_bytes to;
+    sip_ua_bytes body;
+    const sip_ua_header *headers;
+    size_t header_count;
+} sip_ua_plain_fields;
+
+/* A request in a dialog, as BYE or a later INVITE. The tags are those that notices tell; an absent
+ * tag is empty. */
+typedef struct sip_ua_request_fields {
+    sip_ua_bytes call_id;
+    sip_ua_bytes local_tag;
+    sip_ua_bytes remote_tag;
+    sip_ua_bytes method;
+    sip_ua_bytes body;
+    const sip_ua_header *headers;
+    size_t header_count;
+} sip_ua_request_fields;
+
+/* The answer to a request, by the id that its notice tells. */
+typedef struct sip_ua_respond_fields {
+    sip_ua_bytes call_id;
+    sip_ua_id id;
+    uint16_t status;
+    bool is_reliable;
+    sip_ua_bytes reason;
+    sip_ua_bytes body;
+    const sip_ua_header *headers;
+    size_t header_count;
+} sip_ua_respond_fields;
+
+/* An ACK or a PRACK of a dialog. */
+typedef struct sip_ua_body_fields {
+    sip_ua_bytes call_id;
+    sip_ua_bytes local_tag;
+    sip_ua_bytes remote_tag;
+    sip_ua_bytes body;
+    const sip_ua_header *headers;
+    size_t header_count;
+} sip_ua_body_fields;
+
+/* The CANCEL of an INVITE that was sent, by its id. */
+typedef struct sip_ua_cancel_fields {
+    sip_ua_bytes call_id;
+    sip_ua_id id;
+} sip_ua_cancel_fields;
+
 /* A datagram that came in, if one did. */
 typedef struct sip_ua_arrival {
     bool is_there;
@@ -153,7 +258,8 @@ enum {
     SIP_UA_BROKEN = 11,           /* malloc gave NULL within a round: the agent holds nothing, and
                                      only sip_ua_free is left */
     SIP_UA_BAD_CONFIGURATION = 12, /* not 1 to 256 shards, or a first round above 2^62 */
-    SIP_UA_NULL = 13              /* a pointer was NULL */
+    SIP_UA_NULL = 13,             /* a pointer was NULL */
+    SIP_UA_BAD_FIELD = 14         /* a part of a command doesn't keep its rule */
 };
 
 /* What a status means, in English; never NULL. */
@@ -174,6 +280,7 @@ static inline const char *sip_ua_status_text(uint32_t status)
     case SIP_UA_BROKEN: return "no memory within a round; the agent holds nothing";
     case SIP_UA_BAD_CONFIGURATION: return "not 1 to 256 shards, or a first round that is too large";
     case SIP_UA_NULL: return "a pointer is NULL";
+    case SIP_UA_BAD_FIELD: return "a part of a command doesn't keep its rule";
     default: return "no status";
     }
 }
@@ -206,6 +313,38 @@ uint32_t sip_ua_raw_datagram(sip_ua *agent, const sip_ua_address *from, const ui
                              size_t len);
 uint32_t sip_ua_raw_event_line(sip_ua *agent, const uint8_t *line, size_t len);
 uint32_t sip_ua_raw_event_lines(sip_ua *agent, const uint8_t *lines, size_t len);
+uint32_t sip_ua_raw_header(sip_ua *agent, const uint8_t *name, size_t name_len,
+                           const uint8_t *value, size_t value_len);
+uint32_t sip_ua_raw_invite(sip_ua *agent, const uint8_t *call_id, size_t call_id_len,
+                           const sip_ua_address *address, const uint8_t *request_uri,
+                           size_t request_uri_len, const uint8_t *from, size_t from_len,
+                           const uint8_t *to, size_t to_len, bool supports_100rel,
+                           bool requires_100rel, const uint8_t *body, size_t body_len,
+                           sip_ua_asked *asked);
+uint32_t sip_ua_raw_plain(sip_ua *agent, const uint8_t *call_id, size_t call_id_len,
+                          const sip_ua_address *address, const uint8_t *method, size_t method_len,
+                          const uint8_t *request_uri, size_t request_uri_len, const uint8_t *from,
+                          size_t from_len, const uint8_t *to, size_t to_len, const uint8_t *body,
+                          size_t body_len, sip_ua_asked *asked);
+uint32_t sip_ua_raw_request(sip_ua *agent, const uint8_t *call_id, size_t call_id_len,
+                            const uint8_t *local_tag, size_t local_tag_len,
+                            const uint8_t *remote_tag, size_t remote_tag_len,
+                            const uint8_t *method, size_t method_len, const uint8_t *body,
+                            size_t body_len, sip_ua_asked *asked);
+uint32_t sip_ua_raw_respond(sip_ua *agent, const uint8_t *call_id, size_t call_id_len,
+                            uint64_t round, uint32_t place, uint16_t status, bool is_reliable,
+                            const uint8_t *reason, size_t reason_len, const uint8_t *body,
+                            size_t body_len, sip_ua_asked *asked);
+uint32_t sip_ua_raw_ack(sip_ua *agent, const uint8_t *call_id, size_t call_id_len,
+                        const uint8_t *local_tag, size_t local_tag_len, const uint8_t *remote_tag,
+                        size_t remote_tag_len, const uint8_t *body, size_t body_len,
+                        sip_ua_asked *asked);
+uint32_t sip_ua_raw_prack(sip_ua *agent, const uint8_t *call_id, size_t call_id_len,
+                          const uint8_t *local_tag, size_t local_tag_len,
+                          const uint8_t *remote_tag, size_t remote_tag_len, const uint8_t *body,
+                          size_t body_len, sip_ua_asked *asked);
+uint32_t sip_ua_raw_cancel(sip_ua *agent, const uint8_t *call_id, size_t call_id_len,
+                           uint64_t round, uint32_t place, sip_ua_asked *asked);
 uint32_t sip_ua_raw_failed(sip_ua *agent, size_t output);
 uint32_t sip_ua_raw_run(sip_ua *agent, uint64_t moment);
 uint32_t sip_ua_raw_next_output(sip_ua *agent, sip_ua_output *output, uint8_t *buffer, size_t room);
@@ -259,6 +398,187 @@ static inline uint32_t sip_ua_event_lines(sip_ua *agent, const char *lines, size
         return SIP_UA_NULL;
     return sip_ua_raw_event_lines(agent, (const uint8_t *)lines, len);
 }
+
+/* ---- commands of the user by their fields, each an event of the next round
+ *
+ * What is asked for is what the line of the same name in docs/FORMATS.md asks for. Of `asked`, which
+ * may be NULL, `id` is the one by which notices tell of the command, and `bad_field` is 0 but after
+ * SIP_UA_BAD_FIELD. That, SIP_UA_TOO_MANY_EVENTS, SIP_UA_NO_MEMORY, SIP_UA_NULL: nothing was asked
+ * for. A command that the core then refuses is told by a notice. */
+
+/* The bytes of a string, without its end. */
+static inline sip_ua_bytes sip_ua_string(const char *string)
+{
+    sip_ua_bytes bytes = { string, string == NULL ? 0 : strlen(string) };
+    return bytes;
+}
+
+/* Bytes for the library, which takes no NULL. */
+static inline const uint8_t *sip_ua_raw_at(sip_ua_bytes bytes)
+{
+    return (const uint8_t *)(bytes.at == NULL ? "" : bytes.at);
+}
+
+static inline bool sip_ua_raw_is_there(sip_ua_bytes bytes)
+{
+    return bytes.at != NULL || bytes.len == 0;
+}
+
+/* Gives the library the headers of the next command. */
+static inline uint32_t sip_ua_raw_headers(sip_ua *agent, const sip_ua_header *headers,
+                                          size_t count, sip_ua_asked *asked)
+{
+    if (headers == NULL && count != 0)
+        return SIP_UA_NULL;
+    for (size_t i = 0; i < count; i++)
+        if (!sip_ua_raw_is_there(headers[i].name) || !sip_ua_raw_is_there(headers[i].value))
+            return SIP_UA_NULL;
+    for (size_t i = 0; i < count; i++) {
+        uint32_t status = sip_ua_raw_header(agent, sip_ua_raw_at(headers[i].name),
+                                            headers[i].name.len, sip_ua_raw_at(headers[i].value),
+                                            headers[i].value.len);
+        if (status == SIP_UA_BAD_FIELD)
+            asked->bad_field = SIP_UA_FIELD_HEADERS;
+        if (status != SIP_UA_OK)
+            return status;
+    }
+    return SIP_UA_OK;
+}
+
+/* Where to tell of a command, with zeros. */
+static inline sip_ua_asked *sip_ua_raw_asked(sip_ua_asked *asked, sip_ua_asked *otherwise)
+{
+    sip_ua_asked *told = asked == NULL ? otherwise : asked;
+    memset(told, 0, sizeof *told);
+    return told;
+}
+
+/* Starts a call: sends a first INVITE. */
+static inline uint32_t sip_ua_invite(sip_ua *agent, const sip_ua_invite_fields *fields,
+                                     sip_ua_asked *asked)
+{
+    sip_ua_asked otherwise, *told = sip_ua_raw_asked(asked, &otherwise);
+    if (agent == NULL || fields == NULL || !sip_ua_raw_is_there(fields->call_id)
+        || !sip_ua_raw_is_there(fields->request_uri) || !sip_ua_raw_is_there(fields->from)
+        || !sip_ua_raw_is_there(fields->to) || !sip_ua_raw_is_there(fields->body))
+        return SIP_UA_NULL;
+    uint32_t status = sip_ua_raw_headers(agent, fields->headers, fields->header_count, told);
+    if (status != SIP_UA_OK)
+        return status;
+    return sip_ua_raw_invite(agent, sip_ua_raw_at(fields->call_id), fields->call_id.len,
+                             &fields->address, sip_ua_raw_at(fields->request_uri),
+                             fields->request_uri.len, sip_ua_raw_at(fields->from), fields->from.len,
+                             sip_ua_raw_at(fields->to), fields->to.len, fields->supports_100rel,
+                             fields->requires_100rel, sip_ua_raw_at(fields->body), fields->body.len,
+                             told);
+}
+
+/* Sends a request outside of any dialog. */
+static inline uint32_t sip_ua_plain(sip_ua *agent, const sip_ua_plain_fields *fields,
+                                    sip_ua_asked *asked)
+{
+    sip_ua_asked otherwise, *told = sip_ua_raw_asked(asked, &otherwise);
+    if (agent == NULL || fields == NULL || !sip_ua_raw_is_there(fields->call_id)
+        || !sip_ua_raw_is_there(fields->method) || !sip_ua_raw_is_there(fields->request_uri)
+        || !sip_ua_raw_is_there(fields->from) || !sip_ua_raw_is_there(fields->to)
+        || !sip_ua_raw_is_there(fields->body))
+        return SIP_UA_NULL;
+    uint32_t status = sip_ua_raw_headers(agent, fields->headers, fields->header_count, told);
+    if (status != SIP_UA_OK)
+        return status;
+    return sip_ua_raw_plain(agent, sip_ua_raw_at(fields->call_id), fields->call_id.len,
+                            &fields->address, sip_ua_raw_at(fields->method), fields->method.len,
+                            sip_ua_raw_at(fields->request_uri), fields->request_uri.len,
+                            sip_ua_raw_at(fields->from), fields->from.len,
+                            sip_ua_raw_at(fields->to), fields->to.len, sip_ua_raw_at(fields->body),
+                            fields->body.len, told);
+}
+
+/* Sends a request in a dialog. */
+static inline uint32_t sip_ua_request(sip_ua *agent, const sip_ua_request_fields *fields,
+                                      sip_ua_asked *asked)
+{
+    sip_ua_asked otherwise, *told = sip_ua_raw_asked(asked, &otherwise);
+    if (agent == NULL || fields == NULL || !sip_ua_raw_is_there(fields->call_id)
+        || !sip_ua_raw_is_there(fields->local_tag) || !sip_ua_raw_is_there(fields->remote_tag)
+        || !sip_ua_raw_is_there(fields->method) || !sip_ua_raw_is_there(fields->body))
+        return SIP_UA_NULL;
+    uint32_t status = sip_ua_raw_headers(agent, fields->headers, fields->header_count, told);
+    if (status != SIP_UA_OK)
+        return status;
+    return sip_ua_raw_request(agent, sip_ua_raw_at(fields->call_id), fields->call_id.len,
+                              sip_ua_raw_at(fields->local_tag), fields->local_tag.len,
+                              sip_ua_raw_at(fields->remote_tag), fields->remote_tag.len,
+                              sip_ua_raw_at(fields->method), fields->method.len,
+                              sip_ua_raw_at(fields->body), fields->body.len, told);
+}
+
+/* Answers a request. */
+static inline uint32_t sip_ua_respond(sip_ua *agent, const sip_ua_respond_fields *fields,
+                                      sip_ua_asked *asked)
+{
+    sip_ua_asked otherwise, *told = sip_ua_raw_asked(asked, &otherwise);
+    if (agent == NULL || fields == NULL || !sip_ua_raw_is_there(fields->call_id)
+        || !sip_ua_raw_is_there(fields->reason) || !sip_ua_raw_is_there(fields->body))
+        return SIP_UA_NULL;
+    uint32_t status = sip_ua_raw_headers(agent, fields->headers, fields->header_count, told);
+    if (status != SIP_UA_OK)
+        return status;
+    return sip_ua_raw_respond(agent, sip_ua_raw_at(fields->call_id), fields->call_id.len,
+                              fields->id.round, fields->id.place, fields->status,
+                              fields->is_reliable, sip_ua_raw_at(fields->reason),
+                              fields->reason.len, sip_ua_raw_at(fields->body), fields->body.len,
+                              told);
+}
+
+/* Sends the ACK of the oldest 2xx of a dialog that is owed one. */
+static inline uint32_t sip_ua_ack(sip_ua *agent, const sip_ua_body_fields *fields,
+                                  sip_ua_asked *asked)
+{
+    sip_ua_asked otherwise, *told = sip_ua_raw_asked(asked, &otherwise);
+    if (agent == NULL || fields == NULL || !sip_ua_raw_is_there(fields->call_id)
+        || !sip_ua_raw_is_there(fields->local_tag) || !sip_ua_raw_is_there(fields->remote_tag)
+        || !sip_ua_raw_is_there(fields->body))
+        return SIP_UA_NULL;
+    uint32_t status = sip_ua_raw_headers(agent, fields->headers, fields->header_count, told);
+    if (status != SIP_UA_OK)
+        return status;
+    return sip_ua_raw_ack(agent, sip_ua_raw_at(fields->call_id), fields->call_id.len,
+                          sip_ua_raw_at(fields->local_tag), fields->local_tag.len,
+                          sip_ua_raw_at(fields->remote_tag), fields->remote_tag.len,
+                          sip_ua_raw_at(fields->body), fields->body.len, told);
+}
+
+/* Sends the PRACK of the oldest provisional response of a dialog that is owed one. */
+static inline uint32_t sip_ua_prack(sip_ua *agent, const sip_ua_body_fields *fields,
+                                    sip_ua_asked *asked)
+{
+    sip_ua_asked otherwise, *told = sip_ua_raw_asked(asked, &otherwise);
+    if (agent == NULL || fields == NULL || !sip_ua_raw_is_there(fields->call_id)
+        || !sip_ua_raw_is_there(fields->local_tag) || !sip_ua_raw_is_there(fields->remote_tag)
+        || !sip_ua_raw_is_there(fields->body))
+        return SIP_UA_NULL;
+    uint32_t status = sip_ua_raw_headers(agent, fields->headers, fields->header_count, told);
+    if (status != SIP_UA_OK)
+        return status;
+    return sip_ua_raw_prack(agent, sip_ua_raw_at(fields->call_id), fields->call_id.len,
+                            sip_ua_raw_at(fields->local_tag), fields->local_tag.len,
+                            sip_ua_raw_at(fields->remote_tag), fields->remote_tag.len,
+                            sip_ua_raw_at(fields->body), fields->body.len, told);
+}
+
+/* Cancels an INVITE that was sent. */
+static inline uint32_t sip_ua_cancel(sip_ua *agent, const sip_ua_cancel_fields *fields,
+                                     sip_ua_asked *asked)
+{
+    sip_ua_asked otherwise, *told = sip_ua_raw_asked(asked, &otherwise);
+    if (agent == NULL || fields == NULL || !sip_ua_raw_is_there(fields->call_id))
+        return SIP_UA_NULL;
+    return sip_ua_raw_cancel(agent, sip_ua_raw_at(fields->call_id), fields->call_id.len,
+                             fields->id.round, fields->id.place, told);
+}
+
+/* ---- the rest of a host's loop */
 
 /* The send of this index among the outputs of the last round could not be sent (the socket refused
  * it): an event of the next round. To be called before that. SIP_UA_NO_SEND, SIP_UA_TOO_MANY_EVENTS,

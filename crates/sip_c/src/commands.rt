@@ -51,13 +51,13 @@ pub extern "C" fn sip_ua_raw_invite(
 ) -> u32
     ensures { Asks handle.old.owned.host handle.new.owned.host result asked.new
         (TakesCommand (invite_of (record {
-          call_id = call_id;
+          call_id = call_id.entry;
           address = addr_of address.now;
-          request_uri = request_uri;
-          from = from;
-          to = to;
+          request_uri = request_uri.entry;
+          from = from.entry;
+          to = to.entry;
           support = support_of supports_100rel requires_100rel;
-          body = body;
+          body = body.entry;
         }))) }
 {
     let Some(mut host) = handle.take(alloc) else {
@@ -94,13 +94,13 @@ pub extern "C" fn sip_ua_raw_plain(
 ) -> u32
     ensures { Asks handle.old.owned.host handle.new.owned.host result asked.new
         (TakesCommand (plain_of (record {
-          call_id = call_id;
+          call_id = call_id.entry;
           address = addr_of address.now;
-          method = method;
-          request_uri = request_uri;
-          from = from;
-          to = to;
-          body = body;
+          method = method.entry;
+          request_uri = request_uri.entry;
+          from = from.entry;
+          to = to.entry;
+          body = body.entry;
         }))) }
 {
     let Some(mut host) = handle.take(alloc) else {
@@ -135,11 +135,11 @@ pub extern "C" fn sip_ua_raw_request(
 ) -> u32
     ensures { Asks handle.old.owned.host handle.new.owned.host result asked.new
         (TakesCommand (request_of (record {
-          call_id = call_id;
-          local_tag = local_tag;
-          remote_tag = remote_tag;
-          method = method;
-          body = body;
+          call_id = call_id.entry;
+          local_tag = local_tag.entry;
+          remote_tag = remote_tag.entry;
+          method = method.entry;
+          body = body.entry;
         }))) }
 {
     let Some(mut host) = handle.take(alloc) else {
@@ -174,12 +174,12 @@ pub extern "C" fn sip_ua_raw_respond(
 ) -> u32
     ensures { Asks handle.old.owned.host handle.new.owned.host result asked.new
         (TakesCommand (respond_of (record {
-          call_id = call_id;
+          call_id = call_id.entry;
           id = record { round = round; place = place };
           status = status;
           reliability = reliability_of is_reliable;
-          reason = reason;
-          body = body;
+          reason = reason.entry;
+          body = body.entry;
         }))) }
 {
     let Some(mut host) = handle.take(alloc) else {
@@ -212,10 +212,10 @@ pub extern "C" fn sip_ua_raw_ack(
 ) -> u32
     ensures { Asks handle.old.owned.host handle.new.owned.host result asked.new
         (TakesCommand (ack_of (record {
-          call_id = call_id;
-          local_tag = local_tag;
-          remote_tag = remote_tag;
-          body = body;
+          call_id = call_id.entry;
+          local_tag = local_tag.entry;
+          remote_tag = remote_tag.entry;
+          body = body.entry;
         }))) }
 {
     let Some(mut host) = handle.take(alloc) else {
@@ -246,10 +246,10 @@ pub extern "C" fn sip_ua_raw_prack(
 ) -> u32
     ensures { Asks handle.old.owned.host handle.new.owned.host result asked.new
         (TakesCommand (prack_of (record {
-          call_id = call_id;
-          local_tag = local_tag;
-          remote_tag = remote_tag;
-          body = body;
+          call_id = call_id.entry;
+          local_tag = local_tag.entry;
+          remote_tag = remote_tag.entry;
+          body = body.entry;
         }))) }
 {
     let Some(mut host) = handle.take(alloc) else {
@@ -279,7 +279,7 @@ pub extern "C" fn sip_ua_raw_cancel(
 ) -> u32
     ensures { Asks handle.old.owned.host handle.new.owned.host result asked.new
         (TakesCommand (cancel_of (record {
-          call_id = call_id;
+          call_id = call_id.entry;
           id = record { round = round; place = place };
         }))) }
 {
