@@ -7,6 +7,7 @@ mod handle;
 mod owned;
 mod questions;
 mod status;
+mod typed;
 mod values;
 
 pub use commands::{
@@ -15,12 +16,14 @@ pub use commands::{
 };
 pub use exports::{
     sip_ua_raw_datagram, sip_ua_raw_event_line, sip_ua_raw_event_lines, sip_ua_raw_failed,
-    sip_ua_raw_free, sip_ua_raw_new, sip_ua_raw_next_due, sip_ua_raw_next_output, sip_ua_raw_run,
+    sip_ua_raw_free, sip_ua_raw_new, sip_ua_raw_next, sip_ua_raw_next_due, sip_ua_raw_next_output,
+    sip_ua_raw_run,
 };
 pub use handle::Handle;
 pub use questions::{
     sip_ua_raw_datagram_at, sip_ua_raw_header_value, sip_ua_raw_last_id, sip_ua_raw_start_line,
 };
+pub use typed::TypedOutput;
 pub use values::{
     Address, Asked, Configuration, Datagram, Due, EventId, StartLine, TextLength, Told,
 };

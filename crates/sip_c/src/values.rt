@@ -67,8 +67,8 @@ pub struct Due {
     pub moment: u64,
 }
 
-// The address of a send, and zeros for another output.
-fn address_of(to: Option<Addr>) -> Address
+/// The address of a send, and zeros for another output.
+pub(crate) fn address_of(to: Option<Addr>) -> Address
     ensures { result ≡ spec.address_of to }
 {
     match to {

@@ -1,5 +1,5 @@
 -- What a host's calls do to it.
-use Rattle.std.specs.Prelude.{◌≡◌, ◌⊎◌, ◌<◌, ◌≤◌, ℕ, ◌+◌, ◌==◌, false, true, IfSome, IsSomeAnd, List, [], ◌∷◌, ◌++◌, OnErr, OnOk, Option, None, Some, Result, Err, length, map, nat_lt, if◌then◌else◌}
+use Rattle.std.specs.Prelude.{◌≡◌, ◌⊎◌, ◌<◌, ◌≤◌, ℕ, ◌+◌, ◌-◌, ◌==◌, false, true, IfSome, IsSomeAnd, List, [], ◌∷◌, ◌++◌, OnErr, OnOk, Option, None, Some, Result, Err, length, map, nat_lt, if◌then◌else◌}
 use Rattle.std.specs.List.{slice_get}
 use Rattle.std.specs.Option.{option_map}
 use Rattle.sip_files.specs.EventLines.{SpellsLines}
@@ -11,7 +11,8 @@ use Rattle.sip_message.specs.declared.id.Id.{Id}
 use Rattle.sip_round.specs.AgentState.{refusal_of, shard_count}
 use Rattle.sip_reader.specs.Head.{BeginsWith, HasValues}
 use Rattle.sip_reader.specs.declared.first_line.FirstLine.{FirstLine}
-use Rattle.sip_round.specs.Answers.{StandsFor, answers, placed_answers}
+use Rattle.sip_round.specs.Answers.{StandsFor, answers, past_of, placed_answers}
+use Rattle.sip_round.specs.Live.{live_of}
 use Rattle.sip_round.specs.Places.{datagram_at}
 use Rattle.sip_round.specs.declared.config.Config.{Config}
 use Rattle.sip_round.specs.declared.output.Output.{Output}
@@ -20,6 +21,7 @@ use Rattle.sip_round.specs.declared.round.Event.TheVariants.{Datagram}
 use Rattle.sip_round.specs.declared.round.Round.{Round}
 use Rattle.sip_round.specs.declared.round_fault.RoundFault.TheVariants as round_fault
 use Rattle.sip_host.specs.Handing.{sent_key, text_of, told_failure}
+use Rattle.sip_host.specs.declared.holdings.Holdings.{Holdings}
 use Rattle.sip_host.specs.declared.host.Host.{Host}
 use Rattle.sip_host.specs.declared.host_fault.HostFault.{HostFault}
 use Rattle.sip_host.specs.declared.host_fault.HostFault.TheVariants as host_fault
@@ -49,6 +51,11 @@ with_events host more = record host { events = host.events ++ more }
 abbrev pub after_taking : Host → Output → ℕ → Host
 after_taking host output room = if nat_lt room (length (text_of output)) then host
     else record host { taken = host.taken + 1 }
+
+-- the next output is taken, where one is left
+abbrev pub after_one : Host → Host
+after_one host = if nat_lt host.taken (length host.outputs.items) then
+    record host { taken = host.taken + 1 } else host
 
 -- the output of this index is a send, and the agent is told that it failed
 abbrev pub Reports : ℕ → Host → Host → Type 0
@@ -143,6 +150,18 @@ pub record RunsRound (moment : ℕ) (old new : Host) (answer : Answer) : Type 0 
       → new ≡ old)
   pub broken : answer ≡ Err (host_fault.Round (round_fault.NoMemory true)) → new.agent.shards ≡ None
   pub answers : OnOk answer (IsAnswered moment old new)
+
+-- ---- what a host holds
+
+-- what it holds of its rounds is what has begun in them and not ended (RFC 3261, sections 12 and 17);
+-- what waits are the events of the next round
+pub record HoldsSo (host : Host) (holds : Holdings) : Type 0 where
+  pub broken : host.agent.shards ≡ None → (holds.transactions, holds.calls) ≡ (0, 0)
+  pub live : (config : Config) (rounds : List Round) → StandsFor shard_of host.agent config rounds
+      → (holds.transactions, holds.calls) ≡ live_of config (past_of config rounds)
+  pub next_round : holds.next_round ≡ host.agent.next_round
+  pub events : holds.events ≡ length host.events
+  pub outputs : holds.outputs ≡ length host.outputs.items - host.taken
 
 -- ---- what the datagram of a place says
 

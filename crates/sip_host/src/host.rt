@@ -16,7 +16,7 @@ ghost use Rattle.sip_files.specs.Given.{with_given};
 ghost use Rattle.sip_round.specs.declared.round.Event.TheVariants.{Command};
 ghost use Rattle.sip_host.specs.Asking.{Makes, TakesCommand, TakesHeader, ack_of, cancel_of, invite_of, plain_of, prack_of, request_of, respond_of, without_headers};
 ghost use Rattle.sip_host.specs.Handing.{datagram_in, head_of, put_if, put_in, start_of, start_text, text_of};
-ghost use Rattle.sip_host.specs.Hosting.{Begins, BeginsAt, HasValuesAt, RunsRound, TakesDatagram, TakesFailure, TakesLine, TakesLines, after_taking, last_id_of, output_at, shard_of, with_events};
+ghost use Rattle.sip_host.specs.Hosting.{Begins, BeginsAt, HasValuesAt, HoldsSo, RunsRound, TakesDatagram, TakesFailure, TakesLine, TakesLines, after_one, after_taking, last_id_of, output_at, shard_of, with_events};
 ghost use Rattle.sip_host.specs.declared.field.Field.TheVariants as field;
 ghost use Rattle.sip_host.specs.declared.host_fault.HostFault.TheVariants as fault;
 
@@ -30,6 +30,7 @@ use crate::fields::{
 };
 use crate::given::header_of;
 use crate::handing::{failure_of, put, put_output, put_start};
+use crate::holdings::Holdings;
 use crate::host_fault::HostFault;
 use crate::next_output::NextOutput;
 use crate::start_length::StartLength;
@@ -311,6 +312,43 @@ impl Host {
             self.taken += 1;
         }
         Ok(Some(head))
+    }
+
+    /// The next output of the last round, if one is left: [`Host::take`] takes it. Takes no memory.
+    pub fn peek(&self) -> Option<&PlacedOutput>
+        ensures { option_copied result ≡ slice_get self.now.outputs.items self.now.taken }
+    {
+        self.outputs.get(self.taken)
+    }
+
+    /// How many outputs of the last round were taken: the index of the next one. Takes no memory.
+    pub fn taken(&self) -> usize
+        ensures { result ≡ self.now.taken }
+    {
+        self.taken
+    }
+
+    /// Takes the next output of the last round, where one is left. Takes no memory.
+    pub fn take(&mut self)
+        ensures { self.new ≡ after_one self.old }
+    {
+        if self.taken < self.outputs.len() {
+            self.taken += 1;
+        }
+    }
+
+    /// What is held, and what waits. Takes no memory.
+    pub fn holdings(&self) -> Holdings
+        ensures { HoldsSo self.now result }
+    {
+        let (transactions, calls) = self.agent.live();
+        Holdings {
+            transactions,
+            calls,
+            next_round: self.agent.next_round(),
+            events: self.events.len(),
+            outputs: self.outputs.len().saturating_sub(self.taken),
+        }
     }
 
     /// The event of this place in the last round, as an output of that round names it; there is

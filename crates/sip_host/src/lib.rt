@@ -7,6 +7,7 @@ mod field;
 mod fields;
 mod given;
 mod handing;
+mod holdings;
 mod host;
 mod host_fault;
 mod next_output;
@@ -16,6 +17,8 @@ pub use field::Field;
 pub use fields::{
     BodyFields, CancelFields, InviteFields, PlainFields, RequestFields, RespondFields,
 };
+pub use handing::put;
+pub use holdings::Holdings;
 pub use host::Host;
 pub use host_fault::HostFault;
 pub use next_output::NextOutput;
