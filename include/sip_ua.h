@@ -11,9 +11,9 @@
  *         .. wait for a datagram, a command of the user, or the moment of sip_ua_next_due
  *         sip_ua_datagram(..), sip_ua_invite(..), sip_ua_respond(..) .. sip_ua_failed(..)
  *         sip_ua_run(&agent, moment);
- *         while (sip_ua_next_output(&agent, &output, buffer, room) == SIP_UA_OK
+ *         while (sip_ua_next(&agent, &output, buffer, room) == SIP_UA_OK
  *                && output.kind != SIP_UA_NOTHING)
- *             .. send it, or tell the user
+ *             .. send it, or take what is told
  *     }
  *     sip_ua_free(&agent);
  *
@@ -81,6 +81,19 @@ typedef struct sip_ua_configuration {
     uint64_t first;
 } sip_ua_configuration;
 
+/* The id of an event: in lines it stands as `round.place`. */
+typedef struct sip_ua_id {
+    bool is_given;
+    uint32_t place;
+    uint64_t round;
+} sip_ua_id;
+
+/* Bytes of the program: a text, without an end, or a body. Where `len` is 0, `at` may be NULL. */
+typedef struct sip_ua_bytes {
+    const void *at;
+    size_t len;
+} sip_ua_bytes;
+
 /* An output. `to` counts for a send alone; `place` is that of the event that it comes of, from 1 in
  * the order in which the events were given, or 0 where no event stands behind it: it comes with
  * time, or is the request or the answer of a command; `index` counts the outputs of a round from 0;
@@ -99,23 +112,103 @@ enum {
     SIP_UA_LINE = 2     /* the text is a line: what the user is told, or what was dropped and why */
 };
 
+/* An output by its fields. What `sip_ua_output` has of it is the same here; each other field is 0
+ * where the output has none of it. Its texts stand one behind the other in the buffer, in the order
+ * of their lengths; `sip_ua_texts_of` finds them. */
+typedef struct sip_ua_typed_output {
+    uint32_t kind;
+    sip_ua_address to;
+    uint32_t place;
+    size_t index;
+    sip_ua_id id;     /* the request that a notice tells of */
+    uint32_t status;  /* of a response */
+    uint32_t rseq;    /* of a PRACK: the provisional response that it acknowledges */
+    uint32_t command; /* refused: the place of the command in its round */
+    uint32_t refusal; /* refused: SIP_UA_REFUSAL_.. */
+    uint32_t reason;  /* dropped: SIP_UA_DROP_.. */
+    uint32_t header;  /* dropped: the header that is missing or repeated, for sip_ua_header_text */
+    size_t call_id_len;
+    size_t local_tag_len;
+    size_t remote_tag_len;
+    size_t method_len;
+    size_t body_len; /* of a send the datagram */
+} sip_ua_typed_output;
+
+/* The texts of an output, within the buffer that they were written to. */
+typedef struct sip_ua_texts {
+    sip_ua_bytes call_id;
+    sip_ua_bytes local_tag;
+    sip_ua_bytes remote_tag;
+    sip_ua_bytes method;
+    sip_ua_bytes body;
+} sip_ua_texts;
+
+/* The kinds of sip_ua_next, beside SIP_UA_NOTHING and SIP_UA_SEND: what docs/FORMATS.md says of the
+ * line of the same name. */
+enum {
+    SIP_UA_DROP = 3,              /* the datagram of `place` was dropped */
+    SIP_UA_NOTICE_REQUEST = 4,    /* a request to answer: method, local tag, remote tag, body */
+    SIP_UA_NOTICE_RESPONSE = 5,   /* status, local tag, remote tag, body */
+    SIP_UA_NOTICE_ACK = 6,        /* of a 2xx: body */
+    SIP_UA_NOTICE_PRACK = 7,      /* rseq, body */
+    SIP_UA_NOTICE_TIMEOUT = 8,    /* no response, or no ACK of a rejection, came in time */
+    SIP_UA_NOTICE_FAILED = 9,     /* a send failed */
+    SIP_UA_NOTICE_NO_ACK = 10,    /* no ACK of a 2xx came in time */
+    SIP_UA_NOTICE_NO_PRACK = 11,  /* no PRACK came in time */
+    SIP_UA_NOTICE_CANCEL = 12,    /* the peer cancelled the INVITE, and 487 answers it */
+    SIP_UA_NOTICE_ENDED = 13,     /* a dialog ended: local tag, remote tag */
+    SIP_UA_NOTICE_REFUSED = 14    /* a command was refused: command, refusal */
+};
+
+/* Why a command was refused. */
+enum {
+    SIP_UA_REFUSAL_CALL_IN_USE = 1,
+    SIP_UA_REFUSAL_NO_SUCH_CALL = 2,
+    SIP_UA_REFUSAL_NO_SUCH_DIALOG = 3,
+    SIP_UA_REFUSAL_NO_SUCH_REQUEST = 4,
+    SIP_UA_REFUSAL_ALREADY_FINAL = 5,
+    SIP_UA_REFUSAL_BAD_STATUS = 6,
+    SIP_UA_REFUSAL_RELIABLE_PENDING = 7,
+    SIP_UA_REFUSAL_NOT_SUPPORTED = 8,
+    SIP_UA_REFUSAL_NOTHING_TO_ACK = 9,
+    SIP_UA_REFUSAL_NOTHING_TO_PRACK = 10,
+    SIP_UA_REFUSAL_SEQUENCE_USED_UP = 11,
+    SIP_UA_REFUSAL_STRICT_ROUTE = 12,
+    SIP_UA_REFUSAL_DIALOG_ENDED = 13,
+    SIP_UA_REFUSAL_BAD_METHOD = 14
+};
+
+/* Why a datagram was dropped. */
+enum {
+    SIP_UA_DROP_NOT_OURS = 1,
+    SIP_UA_DROP_NO_TRANSACTION = 2,
+    SIP_UA_DROP_TOO_LONG = 3,
+    SIP_UA_DROP_NO_EMPTY_LINE = 4,
+    SIP_UA_DROP_BAD_START_LINE = 5,
+    SIP_UA_DROP_BAD_HEADER = 6,
+    SIP_UA_DROP_MISSING = 7,
+    SIP_UA_DROP_REPEATED = 8,
+    SIP_UA_DROP_BAD_NUMBER = 9,
+    SIP_UA_DROP_OLD_BRANCH = 10,
+    SIP_UA_DROP_METHOD_MISMATCH = 11,
+    SIP_UA_DROP_TRUNCATED = 12,
+    SIP_UA_DROP_NO_MEMORY = 13
+};
+
+/* What is held: transactions and calls that have begun and not ended. What waits: events of the next
+ * round, which has this number, and outputs of the last one. */
+typedef struct sip_ua_stats {
+    uint64_t transactions;
+    uint64_t calls;
+    uint64_t next_round;
+    size_t events;
+    size_t outputs;
+} sip_ua_stats;
+
 typedef struct sip_ua_due {
     bool is_due;
     uint64_t moment;
 } sip_ua_due;
-
-/* The id of an event: in lines it stands as `round.place`. */
-typedef struct sip_ua_id {
-    bool is_given;
-    uint32_t place;
-    uint64_t round;
-} sip_ua_id;
-
-/* Bytes of the program: a text, without an end, or a body. Where `len` is 0, `at` may be NULL. */
-typedef struct sip_ua_bytes {
-    const void *at;
-    size_t len;
-} sip_ua_bytes;
 
 /* A header of a command: its name, the long or the compact one in any case, and its value. */
 typedef struct sip_ua_header {
@@ -307,6 +400,36 @@ static inline const char *sip_ua_refusal_text(uint32_t number)
     }
 }
 
+/* Why a datagram was dropped, in English; never NULL. */
+static inline const char *sip_ua_drop_text(uint32_t reason)
+{
+    switch (reason) {
+    case SIP_UA_DROP_NOT_OURS: return "a response to another sender";
+    case SIP_UA_DROP_NO_TRANSACTION: return "a response that no transaction waits for";
+    case SIP_UA_DROP_TOO_LONG: return "more than 65,535 bytes";
+    case SIP_UA_DROP_NO_EMPTY_LINE: return "no empty line after the headers";
+    case SIP_UA_DROP_BAD_START_LINE: return "neither a request line nor a status line";
+    case SIP_UA_DROP_BAD_HEADER: return "a header line that isn't in its form";
+    case SIP_UA_DROP_MISSING: return "a header is missing";
+    case SIP_UA_DROP_REPEATED: return "a header stands there twice";
+    case SIP_UA_DROP_BAD_NUMBER: return "a number that is none, or is too large";
+    case SIP_UA_DROP_OLD_BRANCH: return "a branch that doesn't begin with z9hG4bK";
+    case SIP_UA_DROP_METHOD_MISMATCH: return "the CSeq has another method";
+    case SIP_UA_DROP_TRUNCATED: return "shorter than its Content-Length";
+    case SIP_UA_DROP_NO_MEMORY: return "no memory";
+    default: return "no reason that is known here";
+    }
+}
+
+/* The name of the header that a drop tells as missing or repeated; never NULL. */
+static inline const char *sip_ua_header_text(uint32_t header)
+{
+    static const char *const names[] = { "", "Via", "From", "To", "Call-ID", "CSeq", "Max-Forwards",
+                                         "Content-Length", "RSeq", "RAck", "Contact",
+                                         "Record-Route", "Route", "Require", "Supported" };
+    return names[header < sizeof names / sizeof *names ? header : 0];
+}
+
 /* The functions of the library, which test no pointer. Call those below. */
 uint32_t sip_ua_raw_new(sip_ua *agent, const sip_ua_configuration *configuration, size_t shards);
 uint32_t sip_ua_raw_datagram(sip_ua *agent, const sip_ua_address *from, const uint8_t *bytes,
@@ -348,6 +471,8 @@ uint32_t sip_ua_raw_cancel(sip_ua *agent, const uint8_t *call_id, size_t call_id
 uint32_t sip_ua_raw_failed(sip_ua *agent, size_t output);
 uint32_t sip_ua_raw_run(sip_ua *agent, uint64_t moment);
 uint32_t sip_ua_raw_next_output(sip_ua *agent, sip_ua_output *output, uint8_t *buffer, size_t room);
+uint32_t sip_ua_raw_next(sip_ua *agent, sip_ua_typed_output *output, uint8_t *buffer, size_t room);
+uint32_t sip_ua_raw_stats(sip_ua *agent, sip_ua_stats *stats);
 uint32_t sip_ua_raw_next_due(sip_ua *agent, sip_ua_due *due);
 uint32_t sip_ua_raw_last_id(sip_ua *agent, sip_ua_id *id);
 uint32_t sip_ua_raw_datagram_at(sip_ua *agent, uint32_t place, sip_ua_arrival *arrival,
@@ -610,6 +735,57 @@ static inline uint32_t sip_ua_next_output(sip_ua *agent, sip_ua_output *output, 
     if (agent == NULL || output == NULL || buffer == NULL)
         return SIP_UA_NULL;
     return sip_ua_raw_next_output(agent, output, buffer, room);
+}
+
+/* The next output of the last round, by its fields, as sip_ua_next_output gives it with a line. Where
+ * its texts fit into `room` they were written to the buffer, and the output is taken; else the buffer
+ * is as it was, and the next call gives the same output again. SIP_UA_NO_MEMORY. */
+static inline uint32_t sip_ua_next(sip_ua *agent, sip_ua_typed_output *output, uint8_t *buffer,
+                                   size_t room)
+{
+    if (agent == NULL || output == NULL || buffer == NULL)
+        return SIP_UA_NULL;
+    return sip_ua_raw_next(agent, output, buffer, room);
+}
+
+/* How much room the texts of an output need. */
+static inline size_t sip_ua_texts_len(const sip_ua_typed_output *output)
+{
+    return output->call_id_len + output->local_tag_len + output->remote_tag_len
+        + output->method_len + output->body_len;
+}
+
+/* Where the texts of an output stand in the buffer that sip_ua_next was given, as long as that is
+ * not used again. */
+static inline sip_ua_texts sip_ua_texts_of(const sip_ua_typed_output *output, const uint8_t *buffer)
+{
+    sip_ua_texts texts;
+    texts.call_id.at = buffer;
+    texts.call_id.len = output->call_id_len;
+    texts.local_tag.at = buffer + output->call_id_len;
+    texts.local_tag.len = output->local_tag_len;
+    texts.remote_tag.at = (const uint8_t *)texts.local_tag.at + output->local_tag_len;
+    texts.remote_tag.len = output->remote_tag_len;
+    texts.method.at = (const uint8_t *)texts.remote_tag.at + output->remote_tag_len;
+    texts.method.len = output->method_len;
+    texts.body.at = (const uint8_t *)texts.method.at + output->method_len;
+    texts.body.len = output->body_len;
+    return texts;
+}
+
+/* Whether the bytes are those of a string. */
+static inline bool sip_ua_is(sip_ua_bytes bytes, const char *string)
+{
+    return bytes.len == strlen(string)
+        && (bytes.len == 0 || memcmp(bytes.at, string, bytes.len) == 0);
+}
+
+/* What is held, and what waits. */
+static inline uint32_t sip_ua_stats_of(sip_ua *agent, sip_ua_stats *stats)
+{
+    if (agent == NULL || stats == NULL)
+        return SIP_UA_NULL;
+    return sip_ua_raw_stats(agent, stats);
 }
 
 /* The first moment at which something is due, if there is one: a round without events that is run

@@ -1,5 +1,5 @@
 -- What calls through a handle do.
-use Rattle.std.specs.Prelude.{◌≡◌, ◌⊎◌, ◌^◌, ℕ, Bool, ◌&&◌, false, true, List, Option, None, Some, IsSomeAnd, Result, Ok, Err, length, nat_le, replicate}
+use Rattle.std.specs.Prelude.{◌≡◌, ◌⊎◌, ◌^◌, ◌-◌, ℕ, Bool, ◌&&◌, false, true, List, Option, None, Some, IsSomeAnd, Result, Ok, Err, length, nat_le, replicate, if◌then◌else◌}
 use Rattle.std.specs.List.{slice_get}
 use Rattle.std.specs.Option.{option_map}
 use Rattle.sip_message.specs.declared.addr.Addr.{Addr}
@@ -16,6 +16,7 @@ use Rattle.sip_host.specs.Hosting.{Answer, Begins, BeginsAt, HasValuesAt, after_
 use Rattle.sip_host.specs.declared.host.Host.{Host}
 use Rattle.sip_host.specs.declared.host_fault.HostFault.{HostFault}
 use Rattle.sip_host.specs.declared.host_fault.HostFault.TheVariants as fault
+use Rattle.sip_host.specs.declared.holdings.Holdings.{Holdings}
 use Rattle.sip_host.specs.declared.next_output.NextOutput.{NextOutput}
 use Rattle.sip_host.specs.declared.start_length.StartLength.{StartLength}
 use Rattle.sip_host.specs.declared.start_length.StartLength.TheVariants as start
@@ -31,6 +32,7 @@ use Rattle.sip_c.specs.declared.values.Datagram.{Datagram}
 use Rattle.sip_c.specs.declared.values.Due.{Due}
 use Rattle.sip_c.specs.declared.values.EventId.{EventId}
 use Rattle.sip_c.specs.declared.values.StartLine.{StartLine}
+use Rattle.sip_c.specs.declared.values.Stats.{Stats}
 use Rattle.sip_c.specs.declared.values.TextLength.{TextLength}
 use Rattle.sip_c.specs.declared.values.Told.{Told}
 
@@ -96,6 +98,22 @@ abbrev pub asked_of : Result Id HostFault → Asked
 asked_of (Ok id) = record { id = id_of (Some id); bad_field = 0 }
 asked_of (Err (fault.BadField name)) = record { id = id_of None; bad_field = number_of_field name }
 asked_of (Err other) = nothing_asked
+
+-- a number of 64 bits: the greatest stands for all above it
+abbrev pub shown : ℕ → ℕ
+shown number = if nat_le number (2 ^ 64 - 1) then number else 2 ^ 64 - 1
+
+-- what is held, with zeros where there is no agent
+abbrev pub stats_of : Option Holdings → Stats
+stats_of None =
+    record { transactions = 0; calls = 0; next_round = 0; events = 0; outputs = 0 }
+stats_of (Some holds) = record {
+  transactions = shown holds.transactions;
+  calls = shown holds.calls;
+  next_round = holds.next_round;
+  events = holds.events;
+  outputs = holds.outputs;
+}
 
 -- the source and the length of a datagram, with zeros where there is none
 abbrev pub datagram_of : Option (Addr × ℕ) → Datagram

@@ -4,7 +4,7 @@ ghost use Rattle.std.specs.Prelude.{◌≡◌};
 ghost use Rattle.sip_c.specs.Called as spec;
 
 use crate::status::number_of_field;
-use sip_host::{HostFault, NextOutput, StartLength};
+use sip_host::{Holdings, HostFault, NextOutput, StartLength};
 use sip_message::{Addr, Id};
 use sip_round::Config;
 use sip_served::{ProvisionalSupport, Reliability};
@@ -210,6 +210,51 @@ pub(crate) fn reliability_of(is_reliable: bool) -> Reliability
         Reliability::Reliable
     } else {
         Reliability::Plain
+    }
+}
+
+/// What is held: transactions and calls that have begun and not ended. What waits: events of the
+/// next round, which has this number, and outputs of the last one.
+#[repr(C)]
+#[derive(Clone, Copy)]
+pub struct Stats {
+    pub transactions: u64,
+    pub calls: u64,
+    pub next_round: u64,
+    pub events: usize,
+    pub outputs: usize,
+}
+
+/// What is held and what waits, or zeros.
+pub(crate) fn stats_of(holds: Option<Holdings>) -> Stats
+    ensures { result ≡ spec.stats_of holds }
+{
+    match holds {
+        None => Stats {
+            transactions: 0,
+            calls: 0,
+            next_round: 0,
+            events: 0,
+            outputs: 0,
+        },
+        Some(holds) => Stats {
+            transactions: shown(holds.transactions),
+            calls: shown(holds.calls),
+            next_round: holds.next_round,
+            events: holds.events,
+            outputs: holds.outputs,
+        },
+    }
+}
+
+// The greatest number stands for all above it.
+fn shown(number: u128) -> u64
+    ensures { result ≡ spec.shown number }
+{
+    if number <= u128::from(u64::MAX) {
+        number as u64
+    } else {
+        u64::MAX
     }
 }
 
