@@ -332,9 +332,10 @@ impl Host {
     pub fn take(&mut self)
         ensures { self.new ≡ after_one self.old }
     {
-        if self.taken < self.outputs.len() {
-            self.taken += 1;
+        if self.outputs.len() <= self.taken {
+            return;
         }
+        self.taken += 1;
     }
 
     /// What is held, and what waits. Takes no memory.
