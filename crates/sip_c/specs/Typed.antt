@@ -73,7 +73,7 @@ abbrev pub refusal_of_notice : Notice → ℕ
 refusal_of_notice (notice.Refused call_id place why) = refusal.number_of why
 refusal_of_notice told = 0
 
--- the number of a header, in the order of the table of headers
+-- the number of a header, in the order of the names
 abbrev pub number_of_header : HeaderName → ℕ
 number_of_header name.Via = 1
 number_of_header name.From = 2
