@@ -153,12 +153,16 @@ pub record RunsRound (moment : ℕ) (old new : Host) (answer : Answer) : Type 0 
 
 -- ---- what a host holds
 
+-- transactions, and calls
+abbrev pub live_in : Holdings → ℕ × ℕ
+live_in holds = (holds.transactions, holds.calls)
+
 -- what it holds of its rounds is what has begun in them and not ended (RFC 3261, sections 12 and 17);
 -- what waits are the events of the next round
 pub record HoldsSo (host : Host) (holds : Holdings) : Type 0 where
-  pub broken : host.agent.shards ≡ None → (holds.transactions, holds.calls) ≡ (0, 0)
+  pub broken : host.agent.shards ≡ None → live_in holds ≡ (0, 0)
   pub live : (config : Config) (rounds : List Round) → StandsFor shard_of host.agent config rounds
-      → (holds.transactions, holds.calls) ≡ live_of config (past_of config rounds)
+      → live_in holds ≡ live_of config (past_of config rounds)
   pub next_round : holds.next_round ≡ host.agent.next_round
   pub events : holds.events ≡ length host.events
   pub outputs : holds.outputs ≡ length host.outputs.items - host.taken
