@@ -217,9 +217,9 @@ public:
     }
 
     /// What is held, and what waits.
-    sip_ua_stats stats() {
-        sip_ua_stats told;
-        check(sip_ua_stats_of(&agent, &told));
+    sip_ua_counts stats() {
+        sip_ua_counts told;
+        check(sip_ua_stats(&agent, &told));
         return told;
     }
 

@@ -197,13 +197,13 @@ enum {
 
 /* What is held: transactions and calls that have begun and not ended. What waits: events of the next
  * round, which has this number, and outputs of the last one. */
-typedef struct sip_ua_stats {
+typedef struct sip_ua_counts {
     uint64_t transactions;
     uint64_t calls;
     uint64_t next_round;
     size_t events;
     size_t outputs;
-} sip_ua_stats;
+} sip_ua_counts;
 
 typedef struct sip_ua_due {
     bool is_due;
@@ -472,7 +472,7 @@ uint32_t sip_ua_raw_failed(sip_ua *agent, size_t output);
 uint32_t sip_ua_raw_run(sip_ua *agent, uint64_t moment);
 uint32_t sip_ua_raw_next_output(sip_ua *agent, sip_ua_output *output, uint8_t *buffer, size_t room);
 uint32_t sip_ua_raw_next(sip_ua *agent, sip_ua_typed_output *output, uint8_t *buffer, size_t room);
-uint32_t sip_ua_raw_stats(sip_ua *agent, sip_ua_stats *stats);
+uint32_t sip_ua_raw_stats(sip_ua *agent, sip_ua_counts *counts);
 uint32_t sip_ua_raw_next_due(sip_ua *agent, sip_ua_due *due);
 uint32_t sip_ua_raw_last_id(sip_ua *agent, sip_ua_id *id);
 uint32_t sip_ua_raw_datagram_at(sip_ua *agent, uint32_t place, sip_ua_arrival *arrival,
@@ -781,11 +781,11 @@ static inline bool sip_ua_is(sip_ua_bytes bytes, const char *string)
 }
 
 /* What is held, and what waits. */
-static inline uint32_t sip_ua_stats_of(sip_ua *agent, sip_ua_stats *stats)
+static inline uint32_t sip_ua_stats(sip_ua *agent, sip_ua_counts *counts)
 {
-    if (agent == NULL || stats == NULL)
+    if (agent == NULL || counts == NULL)
         return SIP_UA_NULL;
-    return sip_ua_raw_stats(agent, stats);
+    return sip_ua_raw_stats(agent, counts);
 }
 
 /* The first moment at which something is due, if there is one: a round without events that is run
