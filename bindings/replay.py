@@ -78,9 +78,8 @@ def ask(agent, line: bytes, headers: list) -> None:
     call_id, words = unspelled_word(fields[0]), [unspelled_word(field) for field in fields[1:]]
     if keyword == b"invite":
         hundred = (words[4] != b"none", words[4] == b"required")
-        agent.invite(
-            call_id, address_of(fields[1]), words[1], words[2], words[3], *hundred, words[5], headers
-        )
+        address = address_of(fields[1])
+        agent.invite(call_id, address, words[1], words[2], words[3], *hundred, words[5], headers)
     elif keyword == b"plain":
         agent.plain(call_id, address_of(fields[1]), *words[1:], headers=headers)
     elif keyword == b"cancel":

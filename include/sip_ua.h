@@ -195,8 +195,8 @@ enum {
     SIP_UA_DROP_NO_MEMORY = 13
 };
 
-/* What is held: transactions and calls that have begun and not ended. What waits: events of the next
- * round, which has this number, and outputs of the last one. */
+/* What is held: transactions and calls that have begun and not ended. What waits: events of the
+ * next round, which has this number, and outputs of the last one. */
 typedef struct sip_ua_counts {
     uint64_t transactions;
     uint64_t calls;
@@ -233,14 +233,14 @@ enum {
     SIP_UA_FIELD_REMOTE_TAG = 7,  /* the same */
     SIP_UA_FIELD_STATUS = 8,      /* not 101 to 699 */
     SIP_UA_FIELD_REASON = 9,      /* with a line end */
-    SIP_UA_FIELD_HEADERS = 10     /* a header that isn't the user's, a value that isn't in the form of
-                                     its header, a Route where the command takes none, or any header
-                                     of a cancel */
+    SIP_UA_FIELD_HEADERS = 10     /* a header that isn't the user's, a value that isn't in the form
+                                     of its header, a Route where the command takes none, or any
+                                     header of a cancel */
 };
 
-/* A first INVITE. It goes to `address`, with `request_uri`, and `from` and `to` are URIs too, without
- * tags. What `requires_100rel` requires is supported as well. Here and below a body is of the type
- * application/sdp where no header Content-Type says another one. */
+/* A first INVITE. It goes to `address`, with `request_uri`, and `from` and `to` are URIs too,
+ * without tags. What `requires_100rel` requires is supported as well. Here and below a body is of
+ * the type application/sdp where no header Content-Type says another one. */
 typedef struct sip_ua_invite_fields {
     sip_ua_bytes call_id;
     sip_ua_address address;
@@ -526,9 +526,9 @@ static inline uint32_t sip_ua_event_lines(sip_ua *agent, const char *lines, size
 
 /* ---- commands of the user by their fields, each an event of the next round
  *
- * What is asked for is what the line of the same name in docs/FORMATS.md asks for. Of `asked`, which
- * may be NULL, `id` is the one by which notices tell of the command, and `bad_field` is 0 but after
- * SIP_UA_BAD_FIELD. That, SIP_UA_TOO_MANY_EVENTS, SIP_UA_NO_MEMORY, SIP_UA_NULL: nothing was asked
+ * What is asked for is what the line of the same name in docs/FORMATS.md asks for. Of `asked`,
+ * which may be NULL, `id` is the one by which notices tell of the command, and `bad_field` is 0 but
+ * after SIP_UA_BAD_FIELD. That, SIP_UA_TOO_MANY_EVENTS, SIP_UA_NO_MEMORY, SIP_UA_NULL: nothing was asked
  * for. A command that the core then refuses is told by a notice. */
 
 /* The bytes of a string, without its end. */
@@ -737,9 +737,10 @@ static inline uint32_t sip_ua_next_output(sip_ua *agent, sip_ua_output *output, 
     return sip_ua_raw_next_output(agent, output, buffer, room);
 }
 
-/* The next output of the last round, by its fields, as sip_ua_next_output gives it with a line. Where
- * its texts fit into `room` they were written to the buffer, and the output is taken; else the buffer
- * is as it was, and the next call gives the same output again. SIP_UA_NO_MEMORY. */
+/* The next output of the last round, by its fields, as sip_ua_next_output gives it with a line.
+ * Where its texts fit into `room` they were written to the buffer, and the output is taken; else the
+ * buffer is as it was, and the next call gives the same output again: sip_ua_texts_len tells how
+ * much room it needs. SIP_UA_NO_MEMORY. */
 static inline uint32_t sip_ua_next(sip_ua *agent, sip_ua_typed_output *output, uint8_t *buffer,
                                    size_t room)
 {
