@@ -21,6 +21,47 @@ template <class Call> static void expect_status(std::uint32_t status, const char
     }
 }
 
+// Commands and outputs by their fields.
+static void typed(sip::Agent &agent) {
+    const sip::Address peer = {{192, 0, 2, 9}, 5060};
+    const char *uri = "sip:b@192.0.2.9";
+    agent.run(10);
+    const auto id = agent.invite(
+        {"c2", peer, uri, "sip:a@192.0.2.1", uri, true, false, "v=0\r\n", {{"Subject", "one"}}});
+    expect(id.is_given && id.place == 1, "the id of an INVITE");
+    expect(agent.stats().events == 1, "an event waits");
+    agent.plain({"c3", peer, "OPTIONS", uri, uri, uri});
+    agent.request({"c4", "a", "b", "BYE"});
+    agent.respond({"c4", id, 200, "OK"});
+    agent.ack({"c4", "a", "b"});
+    agent.prack({"c4", "a", "b"});
+    agent.cancel("c4", id);
+    const auto told = agent.run_typed(11);
+    std::size_t refused = 0, sent = 0;
+    for (const auto &output : told) {
+        refused += output.numbers.kind == SIP_UA_NOTICE_REFUSED && output.call_id == "c4"
+            && output.numbers.refusal == SIP_UA_REFUSAL_NO_SUCH_CALL;
+        sent += output.numbers.kind == SIP_UA_SEND
+            && output.body.find("\r\nSubject: one\r\n") != std::string::npos;
+    }
+    expect(refused == 5, "commands of no call are refused");
+    expect(sent == 1, "the INVITE has its header");
+    expect(agent.stats().calls >= 2, "two calls are held");
+    try {
+        agent.request({"c4", "a b", "", "BYE"});
+        expect(false, "a bad tag");
+    } catch (const sip::Error &error) {
+        expect(error.status == SIP_UA_BAD_FIELD && error.bad_field == SIP_UA_FIELD_LOCAL_TAG,
+               "which field is bad");
+    }
+    sip_ua none = SIP_UA_NONE;
+    sip_ua_asked asked;
+    const sip_ua_cancel_fields empty = {{nullptr, 1}, id};
+    expect(sip_ua_cancel(&none, &empty, &asked) == SIP_UA_NULL, "no text");
+    const sip_ua_cancel_fields given = {sip_ua_string("c"), id};
+    expect(sip_ua_cancel(&none, &given, nullptr) == SIP_UA_NOT_HELD, "no agent");
+}
+
 int main() {
     const sip::Configuration configuration = {{{192, 0, 2, 1}, 5060}, {}, 0};
     const sip::Address from = {{192, 0, 2, 9}, 5060};
@@ -61,6 +102,7 @@ int main() {
     expect_status(SIP_UA_BAD_LINE, "an empty line", [&] { agent.event_line(""); });
     expect_status(SIP_UA_NO_SEND, "no send", [&] { agent.failed(7); });
     agent.failed(0);
+    typed(agent);
     agent.close();
     expect_status(SIP_UA_NOT_HELD, "closed twice", [&] { agent.close(); });
     expect_status(SIP_UA_BAD_CONFIGURATION, "no shard", [&] { sip::Agent none(configuration, 0); });

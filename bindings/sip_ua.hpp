@@ -16,11 +16,14 @@
 
 namespace sip {
 
-/// What the library answered; `status` is one of SIP_UA_...
+/// What the library answered; `status` is one of SIP_UA_.., and after SIP_UA_BAD_FIELD `bad_field`
+/// one of SIP_UA_FIELD_..
 struct Error : std::runtime_error {
-    explicit Error(std::uint32_t status)
-        : std::runtime_error("sip_ua status " + std::to_string(status)), status(status) {}
+    explicit Error(std::uint32_t status, std::uint32_t bad_field = 0)
+        : std::runtime_error(std::string("sip_ua: ") + sip_ua_status_text(status)), status(status),
+          bad_field(bad_field) {}
     std::uint32_t status;
+    std::uint32_t bad_field;
 };
 
 using Address = sip_ua_address;
@@ -34,6 +37,74 @@ struct Output {
     std::optional<Address> to;
     std::string text;
     std::uint32_t place;
+};
+
+/// A header of a command: its name and its value.
+struct Header {
+    std::string_view name;
+    std::string_view value;
+};
+
+/// The fields of commands, as sip_ua.h has them.
+struct Invite {
+    std::string_view call_id;
+    Address address;
+    std::string_view request_uri;
+    std::string_view from;
+    std::string_view to;
+    bool supports_100rel = false;
+    bool requires_100rel = false;
+    std::string_view body = {};
+    std::vector<Header> headers = {};
+};
+
+struct Plain {
+    std::string_view call_id;
+    Address address;
+    std::string_view method;
+    std::string_view request_uri;
+    std::string_view from;
+    std::string_view to;
+    std::string_view body = {};
+    std::vector<Header> headers = {};
+};
+
+struct Request {
+    std::string_view call_id;
+    std::string_view local_tag;
+    std::string_view remote_tag;
+    std::string_view method;
+    std::string_view body = {};
+    std::vector<Header> headers = {};
+};
+
+struct Respond {
+    std::string_view call_id;
+    sip_ua_id id;
+    std::uint16_t status;
+    std::string_view reason = {};
+    bool is_reliable = false;
+    std::string_view body = {};
+    std::vector<Header> headers = {};
+};
+
+/// An ACK or a PRACK.
+struct Body {
+    std::string_view call_id;
+    std::string_view local_tag;
+    std::string_view remote_tag;
+    std::string_view body = {};
+    std::vector<Header> headers = {};
+};
+
+/// An output of a round by its fields; `numbers` has those that are numbers.
+struct TypedOutput {
+    sip_ua_typed_output numbers;
+    std::string call_id;
+    std::string local_tag;
+    std::string remote_tag;
+    std::string method;
+    std::string body;
 };
 
 /// A datagram that came in.
@@ -91,6 +162,85 @@ public:
     /// with its header lines before it.
     void event_lines(std::string_view lines) {
         check(sip_ua_event_lines(&agent, lines.empty() ? "" : lines.data(), lines.size()));
+    }
+
+    /// Starts a call. Here and below: the id by which notices tell of the command.
+    sip_ua_id invite(const Invite &given) {
+        const auto headers = headers_of(given.headers);
+        const sip_ua_invite_fields fields = {
+            bytes(given.call_id),  given.address,         bytes(given.request_uri),
+            bytes(given.from),     bytes(given.to),       given.supports_100rel,
+            given.requires_100rel, bytes(given.body),     headers.data(),
+            headers.size()};
+        return asked(sip_ua_invite, fields);
+    }
+
+    /// Sends a request outside of any dialog.
+    sip_ua_id plain(const Plain &given) {
+        const auto headers = headers_of(given.headers);
+        const sip_ua_plain_fields fields = {
+            bytes(given.call_id),     given.address,     bytes(given.method),
+            bytes(given.request_uri), bytes(given.from), bytes(given.to),
+            bytes(given.body),        headers.data(),    headers.size()};
+        return asked(sip_ua_plain, fields);
+    }
+
+    /// Sends a request in a dialog.
+    sip_ua_id request(const Request &given) {
+        const auto headers = headers_of(given.headers);
+        const sip_ua_request_fields fields = {
+            bytes(given.call_id), bytes(given.local_tag), bytes(given.remote_tag),
+            bytes(given.method),  bytes(given.body),      headers.data(),
+            headers.size()};
+        return asked(sip_ua_request, fields);
+    }
+
+    /// Answers a request.
+    sip_ua_id respond(const Respond &given) {
+        const auto headers = headers_of(given.headers);
+        const sip_ua_respond_fields fields = {
+            bytes(given.call_id), given.id,          given.status,   given.is_reliable,
+            bytes(given.reason),  bytes(given.body), headers.data(), headers.size()};
+        return asked(sip_ua_respond, fields);
+    }
+
+    /// Sends the ACK of the oldest 2xx of a dialog that is owed one.
+    sip_ua_id ack(const Body &given) { return body(sip_ua_ack, given); }
+
+    /// Sends the PRACK of the oldest provisional response of a dialog that is owed one.
+    sip_ua_id prack(const Body &given) { return body(sip_ua_prack, given); }
+
+    /// Cancels an INVITE that was sent, by its id.
+    sip_ua_id cancel(std::string_view call_id, sip_ua_id id) {
+        const sip_ua_cancel_fields fields = {bytes(call_id), id};
+        return asked(sip_ua_cancel, fields);
+    }
+
+    /// What is held, and what waits.
+    sip_ua_counts stats() {
+        sip_ua_counts told;
+        check(sip_ua_stats(&agent, &told));
+        return told;
+    }
+
+    /// A round at a moment in ms, and its outputs by their fields.
+    std::vector<TypedOutput> run_typed(std::uint64_t moment) {
+        check(sip_ua_run(&agent, moment));
+        std::vector<TypedOutput> outputs;
+        for (;;) {
+            sip_ua_typed_output told;
+            text_of(
+                [&](std::uint8_t *room, std::size_t size) {
+                    return sip_ua_next(&agent, &told, room, size);
+                },
+                [&] { return sip_ua_texts_len(&told); });
+            if (told.kind == SIP_UA_NOTHING)
+                return outputs;
+            const sip_ua_texts texts = sip_ua_texts_of(&told, buffer.data());
+            outputs.push_back({told, string(texts.call_id), string(texts.local_tag),
+                               string(texts.remote_tag), string(texts.method),
+                               string(texts.body)});
+        }
     }
 
     /// The id of the event that was given last, if the next round has one.
@@ -170,6 +320,35 @@ private:
     static void check(std::uint32_t status) {
         if (status != SIP_UA_OK)
             throw Error(status);
+    }
+
+    static sip_ua_bytes bytes(std::string_view text) { return {text.data(), text.size()}; }
+
+    static std::string string(sip_ua_bytes text) {
+        return std::string(static_cast<const char *>(text.at), text.len);
+    }
+
+    static std::vector<sip_ua_header> headers_of(const std::vector<Header> &given) {
+        std::vector<sip_ua_header> headers;
+        for (const Header &header : given)
+            headers.push_back({bytes(header.name), bytes(header.value)});
+        return headers;
+    }
+
+    template <class Call, class Fields> sip_ua_id asked(Call call, const Fields &fields) {
+        sip_ua_asked told;
+        const std::uint32_t status = call(&agent, &fields, &told);
+        if (status != SIP_UA_OK)
+            throw Error(status, told.bad_field);
+        return told.id;
+    }
+
+    template <class Call> sip_ua_id body(Call call, const Body &given) {
+        const auto headers = headers_of(given.headers);
+        const sip_ua_body_fields fields = {bytes(given.call_id),    bytes(given.local_tag),
+                                           bytes(given.remote_tag), bytes(given.body),
+                                           headers.data(),          headers.size()};
+        return asked(call, fields);
     }
 
     // The text that a call writes, of the length that it tells then. The buffer grows for it.

@@ -5,10 +5,14 @@ The library is a static one; `cc -shared` makes it loadable (`bindings/run` show
     cc -shared -o libsip_ua.so -Wl,--whole-archive libsip_c.a -Wl,--no-whole-archive liblibc_c.a
 
     agent = Agent("./libsip_ua.so", ("192.0.2.1", 5060), seed=os.urandom(32))
+    agent.invite(b"c1", ("192.0.2.9", 5060), b"sip:b@192.0.2.9", b"sip:a@192.0.2.1",
+                 b"sip:b@192.0.2.9", body=offer)
     agent.datagram(("192.0.2.9", 5060), b"OPTIONS ..")
-    for output in agent.run(moment):
-        if output.to is not None:
-            udp.sendto(output.text, output.to)
+    for output in agent.run_typed(moment):
+        if output.kind == SEND:
+            udp.sendto(output.body, output.to)
+        elif output.kind == NOTICE_REQUEST:
+            agent.respond(output.call_id, output.id, 200, reason=b"OK")
 
 An agent is used by one thread at a time. Moments are in ms and never go back.
 """
@@ -29,6 +33,23 @@ USED_UP = 9
 NO_MEMORY = 10
 BROKEN = 11
 BAD_CONFIGURATION = 12
+BAD_FIELD = 14
+
+SEND = 1
+DROP = 3
+NOTICE_REQUEST = 4
+NOTICE_RESPONSE = 5
+NOTICE_ACK = 6
+NOTICE_PRACK = 7
+NOTICE_TIMEOUT = 8
+NOTICE_FAILED = 9
+NOTICE_NO_ACK = 10
+NOTICE_NO_PRACK = 11
+NOTICE_CANCEL = 12
+NOTICE_ENDED = 13
+NOTICE_REFUSED = 14
+
+FIELD_HEADERS = 10
 
 _SEND = 1
 _REQUEST = 1
@@ -36,11 +57,13 @@ _RESPONSE = 2
 
 
 class Error(Exception):
-    """The library answered a fault; `status` is one of the numbers above."""
+    """The library answered a fault; `status` is one of the numbers above. After BAD_FIELD,
+    `bad_field` is the part of the command that is bad: SIP_UA_FIELD_.. of sip_ua.h."""
 
-    def __init__(self, status: int):
-        super().__init__(f"sip_ua status {status}")
+    def __init__(self, status: int, bad_field: int = 0):
+        super().__init__(f"sip_ua status {status}" + (f", field {bad_field}" if bad_field else ""))
         self.status = status
+        self.bad_field = bad_field
 
 
 class Output(NamedTuple):
@@ -56,6 +79,38 @@ class Output(NamedTuple):
     place: int
 
 
+class TypedOutput(NamedTuple):
+    """An output of a round by its fields: those that its kind doesn't have are 0, empty or None.
+    `body` is of a send the datagram."""
+
+    kind: int
+    index: int
+    to: Optional[Tuple[str, int]]
+    place: int
+    id: Optional[Tuple[int, int]]
+    status: int
+    rseq: int
+    command: int
+    refusal: int
+    reason: int
+    header: int
+    call_id: bytes
+    local_tag: bytes
+    remote_tag: bytes
+    method: bytes
+    body: bytes
+
+
+class Stats(NamedTuple):
+    """What is held, and what waits."""
+
+    transactions: int
+    calls: int
+    next_round: int
+    events: int
+    outputs: int
+
+
 class StartLine(NamedTuple):
     """A start line: of a request method and Request-URI, of a response status and reason."""
 
@@ -63,6 +118,9 @@ class StartLine(NamedTuple):
     uri: Optional[bytes]
     status: Optional[int]
     reason: Optional[bytes]
+
+
+Headers = Sequence[Tuple[bytes, bytes]]
 
 
 class _Agent(ctypes.Structure):
@@ -99,6 +157,41 @@ class _Id(ctypes.Structure):
     ]
 
 
+class _Asked(ctypes.Structure):
+    _fields_ = [("id", _Id), ("bad_field", ctypes.c_uint32)]
+
+
+class _TypedOutput(ctypes.Structure):
+    _fields_ = [
+        ("kind", ctypes.c_uint32),
+        ("to", _Address),
+        ("place", ctypes.c_uint32),
+        ("index", ctypes.c_size_t),
+        ("id", _Id),
+        ("status", ctypes.c_uint32),
+        ("rseq", ctypes.c_uint32),
+        ("command", ctypes.c_uint32),
+        ("refusal", ctypes.c_uint32),
+        ("reason", ctypes.c_uint32),
+        ("header", ctypes.c_uint32),
+        ("call_id_len", ctypes.c_size_t),
+        ("local_tag_len", ctypes.c_size_t),
+        ("remote_tag_len", ctypes.c_size_t),
+        ("method_len", ctypes.c_size_t),
+        ("body_len", ctypes.c_size_t),
+    ]
+
+
+class _Stats(ctypes.Structure):
+    _fields_ = [
+        ("transactions", ctypes.c_uint64),
+        ("calls", ctypes.c_uint64),
+        ("next_round", ctypes.c_uint64),
+        ("events", ctypes.c_size_t),
+        ("outputs", ctypes.c_size_t),
+    ]
+
+
 class _Arrival(ctypes.Structure):
     _fields_ = [("is_there", ctypes.c_bool), ("source", _Address), ("len", ctypes.c_size_t)]
 
@@ -119,7 +212,25 @@ class _Start(ctypes.Structure):
 _bytes = ctypes.c_char_p
 _size = ctypes.c_size_t
 _place = ctypes.c_uint32
+_text = (_bytes, _size)
+_id = (ctypes.c_uint64, _place)
+_asked = (ctypes.POINTER(_Asked),)
 _FUNCTIONS = {
+    "header": _text * 2,
+    "invite": _text
+    + (ctypes.POINTER(_Address),)
+    + _text * 3
+    + (ctypes.c_bool,) * 2
+    + _text
+    + _asked,
+    "plain": _text + (ctypes.POINTER(_Address),) + _text * 5 + _asked,
+    "request": _text * 5 + _asked,
+    "respond": _text + _id + (ctypes.c_uint16, ctypes.c_bool) + _text * 2 + _asked,
+    "ack": _text * 4 + _asked,
+    "prack": _text * 4 + _asked,
+    "cancel": _text + _id + _asked,
+    "next": (ctypes.POINTER(_TypedOutput), ctypes.c_void_p, _size),
+    "stats": (ctypes.POINTER(_Stats),),
     "new": (ctypes.POINTER(_Configuration), _size),
     "datagram": (ctypes.POINTER(_Address), _bytes, _size),
     "event_line": (_bytes, _size),
@@ -220,6 +331,114 @@ class Agent:
         self._call("last_id", ctypes.byref(told))
         return told.round, told.place
 
+    def _ask(self, name: str, headers: Headers, *words) -> Tuple[int, int]:
+        """A command by its fields; texts are bytes. Its id."""
+        for header, value in headers:
+            try:
+                self._call("header", bytes(header), len(header), bytes(value), len(value))
+            except Error as error:
+                raise Error(error.status, FIELD_HEADERS if error.status == BAD_FIELD else 0)
+        given = []
+        for word in words:
+            given += (bytes(word), len(word)) if isinstance(word, (bytes, bytearray)) else (word,)
+        asked = _Asked()
+        try:
+            self._call(name, *given, ctypes.byref(asked))
+        except Error as error:
+            raise Error(error.status, asked.bad_field)
+        return asked.id.round, asked.id.place
+
+    def invite(
+        self,
+        call_id: bytes,
+        address: Tuple[str, int],
+        request_uri: bytes,
+        from_uri: bytes,
+        to_uri: bytes,
+        supports_100rel: bool = False,
+        requires_100rel: bool = False,
+        body: bytes = b"",
+        headers: Headers = (),
+    ) -> Tuple[int, int]:
+        """Starts a call. The id, round and place, by which notices tell of it, as below."""
+        at = ctypes.byref(_address(address))
+        hundred = (supports_100rel, requires_100rel)
+        return self._ask(
+            "invite", headers, call_id, at, request_uri, from_uri, to_uri, *hundred, body
+        )
+
+    def plain(
+        self,
+        call_id: bytes,
+        address: Tuple[str, int],
+        method: bytes,
+        request_uri: bytes,
+        from_uri: bytes,
+        to_uri: bytes,
+        body: bytes = b"",
+        headers: Headers = (),
+    ) -> Tuple[int, int]:
+        """Sends a request outside of any dialog."""
+        at = ctypes.byref(_address(address))
+        return self._ask(
+            "plain", headers, call_id, at, method, request_uri, from_uri, to_uri, body
+        )
+
+    def request(
+        self,
+        call_id: bytes,
+        local_tag: bytes,
+        remote_tag: bytes,
+        method: bytes,
+        body: bytes = b"",
+        headers: Headers = (),
+    ) -> Tuple[int, int]:
+        """Sends a request in a dialog."""
+        return self._ask("request", headers, call_id, local_tag, remote_tag, method, body)
+
+    def respond(
+        self,
+        call_id: bytes,
+        id: Tuple[int, int],
+        status: int,
+        is_reliable: bool = False,
+        reason: bytes = b"",
+        body: bytes = b"",
+        headers: Headers = (),
+    ) -> Tuple[int, int]:
+        """Answers a request, by the id that its notice tells."""
+        round, place = _number(id[0], 64), _number(id[1], 32)
+        status = _number(status, 16)
+        return self._ask(
+            "respond", headers, call_id, round, place, status, is_reliable, reason, body
+        )
+
+    def ack(
+        self,
+        call_id: bytes,
+        local_tag: bytes,
+        remote_tag: bytes,
+        body: bytes = b"",
+        headers: Headers = (),
+    ) -> Tuple[int, int]:
+        """Sends the ACK of the oldest 2xx of a dialog that is owed one."""
+        return self._ask("ack", headers, call_id, local_tag, remote_tag, body)
+
+    def prack(
+        self,
+        call_id: bytes,
+        local_tag: bytes,
+        remote_tag: bytes,
+        body: bytes = b"",
+        headers: Headers = (),
+    ) -> Tuple[int, int]:
+        """Sends the PRACK of the oldest provisional response of a dialog that is owed one."""
+        return self._ask("prack", headers, call_id, local_tag, remote_tag, body)
+
+    def cancel(self, call_id: bytes, id: Tuple[int, int]) -> Tuple[int, int]:
+        """Cancels an INVITE that was sent, by its id."""
+        return self._ask("cancel", (), call_id, _number(id[0], 64), _number(id[1], 32))
+
     def failed(self, output: int) -> None:
         """The send of this index of the last round could not be sent."""
         self._call("failed", _number(output, 64))
@@ -247,6 +466,60 @@ class Agent:
         if told.kind == _SEND:
             to = (str(ipaddress.IPv4Address(bytes(told.to.ip))), told.to.port)
         return Output(told.index, to, ctypes.string_at(self._buffer, told.len), told.place)
+
+    def run_typed(self, moment: int) -> List[TypedOutput]:
+        """A round at a moment in ms, and its outputs by their fields."""
+        self._call("run", _number(moment, 64))
+        outputs = []
+        while True:
+            output = self._next()
+            if output is None:
+                return outputs
+            outputs.append(output)
+
+    def _next(self) -> Optional[TypedOutput]:
+        told = _TypedOutput()
+        while True:
+            self._call("next", ctypes.byref(told), self._buffer, len(self._buffer))
+            lengths = (
+                told.call_id_len,
+                told.local_tag_len,
+                told.remote_tag_len,
+                told.method_len,
+                told.body_len,
+            )
+            if sum(lengths) <= len(self._buffer):
+                break
+            self._buffer = ctypes.create_string_buffer(sum(lengths))
+        if told.kind == 0:
+            return None
+        data, texts, start = ctypes.string_at(self._buffer, sum(lengths)), [], 0
+        for length in lengths:
+            texts.append(data[start : start + length])
+            start += length
+        to = None
+        if told.kind == SEND:
+            to = (str(ipaddress.IPv4Address(bytes(told.to.ip))), told.to.port)
+        return TypedOutput(
+            told.kind,
+            told.index,
+            to,
+            told.place,
+            (told.id.round, told.id.place) if told.id.is_given else None,
+            told.status,
+            told.rseq,
+            told.command,
+            told.refusal,
+            told.reason,
+            told.header,
+            *texts,
+        )
+
+    def stats(self) -> Stats:
+        """What is held, and what waits."""
+        told = _Stats()
+        self._call("stats", ctypes.byref(told))
+        return Stats(told.transactions, told.calls, told.next_round, told.events, told.outputs)
 
     def _text(self, name: str, told, *words) -> bytes:
         """What is told is filled in, and its text given, for which the buffer grows."""

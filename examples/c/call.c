@@ -2,13 +2,13 @@
  * offer, says what comes of it, and hangs up SECONDS after the answer. Where none comes within 20 s
  * it cancels the call. Status 0 where the call was answered and has ended, otherwise 1.
  *
- * The loop is that of answer.c. Beside it this one shows a command with a header of its own, the id
- * of a command, and what is read of the datagram that a notice tells of. */
+ * Commands are functions with the fields of a request, and what is told is a struct: nothing is
+ * spelled or taken apart. Beside these it shows a header of the program's own, the id of a command,
+ * and what is read of the datagram that a notice tells of. */
 #define _POSIX_C_SOURCE 200809L
 #include "sip_ua.h"
 
 #include <arpa/inet.h>
-#include <inttypes.h>
 #include <poll.h>
 #include <stdio.h>
 #include <stdlib.h>
@@ -21,19 +21,18 @@
 #define PATIENCE_MS 20000
 #define CALL_ID "call-c"
 
-/* A word of a line: a space is `\s`, a line end `\r\n`. */
 #define OFFER \
-    "v=0\\r\\no=-\\s1\\s1\\sIN\\sIP4\\s127.0.0.1\\r\\ns=-\\r\\nc=IN\\sIP4\\s127.0.0.1\\r\\n" \
-    "t=0\\s0\\r\\nm=audio\\s40000\\sRTP/AVP\\s0\\r\\n"
+    "v=0\r\no=- 1 1 IN IP4 127.0.0.1\r\ns=-\r\nc=IN IP4 127.0.0.1\r\nt=0 0\r\n" \
+    "m=audio 40000 RTP/AVP 0\r\n"
 
 static uint8_t datagram[65536];
-static uint8_t text[65537];
+static uint8_t texts[65535];
 static sip_ua agent = SIP_UA_NONE;
 static int udp;
 static uint64_t moment;
 /* The INVITE, the tags of its dialog once it is answered, and when to hang up or to cancel. */
 static sip_ua_id invite;
-static char local_tag[256], remote_tag[256];
+static sip_ua_bytes local_tag, remote_tag;
 static bool is_answered, hangs_up, is_over, has_command;
 static uint64_t until, seconds;
 
@@ -52,9 +51,12 @@ static void must(uint32_t status, const char *call)
     }
 }
 
-static void command(const char *lines)
+/* A command was asked for, or the example is wrong. */
+static void asked(uint32_t status, const sip_ua_asked *told, const char *call)
 {
-    must(sip_ua_event_lines(&agent, lines, strlen(lines)), "sip_ua_event_lines");
+    if (status == SIP_UA_BAD_FIELD)
+        fprintf(stderr, "call: field %u\n", (unsigned)told->bad_field);
+    must(status, call);
     has_command = true;
 }
 
@@ -73,11 +75,11 @@ static void receive(void)
     }
 }
 
-static void send_output(const sip_ua_output *output)
+static void send_output(const sip_ua_typed_output *output)
 {
     struct sockaddr_in to = { .sin_family = AF_INET, .sin_port = htons(output->to.port) };
     memcpy(&to.sin_addr, output->to.ip, 4);
-    if (sendto(udp, text, output->len, 0, (struct sockaddr *)&to, sizeof to) < 0)
+    if (sendto(udp, texts, output->body_len, 0, (struct sockaddr *)&to, sizeof to) < 0)
         must(sip_ua_failed(&agent, output->index), "sip_ua_failed");
 }
 
@@ -94,73 +96,141 @@ static void say(uint32_t place, unsigned status)
            (const char *)contact);
 }
 
-/* A response to the INVITE, to its CANCEL or to the BYE, by the id of its request. */
-static void take_response(const char *id, unsigned status, const char *local, const char *remote,
-                          uint32_t place)
+/* Keeps a tag beyond the buffer that it stands in. */
+static void keep(sip_ua_bytes tag, char *room, size_t size, sip_ua_bytes *kept)
 {
-    char of_invite[64];
-    snprintf(of_invite, sizeof of_invite, "%" PRIu64 ".%" PRIu32, invite.round, invite.place);
-    say(place, status);
-    if (strcmp(id, of_invite) != 0) {
-        is_over = is_over || (hangs_up && status >= 200);
-    } else if (status >= 200 && status < 300 && !is_answered) {
+    if (tag.len > size) {
+        fprintf(stderr, "call: a tag of %zu bytes\n", tag.len);
+        exit(1);
+    }
+    memcpy(room, tag.at, tag.len);
+    kept->at = room;
+    kept->len = tag.len;
+}
+
+/* A response to the INVITE, to its CANCEL or to the BYE, by the id of its request. */
+static void take_response(const sip_ua_typed_output *output, const sip_ua_texts *said)
+{
+    static char local[256], remote[256];
+    say(output->place, output->status);
+    if (output->id.round != invite.round || output->id.place != invite.place) {
+        is_over = is_over || (hangs_up && output->status >= 200);
+    } else if (output->status >= 200 && output->status < 300 && !is_answered) {
         is_answered = true;
         until = moment + 1000 * seconds;
-        snprintf(local_tag, sizeof local_tag, "%s", local);
-        snprintf(remote_tag, sizeof remote_tag, "%s", remote);
-    } else if (status >= 300) {
+        keep(said->local_tag, local, sizeof local, &local_tag);
+        keep(said->remote_tag, remote, sizeof remote, &remote_tag);
+    } else if (output->status >= 300) {
         is_over = true;
     }
 }
 
-/* What the user is told: a line `notice CALL-ID FORM ..`. A request of the peer gets a 200. */
-static void tell(const char *line, uint32_t place)
+/* A request of the peer in the call gets a 200. */
+static void answer(const sip_ua_typed_output *output)
 {
-    unsigned status;
-    char form[16], id[64], local[256], remote[256], answer[256];
-    if (sscanf(line, "notice " CALL_ID " %15s %63s", form, id) != 2)
+    sip_ua_asked told;
+    sip_ua_respond_fields fields = {
+        .call_id = sip_ua_string(CALL_ID),
+        .id = output->id,
+        .status = 200,
+        .reason = sip_ua_string("OK"),
+    };
+    asked(sip_ua_respond(&agent, &fields, &told), &told, "sip_ua_respond");
+}
+
+/* What is told of the call. */
+static void tell(const sip_ua_typed_output *output)
+{
+    sip_ua_texts said = sip_ua_texts_of(output, texts);
+    if (!sip_ua_is(said.call_id, CALL_ID))
         return;
-    if (strcmp(form, "response") == 0
-        && sscanf(line, "notice %*s %*s %*s %u %255s %255s", &status, local, remote) == 3) {
-        take_response(id, status, local, remote, place);
-    } else if (strcmp(form, "request") == 0) {
-        snprintf(answer, sizeof answer, "respond " CALL_ID " %s 200 plain - OK", id);
-        command(answer);
-    } else if (strcmp(form, "timeout") == 0 || strcmp(form, "failed") == 0
-               || strcmp(form, "refused") == 0 || (strcmp(form, "ended") == 0 && !hangs_up)) {
+    switch (output->kind) {
+    case SIP_UA_NOTICE_RESPONSE:
+        take_response(output, &said);
+        break;
+    case SIP_UA_NOTICE_REQUEST:
+        answer(output);
+        break;
+    case SIP_UA_NOTICE_REFUSED:
+        fprintf(stderr, "call: %s\n", sip_ua_refusal_text(output->refusal));
         is_over = true;
+        break;
+    case SIP_UA_NOTICE_TIMEOUT:
+    case SIP_UA_NOTICE_FAILED:
+        is_over = true;
+        break;
+    case SIP_UA_NOTICE_ENDED:
+        is_over = is_over || !hangs_up;
+        break;
     }
 }
 
 static void run(void)
 {
-    sip_ua_output output;
+    sip_ua_typed_output output;
     has_command = false;
     moment = now();
     must(sip_ua_run(&agent, moment), "sip_ua_run");
     for (;;) {
-        must(sip_ua_next_output(&agent, &output, text, sizeof text - 1), "sip_ua_next_output");
+        must(sip_ua_next(&agent, &output, texts, sizeof texts), "sip_ua_next");
         if (output.kind == SIP_UA_NOTHING)
             return;
-        text[output.len] = '\0';
         if (output.kind == SIP_UA_SEND)
             send_output(&output);
-        else
-            tell((const char *)text, output.place);
+        else if (output.kind != SIP_UA_DROP)
+            tell(&output);
     }
+}
+
+/* Calls: a first INVITE with an offer and a header of the program's own. */
+static void call(const sip_ua_address *peer, const char *uri, const char *own)
+{
+    sip_ua_asked told;
+    sip_ua_header headers[] = {
+        { sip_ua_string("User-Agent"), sip_ua_string("call.c") },
+        { sip_ua_string("Content-Type"), sip_ua_string("application/sdp") },
+    };
+    sip_ua_invite_fields fields = {
+        .call_id = sip_ua_string(CALL_ID),
+        .address = *peer,
+        .request_uri = sip_ua_string(uri),
+        .from = sip_ua_string(own),
+        .to = sip_ua_string(uri),
+        .body = sip_ua_string(OFFER),
+        .headers = headers,
+        .header_count = sizeof headers / sizeof *headers,
+    };
+    asked(sip_ua_invite(&agent, &fields, &told), &told, "sip_ua_invite");
+    invite = told.id;
+}
+
+static void hang_up(void)
+{
+    sip_ua_asked told;
+    sip_ua_request_fields fields = {
+        .call_id = sip_ua_string(CALL_ID),
+        .local_tag = local_tag,
+        .remote_tag = remote_tag,
+        .method = sip_ua_string("BYE"),
+    };
+    asked(sip_ua_request(&agent, &fields, &told), &told, "sip_ua_request");
+}
+
+static void cancel(void)
+{
+    sip_ua_asked told;
+    sip_ua_cancel_fields fields = { .call_id = sip_ua_string(CALL_ID), .id = invite };
+    asked(sip_ua_cancel(&agent, &fields, &told), &told, "sip_ua_cancel");
 }
 
 /* Hangs up, or cancels a call that nobody answers. */
 static void end_call(void)
 {
-    char line[1024];
     hangs_up = is_answered;
     if (is_answered)
-        snprintf(line, sizeof line, "request " CALL_ID " %s %s BYE -", local_tag, remote_tag);
+        hang_up();
     else
-        snprintf(line, sizeof line, "cancel " CALL_ID " %" PRIu64 ".%" PRIu32, invite.round,
-                 invite.place);
-    command(line);
+        cancel();
     until = UINT64_MAX;
 }
 
@@ -178,8 +248,11 @@ int main(int count, char **words)
 {
     sip_ua_configuration configuration = { 0 };
     struct sockaddr_in local = { .sin_family = AF_INET };
-    char lines[4096];
-    if (count != 7 || inet_pton(AF_INET, words[1], &local.sin_addr) != 1) {
+    struct in_addr peer_ip;
+    sip_ua_address peer;
+    char own[128];
+    if (count != 7 || inet_pton(AF_INET, words[1], &local.sin_addr) != 1
+        || inet_pton(AF_INET, words[3], &peer_ip) != 1) {
         fprintf(stderr, "usage: call IP PORT TO-IP TO-PORT URI SECONDS\n");
         return 2;
     }
@@ -194,11 +267,10 @@ int main(int count, char **words)
         return 1;
     }
     must(sip_ua_new(&agent, &configuration, 1), "sip_ua_new");
-    snprintf(lines, sizeof lines,
-             " User-Agent: call.c\ninvite " CALL_ID " %s:%s %s sip:me@%s:%s %s none " OFFER,
-             words[3], words[4], words[5], words[1], words[2], words[5]);
-    command(lines);
-    must(sip_ua_last_id(&agent, &invite), "sip_ua_last_id");
+    memcpy(peer.ip, &peer_ip, 4);
+    peer.port = (uint16_t)atoi(words[4]);
+    snprintf(own, sizeof own, "sip:me@%s:%u", words[1], (unsigned)configuration.local.port);
+    call(&peer, words[5], own);
     until = now() + PATIENCE_MS;
     while (!is_over || has_command) {
         struct pollfd waiting = { .fd = udp, .events = POLLIN };

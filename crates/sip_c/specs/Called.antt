@@ -1,5 +1,5 @@
 -- What calls through a handle do.
-use Rattle.std.specs.Prelude.{◌≡◌, ◌⊎◌, ◌^◌, ℕ, Bool, ◌&&◌, false, true, List, Option, None, Some, IsSomeAnd, length, nat_le, replicate}
+use Rattle.std.specs.Prelude.{◌≡◌, ◌⊎◌, ◌^◌, ◌-◌, ℕ, Bool, ◌&&◌, false, true, List, Option, None, Some, IsSomeAnd, Result, Ok, Err, length, nat_le, replicate, if◌then◌else◌}
 use Rattle.std.specs.List.{slice_get}
 use Rattle.std.specs.Option.{option_map}
 use Rattle.sip_message.specs.declared.addr.Addr.{Addr}
@@ -14,16 +14,25 @@ use Rattle.sip_timers.specs.Queue.{is_due}
 use Rattle.sip_host.specs.Handing.{datagram_in, head_of, put_if, put_in, start_of, start_text, text_of}
 use Rattle.sip_host.specs.Hosting.{Answer, Begins, BeginsAt, HasValuesAt, after_taking}
 use Rattle.sip_host.specs.declared.host.Host.{Host}
+use Rattle.sip_host.specs.declared.host_fault.HostFault.{HostFault}
+use Rattle.sip_host.specs.declared.host_fault.HostFault.TheVariants as fault
+use Rattle.sip_host.specs.declared.holdings.Holdings.{Holdings}
 use Rattle.sip_host.specs.declared.next_output.NextOutput.{NextOutput}
 use Rattle.sip_host.specs.declared.start_length.StartLength.{StartLength}
 use Rattle.sip_host.specs.declared.start_length.StartLength.TheVariants as start
-use Rattle.sip_c.specs.Status.{number_of_answer}
+use Rattle.sip_common.specs.declared.command.ProvisionalSupport.{ProvisionalSupport}
+use Rattle.sip_common.specs.declared.command.ProvisionalSupport.TheVariants as support
+use Rattle.sip_common.specs.declared.command.Reliability.{Reliability}
+use Rattle.sip_common.specs.declared.command.Reliability.TheVariants as reliability
+use Rattle.sip_c.specs.Status.{number_of_answer, number_of_field}
 use Rattle.sip_c.specs.declared.values.Address.{Address}
+use Rattle.sip_c.specs.declared.values.Asked.{Asked}
 use Rattle.sip_c.specs.declared.values.Configuration.{Configuration}
 use Rattle.sip_c.specs.declared.values.Datagram.{Datagram}
 use Rattle.sip_c.specs.declared.values.Due.{Due}
 use Rattle.sip_c.specs.declared.values.EventId.{EventId}
 use Rattle.sip_c.specs.declared.values.StartLine.{StartLine}
+use Rattle.sip_c.specs.declared.values.Stats.{Stats}
 use Rattle.sip_c.specs.declared.values.TextLength.{TextLength}
 use Rattle.sip_c.specs.declared.values.Told.{Told}
 
@@ -69,6 +78,43 @@ abbrev pub id_of : Option Id → EventId
 id_of None = record { is_given = false; place = 0; round = 0 }
 id_of (Some id) = record { is_given = true; place = id.place; round = id.round }
 
+-- the use of reliable provisional responses that an INVITE asks for: what it requires it supports
+-- (RFC 3262, section 4)
+abbrev pub support_of : Bool → Bool → ProvisionalSupport
+support_of supports true = support.Required
+support_of true false = support.Supported
+support_of false false = support.None
+
+abbrev pub reliability_of : Bool → Reliability
+reliability_of true = reliability.Reliable
+reliability_of false = reliability.Plain
+
+-- nothing was asked for, and no field is bad
+abbrev pub nothing_asked : Asked
+nothing_asked = record { id = id_of None; bad_field = 0 }
+
+-- the id of a command, or the number of the field that is bad
+abbrev pub asked_of : Result Id HostFault → Asked
+asked_of (Ok id) = record { id = id_of (Some id); bad_field = 0 }
+asked_of (Err (fault.BadField name)) = record { id = id_of None; bad_field = number_of_field name }
+asked_of (Err other) = nothing_asked
+
+-- a number of 64 bits: the greatest stands for all above it
+abbrev pub shown : ℕ → ℕ
+shown number = if nat_le number (2 ^ 64 - 1) then number else 2 ^ 64 - 1
+
+-- what is held, with zeros where there is no agent
+abbrev pub stats_of : Option Holdings → Stats
+stats_of None =
+    record { transactions = 0; calls = 0; next_round = 0; events = 0; outputs = 0 }
+stats_of (Some holds) = record {
+  transactions = shown holds.transactions;
+  calls = shown holds.calls;
+  next_round = holds.next_round;
+  events = holds.events;
+  outputs = holds.outputs;
+}
+
 -- the source and the length of a datagram, with zeros where there is none
 abbrev pub datagram_of : Option (Addr × ℕ) → Datagram
 datagram_of None = record { is_there = false; from = address_of None; len = 0 }
@@ -106,6 +152,13 @@ abbrev pub Calls : Option Host → Option Host → ℕ → (Host → Host → An
 Calls None new number Does = (number ≡ 1) × (new ≡ None)
 Calls (Some old) new number Does = IsSomeAnd new (λ after.
     (answer : Answer) × (number ≡ number_of_answer answer) × Does old after answer)
+
+-- the same of a call whose answer is told beside its number
+abbrev pub Asks : Option Host → Option Host → ℕ → Asked
+    → (Host → Host → Result Id HostFault → Type 0) → Type 0
+Asks None new number told Does = (number ≡ 1) × (new ≡ None) × (told ≡ nothing_asked)
+Asks (Some old) new number told Does = IsSomeAnd new (λ after. (answer : Result Id HostFault)
+    × (number ≡ number_of_answer answer) × (told ≡ asked_of answer) × Does old after answer)
 
 -- the next output is told, or that there is none; for want of memory nothing has changed
 abbrev pub Gives : Option PlacedOutput → Host → Host → ℕ → Told → List ℕ → List ℕ → Type 0

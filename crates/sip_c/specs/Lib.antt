@@ -1,3 +1,4 @@
 pub mod Called
 pub mod Owned
 pub mod Status
+pub mod Typed

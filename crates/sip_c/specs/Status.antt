@@ -1,5 +1,7 @@
 -- The numbers that calls answer.
 use Rattle.std.specs.Prelude.{ℕ, false, true, Result, Ok, Err}
+use Rattle.sip_host.specs.declared.field.Field.{Field}
+use Rattle.sip_host.specs.declared.field.Field.TheVariants as field
 use Rattle.sip_host.specs.declared.host_fault.HostFault.{HostFault}
 use Rattle.sip_host.specs.declared.host_fault.HostFault.TheVariants as host
 use Rattle.sip_round.specs.declared.round_fault.RoundFault.{RoundFault}
@@ -23,8 +25,22 @@ number_of host.NoSend = 5
 number_of host.OutputsLeft = 6
 number_of (host.Round fault) = number_of_round fault
 number_of host.NoMemory = 10
+number_of (host.BadField name) = 14
+
+-- of a part of a command
+abbrev pub number_of_field : Field → ℕ
+number_of_field field.CallId = 1
+number_of_field field.Method = 2
+number_of_field field.RequestUri = 3
+number_of_field field.From = 4
+number_of_field field.To = 5
+number_of_field field.LocalTag = 6
+number_of_field field.RemoteTag = 7
+number_of_field field.Status = 8
+number_of_field field.Reason = 9
+number_of_field field.Headers = 10
 
 -- of a call's answer: 0 where all is well
-abbrev pub number_of_answer : Result (Unit {0}) HostFault → ℕ
+abbrev pub number_of_answer : {T : Type 0} → Result T HostFault → ℕ
 number_of_answer (Ok done) = 0
 number_of_answer (Err fault) = number_of fault

@@ -1,21 +1,24 @@
 //! The functions by which C begins, feeds, runs and ends an agent, and takes what it gives. Each
 //! takes the agent out of its handle, calls it, and puts it back; so do those of `questions`.
 
-ghost use Rattle.std.specs.Prelude.{◌≡◌, ℕ, IfSome, IsSome, List, None, Option, is_some, if◌then◌else◌};
+ghost use Rattle.std.specs.Prelude.{◌≡◌, ℕ, IfOk, IfSome, IsSome, List, None, OnErr, Option, is_some, if◌then◌else◌};
+ghost use Rattle.std.specs.List.{slice_get};
 ghost use Rattle.sip_round.specs.Answers.{StandsFor};
 ghost use Rattle.sip_host.specs.Hosting.{RunsRound, TakesDatagram, TakesFailure, TakesLine, TakesLines, shard_of};
 ghost use Rattle.sip_round.specs.declared.config.Config.{Config};
 ghost use Rattle.sip_round.specs.declared.round.Round.{Round};
+ghost use Rattle.sip_c.specs.Typed.{GivesNextTyped, GivesTyped};
 ghost use Rattle.sip_c.specs.Called.{Calls, GivesNext, IsNextDue, Makes, addr_of, can_begin, config_of, due_of};
 
 use crate::handle::Handle;
 use crate::status::{
     BAD_CONFIGURATION, HELD, NO_MEMORY, NOT_HELD, OK, number_of, number_of_answer,
 };
+use crate::typed::{TypedOutput, nothing_typed, texts_of, typed_of};
 use crate::values::{self, Address, Configuration, Due, Told};
-use sip_host::Host;
+use sip_host::{Host, put};
 use sip_round::MAX_MOMENT;
-use std::alloc::Global;
+use std::alloc::{AllocError, Global};
 
 /// The greatest number of shards.
 const MAX_SHARDS: usize = 256;
@@ -152,6 +155,52 @@ pub extern "C" fn sip_ua_raw_next_output(
         }
         Err(fault) => number_of(fault),
     }
+}
+
+/// The next output of the last round by its fields, if one is left.
+#[unsafe(no_mangle)]
+pub extern "C" fn sip_ua_raw_next(
+    alloc: Global,
+    handle: &mut Handle,
+    told: &mut TypedOutput,
+    buffer: &mut [u8],
+) -> u32
+    ensures { GivesNextTyped handle.old.owned.host handle.new.owned.host result told.new buffer.old
+        buffer.new }
+{
+    *told = nothing_typed();
+    let Some(mut host) = handle.take(alloc) else {
+        return NOT_HELD;
+    };
+    let answer = give(alloc, &mut host, buffer);
+    handle.put(host);
+    match answer {
+        Ok(typed) => {
+            *told = typed;
+            OK
+        }
+        Err(_) => NO_MEMORY,
+    }
+}
+
+// The next output, which is taken where the buffer has room for its texts.
+fn give(alloc: Global, host: &mut Host, buffer: &mut [u8]) -> Result<TypedOutput, AllocError>
+    ensures given { IfOk result (λ told. GivesTyped (slice_get host.old.outputs.items
+        host.old.taken) host.old host.new 0 told buffer.old buffer.new) }
+    ensures left { slice_get host.old.outputs.items host.old.taken ≡ None
+        → OnErr result ⊥ }
+    ensures same { OnErr result ((host.new ≡ host.old) × (buffer.new ≡ buffer.old)) }
+{
+    let Some(placed) = host.peek() else {
+        return Ok(nothing_typed());
+    };
+    let texts = texts_of(alloc, &placed.output)?;
+    let typed = typed_of(host.taken(), placed);
+    put(&texts, buffer);
+    if texts.len() <= buffer.len() {
+        host.take();
+    }
+    Ok(typed)
 }
 
 /// The first moment at which something is due, if there is one.

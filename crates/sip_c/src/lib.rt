@@ -1,19 +1,30 @@
 //! The agent of a host as a static library for C. `include/sip_ua.h` says how it is called.
 #![tactic(auto)]
 
+mod commands;
 mod exports;
 mod handle;
 mod owned;
 mod questions;
 mod status;
+mod typed;
 mod values;
 
+pub use commands::{
+    sip_ua_raw_ack, sip_ua_raw_cancel, sip_ua_raw_header, sip_ua_raw_invite, sip_ua_raw_plain,
+    sip_ua_raw_prack, sip_ua_raw_request, sip_ua_raw_respond,
+};
 pub use exports::{
     sip_ua_raw_datagram, sip_ua_raw_event_line, sip_ua_raw_event_lines, sip_ua_raw_failed,
-    sip_ua_raw_free, sip_ua_raw_new, sip_ua_raw_next_due, sip_ua_raw_next_output, sip_ua_raw_run,
+    sip_ua_raw_free, sip_ua_raw_new, sip_ua_raw_next, sip_ua_raw_next_due, sip_ua_raw_next_output,
+    sip_ua_raw_run,
 };
 pub use handle::Handle;
 pub use questions::{
     sip_ua_raw_datagram_at, sip_ua_raw_header_value, sip_ua_raw_last_id, sip_ua_raw_start_line,
+    sip_ua_raw_stats,
 };
-pub use values::{Address, Configuration, Datagram, Due, EventId, StartLine, TextLength, Told};
+pub use typed::TypedOutput;
+pub use values::{
+    Address, Asked, Configuration, Datagram, Due, EventId, StartLine, Stats, TextLength, Told,
+};

@@ -1,12 +1,14 @@
-//! The functions by which C asks for the id of an event, and for what a datagram says.
+//! The functions by which C asks for the id of an event, for what is held, and for
+//! what a datagram says.
 
-ghost use Rattle.std.specs.Prelude.{◌≡◌, ◌≤◌, IfSome, None, length};
-ghost use Rattle.sip_host.specs.Hosting.{last_id_of};
-ghost use Rattle.sip_c.specs.Called.{TellsDatagram, TellsNothing, TellsOrNot, TellsStart, TellsValue, datagram_of, id_of, length_of, start_line_of};
+ghost use Rattle.std.specs.Prelude.{◌≡◌, ◌≤◌, IfSome, None, Some, length};
+ghost use Rattle.sip_host.specs.Hosting.{HoldsSo, last_id_of};
+ghost use Rattle.sip_host.specs.declared.holdings.Holdings.{Holdings as AHoldings};
+ghost use Rattle.sip_c.specs.Called.{TellsDatagram, TellsNothing, TellsOrNot, TellsStart, TellsValue, datagram_of, id_of, length_of, start_line_of, stats_of};
 
 use crate::handle::Handle;
 use crate::status::{NO_MEMORY, NOT_HELD, OK};
-use crate::values::{self, Datagram, EventId, StartLine, TextLength};
+use crate::values::{self, Datagram, EventId, StartLine, Stats, TextLength};
 use std::alloc::Global;
 
 /// The id of the event that was given last, if the next round has one.
@@ -22,6 +24,23 @@ pub extern "C" fn sip_ua_raw_last_id(alloc: Global, handle: &mut Handle, id: &mu
         return NOT_HELD;
     };
     *id = values::id_of(host.last_id());
+    handle.put(host);
+    OK
+}
+
+/// What is held, and what waits.
+#[unsafe(no_mangle)]
+pub extern "C" fn sip_ua_raw_stats(alloc: Global, handle: &mut Handle, stats: &mut Stats) -> u32
+    ensures same { handle.new.owned.host ≡ handle.old.owned.host }
+    ensures none { handle.old.owned.host ≡ None → (result ≡ 1) × (stats.new ≡ stats_of None) }
+    ensures told { IfSome handle.old.owned.host (λ host. (holds : AHoldings) × (result ≡ 0)
+        × HoldsSo host holds × (stats.new ≡ stats_of (Some holds))) }
+{
+    let Some(host) = handle.take(alloc) else {
+        *stats = values::stats_of(None);
+        return NOT_HELD;
+    };
+    *stats = values::stats_of(Some(host.holdings()));
     handle.put(host);
     OK
 }

@@ -3,7 +3,7 @@
 ghost use Rattle.std.specs.Prelude.{◌≡◌};
 ghost use Rattle.sip_c.specs.Status as spec;
 
-use sip_host::HostFault;
+use sip_host::{Field, HostFault};
 use sip_round::RoundFault;
 
 pub(crate) const OK: u32 = 0;
@@ -30,6 +30,7 @@ pub(crate) fn number_of(fault: HostFault) -> u32
         HostFault::OutputsLeft => 6,
         HostFault::Round(fault) => number_of_round(fault),
         HostFault::NoMemory => 10,
+        HostFault::BadField(_) => 14,
     }
 }
 
@@ -43,6 +44,24 @@ fn number_of_round(fault: RoundFault) -> u32
         RoundFault::RoundsUsedUp => 9,
         RoundFault::NoMemory { broken: false } => 10,
         RoundFault::Broken | RoundFault::NoMemory { broken: true } => 11,
+    }
+}
+
+/// The number of a part of a command.
+pub(crate) fn number_of_field(field: Field) -> u32
+    ensures { result ≡ spec.number_of_field field }
+{
+    match field {
+        Field::CallId => 1,
+        Field::Method => 2,
+        Field::RequestUri => 3,
+        Field::From => 4,
+        Field::To => 5,
+        Field::LocalTag => 6,
+        Field::RemoteTag => 7,
+        Field::Status => 8,
+        Field::Reason => 9,
+        Field::Headers => 10,
     }
 }
 

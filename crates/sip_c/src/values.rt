@@ -3,9 +3,11 @@
 ghost use Rattle.std.specs.Prelude.{◌≡◌};
 ghost use Rattle.sip_c.specs.Called as spec;
 
-use sip_host::{NextOutput, StartLength};
+use crate::status::number_of_field;
+use sip_host::{Holdings, HostFault, NextOutput, StartLength};
 use sip_message::{Addr, Id};
 use sip_round::Config;
+use sip_served::{ProvisionalSupport, Reliability};
 
 /// An IPv4 address and a port.
 #[repr(C)]
@@ -65,8 +67,8 @@ pub struct Due {
     pub moment: u64,
 }
 
-// The address of a send, and zeros for another output.
-fn address_of(to: Option<Addr>) -> Address
+/// The address of a send, and zeros for another output.
+pub(crate) fn address_of(to: Option<Addr>) -> Address
     ensures { result ≡ spec.address_of to }
 {
     match to {
@@ -151,6 +153,108 @@ pub(crate) fn id_of(id: Option<Id>) -> EventId
             place,
             round,
         },
+    }
+}
+
+/// What is told of a command: the id of its event, or the number of the part that is bad, or 0.
+#[repr(C)]
+#[derive(Clone, Copy)]
+pub struct Asked {
+    pub id: EventId,
+    pub bad_field: u32,
+}
+
+/// Nothing was asked for, and no part is bad.
+pub(crate) fn nothing_asked() -> Asked
+    ensures { result ≡ spec.nothing_asked }
+{
+    Asked {
+        id: id_of(None),
+        bad_field: 0,
+    }
+}
+
+/// What is told of a command's answer.
+pub(crate) fn asked_of(answer: Result<Id, HostFault>) -> Asked
+    ensures { result ≡ spec.asked_of answer }
+{
+    match answer {
+        Ok(id) => Asked {
+            id: id_of(Some(id)),
+            bad_field: 0,
+        },
+        Err(HostFault::BadField(field)) => Asked {
+            id: id_of(None),
+            bad_field: number_of_field(field),
+        },
+        Err(_) => nothing_asked(),
+    }
+}
+
+/// The use of reliable provisional responses that an INVITE asks for.
+pub(crate) fn support_of(supports: bool, requires_it: bool) -> ProvisionalSupport
+    ensures { result ≡ spec.support_of supports requires_it }
+{
+    match (supports, requires_it) {
+        (_, true) => ProvisionalSupport::Required,
+        (true, false) => ProvisionalSupport::Supported,
+        (false, false) => ProvisionalSupport::None,
+    }
+}
+
+/// Whether a response is to be sent reliably.
+pub(crate) fn reliability_of(is_reliable: bool) -> Reliability
+    ensures { result ≡ spec.reliability_of is_reliable }
+{
+    if is_reliable {
+        Reliability::Reliable
+    } else {
+        Reliability::Plain
+    }
+}
+
+/// What is held: transactions and calls that have begun and not ended. What waits: events of the
+/// next round, which has this number, and outputs of the last one.
+#[repr(C)]
+#[derive(Clone, Copy)]
+pub struct Stats {
+    pub transactions: u64,
+    pub calls: u64,
+    pub next_round: u64,
+    pub events: usize,
+    pub outputs: usize,
+}
+
+/// What is held and what waits, or zeros.
+pub(crate) fn stats_of(holds: Option<Holdings>) -> Stats
+    ensures { result ≡ spec.stats_of holds }
+{
+    match holds {
+        None => Stats {
+            transactions: 0,
+            calls: 0,
+            next_round: 0,
+            events: 0,
+            outputs: 0,
+        },
+        Some(holds) => Stats {
+            transactions: shown(holds.transactions),
+            calls: shown(holds.calls),
+            next_round: holds.next_round,
+            events: holds.events,
+            outputs: holds.outputs,
+        },
+    }
+}
+
+// The greatest number stands for all above it.
+fn shown(number: u128) -> u64
+    ensures { result ≡ spec.shown number }
+{
+    if number <= u128::from(u64::MAX) {
+        number as u64
+    } else {
+        u64::MAX
     }
 }
 

@@ -1,5 +1,5 @@
 -- What a host's calls do to it.
-use Rattle.std.specs.Prelude.{◌≡◌, ◌⊎◌, ◌<◌, ◌≤◌, ℕ, ◌+◌, ◌==◌, false, true, IfSome, IsSomeAnd, List, [], ◌∷◌, ◌++◌, OnErr, OnOk, Option, None, Some, Result, Err, length, map, nat_lt, if◌then◌else◌}
+use Rattle.std.specs.Prelude.{◌≡◌, ◌⊎◌, ◌<◌, ◌≤◌, ℕ, ◌+◌, ◌-◌, ◌==◌, false, true, IfSome, IsSomeAnd, List, [], ◌∷◌, ◌++◌, OnErr, OnOk, Option, None, Some, Result, Err, length, map, nat_lt, if◌then◌else◌}
 use Rattle.std.specs.List.{slice_get}
 use Rattle.std.specs.Option.{option_map}
 use Rattle.sip_files.specs.EventLines.{SpellsLines}
@@ -11,7 +11,8 @@ use Rattle.sip_message.specs.declared.id.Id.{Id}
 use Rattle.sip_round.specs.AgentState.{refusal_of, shard_count}
 use Rattle.sip_reader.specs.Head.{BeginsWith, HasValues}
 use Rattle.sip_reader.specs.declared.first_line.FirstLine.{FirstLine}
-use Rattle.sip_round.specs.Answers.{StandsFor, answers, placed_answers}
+use Rattle.sip_round.specs.Answers.{StandsFor, answers, past_of, placed_answers}
+use Rattle.sip_round.specs.Live.{live_of}
 use Rattle.sip_round.specs.Places.{datagram_at}
 use Rattle.sip_round.specs.declared.config.Config.{Config}
 use Rattle.sip_round.specs.declared.output.Output.{Output}
@@ -20,6 +21,7 @@ use Rattle.sip_round.specs.declared.round.Event.TheVariants.{Datagram}
 use Rattle.sip_round.specs.declared.round.Round.{Round}
 use Rattle.sip_round.specs.declared.round_fault.RoundFault.TheVariants as round_fault
 use Rattle.sip_host.specs.Handing.{sent_key, text_of, told_failure}
+use Rattle.sip_host.specs.declared.holdings.Holdings.{Holdings}
 use Rattle.sip_host.specs.declared.host.Host.{Host}
 use Rattle.sip_host.specs.declared.host_fault.HostFault.{HostFault}
 use Rattle.sip_host.specs.declared.host_fault.HostFault.TheVariants as host_fault
@@ -50,6 +52,11 @@ abbrev pub after_taking : Host → Output → ℕ → Host
 after_taking host output room = if nat_lt room (length (text_of output)) then host
     else record host { taken = host.taken + 1 }
 
+-- the next output is taken, where one is left
+abbrev pub after_one : Host → Host
+after_one host = if nat_lt host.taken (length host.outputs.items) then
+    record host { taken = host.taken + 1 } else host
+
 -- the output of this index is a send, and the agent is told that it failed
 abbrev pub Reports : ℕ → Host → Host → Type 0
 Reports output old new = IsSomeAnd (sent_key (output_at old output))
@@ -57,7 +64,8 @@ Reports output old new = IsSomeAnd (sent_key (output_at old output))
 
 -- whatever rounds the agent stood for, it stands for these and the one of the host's events at this
 -- moment, and the outputs are those with which that one is answered after them, each with its
--- place; its events are kept, no event is left, and no output is taken
+-- place; its events are kept, no event is left, no output is taken, and its next command has the same
+-- headers
 pub record IsAnswered (moment : ℕ) (old new : Host) : Type 0 where
   pub stands : (config : Config) (rounds : List Round)
       → StandsFor shard_of old.agent config rounds
@@ -73,6 +81,7 @@ pub record IsAnswered (moment : ℕ) (old new : Host) : Type 0 where
   pub kept : new.last_events ≡ old.events
   pub no_events : new.events ≡ []
   pub none_taken : new.taken ≡ 0
+  pub headers : new.headers ≡ old.headers
 
 -- ---- all that a call says, by its answer
 
@@ -84,6 +93,7 @@ Answer = Result (Unit {0}) HostFault
 pub record Begins (config : Config) (shards : ℕ) (host : Host) : Type 0 where
   pub stands : StandsFor shard_of host.agent config []
   pub count : shard_count host.agent ≡ shards
+  pub no_headers : host.headers ≡ []
   pub no_events : host.events ≡ []
   pub no_last_events : host.last_events ≡ []
   pub no_outputs : host.outputs.items ≡ []
@@ -140,6 +150,22 @@ pub record RunsRound (moment : ℕ) (old new : Host) (answer : Answer) : Type 0 
       → new ≡ old)
   pub broken : answer ≡ Err (host_fault.Round (round_fault.NoMemory true)) → new.agent.shards ≡ None
   pub answers : OnOk answer (IsAnswered moment old new)
+
+-- ---- what a host holds
+
+-- transactions, and calls
+abbrev pub live_in : Holdings → ℕ × ℕ
+live_in holds = (holds.transactions, holds.calls)
+
+-- what it holds of its rounds is what has begun in them and not ended (RFC 3261, sections 12 and 17);
+-- what waits are the events of the next round
+pub record HoldsSo (host : Host) (holds : Holdings) : Type 0 where
+  pub broken : host.agent.shards ≡ None → live_in holds ≡ (0, 0)
+  pub live : (config : Config) (rounds : List Round) → StandsFor shard_of host.agent config rounds
+      → live_in holds ≡ live_of config (past_of config rounds)
+  pub next_round : holds.next_round ≡ host.agent.next_round
+  pub events : holds.events ≡ length host.events
+  pub outputs : holds.outputs ≡ length host.outputs.items - host.taken
 
 -- ---- what the datagram of a place says
 

@@ -83,7 +83,7 @@ pub(crate) fn failure_of(output: &Output) -> Result<Option<Event>, HostFault>
 }
 
 /// The text at the head of the buffer, where there is room.
-pub(crate) fn put(text: &[u8], buffer: &mut [u8])
+pub fn put(text: &[u8], buffer: &mut [u8])
     ensures { buffer.new ≡ handing.put_in text.now buffer.old }
 {
     if buffer.len() < text.len() {

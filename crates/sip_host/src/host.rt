@@ -11,29 +11,48 @@ ghost use Rattle.sip_round.specs.declared.config.Config.{Config as AConfig};
 ghost use Rattle.sip_round.specs.declared.round.Round.{Round as ARound};
 ghost use Rattle.sip_reader.specs.Head.{HasHeaderLines};
 ghost use Rattle.sip_reader.specs.declared.first_line.FirstLine.{FirstLine as AFirstLine};
+ghost use Rattle.sip_common.specs.declared.command.UserCommand.{UserCommand as AUserCommand};
+ghost use Rattle.sip_files.specs.Given.{with_given};
+ghost use Rattle.sip_round.specs.declared.round.Event.TheVariants.{Command};
+ghost use Rattle.sip_host.specs.Asking.{Makes, TakesCommand, TakesHeader, ack_of, cancel_of, invite_of, plain_of, prack_of, request_of, respond_of, without_headers};
 ghost use Rattle.sip_host.specs.Handing.{datagram_in, head_of, put_if, put_in, start_of, start_text, text_of};
-ghost use Rattle.sip_host.specs.Hosting.{Begins, BeginsAt, HasValuesAt, RunsRound, TakesDatagram, TakesFailure, TakesLine, TakesLines, after_taking, last_id_of, output_at, shard_of, with_events};
+ghost use Rattle.sip_host.specs.Hosting.{Begins, BeginsAt, HasValuesAt, HoldsSo, RunsRound, TakesDatagram, TakesFailure, TakesLine, TakesLines, after_one, after_taking, last_id_of, output_at, shard_of, with_events};
+ghost use Rattle.sip_host.specs.declared.field.Field.TheVariants as field;
 ghost use Rattle.sip_host.specs.declared.host_fault.HostFault.TheVariants as fault;
 
+use crate::asking::{
+    ack_command, cancel_command, invite_command, plain_command, prack_command, request_command,
+    respond_command,
+};
+use crate::field::Field;
+use crate::fields::{
+    BodyFields, CancelFields, InviteFields, PlainFields, RequestFields, RespondFields,
+};
+use crate::given::header_of;
 use crate::handing::{failure_of, put, put_output, put_start};
+use crate::holdings::Holdings;
 use crate::host_fault::HostFault;
 use crate::next_output::NextOutput;
 use crate::start_length::StartLength;
-use sip_files::{read_event_line, read_event_lines};
+use sip_files::{GivenHeader, read_event_line, read_event_lines, with_given};
 use sip_message::{Addr, Id, Spread, Token};
 use sip_reader::{FirstLine, HeaderLine, header_lines, header_values, start_line};
 use sip_round::{
     Agent, Config, Event, MAX_EVENTS_OF_ROUND, NoMemory, PlacedOutput, Round, datagram_at, event_at,
 };
+use sip_served::UserCommand;
 use sip_text::{Series, Text};
 use std::alloc::{AllocError, Global};
 use std::mem;
 
-/// One user agent, the events of its next round, and the events and the outputs of its last one.
+/// One user agent, the headers of its next command, the events of its next round, and the events and
+/// the outputs of its last one.
 #[derive(Drop)]
 pub struct Host {
     alloc: Global,
     agent: Agent<Spread>,
+    // Those of the next command of fields.
+    headers: Series<GivenHeader>,
     events: Series<Event>,
     last_events: Series<Event>,
     outputs: Vec<PlacedOutput>,
@@ -54,6 +73,7 @@ impl Host {
         Ok(Host {
             alloc,
             agent: Agent::new(alloc, config, shards, Spread)?,
+            headers: Series::new(alloc),
             events: Series::new(alloc),
             last_events: Series::new(alloc),
             outputs: Vec::new(alloc),
@@ -108,6 +128,114 @@ impl Host {
         };
         self.events.push(event)?;
         Ok(())
+    }
+
+    /// A header of the next command that is asked for by its fields: its name, the long or the compact
+    /// one in any case, and its value. It is kept until that command takes it.
+    ///
+    /// # Errors
+    ///
+    /// `BadField` of the headers where the header isn't the user's or the value isn't in its form,
+    /// or `NoMemory`. All headers are let go then, and nothing else has changed.
+    pub fn header(&mut self, name: &[u8], value: &[u8]) -> Result<(), HostFault>
+        ensures { TakesHeader name.now value.now self.old self.new result }
+    {
+        let mut headers = self.take_headers();
+        let Some(header) = header_of(self.alloc, name, value)? else {
+            return Err(HostFault::BadField(Field::Headers));
+        };
+        headers.push(header)?;
+        self.headers = headers;
+        Ok(())
+    }
+
+    /// Starts a call: a first INVITE to an address. An event of the next round, with the headers that
+    /// are kept for it, and its id.
+    ///
+    /// # Errors
+    ///
+    /// `TooManyEvents`; `BadField` of the first field that doesn't keep its rule, or of the headers
+    /// where the command doesn't take them; or `NoMemory`. The headers are let go then, and nothing
+    /// else has changed.
+    pub fn invite(&mut self, fields: &InviteFields<'_>) -> Result<Id, HostFault>
+        ensures { TakesCommand (invite_of fields.now) self.old self.new result }
+    {
+        let made = invite_command(self.alloc, fields);
+        self.ask(made)
+    }
+
+    /// Sends a request outside of any dialog, as [`Host::invite`] does an INVITE.
+    ///
+    /// # Errors
+    ///
+    /// Those of [`Host::invite`].
+    pub fn plain(&mut self, fields: &PlainFields<'_>) -> Result<Id, HostFault>
+        ensures { TakesCommand (plain_of fields.now) self.old self.new result }
+    {
+        let made = plain_command(self.alloc, fields);
+        self.ask(made)
+    }
+
+    /// Sends a request in a dialog, as [`Host::invite`] does an INVITE.
+    ///
+    /// # Errors
+    ///
+    /// Those of [`Host::invite`].
+    pub fn request(&mut self, fields: &RequestFields<'_>) -> Result<Id, HostFault>
+        ensures { TakesCommand (request_of fields.now) self.old self.new result }
+    {
+        let made = request_command(self.alloc, fields);
+        self.ask(made)
+    }
+
+    /// Answers a request, as [`Host::invite`] asks for an INVITE.
+    ///
+    /// # Errors
+    ///
+    /// Those of [`Host::invite`].
+    pub fn respond(&mut self, fields: &RespondFields<'_>) -> Result<Id, HostFault>
+        ensures { TakesCommand (respond_of fields.now) self.old self.new result }
+    {
+        let made = respond_command(self.alloc, fields);
+        self.ask(made)
+    }
+
+    /// Sends the ACK of the oldest 2xx of a dialog that is owed one, as [`Host::invite`] does an
+    /// INVITE.
+    ///
+    /// # Errors
+    ///
+    /// Those of [`Host::invite`].
+    pub fn ack(&mut self, fields: &BodyFields<'_>) -> Result<Id, HostFault>
+        ensures { TakesCommand (ack_of fields.now) self.old self.new result }
+    {
+        let made = ack_command(self.alloc, fields);
+        self.ask(made)
+    }
+
+    /// Sends the PRACK of the oldest provisional response of a dialog that is owed one, as
+    /// [`Host::invite`] does an INVITE.
+    ///
+    /// # Errors
+    ///
+    /// Those of [`Host::invite`].
+    pub fn prack(&mut self, fields: &BodyFields<'_>) -> Result<Id, HostFault>
+        ensures { TakesCommand (prack_of fields.now) self.old self.new result }
+    {
+        let made = prack_command(self.alloc, fields);
+        self.ask(made)
+    }
+
+    /// Cancels an INVITE that was sent. It takes no header.
+    ///
+    /// # Errors
+    ///
+    /// Those of [`Host::invite`].
+    pub fn cancel(&mut self, fields: &CancelFields<'_>) -> Result<Id, HostFault>
+        ensures { TakesCommand (cancel_of fields.now) self.old self.new result }
+    {
+        let made = cancel_command(self.alloc, fields);
+        self.ask(made)
     }
 
     /// The send of this index, from 0, among the outputs of the last round could not be sent: an
@@ -184,6 +312,44 @@ impl Host {
             self.taken += 1;
         }
         Ok(Some(head))
+    }
+
+    /// The next output of the last round, if one is left: [`Host::take`] takes it. Takes no memory.
+    pub fn peek(&self) -> Option<&PlacedOutput>
+        ensures { option_copied result ≡ slice_get self.now.outputs.items self.now.taken }
+    {
+        self.outputs.get(self.taken)
+    }
+
+    /// How many outputs of the last round were taken: the index of the next one. Takes no memory.
+    pub fn taken(&self) -> usize
+        ensures { result ≡ self.now.taken }
+    {
+        self.taken
+    }
+
+    /// Takes the next output of the last round, where one is left. Takes no memory.
+    pub fn take(&mut self)
+        ensures { self.new ≡ after_one self.old }
+    {
+        if self.outputs.len() <= self.taken {
+            return;
+        }
+        self.taken += 1;
+    }
+
+    /// What is held, and what waits. Takes no memory.
+    pub fn holdings(&self) -> Holdings
+        ensures { HoldsSo self.now result }
+    {
+        let (transactions, calls) = self.agent.live();
+        Holdings {
+            transactions,
+            calls,
+            next_round: self.agent.next_round(),
+            events: self.events.len(),
+            outputs: self.outputs.len().saturating_sub(self.taken),
+        }
     }
 
     /// The event of this place in the last round, as an output of that round names it; there is
@@ -335,6 +501,30 @@ impl Host {
             → StandsFor shard_of self.now.agent config rounds → IsDueAfter config rounds due) }
     {
         self.agent.next_due()
+    }
+
+    // Asks for a command that was made of fields, if it was.
+    fn ask(&mut self, made: Result<UserCommand, HostFault>) -> Result<Id, HostFault>
+        ensures { (wanted : AUserCommand) → Makes wanted made
+            → TakesCommand wanted self.old self.new result }
+    {
+        let headers = self.take_headers();
+        self.has_room()?;
+        let Some(command) = with_given(self.alloc, headers, made?)? else {
+            return Err(HostFault::BadField(Field::Headers));
+        };
+        self.events.push(Event::Command(command))?;
+        let round = self.agent.next_round();
+        let place = self.events.len() as u32;
+        Ok(Id { round, place })
+    }
+
+    // The headers of the next command, which has none then.
+    fn take_headers(&mut self) -> Series<GivenHeader>
+        ensures taken { result ≡ self.old.headers }
+        ensures left { self.new ≡ without_headers self.old }
+    {
+        mem::replace(&mut self.headers, Series::new(self.alloc))
     }
 
     // Adds an event to those of the next round.

@@ -2,6 +2,7 @@
 
 ghost use Rattle.std.specs.Prelude.{◌≡◌};
 
+use crate::field::Field;
 use sip_round::RoundFault;
 use std::alloc::AllocError;
 use thiserror::Error;
@@ -12,6 +13,9 @@ pub enum HostFault {
     /// The line is not that of an event.
     #[error("BadLine")]
     BadLine,
+    /// A part of a command doesn't keep its rule.
+    #[error("BadField")]
+    BadField(Field),
     /// The next round has 65,536 events already.
     #[error("TooManyEvents")]
     TooManyEvents,

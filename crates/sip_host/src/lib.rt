@@ -1,13 +1,24 @@
-//! An agent for a host that has the socket, the clock and the user: it takes datagrams, lines and
-//! moments as values, and gives its outputs one after the other. It starts no thread.
+//! An agent for a host that has the socket, the clock and the user: it takes datagrams,
+//! commands and moments as values, and gives its outputs one after the other. It starts no thread.
 #![tactic(auto)]
 
+mod asking;
+mod field;
+mod fields;
+mod given;
 mod handing;
+mod holdings;
 mod host;
 mod host_fault;
 mod next_output;
 mod start_length;
 
+pub use field::Field;
+pub use fields::{
+    BodyFields, CancelFields, InviteFields, PlainFields, RequestFields, RespondFields,
+};
+pub use handing::put;
+pub use holdings::Holdings;
 pub use host::Host;
 pub use host_fault::HostFault;
 pub use next_output::NextOutput;

@@ -140,6 +140,7 @@ impl From<HostFault> for Stop {
             HostFault::NoMemory => Stop::NoMemory,
             HostFault::Round(fault) => Stop::from(fault),
             HostFault::BadLine
+            | HostFault::BadField(_)
             | HostFault::TooManyEvents
             | HostFault::NoSend
             | HostFault::OutputsLeft => Stop::Different,

@@ -1,0 +1,24 @@
+//! The parts of a command that can be bad.
+
+/// A part of a command, as it is told where it doesn't keep its rule.
+#[derive(Clone, Copy, Debug, PartialEq, Eq)]
+pub enum Field {
+    /// Not one or more bytes without spaces, tabs and line ends (RFC 3261, section 20.8).
+    CallId,
+    /// No token (RFC 3261, section 7.1).
+    Method,
+    /// Empty, or with a space, a tab, a line end, `<`, `>` or `"`; so are From and To.
+    RequestUri,
+    From,
+    To,
+    /// Neither empty nor a token (RFC 3261, section 19.3).
+    LocalTag,
+    RemoteTag,
+    /// Not from 101 to 699.
+    Status,
+    /// With a line end (RFC 3261, section 7.2).
+    Reason,
+    /// A header that isn't the user's, or whose value isn't in its form; a `Route` where the
+    /// command takes none; any header for a CANCEL.
+    Headers,
+}

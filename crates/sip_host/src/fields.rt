@@ -1,0 +1,67 @@
+//! The fields of commands, as texts that a host has not checked.
+
+use sip_message::{Addr, Id};
+use sip_served::{ProvisionalSupport, Reliability};
+
+/// Those of a first INVITE to an address.
+#[derive(Clone, Copy)]
+pub struct InviteFields<'a> {
+    pub call_id: &'a [u8],
+    pub address: Addr,
+    pub request_uri: &'a [u8],
+    pub from: &'a [u8],
+    pub to: &'a [u8],
+    pub support: ProvisionalSupport,
+    pub body: &'a [u8],
+}
+
+/// Those of a request outside of any dialog.
+#[derive(Clone, Copy)]
+pub struct PlainFields<'a> {
+    pub call_id: &'a [u8],
+    pub address: Addr,
+    pub method: &'a [u8],
+    pub request_uri: &'a [u8],
+    pub from: &'a [u8],
+    pub to: &'a [u8],
+    pub body: &'a [u8],
+}
+
+/// Those of a request in a dialog. An absent tag is empty.
+#[derive(Clone, Copy)]
+pub struct RequestFields<'a> {
+    pub call_id: &'a [u8],
+    pub local_tag: &'a [u8],
+    pub remote_tag: &'a [u8],
+    pub method: &'a [u8],
+    pub body: &'a [u8],
+}
+
+/// Those of the answer to a request.
+#[derive(Clone, Copy)]
+pub struct RespondFields<'a> {
+    pub call_id: &'a [u8],
+    /// The request that is answered.
+    pub id: Id,
+    pub status: u16,
+    pub reliability: Reliability,
+    pub reason: &'a [u8],
+    pub body: &'a [u8],
+}
+
+/// Those of the ACK or of a PRACK in a dialog. An absent tag is empty.
+#[derive(Clone, Copy)]
+pub struct BodyFields<'a> {
+    pub call_id: &'a [u8],
+    pub local_tag: &'a [u8],
+    pub remote_tag: &'a [u8],
+    pub body: &'a [u8],
+}
+
+/// Those of a CANCEL.
+#[derive(Clone, Copy)]
+pub struct CancelFields<'a> {
+    pub call_id: &'a [u8],
+    /// The INVITE.
+    pub id: Id,
+}

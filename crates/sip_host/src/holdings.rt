@@ -1,0 +1,15 @@
+//! What a host holds.
+
+/// What a host holds, and what waits in it.
+#[derive(Clone, Copy, PartialEq, Eq)]
+pub struct Holdings {
+    /// Transactions and calls that have begun and not ended.
+    pub transactions: u128,
+    pub calls: u128,
+    /// The number of the next round.
+    pub next_round: u64,
+    /// Events of the next round.
+    pub events: usize,
+    /// Outputs of the last round that were not taken.
+    pub outputs: usize,
+}
