@@ -56,13 +56,13 @@ impl<'a> Failure<'a> {
     }
 }
 
-impl From<AllocError> for Failure<'_> {
+impl<'a> From<AllocError> for Failure<'a> {
     ghost use Rattle.sip_program.specs.declared.talk_fault.TalkFault.TheVariants.{Ua};
     ghost use Rattle.sip_udp.specs.declared.fault.UaFault.TheVariants.{NoMemory};
 
     ghost from_gives = { λ _ failure. failure.fault ≡ Ua NoMemory };
 
-    fn from(_error: AllocError) -> Failure {
+    fn from(_error: AllocError) -> Failure<'a> {
         Failure::unknown(TalkFault::Ua(UaFault::NoMemory))
     }
 }

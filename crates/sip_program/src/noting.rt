@@ -3,6 +3,7 @@
 use std::io::{self, Write};
 
 /// A writer that keeps what the last write or flush that failed had against it.
+#[derive(Drop)]
 pub(crate) struct Noting<'a, W> {
     writer: &'a mut W,
     pub(crate) error: Option<io::Error>,

@@ -25,6 +25,10 @@ without_last byte (b ∷ c ∷ bs) = b ∷ without_last byte (c ∷ bs)
 abbrev pub line_of : List ℕ → List ℕ
 line_of text = without_last 13 (without_last 10 text)
 
+-- the first line of a text, without its end
+abbrev pub first_line : List ℕ → List ℕ
+first_line text = line_of (take_through 10 text)
+
 -- an empty line, or a comment, which begins with `#`
 abbrev pub is_comment : List ℕ → Bool
 is_comment [] = true

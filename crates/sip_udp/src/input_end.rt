@@ -49,7 +49,7 @@ impl InputEnd {
         self.has_bytes.load(Ordering::SeqCst)
     }
 
-    fn read_all<I: Read>(&self, mut input: I) {
+    fn read_all<I: Read + Drop>(&self, mut input: I) {
         let mut buffer = [0; 256];
         for _ in 0..u64::MAX {
             match input.read(&mut buffer) {

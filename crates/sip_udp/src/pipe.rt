@@ -99,8 +99,8 @@ fn said_by(alloc: Global, kind: FileKind, number: u64, text: &[u8]) -> Result<Pi
     Ok(PipeLine { number, said })
 }
 
-// A line without its end, LF or CR LF; the last line may have none.
-fn without_end(text: &[u8]) -> &[u8]
+/// A line without its end, LF or CR LF; the last line may have none.
+pub(crate) fn without_end(text: &[u8]) -> &[u8]
     ensures { result.now ≡ line_of text.now }
 {
     without(b'\r', without(b'\n', text))

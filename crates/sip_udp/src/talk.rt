@@ -12,6 +12,7 @@ use crate::fault::UaFault;
 use crate::limit::Limit;
 use crate::listen_plan::ListenPlan;
 use crate::listener::{Flags, Heard, hear};
+use crate::outlet::CountedSocket;
 use crate::pipe::feed;
 use crate::piped::Piped;
 use crate::record::Record;
@@ -211,7 +212,7 @@ fn talk<R: Threads + Clock + Sync, U: User, F: Write + Drop, W: Write, E: Write>
     errors: &mut E,
 ) -> Result<(), UaFault> {
     let Endpoint {
-        mut socket,
+        socket,
         config,
         division,
         record,
@@ -241,18 +242,19 @@ fn talk<R: Threads + Clock + Sync, U: User, F: Write + Drop, W: Write, E: Write>
         return Err(UaFault::Socket);
     };
     let has_ended = &flags.ended;
+    let mut outlet = CountedSocket { socket, failed: 0 };
     let end = own.take(
         rt,
         turns,
         &mut desk,
-        &mut socket,
+        &mut outlet,
         notices,
         errors,
         has_ended,
     );
     flags.stop.store(true, Ordering::SeqCst);
     let heard = listener.join(rt);
-    own.tell_counts(heard.lost, errors);
+    own.tell_counts(outlet.failed, heard.lost, errors);
     end?;
     settle(&mut desk, heard)?;
     own.verdict()

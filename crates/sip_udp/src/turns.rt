@@ -146,9 +146,11 @@ impl<U: User, F: Write + Drop> Turns<U, F> {
         }
     }
 
-    /// Tells what was counted, where it is to, after the listener has lost so many datagrams.
-    pub(crate) fn tell_counts<E: Write>(&mut self, lost: u64, errors: &mut E) {
+    /// Tells what was counted, where it is to, after so many sends have failed and the listener has
+    /// lost so many datagrams.
+    pub(crate) fn tell_counts<E: Write>(&mut self, failed: u64, lost: u64, errors: &mut E) {
         if let Some(counts) = &mut self.counts {
+            counts.failed = failed;
             counts.lost = lost;
             let _ = writeln!(errors, "ua: {counts}");
         }
@@ -194,12 +196,14 @@ impl<U: User, F: Write + Drop> Turns<U, F> {
         notices: &mut W,
         errors: &mut E,
     ) -> Result<(), UaFault> {
+        let number = self.number;
         let (round, outputs) = self.run_round(rt, errors)?;
+        self.number = number.saturating_add(1);
         self.send(outlet, &outputs)?;
         self.tell_user(&outputs)?;
         let telling = Telling {
             kind: self.record.kind,
-            drops: self.drops,
+            drops: self.drops.then_some(number),
         };
         let events = round.events.as_slice();
         write_notices(self.alloc, notices, telling, events, &outputs)
@@ -262,10 +266,9 @@ impl<U: User, F: Write + Drop> Turns<U, F> {
         match self.agent.run_round_with_places(rt, &round, workers, &Open) {
             Ok(outputs) => {
                 self.moment = moment;
-                self.number = self.number.saturating_add(1);
                 self.record.add(self.alloc, &round, errors)?;
                 if let Some(counts) = &mut self.counts {
-                    counts.add(&round, &outputs, self.agent.live())?;
+                    counts.add(self.number, &round, &outputs, self.agent.live())?;
                 }
                 Ok((round, outputs))
             }

@@ -1,0 +1,95 @@
+//! What the user is told of a datagram that was dropped.
+
+ghost use Rattle.std.specs.Prelude.{◌≡◌, ◌++◌, IfOk, codes, string_bytes};
+ghost use Rattle.std.specs.List.{list_all};
+ghost use Rattle.std.specs.Io.BufRead.{take_through};
+ghost use Rattle.sip_files.specs.Field.{id_field};
+ghost use Rattle.sip_files.specs.Outputs.{reason_text};
+ghost use Rattle.sip_udp.specs.KeepAlive as spec;
+ghost use Rattle.sip_udp.specs.Piping.{first_line};
+ghost use Rattle.sip_udp.specs.Telling.{dropped_line};
+
+use crate::pipe::without_end;
+use sip_files::write_event;
+use sip_message::{Addr, Id};
+use sip_round::Event;
+use sip_text::Text;
+use sip_transactions::DropReason;
+use std::alloc::{AllocError, Global};
+
+/// The bytes 4 to 7 of a STUN message (RFC 5389, section 6).
+const MAGIC_COOKIE: [u8; 4] = [0x21, 0x12, 0xa4, 0x42];
+
+/// Whether a datagram only keeps the way through a NAT open: nothing but CR, LF and NUL bytes, or a
+/// STUN message.
+pub(crate) fn is_keep_alive(bytes: &[u8]) -> bool
+    ensures { result ≡ spec.is_keep_alive bytes.now }
+{
+    is_blank(bytes) || is_stun(bytes)
+}
+
+fn is_blank(bytes: &[u8]) -> bool
+    ensures { result ≡ list_all spec.is_blank_byte bytes.now }
+{
+    bytes.iter().all(|byte| is_blank_byte(*byte))
+}
+
+fn is_blank_byte(byte: u8) -> bool
+    ensures { result ≡ spec.is_blank_byte byte }
+{
+    byte == b'\r' || byte == b'\n' || byte == 0
+}
+
+fn is_stun(bytes: &[u8]) -> bool
+    ensures { result ≡ spec.is_stun bytes.now }
+{
+    bytes.len() >= 8 && bytes[0] < 2 && bytes[4..8] == MAGIC_COOKIE
+}
+
+/// The line of a drop: its id, its reason, and as an event the datagram with its first line.
+pub(crate) fn dropped_line(
+    alloc: Global,
+    id: Id,
+    reason: DropReason,
+    from: Addr,
+    bytes: &[u8],
+) -> Result<Vec<u8>, AllocError>
+    ensures { IfOk result (λ text. text.items ≡ dropped_line id reason from bytes.now) }
+{
+    let bytes = first_line(alloc, bytes)?;
+    let came = write_event(alloc, &Event::Datagram { from, bytes })?;
+    let mut line = head(alloc, id, reason)?.into_bytes();
+    line.extend_from_slice(&came)?;
+    Ok(line)
+}
+
+// A line up to its datagram.
+#[tactic(auto, unfolding(sip_files::specs::Field::id_field, sip_files::specs::Field::id_text, sip_files::specs::Field::plain_field))]
+fn head(alloc: Global, id: Id, reason: DropReason) -> Result<String, AllocError>
+    ensures { IfOk result (λ text. string_bytes text
+        ≡ codes "drop" ++ id_field id ++ reason_text reason ++ codes " ") }
+{
+    let Id { round, place } = id;
+    match reason {
+        DropReason::NotOurs => format!(in alloc; "drop {round}.{place} NotOurs "),
+        DropReason::NoTransaction => format!(in alloc; "drop {round}.{place} NoTransaction "),
+        DropReason::Unreadable(fault) => format!(in alloc; "drop {round}.{place} {fault} "),
+    }
+}
+
+// The first line of a text, without its end.
+fn first_line(alloc: Global, text: &[u8]) -> Result<Text, AllocError>
+    ensures { IfOk result (λ line. line ≡ first_line text.now) }
+{
+    Text::copy_of(alloc, without_end(through_end(text)))
+}
+
+// The first line of a text, with its LF, or all of it.
+fn through_end(text: &[u8]) -> &[u8]
+    ensures { result.now ≡ take_through 10 text.now }
+{
+    match text.split_inclusive(|byte| *byte == b'\n').next() {
+        Some(line) => line,
+        None => text,
+    }
+}
