@@ -6,8 +6,7 @@ use crate::talk_fault::TalkFault;
 use sip_message::Addr;
 use sip_udp::UaFault;
 use std::alloc::AllocError;
-use std::fmt;
-use std::io;
+use std::{fmt, io};
 
 /// Why `ua listen`, `ua call` or `ua agent` stopped, and what is known of the cause.
 #[derive(Clone, Copy)]
@@ -32,9 +31,15 @@ pub(crate) enum Cause<'a> {
         error: io::Error,
     },
     /// What the system says of an address.
-    Address { address: Addr, error: io::Error },
+    Address {
+        address: Addr,
+        error: io::Error,
+    },
     /// What the system says of one of its own streams or sources.
-    Stream { name: &'a str, error: io::Error },
+    Stream {
+        name: &'a str,
+        error: io::Error,
+    },
 }
 
 impl<'a> Failure<'a> {

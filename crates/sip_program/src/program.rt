@@ -105,11 +105,7 @@ pub fn ua<T: Threads + Host, S: AsStr, R: Read, W: Write, E: Write>(
 }
 
 // Tells the fault of a replay and why its input can't be read, and gives the status of the end.
-fn finish_file<R: Read, E: Write>(
-    end: Result<(), ReplayFault>,
-    input: &mut R,
-    errors: &mut E,
-) -> u8
+fn finish_file<R: Read, E: Write>(end: Result<(), ReplayFault>, input: &mut R, errors: &mut E) -> u8
     ensures { MatchResult end (λ _. result ≡ 0) (λ fault. result ≡ fault_status fault) }
 {
     let is_unread = end == Err(ReplayFault::Input);

@@ -106,8 +106,11 @@ fn plan_of<'a, T: Files>(
     let to = address_of(alloc, "--to", words.to)?;
     let uri = uri_of(alloc, words.uri)?;
     let call_id = text_of(alloc, words.call_id)?;
-    let call_id =
-        CallId::new(call_id).ok_or(bad_word("--call-id", words.call_id, "not a Call-ID"))?;
+    let call_id = CallId::new(call_id).ok_or(bad_word(
+        "--call-id",
+        words.call_id,
+        "not a Call-ID",
+    ))?;
     Ok(CallPlan {
         to,
         uri,
@@ -184,7 +187,15 @@ fn agent_by<'a, T: Threads + Host, W: Write, E: Write>(
     endpoint.kind = words.kind;
     let pipe = rt.commands();
     let mut notices = Noting::new(notices);
-    let end = agent(rt, alloc, endpoint, pipe, words.linger, &mut notices, errors);
+    let end = agent(
+        rt,
+        alloc,
+        endpoint,
+        pipe,
+        words.linger,
+        &mut notices,
+        errors,
+    );
     match end {
         Err(UaFault::Input) => Err(failed_input(rt)),
         end => ended(end, notices.error),
@@ -264,10 +275,7 @@ fn endpoint_at<'a, T: Host>(
 }
 
 // A new file for the record, where one is wanted.
-fn record_at<'a, T: Files>(
-    rt: &T,
-    path: Option<&'a str>,
-) -> Result<Option<T::File>, Failure<'a>> {
+fn record_at<'a, T: Files>(rt: &T, path: Option<&'a str>) -> Result<Option<T::File>, Failure<'a>> {
     let Some(path) = path else {
         return Ok(None);
     };

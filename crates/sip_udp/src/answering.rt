@@ -2,8 +2,8 @@
 
 use crate::answer::{answer, progress, respond, ringing, unavailable};
 use crate::hang_up::bye;
-use crate::listen_plan::ListenPlan;
 use crate::limit::TimeLeft;
+use crate::listen_plan::ListenPlan;
 use crate::user::User;
 use sip_message::{CallId, Id};
 use sip_round::Event;

@@ -2,18 +2,18 @@
 
 ghost use Rattle.std.specs.Prelude.{◌≡◌, ◌++◌, IfOk, codes, string_bytes};
 ghost use Rattle.std.specs.List.{list_all};
-ghost use Rattle.std.specs.Io.BufRead.{take_through};
 ghost use Rattle.sip_files.specs.Field.{id_field};
 ghost use Rattle.sip_files.specs.Outputs.{reason_text};
 ghost use Rattle.sip_udp.specs.KeepAlive as spec;
-ghost use Rattle.sip_udp.specs.Piping.{first_line};
+ghost use Rattle.sip_text.specs.Cut.{cut_at};
+ghost use Rattle.sip_udp.specs.Piping.{before_cut, first_line};
 ghost use Rattle.sip_udp.specs.Telling.{dropped_line};
 
-use crate::pipe::without_end;
+use crate::pipe::without;
 use sip_files::write_event;
 use sip_message::{Addr, Id};
 use sip_round::Event;
-use sip_text::Text;
+use sip_text::{Text, cut};
 use sip_transactions::DropReason;
 use std::alloc::{AllocError, Global};
 
@@ -43,7 +43,7 @@ fn is_blank_byte(byte: u8) -> bool
 fn is_stun(bytes: &[u8]) -> bool
     ensures { result ≡ spec.is_stun bytes.now }
 {
-    bytes.len() >= 8 && bytes[0] < 2 && bytes[4..8] == MAGIC_COOKIE
+    bytes.len() >= 8 && bytes[0] < 2 && &bytes[4..8] == MAGIC_COOKIE.as_slice()
 }
 
 /// The line of a drop: its id, its reason, and as an event the datagram with its first line.
@@ -81,15 +81,15 @@ fn head(alloc: Global, id: Id, reason: DropReason) -> Result<String, AllocError>
 fn first_line(alloc: Global, text: &[u8]) -> Result<Text, AllocError>
     ensures { IfOk result (λ line. line ≡ first_line text.now) }
 {
-    Text::copy_of(alloc, without_end(through_end(text)))
+    Text::copy_of(alloc, without(b'\r', before_end(text)))
 }
 
-// The first line of a text, with its LF, or all of it.
-fn through_end(text: &[u8]) -> &[u8]
-    ensures { result.now ≡ take_through 10 text.now }
+// What stands before the first LF of a text, or all of it.
+fn before_end(text: &[u8]) -> &[u8]
+    ensures { result.now ≡ before_cut text.now (cut_at 10 text.now) }
 {
-    match text.split_inclusive(|byte| *byte == b'\n').next() {
-        Some(line) => line,
+    match cut(b'\n', text) {
+        Some((line, _)) => line,
         None => text,
     }
 }

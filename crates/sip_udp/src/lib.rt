@@ -30,6 +30,7 @@ mod talk;
 mod turns;
 mod user;
 mod waiting;
+mod wrong_word;
 
 pub use call_plan::CallPlan;
 pub use division::Division;
@@ -43,3 +44,4 @@ pub use outlet::{Asked, Outlet};
 pub use pipe::{PipeLine, Said, feed};
 pub use sending::send_all;
 pub use talk::{agent, call, call_from, listen, listen_at};
+pub use wrong_word::WrongWord;

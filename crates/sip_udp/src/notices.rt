@@ -10,8 +10,8 @@ ghost use Rattle.sip_udp.specs.Telling.{AreHeadersOf, Tells, TellsAll, spelled_h
 use crate::dropped::{dropped_line, is_keep_alive};
 use crate::fault::UaFault;
 use sip_files::{FileKind, write_header_line, write_output};
-use sip_reader::{HeaderLine, header_lines};
 use sip_message::Id;
+use sip_reader::{HeaderLine, header_lines};
 use sip_round::{Event, Output, PlacedOutput, datagram_at, event_at};
 use sip_text::{Series, Text};
 use sip_transactions::DropReason;

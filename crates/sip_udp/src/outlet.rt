@@ -51,7 +51,7 @@ impl Outlet for CountedSocket {
     ghost asked = { λ _. None };
 
     fn send(&mut self, to: Addr, bytes: &[u8]) -> bool {
-        let is_sent = self.socket.send(to, bytes);
+        let is_sent = Outlet::send(&mut self.socket, to, bytes);
         if !is_sent {
             self.failed = self.failed.saturating_add(1);
         }

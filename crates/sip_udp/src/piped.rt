@@ -3,9 +3,9 @@
 ghost use Rattle.std.specs.Prelude.{◌≡◌, ◌++◌, OnOk};
 ghost use Rattle.sip_udp.specs.Piping as piping;
 
+use crate::limit::TimeLeft;
 use crate::listener::Flags;
 use crate::pipe::PipeLine;
-use crate::limit::TimeLeft;
 use crate::turns::LINE_CAPACITY;
 use crate::user::User;
 use crate::waiting::Waiting;
