@@ -1,6 +1,6 @@
 -- What the user is told of an output: its line and, in a session, the headers of the datagram that
 -- a notice tells of.
-use Rattle.std.specs.Prelude.{◌≡◌, ℕ, List, [], ◌++◌, Option, Some, None, codes, if◌then◌else◌}
+use Rattle.std.specs.Prelude.{◌≡◌, ℕ, List, [], ◌++◌, Option, Some, None, codes, decimal, if◌then◌else◌}
 use Rattle.std.specs.List.{AllZip, flat_map}
 use Rattle.sip_reader.specs.Head.{HasHeaderLines}
 use Rattle.sip_reader.specs.declared.header_line.HeaderLine.{HeaderLine}
@@ -13,7 +13,6 @@ use Rattle.sip_round.specs.declared.output.Output.TheVariants as output
 use Rattle.sip_round.specs.declared.output.PlacedOutput.{PlacedOutput}
 use Rattle.sip_round.specs.declared.round.Event.{Event}
 use Rattle.sip_round.specs.declared.round.Event.TheVariants as event
-use Rattle.sip_files.specs.Field.{id_field}
 use Rattle.sip_files.specs.Outputs.{output_line, reason_text}
 use Rattle.sip_files.specs.Written.{ended_text, header_line}
 use Rattle.sip_files.specs.declared.event_line.EventLine.TheVariants as line
@@ -22,12 +21,16 @@ use Rattle.sip_files.specs.declared.version.FileKind.TheVariants as file_kind
 use Rattle.sip_udp.specs.KeepAlive.{is_keep_alive}
 use Rattle.sip_udp.specs.Piping.{first_line}
 
--- the line of a drop: its id, its reason, and the line of an event file with the source of the
--- datagram and its first line
+-- what the line of a drop begins with: its id, which is the round and the place, and its reason
+abbrev pub dropped_head : Id → DropReason → List ℕ
+dropped_head id reason =
+    codes "drop " ++ decimal id.round ++ codes "." ++ decimal id.place ++ reason_text reason
+    ++ codes " "
+
+-- the line of a drop: that, and as an event file has it the datagram with its first line alone
 abbrev pub dropped_line : Id → DropReason → Addr → List ℕ → List ℕ
 dropped_line id reason from bytes =
-    codes "drop" ++ id_field id ++ reason_text reason ++ codes " "
-    ++ ended_text (line.Event (event.Datagram from (first_line bytes)))
+    dropped_head id reason ++ ended_text (line.Event (event.Datagram from (first_line bytes)))
 
 -- a drop has its line where drops are told, with the number of the round; a keep-alive has none
 abbrev pub told_drop : Option ℕ → ℕ → DropReason → Option Event → List ℕ

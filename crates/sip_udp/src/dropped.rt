@@ -1,13 +1,11 @@
 //! What the user is told of a datagram that was dropped.
 
-ghost use Rattle.std.specs.Prelude.{◌≡◌, ◌++◌, IfOk, codes, string_bytes};
+ghost use Rattle.std.specs.Prelude.{◌≡◌, IfOk, string_bytes};
 ghost use Rattle.std.specs.List.{list_all};
-ghost use Rattle.sip_files.specs.Field.{id_field};
-ghost use Rattle.sip_files.specs.Outputs.{reason_text};
 ghost use Rattle.sip_udp.specs.KeepAlive as spec;
 ghost use Rattle.sip_text.specs.Cut.{cut_at};
 ghost use Rattle.sip_udp.specs.Piping.{before_cut, first_line};
-ghost use Rattle.sip_udp.specs.Telling.{dropped_line};
+ghost use Rattle.sip_udp.specs.Telling.{dropped_head, dropped_line};
 
 use crate::pipe::without;
 use sip_files::write_event;
@@ -64,10 +62,9 @@ pub(crate) fn dropped_line(
 }
 
 // A line up to its datagram.
-#[tactic(auto, unfolding(sip_files::specs::Field::id_field, sip_files::specs::Field::id_text, sip_files::specs::Field::plain_field))]
+#[tactic(auto, unfolding(sip_files::specs::Field::plain_field))]
 fn head(alloc: Global, id: Id, reason: DropReason) -> Result<String, AllocError>
-    ensures { IfOk result (λ text. string_bytes text
-        ≡ codes "drop" ++ id_field id ++ reason_text reason ++ codes " ") }
+    ensures { IfOk result (λ text. string_bytes text ≡ dropped_head id reason) }
 {
     let Id { round, place } = id;
     match reason {

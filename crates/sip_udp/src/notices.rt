@@ -149,7 +149,7 @@ fn tell_drop<W: Write>(
     event: Option<&Event>,
 ) -> Result<(), UaFault>
     ensures { OnOk result (Appends (W.contents writer.old) (W.contents writer.new)
-        (told_drop (Some id.round) id.place reason (option_copied event))) }
+        (told_drop (Some id.round) id.place reason (option_copied event.entry))) }
 {
     match event {
         Some(Event::Datagram { bytes, .. }) if is_keep_alive(bytes.as_slice()) => Ok(()),
