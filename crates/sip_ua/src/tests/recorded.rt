@@ -443,7 +443,8 @@ fn headers_on_a_pipe_are_recorded_as_a_session(rt: HostRuntime) -> Result<(), Fa
     assert!(rt; have_same_lines(alloc, "notice ", &heard.told, &output)?);
     let told = lines_after(alloc, &run.errors, "ua: line ")?;
     let expected = b"\
-        6 is no command\n7 is no command\n8 is no command\n9 is no command\n10 is no command\n";
+        6 is no command\n6: expected a header line of a user\n7 is no command\n8 is no command\n\
+        9 is no command\n10 is no command\n";
     assert!(rt; told.as_slice() == expected.as_slice());
     Ok(())
 }

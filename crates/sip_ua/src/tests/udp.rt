@@ -572,9 +572,7 @@ fn drops_are_told_and_keep_alives_counted(rt: HostRuntime) -> Result<(), Fail> {
     );
     let ended = ended?;
     assert!(rt; ended.status == 0);
-    let told = format!(in alloc;
-        " Missing Via datagram {from} INVITE sip:b@127.0.0.1 SIP/2.0\n"
-    )?;
+    let told = format!(in alloc; " Missing Via datagram {from} INVITE sip:b@127.0.0.1 SIP/2.0\n")?;
     assert!(rt; stand_in_order(&ended.output, &["drop ", told.as_str()]));
     assert!(rt; !stand_in_order(&ended.output, &["NoEmptyLine"]));
     let words = [" keep-alives, ", " dropped as Missing Via, 0 sent, "];
@@ -593,7 +591,10 @@ fn causes_and_help(rt: HostRuntime) -> Result<(), Fail> {
         let told = format!(in alloc;
             "ua: bad argument\nua: --uri {uri}: no scheme, as in sip:bob@192.0.2.9\n"
         )?;
-        assert!(rt; ua_with(&rt, alloc, words.as_str())?.is(2, "", told.as_str()), "{uri}");
+        assert!(rt;
+            ua_with(&rt, alloc, words.as_str())?.is(2, "", told.as_str()),
+            "{uri}"
+        );
     }
     let (taken, local) = bound(&rt)?;
     let words = format!(in alloc; "listen --local {local} --turns 1")?;
@@ -602,7 +603,14 @@ fn causes_and_help(rt: HostRuntime) -> Result<(), Fail> {
     )?;
     assert!(rt; ua_with(&rt, alloc, words.as_str())?.is(4, "", told.as_str()));
     drop(taken);
-    for words in ["help", "--help", "--version", "replay --help", "call -h", "help ladder"] {
+    for words in [
+        "help",
+        "--help",
+        "--version",
+        "replay --help",
+        "call -h",
+        "help ladder",
+    ] {
         let ended = ua_with(&rt, alloc, words)?;
         assert!(rt; ended.status == 0 && ended.errors.is_empty(), "{words}");
         assert!(rt; !ended.output.is_empty(), "{words}");
@@ -610,42 +618,36 @@ fn causes_and_help(rt: HostRuntime) -> Result<(), Fail> {
     Ok(())
 }
 
-// The notices of a listener, or of a caller of an address, that goes on until its input ends.
-fn until_input_ends<T: Threads + Host>(
+// The notices of a listener, or of a caller by a plan, that goes on until its input ends.
+fn until_input_ends<T: Threads + Clock + Sync>(
     rt: &T,
     alloc: Global,
     input: PipeReader,
     socket: UdpSocket,
     local: Addr,
-    to: Option<Addr>,
-) -> Result<Vec<u8>, Fail> {
-    let mut notices = Vec::new(alloc);
+    plan: Option<CallPlan>,
+) -> Result<Vec<u8>, UaFault> {
+    let mut told = Vec::new(alloc);
     let mut errors = Vec::new(alloc);
     let mut endpoint = Endpoint::new(socket, local, [9; 32], None::<Vec<u8>>);
     endpoint.input = Some(InputEnd::watch(rt, alloc, input)?);
-    endpoint.seconds = Some(60);
-    match to {
-        Some(to) => {
-            let (uri, call_id) = names(alloc)?;
-            let mut plan = CallPlan::usual(alloc, to, uri, call_id);
-            plan.hold = Some(60_000);
-            call_from(rt, alloc, endpoint, plan, u64::MAX, &mut notices, &mut errors)?;
-        }
+    endpoint.seconds = Some(40);
+    match plan {
+        Some(plan) => call_from(rt, alloc, endpoint, plan, u64::MAX, &mut told, &mut errors)?,
         None => {
             let plan = ListenPlan::usual(alloc);
-            listen_at(rt, alloc, endpoint, plan, u64::MAX, &mut notices, &mut errors)?;
+            listen_at(rt, alloc, endpoint, plan, u64::MAX, &mut told, &mut errors)?;
         }
     }
-    Ok(notices)
+    Ok(told)
 }
 
 // Ends the one input, and then the other.
-fn end_inputs<R: Clock>(rt: &R, first: PipeWriter, second: PipeWriter) -> io::Result<()> {
+fn end_inputs<R: Clock>(rt: &R, first: PipeWriter, second: PipeWriter) {
     thread::sleep(rt, Duration::from_millis(4_000));
     drop(first);
     thread::sleep(rt, Duration::from_millis(2_000));
     drop(second);
-    Ok(())
 }
 
 // The end of a listener's input ends the call that is up, and then the listener; that of the
@@ -657,18 +659,20 @@ fn the_end_of_the_input_ends_a_call(rt: HostRuntime) -> Result<(), Fail> {
     let (own, from) = bound(&rt)?;
     let (listens, end_of_listening) = io::pipe(&rt)?;
     let (calls, end_of_calling) = io::pipe(&rt)?;
-    let (ended, (heard, told)) = thread::join(
+    let (uri, call_id) = names(alloc)?;
+    let mut plan = CallPlan::usual(alloc, to, uri, call_id);
+    plan.hold = Some(60_000);
+    let ((), (heard, told)) = thread::join(
         &rt,
         || end_inputs(&rt, end_of_listening, end_of_calling),
         || {
             thread::join(
                 &rt,
                 || until_input_ends(&rt, alloc, listens, theirs, to, None),
-                || until_input_ends(&rt, alloc, calls, own, from, Some(to)),
+                || until_input_ends(&rt, alloc, calls, own, from, Some(plan)),
             )
         },
     );
-    ended?;
     let words = [" INVITE ", "notice c1 ack ", "notice c1 ended ", " 200 "];
     assert!(rt; stand_in_order(&heard?, &words));
     let words = [" response 0.1 200 ", " BYE ", "notice c1 ended "];
