@@ -9,8 +9,10 @@ ghost use Rattle.sip_ladder.specs.Drawing.{DrawsAll};
 ghost use Rattle.sip_program.specs.Words.{asks_help, asks_ladder, asks_replay, kind_asked};
 ghost use Rattle.sip_files.specs.declared.file_replay.ReplayFault.TheVariants as replay_fault;
 
+use crate::failure::Failure;
 use crate::host::Host;
 use crate::status::{finish, finish_talk, show, tell_input, tell_words};
+use crate::talk_fault::TalkFault;
 use crate::talking::talk_by;
 use crate::words::{self, CutName, ReplayWords, parse, replay_words};
 use sip_files::{FileKind, ReplayFault, replay};
@@ -80,7 +82,8 @@ pub fn ua<T: Threads + Host, S: AsStr, R: Read, W: Write, E: Write>(
         → IfSome (R.remaining input.old) (HasRefusedRound (kind_asked (map S.text words.now))) }
     ensures unread { IsFalse (asks_replay (map S.text words.now))
         → IsFalse (asks_ladder (map S.text words.now)) → input.new ≡ input.old }
-    ensures helps { IsTrue (asks_help (map S.text words.now)) → result ≢ 1 }
+    ensures helps { IsTrue (asks_help (map S.text words.now)) → result ≢ 0 → result ≢ 4
+        → output.new ≡ output.old }
     ensures bad_words { result ≡ 2 → output.new ≡ output.old }
 {
     let matches = match parse(alloc, words) {
@@ -90,6 +93,9 @@ pub fn ua<T: Threads + Host, S: AsStr, R: Read, W: Write, E: Write>(
         }
         Err(error) => return tell_words(&error, errors),
     };
+    if words::asks_help(words) {
+        return finish_talk(Err(Failure::unknown(TalkFault::BadArgument)), errors);
+    }
     let kind = words::kind_asked(words);
     if words::asks_replay(words) {
         let words = replay_words(&matches);

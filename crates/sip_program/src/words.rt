@@ -1,6 +1,6 @@
 //! The words of the command line.
 
-ghost use Rattle.std.specs.Prelude.{◌≡◌, ◌<◌, ◌≤◌, map};
+ghost use Rattle.std.specs.Prelude.{◌≡◌, ◌<◌, ◌≤◌, IsFalse, IsTrue, map};
 ghost use Rattle.std.specs.List.{list_any};
 ghost use Rattle.sip_program.specs.Words as spec;
 
@@ -157,9 +157,12 @@ pub fn given_words<R: Env + AllocGlobal>(rt: &R) -> io::Result<Vec<String>> {
     Ok(words)
 }
 
-/// Whether help or the version is asked for.
+/// Whether help or the version is asked for. Then no other command is.
+#[tactic(auto, using(crate::proofs::Help::not_another))]
 pub(crate) fn asks_help<S: AsStr>(words: &[S]) -> bool
-    ensures { result ≡ spec.asks_help (map S.text words.now) }
+    ensures help { result ≡ spec.asks_help (map S.text words.now) }
+    ensures no_replay { IsTrue result → IsFalse (spec.asks_replay (map S.text words.now)) }
+    ensures no_ladder { IsTrue result → IsFalse (spec.asks_ladder (map S.text words.now)) }
 {
     asks_command(words, "help") || has_help_option(words)
 }
