@@ -21,11 +21,13 @@ use Rattle.sip_files.specs.declared.version.FileKind.TheVariants as file_kind
 use Rattle.sip_udp.specs.KeepAlive.{is_keep_alive}
 use Rattle.sip_udp.specs.Piping.{first_line}
 
--- what the line of a drop begins with: its id, which is the round and the place, and its reason
+-- an id: the round, a dot and the place
+abbrev pub told_id : Id → List ℕ
+told_id id = (decimal id.round ++ codes ".") ++ decimal id.place
+
+-- what the line of a drop begins with: its id and its reason
 abbrev pub dropped_head : Id → DropReason → List ℕ
-dropped_head id reason =
-    codes "drop " ++ decimal id.round ++ codes "." ++ decimal id.place ++ reason_text reason
-    ++ codes " "
+dropped_head id reason = ((codes "drop " ++ told_id id) ++ reason_text reason) ++ codes " "
 
 -- the line of a drop: that, and as an event file has it the datagram with its first line alone
 abbrev pub dropped_line : Id → DropReason → Addr → List ℕ → List ℕ

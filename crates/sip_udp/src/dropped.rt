@@ -1,15 +1,17 @@
 //! What the user is told of a datagram that was dropped.
 
-ghost use Rattle.std.specs.Prelude.{◌≡◌, IfOk, string_bytes};
+ghost use Rattle.std.specs.Prelude.{◌≡◌, IfOk, decimal, string_bytes};
 ghost use Rattle.std.specs.List.{list_all};
 ghost use Rattle.sip_udp.specs.KeepAlive as spec;
+ghost use Rattle.sip_files.specs.Outputs.{reason_text};
+ghost use Rattle.sip_message.specs.Fault.{fault_text};
 ghost use Rattle.sip_text.specs.Cut.{cut_at};
 ghost use Rattle.sip_udp.specs.Piping.{before_cut, first_line};
-ghost use Rattle.sip_udp.specs.Telling.{dropped_head, dropped_line};
+ghost use Rattle.sip_udp.specs.Telling.{dropped_head, dropped_line, told_id};
 
 use crate::pipe::without;
 use sip_files::write_event;
-use sip_message::{Addr, Id};
+use sip_message::{Addr, Id, ReadFault};
 use sip_round::Event;
 use sip_text::{Text, cut};
 use sip_transactions::DropReason;
@@ -56,22 +58,61 @@ pub(crate) fn dropped_line(
 {
     let bytes = first_line(alloc, bytes)?;
     let came = write_event(alloc, &Event::Datagram { from, bytes })?;
-    let mut line = head(alloc, id, reason)?.into_bytes();
+    let mut line = head(alloc, id, reason)?;
     line.extend_from_slice(&came)?;
     Ok(line)
 }
 
 // A line up to its datagram.
-#[tactic(auto, unfolding(sip_files::specs::Field::plain_field))]
-fn head(alloc: Global, id: Id, reason: DropReason) -> Result<String, AllocError>
-    ensures { IfOk result (λ text. string_bytes text ≡ dropped_head id reason) }
+fn head(alloc: Global, id: Id, reason: DropReason) -> Result<Vec<u8>, AllocError>
+    ensures { IfOk result (λ text. text.items ≡ dropped_head id reason) }
 {
-    let Id { round, place } = id;
+    let id = told_id(alloc, id)?;
+    let reason = reason_field(alloc, reason)?;
+    let mut text = Vec::from_slice(alloc, b"drop ")?;
+    text.extend_from_slice(&id)?;
+    text.extend_from_slice(&reason)?;
+    text.extend_from_slice(b" ")?;
+    Ok(text)
+}
+
+fn told_id(alloc: Global, id: Id) -> Result<Vec<u8>, AllocError>
+    ensures { IfOk result (λ text. text.items ≡ told_id id) }
+{
+    let round = number(alloc, id.round)?;
+    let place = number(alloc, u64::from(id.place))?;
+    let mut text = round.into_bytes();
+    text.extend_from_slice(b".")?;
+    text.extend_from_slice(place.as_bytes())?;
+    Ok(text)
+}
+
+fn number(alloc: Global, number: u64) -> Result<String, AllocError>
+    ensures { IfOk result (λ text. string_bytes text ≡ decimal number) }
+{
+    format!(in alloc; "{number}")
+}
+
+#[tactic(auto, unfolding(sip_files::specs::Field::plain_field))]
+fn reason_field(alloc: Global, reason: DropReason) -> Result<Vec<u8>, AllocError>
+    ensures { IfOk result (λ text. text.items ≡ reason_text reason) }
+{
     match reason {
-        DropReason::NotOurs => format!(in alloc; "drop {round}.{place} NotOurs "),
-        DropReason::NoTransaction => format!(in alloc; "drop {round}.{place} NoTransaction "),
-        DropReason::Unreadable(fault) => format!(in alloc; "drop {round}.{place} {fault} "),
+        DropReason::NotOurs => Vec::from_slice(alloc, b" NotOurs"),
+        DropReason::NoTransaction => Vec::from_slice(alloc, b" NoTransaction"),
+        DropReason::Unreadable(fault) => {
+            let name = fault_name(alloc, fault)?;
+            let mut field = Vec::from_slice(alloc, b" ")?;
+            field.extend_from_slice(name.as_bytes())?;
+            Ok(field)
+        }
     }
+}
+
+fn fault_name(alloc: Global, fault: ReadFault) -> Result<String, AllocError>
+    ensures { IfOk result (λ text. string_bytes text ≡ fault_text fault) }
+{
+    format!(in alloc; "{fault}")
 }
 
 // The first line of a text, without its end.
