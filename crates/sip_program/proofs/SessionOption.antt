@@ -6,7 +6,7 @@ use Rattle.sip_files.specs.declared.version.FileKind.{FileKind}
 use Rattle.sip_files.specs.declared.version.FileKind.TheVariants as file_kind
 use Rattle.sip_program.specs.Words.{is_session_option, kind_asked}
 
-any_mapped : {A B : Type 0} (p : B → Bool) (f : A → B) (xs : List A)
+pub any_mapped : {A B : Type 0} (p : B → Bool) (f : A → B) (xs : List A)
     → list_any p (map f xs) ≡ list_any (λ x. p (f x)) xs
 any_mapped p f [] = refl
 any_mapped p f (x ∷ xs) = ap (λ b. p (f x) || b) (any_mapped p f xs)

@@ -1,6 +1,7 @@
 pub mod EventsStatus
 pub mod Inputs
 pub mod RoundStatus
+pub mod Scheme
 pub mod Status
 pub mod TalkStatus
 pub mod Words

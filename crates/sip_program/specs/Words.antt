@@ -1,18 +1,30 @@
 -- Which command the words ask for, and of which kind of file.
-use Rattle.std.specs.Prelude.{ℕ, Bool, false, List, [], ◌∷◌, codes, if◌then◌else◌}
+use Rattle.std.specs.Prelude.{ℕ, Bool, false, not, ◌&&◌, ◌||◌, List, [], ◌∷◌, codes, if◌then◌else◌}
 use Rattle.std.specs.List.{list_any}
 use Rattle.std.specs.Str.{bytes_eq}
 use Rattle.sip_files.specs.declared.version.FileKind.{FileKind}
 use Rattle.sip_files.specs.declared.version.FileKind.TheVariants as file_kind
 
 -- the first word names it
+abbrev pub asks_command : List ℕ → List (List ℕ) → Bool
+asks_command name [] = false
+asks_command name (word ∷ words) = bytes_eq word name
+
+abbrev pub is_help_option : List ℕ → Bool
+is_help_option word =
+    bytes_eq word (codes "--help") || (bytes_eq word (codes "-h")
+    || (bytes_eq word (codes "--version") || bytes_eq word (codes "-V")))
+
+-- help or the version, by the command `help` or an option anywhere
+abbrev pub asks_help : List (List ℕ) → Bool
+asks_help words = asks_command (codes "help") words || list_any is_help_option words
+
+-- the command, and not its help
 abbrev pub asks_replay : List (List ℕ) → Bool
-asks_replay [] = false
-asks_replay (word ∷ words) = bytes_eq word (codes "replay")
+asks_replay words = not (asks_help words) && asks_command (codes "replay") words
 
 abbrev pub asks_ladder : List (List ℕ) → Bool
-asks_ladder [] = false
-asks_ladder (word ∷ words) = bytes_eq word (codes "ladder")
+asks_ladder words = not (asks_help words) && asks_command (codes "ladder") words
 
 abbrev pub is_session_option : List ℕ → Bool
 is_session_option word = bytes_eq word (codes "--session")

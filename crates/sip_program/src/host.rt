@@ -1,6 +1,6 @@
 //! What the program runs on.
 
-use std::io::{BufRead, Input};
+use std::io::{BufRead, Input, IsTerminal};
 use std::net::Net;
 use std::random::RandomSource;
 use std::rt::Files;
@@ -12,6 +12,9 @@ pub trait Host: Clock + Net + RandomSource + Files + Sync {
 
     /// The pipe from which `ua agent` reads its commands.
     fn commands(&self) -> Self::Commands;
+
+    /// Whether the pipe is a terminal.
+    fn is_on_terminal(&self) -> bool;
 }
 
 /// The pipe is standard input.
@@ -20,5 +23,9 @@ impl Host for HostRuntime {
 
     fn commands(&self) -> Self::Commands {
         self.reader()
+    }
+
+    fn is_on_terminal(&self) -> bool {
+        self.stdin().is_terminal()
     }
 }

@@ -1,7 +1,9 @@
 //! The program `ua` but for its process: its words, its faults and their statuses.
 #![tactic(auto)]
 
+mod failure;
 mod host;
+mod noting;
 mod program;
 mod status;
 mod talk_fault;

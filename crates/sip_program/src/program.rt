@@ -1,15 +1,18 @@
 //! The program: what each command does.
 
-ghost use Rattle.std.specs.Prelude.{◌≡◌, ◌≢◌, ◌⊎◌, ◌<◌, ◌≤◌, Err, IfErr, IfSome, IsFalse, IsTrue, OnOk, map};
+ghost use Rattle.std.specs.Prelude.{◌≡◌, ◌≢◌, ◌⊎◌, ◌<◌, ◌≤◌, Err, IfErr, IfSome, IsFalse, IsTrue, MatchResult, OnOk, map};
 ghost use Rattle.sip_files.specs.EventFile.{IsFile};
 ghost use Rattle.sip_files.specs.Replay.{TellsReplay, WritesAll, WritesFront};
 ghost use Rattle.sip_program.specs.Inputs.{HasRefusedRound, IsNoFile};
+ghost use Rattle.sip_program.specs.Status.{fault_status};
 ghost use Rattle.sip_ladder.specs.Drawing.{DrawsAll};
-ghost use Rattle.sip_program.specs.Words.{asks_ladder, asks_replay, kind_asked};
+ghost use Rattle.sip_program.specs.Words.{asks_help, asks_ladder, asks_replay, kind_asked};
 ghost use Rattle.sip_files.specs.declared.file_replay.ReplayFault.TheVariants as replay_fault;
 
+use crate::failure::Failure;
 use crate::host::Host;
-use crate::status::{finish, finish_talk, tell_words};
+use crate::status::{finish, finish_talk, show, tell_input, tell_words};
+use crate::talk_fault::TalkFault;
 use crate::talking::talk_by;
 use crate::words::{self, CutName, ReplayWords, parse, replay_words};
 use sip_files::{FileKind, ReplayFault, replay};
@@ -34,8 +37,10 @@ impl Gate for Open {
 /// `ua replay` reads an event file from `input` and writes its output file to `output`, and `ua
 /// ladder` writes its ladder there; with `--session` both read a session file too. `ua listen` and
 /// `ua call` read nothing there, and write the lines of their notices to `output`; so does `ua
-/// agent`, which reads commands from the pipe of `rt`. A fault is told on `errors` after `ua: `,
-/// and a fault of the words as `clap` tells it. A write to `errors` that fails is passed over.
+/// agent`, which reads commands from the pipe of `rt`. Help and the version are written to `output`
+/// where they are asked for. A fault is told on `errors` after `ua: `, what is known of its cause
+/// on a line after it, and a fault of the words as `clap` tells it. A write to `errors` that fails
+/// is passed over.
 pub fn ua<T: Threads + Host, S: AsStr, R: Read, W: Write, E: Write>(
     rt: &T,
     alloc: Global,
@@ -77,22 +82,44 @@ pub fn ua<T: Threads + Host, S: AsStr, R: Read, W: Write, E: Write>(
         → IfSome (R.remaining input.old) (HasRefusedRound (kind_asked (map S.text words.now))) }
     ensures unread { IsFalse (asks_replay (map S.text words.now))
         → IsFalse (asks_ladder (map S.text words.now)) → input.new ≡ input.old }
+    ensures helps { IsTrue (asks_help (map S.text words.now)) → result ≢ 0 → result ≢ 4
+        → output.new ≡ output.old }
     ensures bad_words { result ≡ 2 → output.new ≡ output.old }
 {
     let matches = match parse(alloc, words) {
         Ok(matches) => matches,
+        Err(error) if words::asks_help(words) && !error.use_stderr() => {
+            return show(&error, output, errors);
+        }
         Err(error) => return tell_words(&error, errors),
     };
+    if words::asks_help(words) {
+        return finish_talk(Err(Failure::unknown(TalkFault::BadArgument)), errors);
+    }
     let kind = words::kind_asked(words);
     if words::asks_replay(words) {
         let words = replay_words(&matches);
-        finish(replay_by(rt, alloc, kind, words, input, output), errors)
+        let end = replay_by(rt, alloc, kind, words, input, output);
+        finish_file(end, input, errors)
     } else if words::asks_ladder(words) {
-        finish(ladder(rt, alloc, kind, input, output, &Open), errors)
+        let end = ladder(rt, alloc, kind, input, output, &Open);
+        finish_file(end, input, errors)
     } else {
         let end = talk_by(rt, alloc, &matches, output, errors);
         finish_talk(end, errors)
     }
+}
+
+// Tells the fault of a replay and why its input can't be read, and gives the status of the end.
+fn finish_file<R: Read, E: Write>(end: Result<(), ReplayFault>, input: &mut R, errors: &mut E) -> u8
+    ensures { MatchResult end (λ _. result ≡ 0) (λ fault. result ≡ fault_status fault) }
+{
+    let is_unread = end == Err(ReplayFault::Input);
+    let status = finish(end, errors);
+    if is_unread {
+        tell_input(input, errors);
+    }
+    status
 }
 
 // Replays as the words say.

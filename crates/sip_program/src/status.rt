@@ -1,18 +1,19 @@
 //! How the program ends: a fault is told, and has its status.
 
-ghost use Rattle.std.specs.Prelude.{◌≡◌, ◌≢◌, MatchResult};
+ghost use Rattle.std.specs.Prelude.{◌≡◌, ◌≢◌, ◌⊎◌, MatchResult};
 ghost use Rattle.std.specs.IoError.{error_kind};
 ghost use Rattle.std.specs.declared.io.ErrorKind.TheVariants as io_kind;
 ghost use Rattle.sip_program.specs.Status.{fault_status};
 ghost use Rattle.sip_program.specs.TalkStatus.{talk_status};
 
+use crate::failure::Failure;
 use crate::talk_fault::TalkFault;
 use clap::Error;
 use clap::error::ErrorKind;
 use sip_files::{EventsFault, ReplayFault};
 use sip_round::RoundFault;
 use sip_udp::UaFault;
-use std::io::{self, Write};
+use std::io::{self, Read, Write};
 
 const SUCCESS: u8 = 0;
 
@@ -82,16 +83,37 @@ pub(crate) fn finish<E: Write>(end: Result<(), ReplayFault>, errors: &mut E) -> 
     }
 }
 
-/// Tells why one who talks stopped, and gives the status of the end.
-pub(crate) fn finish_talk<E: Write>(end: Result<(), TalkFault>, errors: &mut E) -> u8
-    ensures { MatchResult end (λ _. result ≡ 0) (λ fault. result ≡ talk_status fault) }
+/// Tells why one who talks stopped and, on a second line, what is known of the cause; and gives the
+/// status of the end.
+pub(crate) fn finish_talk<E: Write>(end: Result<(), Failure>, errors: &mut E) -> u8
+    ensures { MatchResult end (λ _. result ≡ 0) (λ failure. result ≡ talk_status failure.fault) }
 {
     match end {
         Ok(()) => SUCCESS,
-        Err(fault) => {
+        Err(Failure { fault, cause }) => {
             let _ = writeln!(errors, "ua: {fault}");
+            if let Some(cause) = cause {
+                let _ = writeln!(errors, "ua: {cause}");
+            }
             talk_status(fault)
         }
+    }
+}
+
+/// Tells why an input of which a read failed can't be read: the system is asked once more.
+pub(crate) fn tell_input<R: Read, E: Write>(input: &mut R, errors: &mut E) {
+    if let Err(error) = input.read(&mut [0]) {
+        let _ = writeln!(errors, "ua: standard input: {error}");
+    }
+}
+
+/// Writes the help or the version that was asked for, and gives the status of the end.
+pub(crate) fn show<W: Write, E: Write>(text: &Error, output: &mut W, errors: &mut E) -> u8
+    ensures shown { (result ≡ 0) ⊎ (result ≡ 4) }
+{
+    match write!(output, "{text}") {
+        Ok(()) => SUCCESS,
+        Err(_) => finish(Err(ReplayFault::Output), errors),
     }
 }
 

@@ -1,33 +1,40 @@
 //! What `ua listen`, `ua call` and `ua agent` do.
 
-ghost use Rattle.std.specs.Prelude.{◌≡◌, IfErr, IfOk, IfSome};
+ghost use Rattle.std.specs.Prelude.{◌≡◌, ◌≢◌, IfErr, IfOk, IfSome};
 ghost use Rattle.sip_message.specs.Addr.{addr_text};
+ghost use Rattle.sip_program.specs.Scheme.{is_scheme, is_scheme_byte};
 ghost use Rattle.sip_program.specs.declared.talk_fault.TalkFault.TheVariants.{BadArgument};
 
+use crate::failure::{Cause, Failure};
 use crate::host::Host;
+use crate::noting::Noting;
 use crate::talk_fault::TalkFault;
-use crate::words::{AgentWords, CallWords, ListenWords, agent_words, call_words, listen_words};
+use crate::words::{
+    AgentWords, CallWords, ListenWords, OwnWords, agent_words, call_words, listen_words,
+};
 use clap::ArgMatches;
 use sip_message::{Addr, CallId, Uri};
 use sip_text::Text;
-use sip_udp::{CallPlan, Endpoint, ListenPlan, UaFault, agent, call_from, listen_at};
+use sip_udp::{CallPlan, Endpoint, InputEnd, ListenPlan, UaFault, agent, call_from, listen_at};
 use std::alloc::{AllocError, Global};
 use std::fs::{self, File};
-use std::io::Write;
+use std::io::{self, Read, Write};
 use std::net::{Ipv4Addr, Net, SocketAddrV4, UdpSocket};
 use std::random::RandomSource;
 use std::rt::Files;
+use std::sync::Arc;
 use std::thread::Threads;
 
 /// Listens, calls, or does what a pipe asks for, as the words say.
-pub(crate) fn talk_by<T: Threads + Host, W: Write, E: Write>(
+pub(crate) fn talk_by<'a, T: Threads + Host, W: Write, E: Write>(
     rt: &T,
     alloc: Global,
-    matches: &ArgMatches,
+    matches: &ArgMatches<'a>,
     notices: &mut W,
     errors: &mut E,
-) -> Result<(), TalkFault>
-    ensures { IfErr result (λ fault. fault ≡ BadArgument → notices.new ≡ notices.old) }
+) -> Result<(), Failure<'a>>
+    ensures { IfErr result
+        (λ failure. failure.fault ≡ BadArgument → notices.new ≡ notices.old) }
 {
     if let Some(words) = listen_words(matches) {
         return listen_by(rt, alloc, words, notices, errors);
@@ -37,120 +44,283 @@ pub(crate) fn talk_by<T: Threads + Host, W: Write, E: Write>(
     }
     match agent_words(matches) {
         Some(words) => agent_by(rt, alloc, words, notices, errors),
-        None => Err(TalkFault::BadArgument),
+        None => Err(Failure::unknown(TalkFault::BadArgument)),
     }
 }
 
-fn listen_by<T: Threads + Host, W: Write, E: Write>(
+fn listen_by<'a, T: Threads + Host, W: Write, E: Write>(
     rt: &T,
     alloc: Global,
-    words: ListenWords,
+    words: ListenWords<'a>,
     notices: &mut W,
     errors: &mut E,
-) -> Result<(), TalkFault>
-    ensures { IfErr result (λ fault. fault ≡ BadArgument → notices.new ≡ notices.old) }
+) -> Result<(), Failure<'a>>
+    ensures { IfErr result
+        (λ failure. failure.fault ≡ BadArgument → notices.new ≡ notices.old) }
 {
-    let local = address_of(alloc, words.local)?.ok_or(TalkFault::BadArgument)?;
+    let local = address_of(alloc, "--local", words.own.local)?;
     let plan = ListenPlan {
         ring: words.ring,
         reliable: words.reliable,
         status: words.status,
         body: body_of(rt, alloc, words.body)?,
     };
-    let endpoint = endpoint_at(rt, local, words.record, words.stats)?;
-    listen_at(rt, alloc, endpoint, plan, words.turns, notices, errors).map_err(TalkFault::Ua)
+    let mut endpoint = endpoint_at(rt, local, words.own)?;
+    endpoint.tells_drops = words.drops;
+    endpoint.seconds = words.length.seconds;
+    endpoint.input = input_end(rt, alloc)?;
+    let turns = words.length.turns();
+    let mut notices = Noting::new(notices);
+    let end = listen_at(rt, alloc, endpoint, plan, turns, &mut notices, errors);
+    ended(end, notices.error)
 }
 
-fn call_by<T: Threads + Host, W: Write, E: Write>(
+fn call_by<'a, T: Threads + Host, W: Write, E: Write>(
     rt: &T,
     alloc: Global,
-    words: CallWords,
+    words: CallWords<'a>,
     notices: &mut W,
     errors: &mut E,
-) -> Result<(), TalkFault>
-    ensures { IfErr result (λ fault. fault ≡ BadArgument → notices.new ≡ notices.old) }
+) -> Result<(), Failure<'a>>
+    ensures { IfErr result
+        (λ failure. failure.fault ≡ BadArgument → notices.new ≡ notices.old) }
 {
-    let local = address_of(alloc, words.local)?.ok_or(TalkFault::BadArgument)?;
+    let local = address_of(alloc, "--local", words.own.local)?;
     let plan = plan_of(rt, alloc, words)?;
-    let endpoint = endpoint_at(rt, local, words.record, words.stats)?;
-    call_from(rt, alloc, endpoint, plan, words.turns, notices, errors).map_err(TalkFault::Ua)
+    let mut endpoint = endpoint_at(rt, local, words.own)?;
+    endpoint.tells_drops = words.drops;
+    endpoint.seconds = words.length.seconds;
+    endpoint.input = input_end(rt, alloc)?;
+    let turns = words.length.turns();
+    let mut notices = Noting::new(notices);
+    let end = call_from(rt, alloc, endpoint, plan, turns, &mut notices, errors);
+    ended(end, notices.error)
 }
 
-// What the words of `ua call` ask for.
-fn plan_of<T: Files>(rt: &T, alloc: Global, words: CallWords) -> Result<CallPlan, TalkFault> {
-    let to = address_of(alloc, words.to)?.ok_or(TalkFault::BadArgument)?;
-    let uri = Uri::new(text_of(alloc, words.uri)?).ok_or(TalkFault::BadArgument)?;
-    let call_id = CallId::new(text_of(alloc, words.call_id)?).ok_or(TalkFault::BadArgument)?;
+// What the words of `ua call` ask for. Without a length it is over once nothing is held.
+fn plan_of<'a, T: Files>(
+    rt: &T,
+    alloc: Global,
+    words: CallWords<'a>,
+) -> Result<CallPlan, Failure<'a>> {
+    let to = address_of(alloc, "--to", words.to)?;
+    let uri = uri_of(alloc, words.uri)?;
+    let call_id = text_of(alloc, words.call_id)?;
+    let call_id = CallId::new(call_id).ok_or(bad_word(
+        "--call-id",
+        words.call_id,
+        "not a Call-ID",
+    ))?;
     Ok(CallPlan {
         to,
         uri,
         call_id,
         body: body_of(rt, alloc, words.body)?,
         hold: words.hold,
-        leaves: words.leaves,
+        leaves: words.leaves || words.length.is_open(),
         must_answer: words.must_answer,
     })
 }
 
-// The text of a file, where one is named, or none.
-fn body_of<T: Files>(rt: &T, alloc: Global, path: Option<&str>) -> Result<Text, TalkFault> {
+// The URI of `--uri`.
+fn uri_of<'a>(alloc: Global, word: &'a str) -> Result<Uri, Failure<'a>> {
+    if !has_scheme(word) {
+        let wanted = "no scheme, as in sip:bob@192.0.2.9";
+        return Err(bad_word("--uri", word, wanted));
+    }
+    Uri::new(text_of(alloc, word)?).ok_or(bad_word("--uri", word, "not a URI"))
+}
+
+// Whether a text begins with a scheme and a colon.
+fn has_scheme(text: &str) -> bool {
+    match text.split_once(':') {
+        Some((scheme, _)) => is_scheme(scheme.as_bytes()),
+        None => false,
+    }
+}
+
+fn is_scheme(text: &[u8]) -> bool
+    ensures { result ≡ is_scheme text.now }
+{
+    match text {
+        [] => false,
+        [first, ..] => {
+            first.is_ascii_alphabetic() && text.iter().all(|byte| is_scheme_byte(*byte))
+        }
+    }
+}
+
+fn is_scheme_byte(byte: u8) -> bool
+    ensures { result ≡ is_scheme_byte byte }
+{
+    byte.is_ascii_alphanumeric() || byte == b'+' || byte == b'-' || byte == b'.'
+}
+
+// The text of the file of `--body`, where one is named, or none.
+fn body_of<'a, T: Files>(
+    rt: &T,
+    alloc: Global,
+    path: Option<&'a str>,
+) -> Result<Text, Failure<'a>> {
     let Some(path) = path else {
         return Ok(Text::from_vec(Vec::new(alloc)));
     };
     match fs::read(&(rt, alloc), path) {
         Ok(bytes) => Ok(Text::from_vec(bytes)),
-        Err(_) => Err(TalkFault::Ua(UaFault::Input)),
+        Err(error) => Err(bad_file(UaFault::Input, "--body", path, error)),
     }
 }
 
-fn agent_by<T: Threads + Host, W: Write, E: Write>(
+fn agent_by<'a, T: Threads + Host, W: Write, E: Write>(
     rt: &T,
     alloc: Global,
-    words: AgentWords,
+    words: AgentWords<'a>,
     notices: &mut W,
     errors: &mut E,
-) -> Result<(), TalkFault>
-    ensures { IfErr result (λ fault. fault ≡ BadArgument → notices.new ≡ notices.old) }
+) -> Result<(), Failure<'a>>
+    ensures { IfErr result
+        (λ failure. failure.fault ≡ BadArgument → notices.new ≡ notices.old) }
 {
-    let local = address_of(alloc, words.local)?.ok_or(TalkFault::BadArgument)?;
-    let mut endpoint = endpoint_at(rt, local, words.record, words.stats)?;
+    let local = address_of(alloc, "--local", words.own.local)?;
+    let mut endpoint = endpoint_at(rt, local, words.own)?;
     endpoint.division = words.division;
     endpoint.kind = words.kind;
     let pipe = rt.commands();
-    agent(rt, alloc, endpoint, pipe, words.linger, notices, errors).map_err(TalkFault::Ua)
+    let mut notices = Noting::new(notices);
+    let end = agent(
+        rt,
+        alloc,
+        endpoint,
+        pipe,
+        words.linger,
+        &mut notices,
+        errors,
+    );
+    match end {
+        Err(UaFault::Input) => Err(failed_input(rt)),
+        end => ended(end, notices.error),
+    }
+}
+
+// How one who talks ended, where this is what a write of a notice that failed had against it.
+fn ended<'a>(end: Result<(), UaFault>, output: Option<io::Error>) -> Result<(), Failure<'a>>
+    ensures { IfErr result (λ failure. failure.fault ≢ BadArgument) }
+{
+    let Err(fault) = end else {
+        return Ok(());
+    };
+    let cause = match (fault, output) {
+        (UaFault::Output, Some(error)) => Some(Cause::Stream {
+            name: "standard output",
+            error,
+        }),
+        _ => None,
+    };
+    Err(Failure {
+        fault: TalkFault::Ua(fault),
+        cause,
+    })
+}
+
+// The failure of a pipe that can't be read. The system is asked once more why.
+fn failed_input<'a, T: Host>(rt: &T) -> Failure<'a>
+    ensures { result.fault ≢ BadArgument }
+{
+    let fault = TalkFault::Ua(UaFault::Input);
+    match rt.commands().read(&mut [0]) {
+        Ok(_) => Failure::unknown(fault),
+        Err(error) => Failure::new(
+            fault,
+            Cause::Stream {
+                name: "standard input",
+                error,
+            },
+        ),
+    }
+}
+
+// The input whose end ends the turns. That of a terminal doesn't.
+fn input_end<'a, T: Threads + Host>(
+    rt: &T,
+    alloc: Global,
+) -> Result<Option<Arc<InputEnd>>, Failure<'a>> {
+    if rt.is_on_terminal() {
+        return Ok(None);
+    }
+    match InputEnd::watch(rt, alloc, rt.commands()) {
+        Ok(input) => Ok(Some(input)),
+        Err(fault) => Err(Failure::unknown(TalkFault::Ua(fault))),
+    }
 }
 
 // An endpoint at this address; where the port is 0, at the one that the socket got.
-fn endpoint_at<T: Host>(
+fn endpoint_at<'a, T: Host>(
     rt: &T,
     local: Addr,
-    record: Option<&str>,
-    is_counted: bool,
-) -> Result<Endpoint<T::File>, TalkFault> {
+    own: OwnWords<'a>,
+) -> Result<Endpoint<T::File>, Failure<'a>> {
     let seed = random_seed(rt)?;
-    let socket = bound(rt, local)?;
-    let port = port_of(&socket)?;
-    let record = record_at(rt, record)?;
-    let ip = local.ip;
-    let local = Addr { ip, port };
+    let (socket, local) = match bound(rt, local) {
+        Ok(bound) => bound,
+        Err(error) => {
+            let address = local;
+            let fault = TalkFault::Ua(UaFault::Socket);
+            return Err(Failure::new(fault, Cause::Address { address, error }));
+        }
+    };
+    let record = record_at(rt, own.record)?;
     let mut endpoint = Endpoint::new(socket, local, seed, record);
-    endpoint.is_counted = is_counted;
+    endpoint.is_counted = own.stats;
     Ok(endpoint)
 }
 
 // A new file for the record, where one is wanted.
-fn record_at<T: Files>(rt: &T, path: Option<&str>) -> Result<Option<T::File>, TalkFault> {
+fn record_at<'a, T: Files>(rt: &T, path: Option<&'a str>) -> Result<Option<T::File>, Failure<'a>> {
     let Some(path) = path else {
         return Ok(None);
     };
     match File::create(rt, path) {
         Ok(file) => Ok(Some(file)),
-        Err(_) => Err(TalkFault::Ua(UaFault::Output)),
+        Err(error) => Err(bad_file(UaFault::Output, "--record", path, error)),
+    }
+}
+
+// The failure of the file of an option.
+fn bad_file<'a>(fault: UaFault, option: &'a str, path: &'a str, error: io::Error) -> Failure<'a> {
+    Failure::new(
+        TalkFault::Ua(fault),
+        Cause::File {
+            option,
+            path,
+            error,
+        },
+    )
+}
+
+// The failure of an option whose word isn't what it has to be.
+fn bad_word<'a>(option: &'a str, word: &'a str, wanted: &'a str) -> Failure<'a> {
+    Failure::new(
+        TalkFault::BadArgument,
+        Cause::Word {
+            option,
+            word,
+            wanted,
+        },
+    )
+}
+
+// The address that the word of an option spells.
+fn address_of<'a>(alloc: Global, option: &'a str, word: &'a str) -> Result<Addr, Failure<'a>>
+    ensures { IfOk result (λ addr. word.now ≡ addr_text addr) }
+{
+    match spelled_address(alloc, word)? {
+        Some(addr) => Ok(addr),
+        None => Err(bad_word(option, word, "not an address, as 192.0.2.1:5060")),
     }
 }
 
 // The address that a text spells as an event file does, `a.b.c.d:port`.
-fn address_of(alloc: Global, text: &str) -> Result<Option<Addr>, AllocError>
+fn spelled_address(alloc: Global, text: &str) -> Result<Option<Addr>, AllocError>
     ensures { IfOk result (λ found. IfSome found (λ addr. text.now ≡ addr_text addr)) }
 {
     let Ok(address) = text.parse::<SocketAddrV4>() else {
@@ -175,25 +345,22 @@ fn text_of(alloc: Global, word: &str) -> Result<Text, AllocError>
 }
 
 // The key of made names.
-fn random_seed<R: RandomSource>(rt: &R) -> Result<[u8; 32], TalkFault> {
+fn random_seed<'a, R: RandomSource>(rt: &R) -> Result<[u8; 32], Failure<'a>> {
     let mut seed = [0; 32];
     match rt.fill_bytes(&mut seed) {
         Ok(()) => Ok(seed),
-        Err(_) => Err(TalkFault::Random),
+        Err(error) => {
+            let name = "random bytes";
+            let cause = Cause::Stream { name, error };
+            Err(Failure::new(TalkFault::Random, cause))
+        }
     }
 }
 
-fn bound<N: Net>(rt: &N, local: Addr) -> Result<UdpSocket, TalkFault> {
-    let ip = Ipv4Addr::from_octets(local.ip);
-    match UdpSocket::bind(rt, (ip, local.port)) {
-        Ok(socket) => Ok(socket),
-        Err(_) => Err(TalkFault::Ua(UaFault::Socket)),
-    }
-}
-
-fn port_of(socket: &UdpSocket) -> Result<u16, TalkFault> {
-    match socket.local_addr() {
-        Ok(address) => Ok(address.port()),
-        Err(_) => Err(TalkFault::Ua(UaFault::Socket)),
-    }
+// A socket at this address, and the address that it got.
+fn bound<N: Net>(rt: &N, local: Addr) -> io::Result<(UdpSocket, Addr)> {
+    let ip = local.ip;
+    let socket = UdpSocket::bind(rt, (Ipv4Addr::from_octets(ip), local.port))?;
+    let port = socket.local_addr()?.port();
+    Ok((socket, Addr { ip, port }))
 }

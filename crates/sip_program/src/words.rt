@@ -1,6 +1,6 @@
 //! The words of the command line.
 
-ghost use Rattle.std.specs.Prelude.{◌≡◌, ◌<◌, ◌≤◌, map};
+ghost use Rattle.std.specs.Prelude.{◌≡◌, ◌<◌, ◌≤◌, IsFalse, IsTrue, map};
 ghost use Rattle.std.specs.List.{list_any};
 ghost use Rattle.sip_program.specs.Words as spec;
 
@@ -18,13 +18,16 @@ const MAX_SHARDS: usize = 256;
 /// How many workers there may be at most.
 const MAX_WORKERS: usize = 64;
 
+/// What `ua --version` tells.
+const VERSION: &str = "1.0";
+
 /// What the help of the whole ends in.
 const EXAMPLES: &str = "\
 Examples:
   ua replay < call.events > call.outputs
   ua ladder < call.events
-  ua listen --local 127.0.0.1:5070 --turns 3000
-  ua call --local 127.0.0.1:5080 --to 127.0.0.1:5070 --uri sip:b@127.0.0.1 --turns 200
+  ua listen --local 127.0.0.1:5070 --seconds 30
+  ua call --local 127.0.0.1:5080 --to 127.0.0.1:5070 --uri sip:b@127.0.0.1 --seconds 2
   ua agent --local 127.0.0.1:5080 --record mine.events < commands
 
 Status: 0 success, 1 no event file or session file, 2 bad words, 3 a refused round, 4 a device that
@@ -42,7 +45,7 @@ Example:
 
 const LISTEN_EXAMPLE: &str = "\
 Example, and what it prints of a call:
-  ua listen --local 127.0.0.1:5070 --turns 3000
+  ua listen --local 127.0.0.1:5070 --seconds 30
 
   notice ua-call request 7.1 INVITE LOCAL-TAG REMOTE-TAG -
   notice ua-call ack 7.1 -
@@ -51,7 +54,7 @@ Example, and what it prints of a call:
 
 const CALL_EXAMPLE: &str = "\
 Example, and what it prints of a call that is answered:
-  ua call --local 127.0.0.1:5080 --to 127.0.0.1:5070 --uri sip:b@127.0.0.1 --turns 200
+  ua call --local 127.0.0.1:5080 --to 127.0.0.1:5070 --uri sip:b@127.0.0.1 --seconds 2
 
   notice ua-call response 0.1 200 LOCAL-TAG REMOTE-TAG -
   notice ua-call ended LOCAL-TAG REMOTE-TAG
@@ -79,23 +82,53 @@ pub(crate) struct ReplayWords {
     pub cut: CutName,
 }
 
+/// The words that `ua listen`, `ua call` and `ua agent` all have, as they came.
+#[derive(Clone, Copy)]
+pub(crate) struct OwnWords<'a> {
+    pub local: &'a str,
+    pub record: Option<&'a str>,
+    pub stats: bool,
+}
+
+/// How long `ua listen` or `ua call` goes on.
+#[derive(Clone, Copy)]
+pub(crate) struct LengthWords {
+    pub turns: Option<u32>,
+    pub seconds: Option<u32>,
+}
+
+impl LengthWords {
+    /// How many turns are taken at most.
+    pub(crate) fn turns(self) -> u64 {
+        match self.turns {
+            Some(turns) => u64::from(turns),
+            None => u64::MAX,
+        }
+    }
+
+    /// Whether nothing is said of it.
+    pub(crate) fn is_open(self) -> bool {
+        self.turns.is_none() && self.seconds.is_none()
+    }
+}
+
 /// The words of `ua listen`, as they came.
 #[derive(Clone, Copy)]
 pub(crate) struct ListenWords<'a> {
-    pub local: &'a str,
+    pub own: OwnWords<'a>,
+    pub length: LengthWords,
     pub ring: Option<u32>,
     pub reliable: bool,
     pub status: u16,
     pub body: Option<&'a str>,
-    pub turns: u32,
-    pub record: Option<&'a str>,
-    pub stats: bool,
+    pub drops: bool,
 }
 
 /// The words of `ua call`, as they came.
 #[derive(Clone, Copy)]
 pub(crate) struct CallWords<'a> {
-    pub local: &'a str,
+    pub own: OwnWords<'a>,
+    pub length: LengthWords,
     pub to: &'a str,
     pub uri: &'a str,
     pub call_id: &'a str,
@@ -103,20 +136,16 @@ pub(crate) struct CallWords<'a> {
     pub hold: Option<u32>,
     pub leaves: bool,
     pub must_answer: bool,
-    pub turns: u32,
-    pub record: Option<&'a str>,
-    pub stats: bool,
+    pub drops: bool,
 }
 
 /// The words of `ua agent`, as they came.
 #[derive(Clone, Copy)]
 pub(crate) struct AgentWords<'a> {
-    pub local: &'a str,
+    pub own: OwnWords<'a>,
     pub linger: u32,
     pub division: Division,
     pub kind: FileKind,
-    pub record: Option<&'a str>,
-    pub stats: bool,
 }
 
 /// The words of the command line, without the program's own name.
@@ -129,24 +158,56 @@ pub fn given_words<R: Env + AllocGlobal>(rt: &R) -> io::Result<Vec<String>> {
     Ok(words)
 }
 
-/// Whether the command that is asked for is `replay`: the first word names it.
+/// Whether help or the version is asked for. Then no other command is.
+#[tactic(auto, using(crate::proofs::Help::not_another))]
+pub(crate) fn asks_help<S: AsStr>(words: &[S]) -> bool
+    ensures help { result ≡ spec.asks_help (map S.text words.now) }
+    ensures no_replay { IsTrue result → IsFalse (spec.asks_replay (map S.text words.now)) }
+    ensures no_ladder { IsTrue result → IsFalse (spec.asks_ladder (map S.text words.now)) }
+{
+    asks_command(words, "help") || has_help_option(words)
+}
+
+/// Whether the command that is asked for is `replay`.
 pub(crate) fn asks_replay<S: AsStr>(words: &[S]) -> bool
     ensures { result ≡ spec.asks_replay (map S.text words.now) }
 {
-    match words.first() {
-        Some(word) => word.as_str() == "replay",
-        None => false,
-    }
+    !asks_help(words) && asks_command(words, "replay")
 }
 
 /// Whether the command that is asked for is `ladder`.
 pub(crate) fn asks_ladder<S: AsStr>(words: &[S]) -> bool
     ensures { result ≡ spec.asks_ladder (map S.text words.now) }
 {
+    !asks_help(words) && asks_command(words, "ladder")
+}
+
+// Whether the first word names this command.
+fn asks_command<S: AsStr>(words: &[S], name: &str) -> bool
+    ensures { result ≡ spec.asks_command name.now (map S.text words.now) }
+{
     match words.first() {
-        Some(word) => word.as_str() == "ladder",
+        Some(word) => word.as_str() == name,
         None => false,
     }
+}
+
+fn has_help_option<S: AsStr>(words: &[S]) -> bool
+    ensures { result ≡ list_any spec.is_help_option (map S.text words.now) }
+{
+    any_help_option(words)
+}
+
+fn any_help_option<S: AsStr>(words: &[S]) -> bool
+    ensures { result ≡ list_any (λ word. spec.is_help_option (S.text word)) words.now }
+{
+    words.iter().any(|word| is_help_option(word.as_str()))
+}
+
+fn is_help_option(word: &str) -> bool
+    ensures { result ≡ spec.is_help_option word.now }
+{
+    word == "--help" || word == "-h" || word == "--version" || word == "-V"
 }
 
 /// The kind of the file that is asked for: a session where one of the words is its option.
@@ -184,6 +245,7 @@ pub(crate) fn parse<'a, S: AsStr>(alloc: Global, words: &'a [S]) -> Result<ArgMa
             and does what a pipe asks for over UDP",
         )
         .after_help(EXAMPLES)
+        .version(VERSION)
         .bin_name("ua")?
         .no_binary_name(true)
         .subcommand_required(true)
@@ -216,18 +278,32 @@ pub(crate) fn replay_words(matches: &ArgMatches) -> ReplayWords
     }
 }
 
+fn own_words<'a>(matches: &ArgMatches<'a>) -> Option<OwnWords<'a>> {
+    Some(OwnWords {
+        local: matches.get_str("local")?,
+        record: matches.get_str("record"),
+        stats: matches.get_flag("stats"),
+    })
+}
+
+fn length_words(matches: &ArgMatches) -> LengthWords {
+    LengthWords {
+        turns: matches.get_one::<u32>("turns"),
+        seconds: matches.get_one::<u32>("seconds"),
+    }
+}
+
 /// The words of `ua listen`, where they ask for it.
 pub(crate) fn listen_words<'a>(matches: &ArgMatches<'a>) -> Option<ListenWords<'a>> {
     let listen = matches.subcommand_matches("listen")?;
     Some(ListenWords {
-        local: listen.get_str("local")?,
+        own: own_words(listen)?,
+        length: length_words(listen),
         ring: listen.get_one::<u32>("ring"),
         reliable: listen.get_flag("reliable"),
         status: listen.get_one::<u16>("answer")?,
         body: listen.get_str("body"),
-        turns: listen.get_one::<u32>("turns")?,
-        record: listen.get_str("record"),
-        stats: listen.get_flag("stats"),
+        drops: listen.get_flag("drops"),
     })
 }
 
@@ -235,7 +311,8 @@ pub(crate) fn listen_words<'a>(matches: &ArgMatches<'a>) -> Option<ListenWords<'
 pub(crate) fn call_words<'a>(matches: &ArgMatches<'a>) -> Option<CallWords<'a>> {
     let call = matches.subcommand_matches("call")?;
     Some(CallWords {
-        local: call.get_str("local")?,
+        own: own_words(call)?,
+        length: length_words(call),
         to: call.get_str("to")?,
         uri: call.get_str("uri")?,
         call_id: call.get_str("call-id")?,
@@ -243,9 +320,7 @@ pub(crate) fn call_words<'a>(matches: &ArgMatches<'a>) -> Option<CallWords<'a>> 
         hold: call.get_one::<u32>("hold"),
         leaves: call.get_flag("leave"),
         must_answer: call.get_flag("must-answer"),
-        turns: call.get_one::<u32>("turns")?,
-        record: call.get_str("record"),
-        stats: call.get_flag("stats"),
+        drops: call.get_flag("drops"),
     })
 }
 
@@ -253,15 +328,13 @@ pub(crate) fn call_words<'a>(matches: &ArgMatches<'a>) -> Option<CallWords<'a>> 
 pub(crate) fn agent_words<'a>(matches: &ArgMatches<'a>) -> Option<AgentWords<'a>> {
     let agent = matches.subcommand_matches("agent")?;
     Some(AgentWords {
-        local: agent.get_str("local")?,
+        own: own_words(agent)?,
         linger: agent.get_one::<u32>("linger")?,
         division: Division {
             shards: count(agent, "shards", MAX_SHARDS),
             workers: count(agent, "workers", MAX_WORKERS),
         },
         kind: kind_of(agent),
-        record: agent.get_str("record"),
-        stats: agent.get_flag("stats"),
     })
 }
 
@@ -307,15 +380,18 @@ fn listen_command<'a>(alloc: Global) -> Result<Command<'a>, AllocError> {
     Command::new(alloc, "listen")
         .about(
             "Answers calls over UDP: 200 to INVITE, BYE and OPTIONS, 501 to all else; a line for \
-            each notice",
+            each notice. At the end of standard input, if it is no terminal and wasn't empty from \
+            the start, it ends the calls that are up, and a second later itself",
         )
         .after_help(LISTEN_EXAMPLE)
         .arg(local_argument(alloc))?
         .arg(turns_argument(alloc))?
+        .arg(seconds_argument(alloc))?
         .arg(ring)?
         .arg(reliable)?
         .arg(answer)?
         .arg(body_argument(alloc, "The body of a 2xx to an INVITE, an SDP text"))?
+        .arg(drops_argument(alloc))?
         .arg(record_argument(alloc))?
         .arg(stats_argument(alloc))
 }
@@ -340,8 +416,8 @@ fn call_command<'a>(alloc: Global) -> Result<Command<'a>, AllocError> {
         .long("leave")
         .action(ArgAction::SetTrue)
         .help(
-            "One second before the last turn a call that isn't answered is cancelled, and one that \
-            is up ended; it stops earlier once nothing is held",
+            "In the last second a call that isn't answered is cancelled, and one that is up ended; \
+            it stops earlier once nothing is held. The end of standard input does so without it",
         );
     let hold = Arg::new(alloc, "hold")
         .long("hold")
@@ -354,18 +430,22 @@ fn call_command<'a>(alloc: Global) -> Result<Command<'a>, AllocError> {
         .help("A call that isn't answered ends in status 6");
     Command::new(alloc, "call")
         .about(
-            "Calls a URI over UDP and hangs up as soon as it is answered; a line for each notice",
+            "Calls a URI over UDP and hangs up as soon as it is answered; a line for each notice. \
+            At the end of standard input, if it is no terminal and wasn't empty from the start, it \
+            gives the call up, and ends within a second",
         )
         .after_help(CALL_EXAMPLE)
         .arg(local_argument(alloc))?
         .arg(to)?
         .arg(uri)?
         .arg(turns_argument(alloc))?
+        .arg(seconds_argument(alloc))?
         .arg(call_id)?
         .arg(leave)?
         .arg(hold)?
         .arg(must_answer)?
         .arg(body_argument(alloc, "The body of the INVITE, an SDP text"))?
+        .arg(drops_argument(alloc))?
         .arg(record_argument(alloc))?
         .arg(stats_argument(alloc))
 }
@@ -444,9 +524,26 @@ fn turns_argument<'a>(alloc: Global) -> Arg<'a> {
     Arg::new(alloc, "turns")
         .long("turns")
         .value_name("N")
-        .required(true)
         .value_parser(value_parser!(u32))
-        .help("How many turns of 10 ms are taken; 3000 are half a minute")
+        .help(
+            "How many turns of 10 ms are taken at most; 3000 are half a minute. Without it and \
+            --seconds it goes on until the end of standard input",
+        )
+}
+
+fn seconds_argument<'a>(alloc: Global) -> Arg<'a> {
+    Arg::new(alloc, "seconds")
+        .long("seconds")
+        .value_name("N")
+        .value_parser(value_parser!(u32))
+        .help("How many seconds it goes on at most")
+}
+
+fn drops_argument<'a>(alloc: Global) -> Arg<'a> {
+    Arg::new(alloc, "drops")
+        .long("drops")
+        .action(ArgAction::SetTrue)
+        .help("A line for each datagram that is dropped, too, but not for keep-alives")
 }
 
 fn shards_argument<'a>(alloc: Global, usual: &'a str) -> Arg<'a> {

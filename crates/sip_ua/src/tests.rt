@@ -2,6 +2,7 @@
 
 mod desk;
 mod dialog;
+mod examples;
 mod files;
 mod loopback;
 mod recorded;

@@ -1,5 +1,5 @@
 -- One line after another.
-use Rattle.std.proofs.Common.{◌≡◌, ℕ, Bool, List, [], ◌∷◌, ◌++◌, refl, sym, ap, ◌∙◌, append-nil, append_assoc, subst}
+use Rattle.std.proofs.Common.{◌≡◌, ℕ, List, [], ◌∷◌, ◌++◌, refl, sym, ap, ◌∙◌, append-nil, append_assoc, subst}
 use Rattle.std.specs.Prelude.{Option, Some, None, Result, Ok, Err, OnOk}
 use Rattle.std.specs.List.{AllZip, flat_map}
 use Rattle.std.specs.Io.KnownBytes.{Appends}
@@ -32,17 +32,17 @@ told_more f a b c xs more x m p q =
     (appended_more a b c (flat_map f xs) (f x) p q)
 
 -- what is told of outputs, and how much of it the writer has
-abbrev pub ToldSoFar : FileKind → Bool → List Event → Option (List ℕ) → Option (List ℕ)
+abbrev pub ToldSoFar : FileKind → Option ℕ → List Event → Option (List ℕ) → Option (List ℕ)
     → List PlacedOutput → Type 0
 ToldSoFar kind drops events before now outputs =
     (text : List ℕ) × TellsAll kind drops events outputs text × Appends before now text
 
-pub none_told : (kind : FileKind) (drops : Bool) (events : List Event) (now : Option (List ℕ))
+pub none_told : (kind : FileKind) (drops : Option ℕ) (events : List Event) (now : Option (List ℕ))
     → ToldSoFar kind drops events now now []
 none_told kind drops events now =
     ([], record { texts = []; each = tt; joined = refl }, nothing_more now)
 
-pub output_told : (kind : FileKind) (drops : Bool) (events : List Event)
+pub output_told : (kind : FileKind) (drops : Option ℕ) (events : List Event)
     (before now next : Option (List ℕ)) (outputs more : List PlacedOutput) (placed : PlacedOutput)
     (text : List ℕ) → more ≡ outputs ++ placed ∷ []
     → ToldSoFar kind drops events before now outputs
@@ -61,16 +61,16 @@ output_told kind drops events before now next outputs more placed text m (told, 
     )
 
 -- its header lines and its line are told
-pub told_one : {E : Type 0} (result : Result (Unit {0}) E) (kind : FileKind) (drops : Bool)
+pub told_one : {E : Type 0} (result : Result (Unit {0}) E) (kind : FileKind) (drops : Option ℕ)
     (events : List Event) (placed : PlacedOutput) (headers : List HeaderLine)
     (before now next : Option (List ℕ))
     → AreHeadersOf (told_datagram kind events placed.place placed.output) headers
     → Appends before now (flat_map spelled_header headers)
-    → OnOk result (Appends now next (told_line drops placed.output))
+    → OnOk result (Appends now next (told_line drops events placed.output))
     → OnOk result ((text : List ℕ) × Tells kind drops events placed text × Appends before next text)
 told_one (Ok done) kind drops events placed headers before now next are has is =
     let front = flat_map spelled_header headers in
-    let line = told_line drops placed.output in (
+    let line = told_line drops events placed.output in (
       front ++ line,
       record { headers = headers; of_datagram = are; spelled = refl },
       appended_more before now next front line has is,

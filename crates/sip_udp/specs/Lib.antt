@@ -1,3 +1,4 @@
+pub mod KeepAlive
 pub mod Piping
 pub mod Prepared
 pub mod Receiving

@@ -2,6 +2,7 @@
 use Rattle.std.specs.Prelude.{◌≡◌, ℕ, ◌+◌, ◌<◌, ◌==◌, Bool, true, false, if◌then◌else◌, List, [], ◌∷◌, ◌++◌, length, Option, Some, None, IsTrue, IsFalse}
 use Rattle.std.specs.Option.{option_map}
 use Rattle.std.specs.Io.BufRead.{take_through, drop_through}
+use Rattle.sip_text.specs.Cut.{cut_at}
 use Rattle.sip_round.specs.declared.round.Event.{Event}
 use Rattle.sip_round.specs.declared.round.Event.TheVariants as event
 use Rattle.sip_common.specs.declared.command.UserCommand.{UserCommand}
@@ -24,6 +25,15 @@ without_last byte (b ∷ c ∷ bs) = b ∷ without_last byte (c ∷ bs)
 -- a line without its end, LF or CR LF; the last line may have none
 abbrev pub line_of : List ℕ → List ℕ
 line_of text = without_last 13 (without_last 10 text)
+
+-- the part before a cut, and all of a text that isn't cut
+abbrev pub before_cut : List ℕ → Option (List ℕ × List ℕ) → List ℕ
+before_cut text None = text
+before_cut text (Some parts) = parts.0
+
+-- the first line of a text, without its end
+abbrev pub first_line : List ℕ → List ℕ
+first_line text = without_last 13 (before_cut text (cut_at 10 text))
 
 -- an empty line, or a comment, which begins with `#`
 abbrev pub is_comment : List ℕ → Bool

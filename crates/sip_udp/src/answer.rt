@@ -12,6 +12,8 @@ const SESSION_PROGRESS: u16 = 183;
 
 pub(crate) const SUCCESS: u16 = 200;
 
+const TEMPORARILY_UNAVAILABLE: u16 = 480;
+
 const NOT_IMPLEMENTED: u16 = 501;
 
 /// 200 to BYE and OPTIONS, and 501 to all else.
@@ -46,6 +48,13 @@ pub(crate) fn progress(alloc: Global, call_id: &CallId, id: Id) -> Result<Event,
     )
 }
 
+/// 480 Temporarily Unavailable.
+pub(crate) fn unavailable(alloc: Global, call_id: &CallId, id: Id) -> Result<Event, AllocError> {
+    let body = Text::from_vec(Vec::new(alloc));
+    let status = TEMPORARILY_UNAVAILABLE;
+    respond(alloc, call_id, id, status, Reliability::Plain, body)
+}
+
 /// A response of this status, with the usual reason.
 pub(crate) fn respond(
     alloc: Global,
@@ -74,7 +83,7 @@ fn reason_of(status: u16) -> &'static [u8] {
         SUCCESS => b"OK",
         302 => b"Moved Temporarily",
         404 => b"Not Found",
-        480 => b"Temporarily Unavailable",
+        TEMPORARILY_UNAVAILABLE => b"Temporarily Unavailable",
         486 => b"Busy Here",
         488 => b"Not Acceptable Here",
         NOT_IMPLEMENTED => b"Not Implemented",

@@ -1,6 +1,8 @@
 //! The user of `listen`.
 
-use crate::answer::{answer, progress, respond, ringing};
+use crate::answer::{answer, progress, respond, ringing, unavailable};
+use crate::hang_up::bye;
+use crate::limit::TimeLeft;
 use crate::listen_plan::ListenPlan;
 use crate::user::User;
 use sip_message::{CallId, Id};
@@ -20,11 +22,25 @@ struct Unanswered {
     due: Option<u64>,
 }
 
-/// Answers INVITEs by its plan, BYE and OPTIONS with 200, and every other request with 501.
+/// A dialog that an INVITE makes.
+#[derive(Drop)]
+struct Made {
+    call_id: CallId,
+    id: Id,
+    local_tag: Text,
+    remote_tag: Text,
+    /// Whether the ACK of its 2xx came: before that no BYE may end it (RFC 3261, section 15).
+    is_confirmed: bool,
+}
+
+/// Answers INVITEs by its plan, BYE and OPTIONS with 200, and every other request with 501. Once
+/// the input has ended, INVITEs that aren't answered get 480, and each dialog a BYE.
 #[derive(Drop)]
 pub(crate) struct Answering {
     plan: ListenPlan,
     unanswered: Vec<Unanswered>,
+    dialogs: Vec<Made>,
+    is_leaving: bool,
 }
 
 impl Answering {
@@ -32,18 +48,26 @@ impl Answering {
         Answering {
             plan,
             unanswered: Vec::new(alloc),
+            dialogs: Vec::new(alloc),
+            is_leaving: false,
         }
     }
 
-    // An INVITE came.
+    // An INVITE came with these tags, of which the first is one's own.
     fn invited(
         &mut self,
         alloc: Global,
         now: u64,
         call_id: &CallId,
         id: Id,
+        tags: (&Text, &Text),
         events: &mut Vec<Event>,
     ) -> Result<(), AllocError> {
+        if self.is_leaving {
+            events.push(unavailable(alloc, call_id, id)?)?;
+            return Ok(());
+        }
+        self.remember(call_id, id, tags)?;
         if !self.plan.reliable {
             return self.alert(alloc, now, call_id, id, events);
         }
@@ -70,6 +94,68 @@ impl Answering {
         Ok(())
     }
 
+    // The dialog of an INVITE, where its answer makes one and an INVITE before hasn't.
+    fn remember(
+        &mut self,
+        call_id: &CallId,
+        id: Id,
+        tags: (&Text, &Text),
+    ) -> Result<(), AllocError> {
+        let (local_tag, remote_tag) = tags;
+        if !self.plan.makes_dialogs() || self.dialogs.iter().any(|made| made.has(call_id, tags)) {
+            return Ok(());
+        }
+        let made = Made {
+            call_id: call_id.clone()?,
+            id,
+            local_tag: local_tag.clone()?,
+            remote_tag: remote_tag.clone()?,
+            is_confirmed: false,
+        };
+        self.dialogs.push(made)?;
+        Ok(())
+    }
+
+    // The ACK of an INVITE came.
+    fn confirm(
+        &mut self,
+        alloc: Global,
+        id: Id,
+        events: &mut Vec<Event>,
+    ) -> Result<(), AllocError> {
+        for made in self.dialogs.iter_mut() {
+            if made.id == id {
+                made.is_confirmed = true;
+            }
+        }
+        if self.is_leaving {
+            self.hang_up(alloc, events)?;
+        }
+        Ok(())
+    }
+
+    // Each confirmed dialog gets a BYE.
+    fn hang_up(&mut self, alloc: Global, events: &mut Vec<Event>) -> Result<(), AllocError> {
+        for made in mem::replace(&mut self.dialogs, Vec::new(alloc)) {
+            if made.is_confirmed {
+                let event = bye(alloc, &made.call_id, &made.local_tag, &made.remote_tag)?;
+                events.push(event)?;
+            } else {
+                self.dialogs.push(made)?;
+            }
+        }
+        Ok(())
+    }
+
+    // INVITEs that wait for an answer get 480, and each confirmed dialog a BYE.
+    fn leave(&mut self, alloc: Global, events: &mut Vec<Event>) -> Result<(), AllocError> {
+        self.is_leaving = true;
+        for one in mem::replace(&mut self.unanswered, Vec::new(alloc)) {
+            events.push(unavailable(alloc, &one.call_id, one.id)?)?;
+        }
+        self.hang_up(alloc, events)
+    }
+
     fn wait(&mut self, call_id: &CallId, id: Id, due: Option<u64>) -> Result<(), AllocError> {
         let call_id = call_id.clone()?;
         self.unanswered.push(Unanswered { call_id, id, due })?;
@@ -78,7 +164,7 @@ impl Answering {
 
     fn final_answer(&self, alloc: Global, call_id: &CallId, id: Id) -> Result<Event, AllocError> {
         let status = self.plan.status;
-        let body = if (200..=299).contains(&status) {
+        let body = if self.plan.makes_dialogs() {
             self.plan.body.clone()?
         } else {
             Text::from_vec(Vec::new(alloc))
@@ -103,6 +189,13 @@ impl Answering {
             }
         }
         Ok(())
+    }
+}
+
+impl Made {
+    fn has(&self, call_id: &CallId, tags: (&Text, &Text)) -> bool {
+        let (local_tag, remote_tag) = tags;
+        self.call_id == *call_id && self.local_tag == *local_tag && self.remote_tag == *remote_tag
     }
 }
 
@@ -132,11 +225,14 @@ impl User for Answering {
                 call_id,
                 id,
                 method,
+                local_tag,
+                remote_tag,
                 ..
             } => {
                 let method = method.as_slice();
                 if method == b"INVITE".as_slice() {
-                    return self.invited(alloc, now, call_id, *id, events);
+                    let tags = (local_tag, remote_tag);
+                    return self.invited(alloc, now, call_id, *id, tags, events);
                 }
                 events.push(answer(alloc, call_id, *id, method)?)?;
                 Ok(())
@@ -151,6 +247,17 @@ impl User for Answering {
             } => self.go_on(alloc, now, call_id, None, events),
             Notice::Cancel { id, .. } => {
                 self.unanswered.retain(|one| one.id != *id);
+                self.dialogs.retain(|made| made.id != *id);
+                Ok(())
+            }
+            Notice::Ack { id, .. } => self.confirm(alloc, *id, events),
+            Notice::Ended {
+                call_id,
+                local_tag,
+                remote_tag,
+            } => {
+                let tags = (local_tag, remote_tag);
+                self.dialogs.retain(|made| !made.has(call_id, tags));
                 Ok(())
             }
             _ => Ok(()),
@@ -161,10 +268,13 @@ impl User for Answering {
         &mut self,
         alloc: Global,
         now: u64,
-        _turns_left: u64,
+        left: TimeLeft,
         events: &mut Vec<Event>,
         _errors: &mut E,
     ) -> Result<(), AllocError> {
+        if left == TimeLeft::InputEnded && !self.is_leaving {
+            return self.leave(alloc, events);
+        }
         for one in mem::replace(&mut self.unanswered, Vec::new(alloc)) {
             match one.due {
                 Some(due) if due <= now => {
@@ -176,8 +286,8 @@ impl User for Answering {
         Ok(())
     }
 
-    fn is_over(&self, _now: u64, _holds: bool) -> bool {
-        false
+    fn is_over(&self, _now: u64, holds: bool) -> bool {
+        self.is_leaving && !holds
     }
 
     fn is_eager(&self) -> bool {

@@ -1,23 +1,19 @@
 //! The user of `call`.
 
-ghost use Rattle.std.specs.Prelude.{◌≡◌, [], IfOk, codes};
-ghost use Rattle.sip_message.specs.Content.{content_of_body};
-
 use crate::answer::answer;
 use crate::call_plan::CallPlan;
+use crate::hang_up::{bye, nothing};
+use crate::limit::TimeLeft;
 use crate::user::User;
-use sip_message::{CallId, Content, Id, StatusCode, Token, Uri};
+use sip_message::{CallId, Id, StatusCode, Token, Uri};
 use sip_round::Event;
-use sip_served::{Cancel, DialogBody, DialogRequest, Invite, Notice, UserCommand};
+use sip_served::{Cancel, DialogBody, Invite, Notice, UserCommand};
 use sip_text::Text;
 use std::alloc::{AllocError, Global};
 use std::io::Write;
 
 /// The id of the INVITE: it is the first event of the first round.
 const INVITE: Id = Id { round: 0, place: 1 };
-
-/// How many turns before the last a call that isn't answered is given up, where it is to be.
-const TURNS_OF_LEAVING: u64 = 100;
 
 /// How far the call is.
 #[derive(Clone, Copy, PartialEq, Eq)]
@@ -44,8 +40,8 @@ struct Up {
 /// Sends an INVITE and ends each dialog that a 2xx to it confirms by a BYE, the first one as late
 /// as its plan says. Where that 2xx has a body and the INVITE had none, its ACK waits for the user,
 /// who gives it, without a body, before the BYE. BYE and OPTIONS of the peer are answered with 200,
-/// every other request with 501. One second before the last turn a call that isn't answered is
-/// cancelled and one that is up is ended, where it is to be.
+/// every other request with 501. In the last second a call that isn't answered is cancelled and one
+/// that is up is ended, where it is to be, and always once the input has ended.
 #[derive(Drop)]
 pub(crate) struct Calling {
     // Until it was sent.
@@ -178,11 +174,12 @@ impl User for Calling {
         &mut self,
         alloc: Global,
         now: u64,
-        turns_left: u64,
+        left: TimeLeft,
         events: &mut Vec<Event>,
         _errors: &mut E,
     ) -> Result<(), AllocError> {
-        let is_leaving = self.leaves && turns_left <= TURNS_OF_LEAVING;
+        self.leaves = self.leaves || left == TimeLeft::InputEnded;
+        let is_leaving = self.leaves && left != TimeLeft::More;
         if let Some(up) = self.due_dialog(now, is_leaving) {
             events.push(bye(alloc, &self.call_id, &up.local_tag, &up.remote_tag)?)?;
         }
@@ -213,14 +210,6 @@ fn is_success(status: StatusCode) -> bool {
     (200..=299).contains(&status.code())
 }
 
-// No header, and no body.
-fn nothing(alloc: Global) -> Content
-    ensures { result ≡ content_of_body [] }
-{
-    let body = Text::from_vec(Vec::new(alloc));
-    Content::of_body(body)
-}
-
 // The ACK of a dialog, without a body.
 fn ack(
     alloc: Global,
@@ -234,27 +223,4 @@ fn ack(
         remote_tag: Token::new(remote_tag.clone()?),
         content: nothing(alloc),
     })))
-}
-
-// The BYE of a dialog.
-fn bye(
-    alloc: Global,
-    call_id: &CallId,
-    local_tag: &Text,
-    remote_tag: &Text,
-) -> Result<Event, AllocError> {
-    Ok(Event::Command(UserCommand::Request(DialogRequest {
-        call_id: call_id.clone()?,
-        local_tag: Token::new(local_tag.clone()?),
-        remote_tag: Token::new(remote_tag.clone()?),
-        method: bye_method(alloc)?,
-        content: nothing(alloc),
-    })))
-}
-
-#[tactic(auto, unfolding(sip_text::specs::Token::is_token, sip_text::specs::Token::is_token_byte))]
-fn bye_method(alloc: Global) -> Result<Token, AllocError>
-    ensures { IfOk result (λ token. token ≡ codes "BYE") }
-{
-    Token::copy_of(alloc, b"BYE")
 }

@@ -1,9 +1,10 @@
 //! What a run counts.
 
+use crate::dropped::is_keep_alive;
+use crate::outcomes::Outcomes;
 use crate::sent::Sent;
 use sip_message::Addr;
-use sip_round::{Event, Output, PlacedOutput, Round};
-use sip_served::{Notice, UserCommand};
+use sip_round::{Event, Output, PlacedOutput, Round, datagram_at};
 use sip_transactions::DropReason;
 use std::alloc::{AllocError, Global};
 use std::fmt;
@@ -14,12 +15,16 @@ pub(crate) struct Counts {
     local: Addr,
     rounds: u64,
     datagrams: u64,
+    keep_alives: u64,
     dropped: Vec<Dropped>,
-    sent: u64,
+    /// Datagrams that were to be sent.
+    asked: u64,
     again: u64,
     before: Sent,
-    invites: u64,
+    outcomes: Outcomes,
     most_held: u128,
+    /// Datagrams that couldn't be sent.
+    pub(crate) failed: u64,
     /// Datagrams for which the line of the listener had no room.
     pub(crate) lost: u64,
 }
@@ -37,65 +42,68 @@ impl Counts {
             local,
             rounds: 0,
             datagrams: 0,
+            keep_alives: 0,
             dropped: Vec::new(alloc),
-            sent: 0,
+            asked: 0,
             again: 0,
             before: Sent::new(alloc),
-            invites: 0,
+            outcomes: Outcomes::new(alloc),
             most_held: 0,
+            failed: 0,
             lost: 0,
         }
     }
 
-    /// Counts a round, after which so many transactions and calls are held.
+    /// Counts the round of this number, after which so many transactions and calls are held.
     ///
     /// # Errors
     ///
     /// Want of memory.
     pub(crate) fn add(
         &mut self,
+        number: u64,
         round: &Round,
         outputs: &[PlacedOutput],
         held: (u128, u128),
     ) -> Result<(), AllocError> {
         self.rounds = self.rounds.saturating_add(1);
         self.most_held = self.most_held.max(held.0.saturating_add(held.1));
-        for event in round.events.as_slice() {
-            self.add_event(event);
+        let events = round.events.as_slice();
+        for event in events {
+            if let Event::Datagram { .. } = event {
+                self.datagrams = self.datagrams.saturating_add(1);
+            }
         }
+        self.outcomes.add(number, events, outputs)?;
         for placed in outputs {
-            self.add_output(round.moment, &placed.output)?;
+            self.add_output(round.moment, events, &placed.output)?;
         }
         Ok(())
     }
 
-    fn add_event(&mut self, event: &Event) {
-        match event {
-            Event::Datagram { .. } => self.datagrams = self.datagrams.saturating_add(1),
-            Event::Command(UserCommand::Invite(_)) => {
-                self.invites = self.invites.saturating_add(1);
-            }
-            _ => {}
-        }
-    }
-
-    fn add_output(&mut self, now: u64, output: &Output) -> Result<(), AllocError> {
+    fn add_output(
+        &mut self,
+        now: u64,
+        events: &[Event],
+        output: &Output,
+    ) -> Result<(), AllocError> {
         match output {
             Output::Send { key, to, bytes } => {
-                self.sent = self.sent.saturating_add(1);
+                self.asked = self.asked.saturating_add(1);
                 if self.before.add(now, key.as_ref(), *to, bytes.as_slice())? {
                     self.again = self.again.saturating_add(1);
                 }
+                Ok(())
             }
-            Output::Dropped { reason, .. } => self.add_dropped(*reason)?,
-            Output::Notice(Notice::Request { method, .. }) => {
-                if method.as_slice() == b"INVITE".as_slice() {
-                    self.invites = self.invites.saturating_add(1);
+            Output::Dropped { place, reason } => match datagram_at(events, *place) {
+                Some(bytes) if is_keep_alive(bytes.as_slice()) => {
+                    self.keep_alives = self.keep_alives.saturating_add(1);
+                    Ok(())
                 }
-            }
-            Output::Notice(_) => {}
+                _ => self.add_dropped(*reason),
+            },
+            Output::Notice(_) => Ok(()),
         }
-        Ok(())
     }
 
     fn add_dropped(&mut self, reason: DropReason) -> Result<(), AllocError> {
@@ -115,32 +123,29 @@ impl fmt::Display for Counts {
         let local = self.local;
         let rounds = self.rounds;
         let datagrams = self.datagrams;
+        let keep_alives = self.keep_alives;
         write!(
             f,
-            "local {local}, {rounds} rounds, {datagrams} datagrams read"
+            "local {local}, {rounds} rounds, {datagrams} datagrams read, {keep_alives} keep-alives"
         )?;
         for dropped in &self.dropped {
-            let count = dropped.count;
-            let reason = reason_name(dropped.reason);
-            write!(f, ", {count} dropped as {reason}")?;
+            let Dropped { reason, count } = dropped;
+            match reason {
+                DropReason::NotOurs => write!(f, ", {count} dropped as NotOurs")?,
+                DropReason::NoTransaction => write!(f, ", {count} dropped as NoTransaction")?,
+                DropReason::Unreadable(fault) => write!(f, ", {count} dropped as {fault}")?,
+            }
         }
-        let sent = self.sent;
+        let sent = self.asked.saturating_sub(self.failed);
+        let failed = self.failed;
         let again = self.again;
-        let invites = self.invites;
+        let outcomes = &self.outcomes;
         let most_held = self.most_held;
         let lost = self.lost;
         write!(
             f,
-            ", {sent} sent, {again} of them again, {invites} INVITEs, {most_held} held at most, \
+            ", {sent} sent, {failed} failed, {again} again, {outcomes}, {most_held} held at most, \
             {lost} lost"
         )
-    }
-}
-
-fn reason_name(reason: DropReason) -> &'static str {
-    match reason {
-        DropReason::NotOurs => "NotOurs",
-        DropReason::NoTransaction => "NoTransaction",
-        DropReason::Unreadable(fault) => fault.as_str(),
     }
 }

@@ -1,10 +1,12 @@
 //! What a user agent over UDP is run with.
 
 use crate::division::Division;
+use crate::input_end::InputEnd;
 use sip_files::FileKind;
 use sip_message::Addr;
 use sip_round::Config;
 use std::net::UdpSocket;
+use std::sync::Arc;
 
 /// What a user agent over UDP is run with.
 #[derive(Drop)]
@@ -20,6 +22,12 @@ pub struct Endpoint<F> {
     pub kind: FileKind,
     /// Whether it is told at the end what was counted.
     pub is_counted: bool,
+    /// Whether drops are told, too. They always are to a user on a pipe.
+    pub tells_drops: bool,
+    /// After how many seconds the turns are over, if they are to be.
+    pub seconds: Option<u32>,
+    /// The input whose end ends the turns of `listen` and `call`, if one does.
+    pub input: Option<Arc<InputEnd>>,
 }
 
 impl<F> Endpoint<F> {
@@ -37,6 +45,9 @@ impl<F> Endpoint<F> {
             record,
             kind: FileKind::Events,
             is_counted: false,
+            tells_drops: false,
+            seconds: None,
+            input: None,
         }
     }
 }

@@ -28,4 +28,9 @@ impl ListenPlan {
             body: Text::from_vec(Vec::new(alloc)),
         }
     }
+
+    /// Whether its answer makes a dialog, as a 2xx does (RFC 3261, section 12.1).
+    pub(crate) fn makes_dialogs(&self) -> bool {
+        (200..=299).contains(&self.status)
+    }
 }

@@ -1,17 +1,20 @@
 //! Writes what the user is told of the outputs of a round.
 
-ghost use Rattle.std.specs.Prelude.{◌≡◌, IfOk, List, OnOk, ℕ};
+ghost use Rattle.std.specs.Prelude.{◌≡◌, IfOk, List, OnOk, Some, ℕ};
 ghost use Rattle.std.specs.List.{flat_map};
 ghost use Rattle.std.specs.Option.{option_copied};
 ghost use Rattle.std.specs.Io.KnownBytes.{Appends};
 ghost use Rattle.sip_files.specs.Outputs.{output_line};
-ghost use Rattle.sip_udp.specs.Telling.{AreHeadersOf, Tells, TellsAll, spelled_header, told_datagram, told_line};
+ghost use Rattle.sip_udp.specs.Telling.{AreHeadersOf, Tells, TellsAll, spelled_header, told_datagram, told_drop, told_line};
 
+use crate::dropped::{dropped_line, is_keep_alive};
 use crate::fault::UaFault;
 use sip_files::{FileKind, write_header_line, write_output};
+use sip_message::Id;
 use sip_reader::{HeaderLine, header_lines};
-use sip_round::{Event, Output, PlacedOutput, datagram_at};
+use sip_round::{Event, Output, PlacedOutput, datagram_at, event_at};
 use sip_text::{Series, Text};
+use sip_transactions::DropReason;
 use std::alloc::{AllocError, Global};
 use std::io::{self, Write};
 
@@ -20,12 +23,12 @@ use std::io::{self, Write};
 pub(crate) struct Telling {
     /// In a session a notice has before it the header lines of the datagram that it tells of.
     pub(crate) kind: FileKind,
-    /// Whether drops are told.
-    pub(crate) drops: bool,
+    /// The number of the round, where drops are told.
+    pub(crate) drops: Option<u64>,
 }
 
-/// Writes the line of each notice as it stands in an output file, and flushes after each; those of
-/// drops too, where they are told. In a session the header lines of the datagram that a notice
+/// Writes the line of each notice as it stands in an output file, and flushes after each; and where
+/// drops are told a line of each but those of keep-alives. In a session the header lines of the datagram that a notice
 /// tells of stand before its line.
 pub(crate) fn write_notices<W: Write>(
     alloc: Global,
@@ -57,7 +60,7 @@ fn tell<W: Write>(
 {
     let headers = headers_of(alloc, telling.kind, events, placed)?;
     write_headers(alloc, writer, headers.as_slice())?;
-    tell_line(alloc, writer, telling.drops, &placed.output)
+    tell_line(alloc, writer, telling.drops, events, &placed.output)
 }
 
 // The header lines that stand before an output.
@@ -114,16 +117,50 @@ fn write_text<W: Write>(writer: &mut W, text: &[u8]) -> Result<(), UaFault>
 fn tell_line<W: Write>(
     alloc: Global,
     writer: &mut W,
-    drops: bool,
+    drops: Option<u64>,
+    events: &[Event],
     output: &Output,
 ) -> Result<(), UaFault>
     ensures { OnOk result (Appends (W.contents writer.old) (W.contents writer.new)
-        (told_line drops output.now)) }
+        (told_line drops events.now output.now)) }
 {
     match output {
         Output::Send { .. } => Ok(()),
-        Output::Dropped { .. } if !drops => Ok(()),
-        Output::Dropped { .. } | Output::Notice(_) => write_line(alloc, writer, output),
+        Output::Dropped { place, reason } => match drops {
+            Some(round) => {
+                let id = Id {
+                    round,
+                    place: *place,
+                };
+                tell_drop(alloc, writer, id, *reason, event_at(events, *place))
+            }
+            None => Ok(()),
+        },
+        Output::Notice(_) => write_line(alloc, writer, output),
+    }
+}
+
+// Tells a drop with this id and reason, of this event.
+fn tell_drop<W: Write>(
+    alloc: Global,
+    writer: &mut W,
+    id: Id,
+    reason: DropReason,
+    event: Option<&Event>,
+) -> Result<(), UaFault>
+    ensures { OnOk result (Appends (W.contents writer.old) (W.contents writer.new)
+        (told_drop (Some id.round) id.place reason (option_copied event.entry))) }
+{
+    match event {
+        Some(Event::Datagram { bytes, .. }) if is_keep_alive(bytes.as_slice()) => Ok(()),
+        Some(Event::Datagram { from, bytes }) => {
+            let line = dropped_line(alloc, id, reason, *from, bytes.as_slice())?;
+            put_line(writer, &line)
+        }
+        _ => {
+            let place = id.place;
+            write_line(alloc, writer, &Output::Dropped { place, reason })
+        }
     }
 }
 
@@ -132,7 +169,13 @@ fn write_line<W: Write>(alloc: Global, writer: &mut W, output: &Output) -> Resul
         (output_line output.now)) }
 {
     let line = write_output(alloc, output)?;
-    match put(writer, &line) {
+    put_line(writer, &line)
+}
+
+fn put_line<W: Write>(writer: &mut W, line: &[u8]) -> Result<(), UaFault>
+    ensures { OnOk result (Appends (W.contents writer.old) (W.contents writer.new) line.now) }
+{
+    match put(writer, line) {
         Ok(()) => Ok(()),
         Err(_) => Err(UaFault::Output),
     }

@@ -39,6 +39,26 @@ impl Outlet for UdpSocket {
     }
 }
 
+/// A socket that counts the sends that failed.
+#[derive(Drop)]
+pub(crate) struct CountedSocket {
+    pub(crate) socket: UdpSocket,
+    pub(crate) failed: u64,
+}
+
+/// It tells nothing of what it was asked.
+impl Outlet for CountedSocket {
+    ghost asked = { λ _. None };
+
+    fn send(&mut self, to: Addr, bytes: &[u8]) -> bool {
+        let is_sent = Outlet::send(&mut self.socket, to, bytes);
+        if !is_sent {
+            self.failed = self.failed.saturating_add(1);
+        }
+        is_sent
+    }
+}
+
 fn socket_address(to: Addr) -> SocketAddrV4 {
     SocketAddrV4::new(Ipv4Addr::from_octets(to.ip), to.port)
 }

@@ -7,6 +7,7 @@ ghost use Rattle.sip_udp.specs.Piping.{PostsAll, PostsFront, Says, SaysRead, is_
 
 use crate::fault::UaFault;
 use crate::listener::Flags;
+use crate::wrong_word::{WrongWord, wrong_word};
 use sip_desk::Poster;
 use sip_files::{FileKind, GivenHeader, read_command_line, read_header_line};
 use sip_served::UserCommand;
@@ -22,6 +23,8 @@ pub struct PipeLine {
     /// Lines are numbered from 1.
     pub number: u64,
     pub said: Said,
+    /// What is wrong with it, where it is no command.
+    pub wrong: Option<WrongWord>,
 }
 
 /// What a line of the pipe says.
@@ -95,8 +98,17 @@ fn post_lines<I: BufRead>(
 fn said_by(alloc: Global, kind: FileKind, number: u64, text: &[u8]) -> Result<PipeLine, AllocError>
     ensures { IfOk result (SaysRead kind number text.now) }
 {
-    let said = line_says(alloc, kind, without_end(text))?;
-    Ok(PipeLine { number, said })
+    let line = without_end(text);
+    let said = line_says(alloc, kind, line)?;
+    let wrong = match &said {
+        Said::NoCommand => Some(wrong_word(alloc, line)?),
+        _ => None,
+    };
+    Ok(PipeLine {
+        number,
+        said,
+        wrong,
+    })
 }
 
 // A line without its end, LF or CR LF; the last line may have none.
@@ -106,8 +118,8 @@ fn without_end(text: &[u8]) -> &[u8]
     without(b'\r', without(b'\n', text))
 }
 
-// The text without this byte at its end.
-fn without(byte: u8, text: &[u8]) -> &[u8]
+/// The text without this byte at its end.
+pub(crate) fn without(byte: u8, text: &[u8]) -> &[u8]
     ensures { result.now ≡ without_last byte text.now }
 {
     match text.split_last() {

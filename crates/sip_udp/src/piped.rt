@@ -3,6 +3,7 @@
 ghost use Rattle.std.specs.Prelude.{◌≡◌, ◌++◌, OnOk};
 ghost use Rattle.sip_udp.specs.Piping as piping;
 
+use crate::limit::TimeLeft;
 use crate::listener::Flags;
 use crate::pipe::PipeLine;
 use crate::turns::LINE_CAPACITY;
@@ -65,7 +66,7 @@ impl User for Piped {
         &mut self,
         alloc: Global,
         now: u64,
-        _turns_left: u64,
+        _left: TimeLeft,
         events: &mut Vec<Event>,
         errors: &mut E,
     ) -> Result<(), AllocError> {

@@ -74,8 +74,9 @@ impl<F: Write + Drop> Record<F> {
         };
         match put(&mut file, text) {
             Ok(()) => self.file = Some(file),
-            Err(_) => {
+            Err(error) => {
                 let _ = writeln!(errors, "ua: record failed");
+                let _ = writeln!(errors, "ua: --record: {error}");
             }
         }
     }

@@ -9,8 +9,10 @@ use crate::call_plan::CallPlan;
 use crate::calling::Calling;
 use crate::endpoint::Endpoint;
 use crate::fault::UaFault;
+use crate::limit::Limit;
 use crate::listen_plan::ListenPlan;
 use crate::listener::{Flags, Heard, hear};
+use crate::outlet::CountedSocket;
 use crate::pipe::feed;
 use crate::piped::Piped;
 use crate::record::Record;
@@ -52,12 +54,14 @@ pub fn listen<R: Threads + Clock + Sync, W: Write>(
 ) -> Result<(), UaFault> {
     let endpoint = Endpoint::new(socket, local, seed, None::<Vec<u8>>);
     let plan = ListenPlan::usual(alloc);
+    let turns = u64::from(turns);
     let mut errors = Vec::new(alloc);
     listen_at(rt, alloc, endpoint, plan, turns, notices, &mut errors)
 }
 
-/// Does what [`listen`] does, at an endpoint, and answers INVITEs by a plan. That a record was
-/// given up is told on `errors`.
+/// Does what [`listen`] does, at an endpoint, and answers INVITEs by a plan. Once the input of the
+/// endpoint has ended, calls that aren't answered get 480 and those that are up a BYE, and a second
+/// later the turns are over. That a record was given up is told on `errors`.
 ///
 /// # Errors
 ///
@@ -67,12 +71,11 @@ pub fn listen_at<R: Threads + Clock + Sync, F: Write + Drop, W: Write, E: Write>
     alloc: Global,
     endpoint: Endpoint<F>,
     plan: ListenPlan,
-    turns: u32,
+    turns: u64,
     notices: &mut W,
     errors: &mut E,
 ) -> Result<(), UaFault> {
     let user = Answering::new(alloc, plan);
-    let turns = u64::from(turns);
     talk(rt, alloc, endpoint, user, None, turns, notices, errors)
 }
 
@@ -96,12 +99,14 @@ pub fn call<R: Threads + Clock + Sync, W: Write>(
 ) -> Result<(), UaFault> {
     let endpoint = Endpoint::new(socket, local, seed, None::<Vec<u8>>);
     let plan = CallPlan::usual(alloc, to, uri, call_id);
+    let turns = u64::from(turns);
     let mut errors = Vec::new(alloc);
     call_from(rt, alloc, endpoint, plan, turns, notices, &mut errors)
 }
 
-/// Does what [`call`] does, from an endpoint and by a plan. That a record was given up is told on
-/// `errors`.
+/// Does what [`call`] does, from an endpoint and by a plan. Once the input of the endpoint has ended,
+/// the call is cancelled or ended, and at the latest a second later the turns are over. That a
+/// record was given up is told on `errors`.
 ///
 /// # Errors
 ///
@@ -111,13 +116,12 @@ pub fn call_from<R: Threads + Clock + Sync, F: Write + Drop, W: Write, E: Write>
     alloc: Global,
     endpoint: Endpoint<F>,
     plan: CallPlan,
-    turns: u32,
+    turns: u64,
     notices: &mut W,
     errors: &mut E,
 ) -> Result<(), UaFault> {
     let from = own_uri(alloc, endpoint.config.local)?;
     let user = Calling::new(alloc, plan, from)?;
-    let turns = u64::from(turns);
     talk(rt, alloc, endpoint, user, None, turns, notices, errors)
 }
 
@@ -208,20 +212,25 @@ fn talk<R: Threads + Clock + Sync, U: User, F: Write + Drop, W: Write, E: Write>
     errors: &mut E,
 ) -> Result<(), UaFault> {
     let Endpoint {
-        mut socket,
+        socket,
         config,
         division,
         record,
         kind,
         is_counted,
+        tells_drops,
+        seconds,
+        input,
     } = endpoint;
     let Ok(theirs) = listening(&socket) else {
         return Err(UaFault::Socket);
     };
     let flags = flags_with(alloc, bell.clone()?)?;
     let record = Record::new(kind, record);
+    let limit = Limit::new(seconds, input);
+    let drops = tells_drops || user.is_eager();
     let mut own = Turns::new(
-        rt, alloc, config, division, record, is_counted, user, bell, errors,
+        rt, alloc, config, division, record, limit, drops, is_counted, user, bell, errors,
     )?;
     let (mut desk, line) = one_line(alloc)?;
     let buffer = vec![in alloc; 0u8; BUFFER]?;
@@ -233,18 +242,19 @@ fn talk<R: Threads + Clock + Sync, U: User, F: Write + Drop, W: Write, E: Write>
         return Err(UaFault::Socket);
     };
     let has_ended = &flags.ended;
+    let mut outlet = CountedSocket { socket, failed: 0 };
     let end = own.take(
         rt,
         turns,
         &mut desk,
-        &mut socket,
+        &mut outlet,
         notices,
         errors,
         has_ended,
     );
     flags.stop.store(true, Ordering::SeqCst);
     let heard = listener.join(rt);
-    own.tell_counts(heard.lost, errors);
+    own.tell_counts(outlet.failed, heard.lost, errors);
     end?;
     settle(&mut desk, heard)?;
     own.verdict()

@@ -9,6 +9,7 @@ use crate::bell::Bell;
 use crate::counts::Counts;
 use crate::division::Division;
 use crate::fault::{UaFault, refused_round};
+use crate::limit::Limit;
 use crate::notices::{Telling, write_notices};
 use crate::outlet::Outlet;
 use crate::record::Record;
@@ -49,6 +50,9 @@ pub(crate) struct Turns<U, F> {
     bell: Option<Arc<Bell>>,
     division: Division,
     record: Record<F>,
+    limit: Limit,
+    // Whether drops are told.
+    drops: bool,
     // Where it is told at the end what was counted.
     counts: Option<Counts>,
     start: Instant,
@@ -67,6 +71,8 @@ impl<U: User, F: Write + Drop> Turns<U, F> {
         config: Config,
         division: Division,
         mut record: Record<F>,
+        limit: Limit,
+        drops: bool,
         is_counted: bool,
         mut user: U,
         bell: Option<Arc<Bell>>,
@@ -86,6 +92,8 @@ impl<U: User, F: Write + Drop> Turns<U, F> {
             bell,
             division,
             record,
+            limit,
+            drops,
             counts: is_counted.then(|| Counts::new(alloc, config.local)),
             start,
             moment: 0,
@@ -94,7 +102,8 @@ impl<U: User, F: Write + Drop> Turns<U, F> {
         })
     }
 
-    /// Takes so many turns, or fewer where the user wants no more or the listener has ended.
+    /// Takes so many turns, or fewer where the time is over, the user wants no more or the listener
+    /// has ended.
     pub(crate) fn take<R: Threads + Clock + Sync, O: Outlet, W: Write, E: Write>(
         &mut self,
         rt: &R,
@@ -113,7 +122,7 @@ impl<U: User, F: Write + Drop> Turns<U, F> {
             }
             self.gather(rt, turns_left, desk, errors)?;
             let now = self.moment_now(rt)?;
-            if self.user.is_over(now, self.holds()) {
+            if self.limit.is_past(now) || self.user.is_over(now, self.holds()) {
                 break;
             }
             if self.is_due(now) {
@@ -137,9 +146,11 @@ impl<U: User, F: Write + Drop> Turns<U, F> {
         }
     }
 
-    /// Tells what was counted, where it is to, after the listener has lost so many datagrams.
-    pub(crate) fn tell_counts<E: Write>(&mut self, lost: u64, errors: &mut E) {
+    /// Tells what was counted, where it is to, after so many sends have failed and the listener has
+    /// lost so many datagrams.
+    pub(crate) fn tell_counts<E: Write>(&mut self, failed: u64, lost: u64, errors: &mut E) {
         if let Some(counts) = &mut self.counts {
+            counts.failed = failed;
             counts.lost = lost;
             let _ = writeln!(errors, "ua: {counts}");
         }
@@ -156,8 +167,10 @@ impl<U: User, F: Write + Drop> Turns<U, F> {
         ensures { KeepsLines desk.old desk.new }
     {
         let now = self.moment_now(rt)?;
+        self.limit.look(now);
+        let left = self.limit.left(now, turns_left);
         self.user
-            .turn(self.alloc, now, turns_left, &mut self.waiting, errors)?;
+            .turn(self.alloc, now, left, &mut self.waiting, errors)?;
         self.collect(desk)
     }
 
@@ -183,12 +196,14 @@ impl<U: User, F: Write + Drop> Turns<U, F> {
         notices: &mut W,
         errors: &mut E,
     ) -> Result<(), UaFault> {
+        let number = self.number;
         let (round, outputs) = self.run_round(rt, errors)?;
+        self.number = number.saturating_add(1);
         self.send(outlet, &outputs)?;
         self.tell_user(&outputs)?;
         let telling = Telling {
             kind: self.record.kind,
-            drops: self.user.is_eager(),
+            drops: self.drops.then_some(number),
         };
         let events = round.events.as_slice();
         write_notices(self.alloc, notices, telling, events, &outputs)
@@ -251,10 +266,9 @@ impl<U: User, F: Write + Drop> Turns<U, F> {
         match self.agent.run_round_with_places(rt, &round, workers, &Open) {
             Ok(outputs) => {
                 self.moment = moment;
-                self.number = self.number.saturating_add(1);
                 self.record.add(self.alloc, &round, errors)?;
                 if let Some(counts) = &mut self.counts {
-                    counts.add(&round, &outputs, self.agent.live())?;
+                    counts.add(self.number, &round, &outputs, self.agent.live())?;
                 }
                 Ok((round, outputs))
             }

@@ -1,5 +1,6 @@
 //! A user of the agent.
 
+use crate::limit::TimeLeft;
 use sip_round::Event;
 use sip_served::Notice;
 use std::alloc::{AllocError, Global};
@@ -27,7 +28,7 @@ pub(crate) trait User: Drop {
         events: &mut Vec<Event>,
     ) -> Result<(), AllocError>;
 
-    /// Adds what the user asks for by itself at the moment `now`, where so many turns are left.
+    /// Adds what the user asks for by itself at the moment `now`, where so much time is left.
     /// What it has against its own orders goes to `errors`.
     ///
     /// # Errors
@@ -37,7 +38,7 @@ pub(crate) trait User: Drop {
         &mut self,
         alloc: Global,
         now: u64,
-        turns_left: u64,
+        left: TimeLeft,
         events: &mut Vec<Event>,
         errors: &mut E,
     ) -> Result<(), AllocError>;
@@ -45,8 +46,8 @@ pub(crate) trait User: Drop {
     /// Whether it wants no more turns, where the agent holds something or nothing.
     fn is_over(&self, now: u64, holds: bool) -> bool;
 
-    /// Whether a turn begins as soon as there is an event, is left out where there is nothing to
-    /// do, and has the drops told too.
+    /// Whether a turn begins as soon as there is an event, and is left out where there is nothing to
+    /// do.
     fn is_eager(&self) -> bool;
 
     /// Whether it has had what it was to have at least, at the end.

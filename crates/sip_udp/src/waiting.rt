@@ -5,6 +5,7 @@ ghost use Rattle.sip_udp.specs.Piping as piping;
 ghost use Rattle.sip_udp.specs.declared.pipe.Said.TheVariants as said;
 
 use crate::pipe::{PipeLine, Said};
+use crate::wrong_word::WrongWord;
 use sip_files::{GivenHeader, with_given};
 use sip_round::Event;
 use sip_served::UserCommand;
@@ -13,10 +14,26 @@ use std::alloc::{AllocError, Global};
 use std::io::Write;
 use std::mem;
 
+/// A line, and what is wrong with it.
+#[derive(Clone, Copy)]
+struct Line {
+    number: u64,
+    wrong: Option<Wrong>,
+}
+
+/// What is wrong with a line by itself.
+#[derive(Clone, Copy)]
+enum Wrong {
+    /// A word of what isn't a command.
+    Word(WrongWord),
+    /// It isn't a header line that a user may give.
+    Header,
+}
+
 /// Lines of the pipe that have no part in a command yet.
 #[derive(Drop)]
 pub(crate) struct Waiting {
-    numbers: Vec<u64>,
+    lines: Vec<Line>,
     /// What they say, where each is a header line.
     pub headers: Option<Series<GivenHeader>>,
 }
@@ -27,7 +44,7 @@ impl Waiting {
         ensures { result.headers ≡ Some [] }
     {
         Waiting {
-            numbers: Vec::new(alloc),
+            lines: Vec::new(alloc),
             headers: Some(Series::new(alloc)),
         }
     }
@@ -50,11 +67,19 @@ impl Waiting {
         ensures wait { OnOk result (self.new.headers
             ≡ piping.headers_after self.old.headers line.said) }
     {
-        let PipeLine { number, said } = line;
+        let PipeLine {
+            number,
+            said,
+            wrong,
+        } = line;
         if let Said::Comment = said {
             return Ok(());
         }
-        self.numbers.push(number)?;
+        let wrong = match said {
+            Said::NoHeader => Some(Wrong::Header),
+            _ => wrong.map(Wrong::Word),
+        };
+        self.lines.push(Line { number, wrong })?;
         match said {
             Said::Comment => Ok(()),
             Said::Command(command) => self.ask(alloc, command, events, errors),
@@ -70,12 +95,12 @@ impl Waiting {
         }
     }
 
-    /// Tells these lines with their numbers, and has none then.
+    /// Tells these lines with their numbers and what is wrong with each, and has none then.
     pub(crate) fn refuse<E: Write>(&mut self, alloc: Global, errors: &mut E)
         ensures { self.new.headers ≡ Some [] }
     {
         let lines = mem::replace(self, Waiting::new(alloc));
-        tell(lines.numbers, errors);
+        tell(lines.lines, errors);
     }
 
     // A header line more.
@@ -104,7 +129,7 @@ impl Waiting {
         let lines = mem::replace(self, Waiting::new(alloc));
         match command_with(alloc, lines.headers, command)? {
             Some(command) => events.push(Event::Command(command))?,
-            None => tell(lines.numbers, errors),
+            None => tell(lines.lines, errors),
         }
         Ok(())
     }
@@ -124,8 +149,28 @@ fn command_with(
     }
 }
 
-fn tell<E: Write>(numbers: Vec<u64>, errors: &mut E) {
-    for number in numbers {
+fn tell<E: Write>(lines: Vec<Line>, errors: &mut E) {
+    for line in lines {
+        let Line { number, wrong } = line;
         let _ = writeln!(errors, "ua: line {number} is no command");
+        match wrong {
+            Some(Wrong::Word(wrong)) => {
+                let WrongWord {
+                    number: word,
+                    expected,
+                } = wrong;
+                let _ = writeln!(
+                    errors,
+                    "ua: line {number}, word {word}: expected {expected}"
+                );
+            }
+            Some(Wrong::Header) => {
+                let _ = writeln!(
+                    errors,
+                    "ua: line {number}: expected a header line of a user"
+                );
+            }
+            None => {}
+        }
     }
 }

@@ -75,7 +75,15 @@ pub(super) fn listened<R: Threads + Clock + Sync>(
     let mut errors = Vec::new(alloc);
     let endpoint = Endpoint::new(socket, local, [7; 32], Some(&mut record));
     let plan = listen_plan(alloc, answers);
-    let ended = listen_at(rt, alloc, endpoint, plan, turns, &mut notices, &mut errors);
+    let ended = listen_at(
+        rt,
+        alloc,
+        endpoint,
+        plan,
+        u64::from(turns),
+        &mut notices,
+        &mut errors,
+    );
     Run {
         notices,
         record,
@@ -118,7 +126,15 @@ pub(super) fn called<R: Threads + Clock + Sync>(
     let mut record = Vec::new(alloc);
     let mut errors = Vec::new(alloc);
     let endpoint = Endpoint::new(socket, local, [8; 32], Some(&mut record));
-    let ended = call_from(rt, alloc, endpoint, plan, turns, &mut notices, &mut errors);
+    let ended = call_from(
+        rt,
+        alloc,
+        endpoint,
+        plan,
+        u64::from(turns),
+        &mut notices,
+        &mut errors,
+    );
     Ok(Run {
         notices,
         record,

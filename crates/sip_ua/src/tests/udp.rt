@@ -10,8 +10,12 @@ use sip_program::Host;
 use sip_round::{Event, Output, PlacedOutput};
 use sip_text::{Series, Text};
 use sip_transactions::DropReason;
-use sip_udp::{Asked, Flags, Inlet, Outlet, Received, UaFault, call, hear, listen, send_all};
+use sip_udp::{
+    Asked, CallPlan, Endpoint, Flags, Inlet, InputEnd, ListenPlan, Outlet, Received, UaFault, call,
+    call_from, hear, listen, listen_at, send_all,
+};
 use std::alloc::{AllocError, Global};
+use std::io::{self, PipeReader, PipeWriter};
 use std::net::{Ipv4Addr, SocketAddrV4, UdpSocket};
 use std::process::Abort;
 use std::sync::Arc;
@@ -389,8 +393,9 @@ fn a_call_that_cannot_be_sent_fails(rt: HostRuntime) -> Result<(), Fail> {
     let ended = ua_with(&rt, rt.alloc(), words)?;
     assert!(rt; ended.status == 6);
     assert!(rt; ended.output.as_slice() == b"notice ua-call failed 0.1\n".as_slice());
-    let told = b"ua: record failed\nua: not answered\n".as_slice();
-    assert!(rt; ended.errors.as_slice() == told);
+    let told = "ua: record failed\n\
+        ua: --record: No space left on device (os error 28)\nua: not answered\n";
+    assert!(rt; ended.errors.as_slice() == told.as_bytes());
     Ok(())
 }
 
@@ -413,8 +418,9 @@ fn what_is_sent_again_is_counted(rt: HostRuntime) -> Result<(), Fail> {
     )?;
     let ended = ua_with(&rt, alloc, words.as_str())?;
     assert!(rt; ended.status == 0);
-    let sent = between(&ended.errors, " read, ", " sent, ")?;
-    let again = between(&ended.errors, " sent, ", " of them again, 1 INVITEs, ")?;
+    let sent = between(&ended.errors, " keep-alives, ", " sent, ")?;
+    let again = between(&ended.errors, " sent, 0 failed, ", " again, 1 INVITEs, ")?;
+    assert!(rt; stand_in_order(&ended.errors, &[" 0 unanswered, 1 open, "]));
     let sent = sent.parse::<u32>().ok().ok_or("a number")?;
     let again = again.parse::<u32>().ok().ok_or("a number")?;
     assert!(rt; again > 0);
@@ -528,6 +534,148 @@ fn are_as_said(rt: &impl Abort, talked: &Talked) -> Result<(), Fail> {
         ">",
     ];
     assert!(rt; stand_in_order(events, &words));
-    assert!(rt; stand_in_order(&served.errors, &[", 1 INVITEs, ", " 0 lost\n"]));
+    assert!(rt; stand_in_order(&served.errors, &[", 1 INVITEs, 1 answered, ", " 0 lost\n"]));
+    Ok(())
+}
+
+// Datagrams that are dropped: three keep-alives and one that is none.
+const DROPPED: [&[u8]; 4] = [
+    b"\r\n\r\n",
+    b"\0\0",
+    b"\x01\x01\0\0\x21\x12\xa4\x42\0\0\0\0\0\0\0\0\0\0\0\0",
+    b"INVITE sip:b@127.0.0.1 SIP/2.0\r\nSubject: x\r\n\r\n",
+];
+
+// Sends what is dropped to a listener, again and again while it is there.
+fn drop_on<R: Clock>(rt: &R, socket: &UdpSocket, to: Addr) {
+    let address = SocketAddrV4::new(Ipv4Addr::from_octets(to.ip), to.port);
+    for _ in 0..40 {
+        for bytes in DROPPED {
+            let _ = socket.send_to(bytes, address);
+        }
+        thread::sleep(rt, Duration::from_millis(50));
+    }
+}
+
+// A drop is told with its reason, its source and its first line. Keep-alives are counted apart.
+#[test]
+fn drops_are_told_and_keep_alives_counted(rt: HostRuntime) -> Result<(), Fail> {
+    let alloc = rt.alloc();
+    let (socket, to) = bound(&rt)?;
+    drop(socket);
+    let (own, from) = bound(&rt)?;
+    let words = format!(in alloc; "listen --local {to} --seconds 1 --drops --stats")?;
+    let (ended, ()) = thread::join(
+        &rt,
+        || ua_with(&rt, alloc, words.as_str()),
+        || drop_on(&rt, &own, to),
+    );
+    let ended = ended?;
+    assert!(rt; ended.status == 0);
+    let told = format!(in alloc; " Missing Via datagram {from} INVITE sip:b@127.0.0.1 SIP/2.0\n")?;
+    assert!(rt; stand_in_order(&ended.output, &["drop ", told.as_str()]));
+    assert!(rt; !stand_in_order(&ended.output, &["NoEmptyLine"]));
+    let words = [" keep-alives, ", " dropped as Missing Via, 0 sent, "];
+    assert!(rt; stand_in_order(&ended.errors, &words));
+    assert!(rt; between(&ended.errors, " read, ", " keep-alives, ")? != "0");
+    Ok(())
+}
+
+// A URI without a scheme says so, and help is no fault.
+#[test]
+fn causes_and_help(rt: HostRuntime) -> Result<(), Fail> {
+    let alloc = rt.alloc();
+    let call = "call --local 127.0.0.1:0 --to 127.0.0.1:5060 --turns 0 --uri";
+    for uri in ["b", "1b:c", "b@c:5060", ":c"] {
+        let words = format!(in alloc; "{call} {uri}")?;
+        let told = format!(in alloc;
+            "ua: bad argument\nua: --uri {uri}: no scheme, as in sip:bob@192.0.2.9\n"
+        )?;
+        assert!(rt;
+            ua_with(&rt, alloc, words.as_str())?.is(2, "", told.as_str()),
+            "{uri}"
+        );
+    }
+    let (taken, local) = bound(&rt)?;
+    let words = format!(in alloc; "listen --local {local} --turns 1")?;
+    let told = format!(in alloc;
+        "ua: socket failed\nua: {local}: Address already in use (os error 98)\n"
+    )?;
+    assert!(rt; ua_with(&rt, alloc, words.as_str())?.is(4, "", told.as_str()));
+    drop(taken);
+    for words in [
+        "help",
+        "--help",
+        "--version",
+        "replay --help",
+        "call -h",
+        "help ladder",
+    ] {
+        let ended = ua_with(&rt, alloc, words)?;
+        assert!(rt; ended.status == 0 && ended.errors.is_empty(), "{words}");
+        assert!(rt; !ended.output.is_empty(), "{words}");
+    }
+    Ok(())
+}
+
+// The notices of a listener, or of a caller by a plan, that goes on until its input ends.
+fn until_input_ends<T: Threads + Clock + Sync>(
+    rt: &T,
+    alloc: Global,
+    input: PipeReader,
+    socket: UdpSocket,
+    local: Addr,
+    plan: Option<CallPlan>,
+) -> Result<Vec<u8>, UaFault> {
+    let mut told = Vec::new(alloc);
+    let mut errors = Vec::new(alloc);
+    let mut endpoint = Endpoint::new(socket, local, [9; 32], None::<Vec<u8>>);
+    endpoint.input = Some(InputEnd::watch(rt, alloc, input)?);
+    endpoint.seconds = Some(40);
+    match plan {
+        Some(plan) => call_from(rt, alloc, endpoint, plan, u64::MAX, &mut told, &mut errors)?,
+        None => {
+            let plan = ListenPlan::usual(alloc);
+            listen_at(rt, alloc, endpoint, plan, u64::MAX, &mut told, &mut errors)?;
+        }
+    }
+    Ok(told)
+}
+
+// Ends the one input, and then the other.
+fn end_inputs<R: Clock>(rt: &R, first: PipeWriter, second: PipeWriter) {
+    thread::sleep(rt, Duration::from_millis(4_000));
+    drop(first);
+    thread::sleep(rt, Duration::from_millis(2_000));
+    drop(second);
+}
+
+// The end of a listener's input ends the call that is up, and then the listener; that of the
+// caller's the caller.
+#[test]
+fn the_end_of_the_input_ends_a_call(rt: HostRuntime) -> Result<(), Fail> {
+    let alloc = rt.alloc();
+    let (theirs, to) = bound(&rt)?;
+    let (own, from) = bound(&rt)?;
+    let (listens, end_of_listening) = io::pipe(&rt)?;
+    let (calls, end_of_calling) = io::pipe(&rt)?;
+    let (uri, call_id) = names(alloc)?;
+    let mut plan = CallPlan::usual(alloc, to, uri, call_id);
+    plan.hold = Some(60_000);
+    let ((), (heard, told)) = thread::join(
+        &rt,
+        || end_inputs(&rt, end_of_listening, end_of_calling),
+        || {
+            thread::join(
+                &rt,
+                || until_input_ends(&rt, alloc, listens, theirs, to, None),
+                || until_input_ends(&rt, alloc, calls, own, from, Some(plan)),
+            )
+        },
+    );
+    let words = [" INVITE ", "notice c1 ack ", "notice c1 ended ", " 200 "];
+    assert!(rt; stand_in_order(&heard?, &words));
+    let words = [" response 0.1 200 ", " BYE ", "notice c1 ended "];
+    assert!(rt; stand_in_order(&told?, &words));
     Ok(())
 }

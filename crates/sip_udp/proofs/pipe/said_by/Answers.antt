@@ -5,6 +5,6 @@ use Rattle.sip_udp.proofs.pipe.said_by.Goals as goal
 pub returns : goal.returns
 returns c = (
   refl,
-  subst (λ line. Says c.args.kind line c.in_ok-said.said) c.without_end.ensures
+  subst (λ line. Says c.args.kind line c.in_ok-said.said) c.without_end-line.ensures
       c.in_ok-said.ensures,
 )

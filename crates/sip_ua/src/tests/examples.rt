@@ -1,0 +1,77 @@
+//! The examples of the helps: what they show is what the program prints.
+
+use super::loopback::bound;
+use super::{Ended, run_on};
+use sip_program::Host;
+use std::alloc::{AllocError, Global};
+use std::test::Fail;
+use std::thread::{self, Threads};
+
+/// How long a tag is at least that the program makes.
+const TAG_LENGTH: usize = 41;
+
+// The program with these words, which stand with a space between each two.
+fn ua_with<T: Threads + Host>(rt: &T, alloc: Global, words: &str) -> Result<Ended, AllocError> {
+    let words: Vec<&str> = words.split(' ').collect(alloc)?;
+    Ok(run_on(rt, alloc, words.as_slice(), &mut b"".as_slice()))
+}
+
+// A word of a notice, where ids are alike and tags are alike.
+fn alike(word: &str) -> &str {
+    let is_id = word.contains(".") && word.bytes().all(|b| b == b'.' || b.is_ascii_digit());
+    if is_id {
+        "ID"
+    } else if word.len() >= TAG_LENGTH || word == "LOCAL-TAG" || word == "REMOTE-TAG" {
+        "TAG"
+    } else {
+        word
+    }
+}
+
+// The notices among the lines of a text, with ids and tags alike. A 100 comes only where the peer
+// is slow.
+fn notices_in(alloc: Global, text: &[u8]) -> Result<String, Fail> {
+    let mut found = String::new(alloc);
+    for line in str::from_utf8(text)?.lines() {
+        let line = line.trim();
+        if line.starts_with("notice ") && !line.contains(" 100 ") {
+            for word in line.split(' ') {
+                found.push_str(alike(word))?;
+                found.push_str(" ")?;
+            }
+            found.push_str("\n")?;
+        }
+    }
+    Ok(found)
+}
+
+// What the help of a command shows.
+fn shown<T: Threads + Host>(rt: &T, alloc: Global, words: &str) -> Result<String, Fail> {
+    let help = ua_with(rt, alloc, words)?;
+    notices_in(alloc, &help.output)
+}
+
+#[test]
+fn a_listener_and_a_caller_print_what_their_helps_show(rt: HostRuntime) -> Result<(), Fail> {
+    let alloc = rt.alloc();
+    let (socket, to) = bound(&rt)?;
+    drop(socket);
+    let listen = format!(in alloc; "listen --local {to} --seconds 9")?;
+    let call = format!(in alloc;
+        "call --local 127.0.0.1:0 --to {to} --uri sip:b@127.0.0.1 --seconds 8"
+    )?;
+    let (served, called) = thread::join(
+        &rt,
+        || ua_with(&rt, alloc, listen.as_str()),
+        || ua_with(&rt, alloc, call.as_str()),
+    );
+    let served = served?;
+    let called = called?;
+    let expected = shown(&rt, alloc, "help listen")?;
+    assert!(rt; !expected.is_empty());
+    assert!(rt; notices_in(alloc, &served.output)?.as_str() == expected.as_str());
+    let expected = shown(&rt, alloc, "help call")?;
+    assert!(rt; !expected.is_empty());
+    assert!(rt; notices_in(alloc, &called.output)?.as_str() == expected.as_str());
+    Ok(())
+}

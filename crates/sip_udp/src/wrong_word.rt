@@ -1,0 +1,203 @@
+//! What is wrong with a line of the pipe that is no command.
+
+use sip_files::read_command_line;
+use sip_text::cut;
+use std::alloc::{AllocError, Global};
+
+/// The first word of a line with which no command goes on.
+#[derive(Clone, Copy)]
+pub struct WrongWord {
+    /// Words are numbered from 1. It may be the one that is missing at the end.
+    pub number: u64,
+    /// What has to stand there.
+    pub expected: &'static str,
+}
+
+/// A field of a command.
+#[derive(Clone, Copy, PartialEq, Eq)]
+enum Field {
+    CallId,
+    Address,
+    Method,
+    RequestUri,
+    FromUri,
+    ToUri,
+    Support,
+    LocalTag,
+    RemoteTag,
+    RequestId,
+    Status,
+    Reliability,
+    Body,
+    /// It goes on to the end of the line.
+    Reason,
+}
+
+impl Field {
+    // What it is.
+    fn name(self) -> &'static str {
+        match self {
+            Field::CallId => "a Call-ID",
+            Field::Address => "an address, as 192.0.2.9:5060",
+            Field::Method => "a method",
+            Field::RequestUri => "a Request-URI",
+            Field::FromUri => "the URI of From",
+            Field::ToUri => "the URI of To",
+            Field::Support => "none, supported or required",
+            Field::LocalTag => "the local tag, or -",
+            Field::RemoteTag => "the remote tag, or -",
+            Field::RequestId => "the id of a request, as 0.1",
+            Field::Status => "a status up to 999",
+            Field::Reliability => "plain or reliable",
+            Field::Body => "a body, or -",
+            Field::Reason => "a reason",
+        }
+    }
+
+    // A text that has its form.
+    fn sample(self) -> &'static str {
+        match self {
+            Field::CallId => "c",
+            Field::Address => "192.0.2.9:5060",
+            Field::Method => "INFO",
+            Field::RequestUri | Field::FromUri | Field::ToUri => "sip:a@b",
+            Field::Support => "none",
+            Field::LocalTag | Field::RemoteTag | Field::Body => "-",
+            Field::RequestId => "0.1",
+            Field::Status => "200",
+            Field::Reliability => "plain",
+            Field::Reason => "OK",
+        }
+    }
+
+    fn missed_at(self, number: u64) -> WrongWord {
+        WrongWord {
+            number,
+            expected: self.name(),
+        }
+    }
+}
+
+/// What a line begins with.
+const COMMANDS: &str = "invite, plain, request, respond, ack, prack or cancel";
+
+/// What is wrong with a line, without its end, that is the line of no command.
+///
+/// # Errors
+///
+/// Want of memory.
+pub(crate) fn wrong_word(alloc: Global, line: &[u8]) -> Result<WrongWord, AllocError> {
+    let (keyword, mut left) = first_word(line);
+    let fields = fields_of(alloc, keyword)?;
+    if fields.is_empty() {
+        return Ok(WrongWord {
+            number: 1,
+            expected: COMMANDS,
+        });
+    }
+    let mut text = Vec::from_slice(alloc, keyword)?;
+    let mut number = 1u64;
+    for (index, field) in fields.iter().enumerate() {
+        number = number.saturating_add(1);
+        let Some(rest) = left else {
+            return Ok(field.missed_at(number));
+        };
+        let (word, after) = if *field == Field::Reason {
+            (rest, None)
+        } else {
+            first_word(rest)
+        };
+        text.push(b' ')?;
+        text.extend_from_slice(word)?;
+        if !goes_on(alloc, &text, &fields[index + 1..])? {
+            return Ok(field.missed_at(number));
+        }
+        left = after;
+    }
+    Ok(WrongWord {
+        number: number.saturating_add(1),
+        expected: "the end of the line",
+    })
+}
+
+// The first word of a text, and what stands behind the space after it.
+fn first_word(text: &[u8]) -> (&[u8], Option<&[u8]>) {
+    match cut(b' ', text) {
+        Some((word, rest)) => (word, Some(rest)),
+        None => (text, None),
+    }
+}
+
+// The fields of the command of this name; none where there is no such command.
+fn fields_of(alloc: Global, keyword: &[u8]) -> Result<Vec<Field>, AllocError> {
+    match str::from_utf8(keyword) {
+        Ok("invite") => Vec::from_slice(
+            alloc,
+            &[
+                Field::CallId,
+                Field::Address,
+                Field::RequestUri,
+                Field::FromUri,
+                Field::ToUri,
+                Field::Support,
+                Field::Body,
+            ],
+        ),
+        Ok("plain") => Vec::from_slice(
+            alloc,
+            &[
+                Field::CallId,
+                Field::Address,
+                Field::Method,
+                Field::RequestUri,
+                Field::FromUri,
+                Field::ToUri,
+                Field::Body,
+            ],
+        ),
+        Ok("request") => {
+            Vec::from_slice(
+                alloc,
+                &[
+                    Field::CallId,
+                    Field::LocalTag,
+                    Field::RemoteTag,
+                    Field::Method,
+                    Field::Body,
+                ],
+            )
+        }
+        Ok("respond") => Vec::from_slice(
+            alloc,
+            &[
+                Field::CallId,
+                Field::RequestId,
+                Field::Status,
+                Field::Reliability,
+                Field::Body,
+                Field::Reason,
+            ],
+        ),
+        Ok("ack" | "prack") => Vec::from_slice(
+            alloc,
+            &[
+                Field::CallId,
+                Field::LocalTag,
+                Field::RemoteTag,
+                Field::Body,
+            ],
+        ),
+        Ok("cancel") => Vec::from_slice(alloc, &[Field::CallId, Field::RequestId]),
+        _ => Ok(Vec::new(alloc)),
+    }
+}
+
+// Whether some command goes on from this text with such fields.
+fn goes_on(alloc: Global, text: &[u8], fields: &[Field]) -> Result<bool, AllocError> {
+    let mut line = Vec::from_slice(alloc, text)?;
+    for field in fields {
+        line.push(b' ')?;
+        line.extend_from_slice(field.sample().as_bytes())?;
+    }
+    Ok(read_command_line(alloc, &line)?.is_some())
+}
