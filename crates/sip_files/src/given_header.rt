@@ -51,8 +51,13 @@ fn read_header(alloc: Global, fields: &[u8]) -> Result<Option<GivenHeader>, Allo
     read_given(alloc, line.as_slice())
 }
 
-// What a header line of a message says.
-fn read_given(alloc: Global, line: &[u8]) -> Result<Option<GivenHeader>, AllocError>
+/// What a header line of a message says, without its line end: none where it is none, where its
+/// header is not the user's, or where the value is not in its form.
+///
+/// # Errors
+///
+/// Want of memory.
+pub fn read_given(alloc: Global, line: &[u8]) -> Result<Option<GivenHeader>, AllocError>
     ensures { IfOk result (λ header. header ≡ given.given_at line.now) }
 {
     match class_of(line) {

@@ -33,7 +33,7 @@ pub use events_fault::EventsFault;
 pub use events_file::{MAX_EVENTS, read_events, read_file};
 pub use events_writer::{write_event, write_file_head, write_file_round, write_head, write_round};
 pub use file_replay::{ReplayFault, read_all, replay, write_whole};
-pub use given_header::GivenHeader;
+pub use given_header::{GivenHeader, read_given};
 pub use given_headers::with_given;
 pub use header_writer::write_header_line;
 pub use outputs_file::{write_output, write_outputs};
