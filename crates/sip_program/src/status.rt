@@ -86,7 +86,8 @@ pub(crate) fn finish<E: Write>(end: Result<(), ReplayFault>, errors: &mut E) -> 
 /// Tells why one who talks stopped and, on a second line, what is known of the cause; and gives the
 /// status of the end.
 pub(crate) fn finish_talk<E: Write>(end: Result<(), Failure>, errors: &mut E) -> u8
-    ensures { MatchResult end (λ _. result ≡ 0) (λ failure. result ≡ talk_status failure.fault) }
+    ensures { MatchResult end.entry (λ _. result ≡ 0)
+        (λ failure. result ≡ talk_status failure.fault) }
 {
     match end {
         Ok(()) => SUCCESS,

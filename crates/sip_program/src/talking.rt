@@ -1,6 +1,7 @@
 //! What `ua listen`, `ua call` and `ua agent` do.
 
 ghost use Rattle.std.specs.Prelude.{◌≡◌, ◌≢◌, IfErr, IfOk, IfSome};
+ghost use Rattle.std.specs.List.{list_all};
 ghost use Rattle.sip_message.specs.Addr.{addr_text};
 ghost use Rattle.sip_program.specs.Scheme.{is_scheme, is_scheme_byte};
 ghost use Rattle.sip_program.specs.declared.talk_fault.TalkFault.TheVariants.{BadArgument};
@@ -144,10 +145,14 @@ fn is_scheme(text: &[u8]) -> bool
 {
     match text {
         [] => false,
-        [first, ..] => {
-            first.is_ascii_alphabetic() && text.iter().all(|byte| is_scheme_byte(*byte))
-        }
+        [first, ..] => first.is_ascii_alphabetic() && are_scheme_bytes(text),
     }
+}
+
+fn are_scheme_bytes(text: &[u8]) -> bool
+    ensures { result ≡ list_all is_scheme_byte text.now }
+{
+    text.iter().all(|byte| is_scheme_byte(*byte))
 }
 
 fn is_scheme_byte(byte: u8) -> bool
