@@ -40,7 +40,7 @@ pub use Rattle.sip_calls.specs.Sides.{CallTaken, by_clients, by_server, holds_an
 abbrev pub Taken : Type 0
 Taken = Option Call × List CallOut
 
--- a call under which nothing is held is over
+-- a call under which nothing is held is held no more
 abbrev pub kept_call : Call → Option Call
 kept_call call = if holds_any call then Some call else None
 
@@ -62,7 +62,8 @@ event_of calls id now = record { local = calls.local; seed = calls.seed; id = id
 abbrev pub made_tag : Event → List ℕ
 made_tag event = name_of event.seed event.id 0
 
--- That a transaction is lost is told, and then its request is over.
+-- A transaction timed out or could not send: the user is told, then its client request is over. Of
+-- a server transaction nothing else changes.
 abbrev pub transaction_lost : Call → Id → ANotice → Bool → CallTaken
 transaction_lost call id notice timed_out =
     let after = by_clients call (request_is_lost id timed_out (side_of call)) in
@@ -84,7 +85,8 @@ received call event up of_server =
 abbrev pub with_clients : Call → Clients × List CallOut → CallTaken
 with_clients call taken = (record call { clients = taken.0 }, taken.1)
 
--- a request outside of dialogs begins a call, and all else needs one that is held
+-- Invite and Plain begin a call, so they need a Call-ID under which nothing is held; all else needs
+-- one under which something is
 abbrev pub call_refusal : Bool → UserCommand → Option Refusal
 call_refusal held (Invite invite) = if held then Some CallInUse else None
 call_refusal held (Plain plain) = if held then Some CallInUse else None

@@ -44,8 +44,8 @@ asking_case provisional Sent = case.Repeated
 abbrev pub cancel_case : Client → CancelCase
 cancel_case client =
     if not (is_invite_kind client.kind) then case.Refused NoSuchRequest
-    else (if is_some client.removal then case.Refused AlreadyFinal
-    else asking_case client.provisional client.cancel)
+    else if is_some client.removal then case.Refused AlreadyFinal
+    else asking_case client.provisional client.cancel
 
 -- with what was asked of its cancelling
 abbrev pub asked : Cancelling → Client → Client

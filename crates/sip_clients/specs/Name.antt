@@ -10,8 +10,8 @@ unfoldable pub hex : ℕ → ℕ → List ℕ
 hex zero number = []
 hex (suc count) number = hex count (number / 16) ++ hex_digit (number % 16) ∷ []
 
--- the word of ChaCha20 that a name ends in: the seed is the key, the round the stream, and each
--- place has 16 words
+-- the word of ChaCha20 (10 double rounds) that a name ends in: the seed is the key, the round the
+-- stream, and each place has 16 words
 abbrev pub word_of_name : List ℕ → Id → ℕ → ℕ
 word_of_name seed id index = word_at 10 (key_of seed) id.round (16 * id.place + index)
 

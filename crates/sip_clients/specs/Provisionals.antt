@@ -36,8 +36,8 @@ abbrev pub provisional_number : Option ℕ → Message → Option ℕ
 provisional_number None response = None
 provisional_number (Some status) response =
     if is_final status then None
-    else (if not (status == 100) && has_to_tag response then rseq_of response
-    else None)
+    else if not (status == 100) && has_to_tag response then rseq_of response
+    else None
 
 -- the RSeq of such a response to the request that is held
 abbrev pub number_for : AnInvite → DialogReference → Id → Message → Client → Option ℕ

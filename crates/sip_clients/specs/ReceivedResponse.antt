@@ -60,8 +60,8 @@ is_dialog_response reply = not (reply.status == 100) && has_to_tag reply.respons
 abbrev pub success_case : Client → Option HeldDialog → DialogId → ReplyCase
 success_case client found name =
     if has_answer name client.answers then Repeated
-    else (if has_dialog client.kind found then Accepted
-    else Late)
+    else if has_dialog client.kind found then Accepted
+    else Late
 
 -- by its RSeq it is the next one, or it is passed over (RFC 3262, section 4)
 abbrev pub offer_case : Offer → ℕ → ReplyCase
@@ -78,6 +78,6 @@ reliable_case last_rseq (Some rseq) = offer_case (offered last_rseq rseq) rseq
 abbrev pub reply_case : Client → Option HeldDialog → ReceivedResponse → ReplyCase
 reply_case client found reply =
     if is_final reply.status then success_case client found reply.name
-    else (if is_dialog_response reply && has_dialog client.kind found
+    else if is_dialog_response reply && has_dialog client.kind found
     then reliable_case (heard_of client.kind client found) (rseq_of reply.response)
-    else Told)
+    else Told

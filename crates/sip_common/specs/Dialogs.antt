@@ -21,43 +21,73 @@ use Rattle.sip_common.specs.declared.notice.Notice.TheVariants.{Ended}
 use Rattle.sip_common.specs.Requests.{has_to_tag, is_invite}
 use Rattle.sip_common.specs.Ids.{is_id}
 
--- the held dialogs by name, in the order in which they were made
+-- the held dialogs by dialog ID, in the order in which they were made
 abbrev pub Dialogs : Type 0
 Dialogs = List (DialogId × HeldDialog)
 
--- the name of a dialog is this one
+-- two dialog IDs are the same
 abbrev pub is_dialog_id : DialogId → DialogId → Bool
 is_dialog_id name other =
     pointwise nat_eq name.local other.local && pointwise nat_eq name.remote other.remote
 
--- the held dialog of a name
+-- the held dialog of this ID
 abbrev pub dialog_at : DialogId → Dialogs → Option HeldDialog
 dialog_at name dialogs = lookup (is_dialog_id name) dialogs
 
--- the held dialog of a name is changed so
+-- the held dialog of this ID is changed so
 abbrev pub dialog_changed : DialogId → (HeldDialog → HeldDialog) → Dialogs → Dialogs
 dialog_changed name change dialogs =
     option_map_or (λ held. set_value (is_dialog_id name) dialogs (change held))
     (dialog_at name dialogs) dialogs
 
--- a dialog that was made so is still held
+-- the dialog that this event made is held still, and not a later one of the same ID
 abbrev pub lives : Dialogs → DialogReference → Bool
 lives dialogs life =
     option_map_or (λ held. is_id held.created_by life.created_by) (dialog_at life.name dialogs)
     false
 
--- the dialog of this name, as it is now
+-- a reference to the held dialog of this ID
 abbrev pub reference_at : DialogId → Dialogs → Option DialogReference
 reference_at name dialogs =
     option_map (λ held. record { name = name; created_by = held.created_by })
     (dialog_at name dialogs)
 
--- the life of the held dialog that a request with a To tag is in
+-- a reference to the dialog that a request with a To tag is in
 abbrev pub dialog_of_request : Message → DialogId → Dialogs → Option DialogReference
 dialog_of_request request name dialogs =
     if has_to_tag request then reference_at name dialogs else None
 
--- ---- what happens in a dialog
+-- ---- how it ends
+
+-- a tag, empty where there is none
+abbrev pub tag_text : Option (List ℕ) → List ℕ
+tag_text tag = unwrap_or tag []
+
+-- an end is told with the tags as they were spelled when the dialog was made
+abbrev pub ended_notice : HeldDialog → CallOut
+ended_notice held =
+    Notice
+    (Ended held.dialog.call_id (tag_text held.dialog.local.tag) (tag_text held.dialog.remote.tag))
+
+-- the dialog of this ID ends
+abbrev pub ended_at : DialogId → Dialogs → Dialogs × List CallOut
+ended_at name dialogs = (
+  remove_entry (is_dialog_id name) dialogs,
+  option_map_or (λ held. ended_notice held ∷ []) (dialog_at name dialogs) [],
+)
+
+-- an early dialog that a response to this INVITE made
+abbrev pub is_early_of : Id → HeldDialog → Bool
+is_early_of invite held = is_early held.dialog.state && is_id held.invite invite
+
+-- the early dialogs that an INVITE made end, in the order in which they were made
+abbrev pub early_ended : Id → Dialogs → Dialogs × List CallOut
+early_ended invite dialogs = (
+  filter (λ entry. not (is_early_of invite entry.1)) dialogs,
+  map ended_notice (filter (is_early_of invite) (values_of dialogs)),
+)
+
+-- ---- for the laws over whole histories: what happens in a dialog
 
 -- the dialog after something happened in it
 abbrev pub happened : Dialog → Happening → Dialog
@@ -108,33 +138,3 @@ retargeted uri held = lived (retargets uri held) held
 -- after a 2xx
 abbrev pub confirmed : Message → HeldDialog → HeldDialog
 confirmed response held = lived (confirms response held) held
-
--- ---- how it ends
-
--- a tag, empty where there is none
-abbrev pub tag_text : Option (List ℕ) → List ℕ
-tag_text tag = unwrap_or tag []
-
--- an end is told with the tags as they were spelled when the dialog was made
-abbrev pub ended_notice : HeldDialog → CallOut
-ended_notice held =
-    Notice
-    (Ended held.dialog.call_id (tag_text held.dialog.local.tag) (tag_text held.dialog.remote.tag))
-
--- the dialog of a name ends
-abbrev pub ended_at : DialogId → Dialogs → Dialogs × List CallOut
-ended_at name dialogs = (
-  remove_entry (is_dialog_id name) dialogs,
-  option_map_or (λ held. ended_notice held ∷ []) (dialog_at name dialogs) [],
-)
-
--- an early dialog that a response to this INVITE made
-abbrev pub is_early_of : Id → HeldDialog → Bool
-is_early_of invite held = is_early held.dialog.state && is_id held.invite invite
-
--- the early dialogs that an INVITE made end, in the order in which they were made
-abbrev pub early_ended : Id → Dialogs → Dialogs × List CallOut
-early_ended invite dialogs = (
-  filter (λ entry. not (is_early_of invite entry.1)) dialogs,
-  map ended_notice (filter (is_early_of invite) (values_of dialogs)),
-)

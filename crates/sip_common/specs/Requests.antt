@@ -52,16 +52,16 @@ is_unknown_option option = not (is_100rel option)
 abbrev pub local_tag_of : Message → List ℕ → List ℕ
 local_tag_of request made = if length (tag_of request.to) == 0 then made else tag_of request.to
 
--- the name of a dialog of these tags
+-- the dialog ID of these tags, in lower case
 abbrev pub dialog_id_of_tags : List ℕ → List ℕ → DialogId
 dialog_id_of_tags local remote =
     record { local = str_to_ascii_lowercase local; remote = str_to_ascii_lowercase remote }
 
--- the name of the dialog that a request is in, or that its answer makes
+-- the ID of the dialog that a request is in, or that its response makes
 abbrev pub dialog_id_of : Message → List ℕ → DialogId
 dialog_id_of request made = dialog_id_of_tags (local_tag_of request made) (tag_of request.from)
 
--- classes of status codes; 101 to 199 are the provisional ones that a user gives
+-- a status below 200: of a user's response 101 to 199, since 0 to 100 are refused before
 abbrev pub is_provisional : ℕ → Bool
 is_provisional status = nat_lt status 200
 

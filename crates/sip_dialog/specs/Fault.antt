@@ -1,5 +1,5 @@
--- Why a dialog refuses a call: the first reason that fits, in this order. Want of memory comes
--- last.
+-- Why a function of a dialog refuses: the first reason that fits, in this order. Want of memory
+-- comes last.
 use Rattle.std.specs.Prelude.{ℕ, Bool, false, ◌&&◌, nat_le, List, Option, Some, None, Result, Ok, Err, unwrap_or, if◌then◌else◌}
 use Rattle.std.specs.Option.{option_map_or}
 use Rattle.sip_dialog.specs.declared.dialog.Dialog.{Dialog}
@@ -13,18 +13,18 @@ use Rattle.sip_dialog.specs.Route.{is_strict}
 abbrev pub request_fault : Dialog → List ℕ → Option DialogFault
 request_fault dialog method =
     if is_ended dialog.state then Some Ended
-    else (if is_early dialog.state && is_invite_method method then Some NotConfirmed
-    else (if is_strict dialog.route_set then Some StrictRoute
-    else (if nat_le 2147483647 dialog.local_cseq then Some SequenceUsedUp
-    else None)))
+    else if is_early dialog.state && is_invite_method method then Some NotConfirmed
+    else if is_strict dialog.route_set then Some StrictRoute
+    else if nat_le 2147483647 dialog.local_cseq then Some SequenceUsedUp
+    else None
 
 -- why a dialog makes no ACK
 abbrev pub ack_fault : Dialog → Option DialogFault
 ack_fault dialog =
     if is_ended dialog.state then Some Ended
-    else (if is_early dialog.state then Some NotConfirmed
-    else (if is_strict dialog.route_set then Some StrictRoute
-    else None))
+    else if is_early dialog.state then Some NotConfirmed
+    else if is_strict dialog.route_set then Some StrictRoute
+    else None
 
 -- why an ended dialog changes nothing
 abbrev pub ended_fault : Dialog → Option DialogFault
@@ -38,8 +38,8 @@ is_out_of_order remote number = option_map_or (nat_le number) remote false
 abbrev pub accept_fault : Dialog → ℕ → Option DialogFault
 accept_fault dialog number =
     if is_ended dialog.state then Some Ended
-    else (if is_out_of_order dialog.remote_cseq number then Some OutOfOrder
-    else None)
+    else if is_out_of_order dialog.remote_cseq number then Some OutOfOrder
+    else None
 
 -- want of memory is told where no reason fits
 abbrev pub or_no_memory : Option DialogFault → DialogFault

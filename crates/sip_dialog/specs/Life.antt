@@ -91,7 +91,7 @@ target_by side target Ends = target
 abbrev pub state_after : DialogState → List Happening → DialogState
 state_after state life =
     if list_any is_ending life then Ended
-    else (if list_any is_confirming life then Confirmed else state)
+    else if list_any is_confirming life then Confirmed else state
 
 -- The dialog of an opening after all that happened. The local CSeq is that of the opening and the
 -- count of requests that took a number; the remote CSeq is the greatest accepted.

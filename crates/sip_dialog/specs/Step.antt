@@ -1,4 +1,4 @@
--- What each call does to a dialog.
+-- What each function does to a dialog.
 use Rattle.std.specs.Prelude.{ℕ, ◌+◌, List, Some, reverse, unwrap_or}
 use Rattle.sip_message.specs.declared.message.Message.{Message}
 use Rattle.sip_dialog.specs.declared.dialog.Dialog.{Dialog}

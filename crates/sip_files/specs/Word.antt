@@ -17,11 +17,11 @@ is_plain_or_space b = is_plain b || b == 32
 abbrev pub letter_of : ℕ → Option ℕ
 letter_of b =
     if b == 32 then Some 115
-    else (if b == 13 then Some 114
-    else (if b == 10 then Some 110
-    else (if b == 9 then Some 116
-    else (if b == 92 then Some 92
-    else None))))
+    else if b == 13 then Some 114
+    else if b == 10 then Some 110
+    else if b == 9 then Some 116
+    else if b == 92 then Some 92
+    else None
 
 abbrev pub hex_pair : ℕ → List ℕ
 hex_pair b = hex_digit (b / 16) ∷ hex_digit (b % 16) ∷ []
@@ -42,8 +42,8 @@ spelled_bytes is_itself text = flat_map (spelled_byte is_itself) text
 unfoldable pub spelled_word : List ℕ → List ℕ
 spelled_word text =
     if length text == 0 then codes "-"
-    else (if bytes_eq text (codes "-") then codes "\\x2d"
-    else spelled_bytes is_plain text)
+    else if bytes_eq text (codes "-") then codes "\\x2d"
+    else spelled_bytes is_plain text
 
 -- the rest of a text, where a space stands for itself too
 unfoldable pub spelled_rest : List ℕ → List ℕ

@@ -1,5 +1,5 @@
 -- What happens to the reliable provisional responses that are sent for one INVITE, each with its
--- RSeq number (RFC 3262 section 3).
+-- RSeq number (RFC 3262, section 3).
 use Rattle.std.specs.Prelude.{ℕ, Bool, true, false, List, ◌==◌}
 use Rattle.std.specs.List.{list_any}
 

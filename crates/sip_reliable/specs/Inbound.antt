@@ -1,5 +1,5 @@
--- Of the reliable provisional responses that come in one early dialog for one INVITE, those that
--- are taken (RFC 3262 section 4).
+-- Of the reliable provisional responses that come in one dialog for one INVITE, those that
+-- are taken (RFC 3262, section 4).
 use Rattle.std.specs.Prelude.{◌≡◌, ℕ, ◌+◌, ◌<◌, ◌==◌, nat_le, if◌then◌else◌, List, [], ◌∷◌, length, Option, None, Some, slice_index}
 use Rattle.std.specs.List.{last_or}
 use Rattle.sip_reliable.specs.declared.offer.Offer.{Offer}
@@ -26,7 +26,7 @@ latest came = last_or None (in_order came)
 abbrev pub offered : Option ℕ → ℕ → Offer
 offered None number = Taken
 offered (Some last) number =
-    if number == last + 1 then Taken else (if nat_le number last then Repeat else Gap)
+    if number == last + 1 then Taken else if nat_le number last then Repeat else Gap
 
 -- the number as a list, where it is taken
 abbrev pub taken : Offer → ℕ → List ℕ

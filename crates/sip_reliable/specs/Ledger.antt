@@ -1,5 +1,4 @@
--- The reliable provisional responses of one INVITE that wait for a PRACK, read from all that
--- happened (RFC 3262 section 3).
+-- The reliable provisional responses of one INVITE that wait for a PRACK (RFC 3262, section 3).
 -- Moments are in milliseconds.
 use Rattle.std.specs.Prelude.{◌≡◌, ◌≢◌, ◌<◌, ◌≤◌, ℕ, ◌+◌, ◌==◌, nat_lt, not, Bool, true, IsTrue, ◌||◌, if◌then◌else◌, List, [], ◌∷◌, ◌++◌, map, filter, count_by, fold, Option, None, Some, Result, Ok, Err, length}
 use Rattle.std.specs.List.{list_any}
@@ -12,8 +11,8 @@ use Rattle.sip_reliable.specs.declared.send_fault.SendFault.TheVariants as fault
 use Rattle.sip_reliable.specs.Happening.{Happening, Sends, Repeats, GivesUp, Acknowledges, Closes, is_sending, is_acknowledgment_of, is_closing}
 use Rattle.sip_reliable.specs.Provisional.{Provisional, after_repeat, due_moment, given_up, is_given_up, is_late, is_repeated, sent_before}
 
--- the number of the first, that of the next, whether the INVITE has 100rel, whether a final
--- response was sent, and the responses that wait, in the order of their numbers
+-- the RSeq of the first, that of the next, whether the INVITE has 100rel, whether a final response
+-- was sent, and the responses that wait for their PRACK, in the order of their RSeqs
 pub record Ledger : Type 0 where
   pub first : ℕ
   pub next : ℕ
@@ -21,7 +20,57 @@ pub record Ledger : Type 0 where
   pub closed : Bool
   pub waiting : List Provisional
 
--- ---- what is read from all that happened
+-- ---- what the calls do
+
+-- whether the response of this number waits for its PRACK
+abbrev pub waits_for : ℕ → Ledger → Bool
+waits_for number l = list_any (λ p. p.number == number) l.waiting
+
+-- No further one may be sent yet: the first has no PRACK, or 8 have none, or one that has none was
+-- given up.
+abbrev pub must_wait : Ledger → Bool
+must_wait l =
+    waits_for l.first l || (length l.waiting == MOST_WAITING) || list_any is_given_up l.waiting
+
+-- why the next can't be sent: the first reason that fits
+abbrev pub send_fault : Ledger → Option SendFault
+send_fault l =
+    if l.closed then Some fault.Closed
+    else if not l.supported then Some fault.NotSupported
+    else if must_wait l then Some fault.Unacknowledged
+    else if nat_lt 4294967295 l.next then Some fault.NumbersUsedUp
+    else None
+
+-- a fault where there is one, otherwise the value
+abbrev pub ok_unless : {A E : Type 0} → Option E → A → Result A E
+ok_unless None value = Ok value
+ok_unless (Some fault) value = Err fault
+
+-- the number sent, or why none is
+abbrev pub send_answer : Ledger → Result ℕ SendFault
+send_answer l = ok_unless (send_fault l) l.next
+
+-- one more response waits, of the next number
+abbrev pub with_sent : Bool → ℕ → Ledger → Ledger
+with_sent has_body now l =
+    record l { next = l.next + 1; waiting = l.waiting ++ sent_before l.next has_body now [] ∷ [] }
+
+-- the response of this number waits no longer
+abbrev pub acknowledged : ℕ → Ledger → Ledger
+acknowledged number l = record l { waiting = filter (λ p. not (p.number == number)) l.waiting }
+
+-- no further reliable response is sent
+abbrev pub closed_now : Ledger → Ledger
+closed_now l = record l { closed = true }
+
+-- ---- how many wait
+
+-- at most 8 wait for their PRACK, and none but the first until that one was acknowledged
+abbrev pub FewWait : Ledger → Type 0
+FewWait l =
+    (length l.waiting ≤ MOST_WAITING) × (IsTrue (waits_for l.first l) → length l.waiting ≤ 1)
+
+-- ---- what is read from all that happened, for the law over a whole life
 
 -- the responses that were sent and have no PRACK after them
 abbrev pub waiting_after : List Happening → List Provisional
@@ -56,11 +105,11 @@ due_numbers now waiting = map (λ p. p.number) (filter (is_repeated now) waiting
 -- response
 abbrev pub tick_answer : Ledger → ℕ → Tick
 tick_answer l now =
-    if l.closed then Nothing else
-    (if list_any (is_late now) l.waiting then GivenUp else
-    (if list_any (is_repeated now) l.waiting
+    if l.closed then Nothing
+    else if list_any (is_late now) l.waiting then GivenUp
+    else if list_any (is_repeated now) l.waiting
     then Again record { items = due_numbers now l.waiting }
-    else Nothing))
+    else Nothing
 
 -- what happens at a tick
 abbrev pub happenings_of : Tick → ℕ → List Happening
@@ -86,51 +135,3 @@ abbrev pub IsNextDue : (ℕ → Tick) → Option ℕ → Type 0
 IsNextDue answers None = (now : ℕ) → answers now ≡ Nothing
 IsNextDue answers (Some due) =
     (answers due ≢ Nothing) × ((now : ℕ) → now < due → answers now ≡ Nothing)
-
--- ---- what the calls do
-
--- whether the response of this number waits for its PRACK
-abbrev pub waits_for : ℕ → Ledger → Bool
-waits_for number l = list_any (λ p. p.number == number) l.waiting
-
--- the first isn't acknowledged, or as many as may wait do, or one that was given up waits
-abbrev pub must_wait : Ledger → Bool
-must_wait l =
-    waits_for l.first l || (length l.waiting == MOST_WAITING) || list_any is_given_up l.waiting
-
--- why the next can't be sent: the first reason that fits
-abbrev pub send_fault : Ledger → Option SendFault
-send_fault l =
-    if l.closed then Some fault.Closed else
-    (if not l.supported then Some fault.NotSupported else
-    (if must_wait l then Some fault.Unacknowledged else
-    (if nat_lt 4294967295 l.next then Some fault.NumbersUsedUp else None)))
-
--- a fault where there is one, otherwise the value
-abbrev pub ok_unless : {A E : Type 0} → Option E → A → Result A E
-ok_unless None value = Ok value
-ok_unless (Some fault) value = Err fault
-
--- the number sent, or why none is
-abbrev pub send_answer : Ledger → Result ℕ SendFault
-send_answer l = ok_unless (send_fault l) l.next
-
--- one more response waits, of the next number
-abbrev pub with_sent : Bool → ℕ → Ledger → Ledger
-with_sent has_body now l =
-    record l { next = l.next + 1; waiting = l.waiting ++ sent_before l.next has_body now [] ∷ [] }
-
--- the response of this number waits no longer
-abbrev pub acknowledged : ℕ → Ledger → Ledger
-acknowledged number l = record l { waiting = filter (λ p. not (p.number == number)) l.waiting }
-
--- no further reliable response is sent
-abbrev pub closed_now : Ledger → Ledger
-closed_now l = record l { closed = true }
-
--- ---- how many wait
-
--- at most 8 wait for their PRACK, and none but the first until that one was acknowledged
-abbrev pub FewWait : Ledger → Type 0
-FewWait l =
-    (length l.waiting ≤ MOST_WAITING) × (IsTrue (waits_for l.first l) → length l.waiting ≤ 1)

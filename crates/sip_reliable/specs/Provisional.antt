@@ -1,6 +1,5 @@
--- One reliable provisional response that was sent: when it is sent again and given up, read from
--- what happened after it (RFC 3262 section 3).
--- Moments are in milliseconds.
+-- One reliable provisional response that was sent: when it is sent again and given up (RFC 3262,
+-- section 3). Moments are in milliseconds.
 use Rattle.std.specs.Prelude.{ℕ, ◌+◌, ◌*◌, ◌^◌, nat_le, Bool, false, ◌&&◌, if◌then◌else◌, List, count_by, fold, Option, None, Some, min}
 use Rattle.std.specs.List.{list_any}
 use Rattle.std.specs.Option.{is_none, is_some, option_map, option_map_or}
@@ -8,47 +7,17 @@ use Rattle.sip_timers.specs.declared.estimate.TheConstants.{LIFETIME, T1}
 use Rattle.sip_reliable.specs.declared.provisional.Retransmission.{Retransmission}
 use Rattle.sip_reliable.specs.Happening.{Happening, Sends, Repeats, GivesUp, Acknowledges, Closes, is_among, is_giving_up, is_repeat_of}
 
--- it is sent again until it was given up
+-- Its RSeq, whether it has a body, and when it was sent. It is sent again until it is given up.
 pub record Provisional : Type 0 where
   pub number : ℕ
   pub has_body : Bool
   pub sent : ℕ
   pub retransmission : Option Retransmission
 
--- ---- what is read from what happened after it was sent
-
 -- the interval before a response is sent again, by how often it was: T1, 2*T1, 4*T1 and so on, with
 -- no cap
 abbrev pub interval_after : ℕ → ℕ
 interval_after repeats = T1 * 2 ^ repeats
-
--- the moment at which the response was sent last
-abbrev pub last_moment : ℕ → ℕ → Happening → ℕ
-last_moment wanted last (Sends number has_body now) = last
-last_moment wanted last (Repeats numbers now) = if is_among numbers wanted then now else last
-last_moment wanted last GivesUp = last
-last_moment wanted last (Acknowledges number) = last
-last_moment wanted last Closes = last
-
--- when it is sent again, after what happened later; never once it is given up
-abbrev pub retransmission_after : ℕ → ℕ → List Happening → Option Retransmission
-retransmission_after number sent later =
-    let repeats = count_by (is_repeat_of number) later in
-    if list_any is_giving_up later then None
-    else Some record {
-      due = fold (last_moment number) sent later + interval_after repeats;
-      repeats = repeats;
-    }
-
--- a response that was sent at a moment, after what happened later
-abbrev pub sent_before : ℕ → Bool → ℕ → List Happening → Provisional
-sent_before number has_body sent later =
-    record {
-      number = number;
-      has_body = has_body;
-      sent = sent;
-      retransmission = retransmission_after number sent later;
-    }
 
 -- ---- what is due at a moment
 
@@ -89,3 +58,33 @@ sent_again now p = record p {
 -- sent again where it is due
 abbrev pub after_repeat : ℕ → Provisional → Provisional
 after_repeat now p = if is_repeated now p then sent_again now p else p
+
+-- ---- what is read from what happened after it was sent, for the law over a whole life
+
+-- the moment at which the response was sent last
+abbrev pub last_moment : ℕ → ℕ → Happening → ℕ
+last_moment wanted last (Sends number has_body now) = last
+last_moment wanted last (Repeats numbers now) = if is_among numbers wanted then now else last
+last_moment wanted last GivesUp = last
+last_moment wanted last (Acknowledges number) = last
+last_moment wanted last Closes = last
+
+-- when it is sent again, after what happened later; never once it is given up
+abbrev pub retransmission_after : ℕ → ℕ → List Happening → Option Retransmission
+retransmission_after number sent later =
+    let repeats = count_by (is_repeat_of number) later in
+    if list_any is_giving_up later then None
+    else Some record {
+      due = fold (last_moment number) sent later + interval_after repeats;
+      repeats = repeats;
+    }
+
+-- a response that was sent at a moment, after what happened later
+abbrev pub sent_before : ℕ → Bool → ℕ → List Happening → Provisional
+sent_before number has_body sent later =
+    record {
+      number = number;
+      has_body = has_body;
+      sent = sent;
+      retransmission = retransmission_after number sent later;
+    }

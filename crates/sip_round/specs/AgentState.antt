@@ -42,8 +42,8 @@ pub record AgentState (C : Type 0) : Type 0 where
 abbrev pub shard_count : {C : Type 0} → AgentState C → ℕ
 shard_count agent = option_map_or (λ shards. length shards.transactions) agent.shards 0
 
--- why a round is no round after that moment and of that number: the first fault that fits; moments
--- and numbers of rounds are at most 2^62
+-- why a round after one at the moment `last`, and of this number, is refused: the first fault that
+-- fits; moments and numbers of rounds are at most 2^62
 abbrev pub round_fault : ℕ → ℕ → Round → Option RoundFault
 round_fault last number round =
     if nat_lt round.moment last then Some MomentBackwards

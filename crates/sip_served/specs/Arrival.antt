@@ -102,8 +102,8 @@ abbrev pub case_inside : List HeldRequest → DialogId → Message → Option He
 case_inside requests name request None = NoDialog
 case_inside requests name request (Some held) =
     if not (takes held request.cseq.number) then OutOfOrder
-    else (if is_prack request then prack_case requests name held.created_by request.rack
-    else ForUser)
+    else if is_prack request then prack_case requests name held.created_by request.rack
+    else ForUser
 
 -- a request outside of any dialog
 abbrev pub case_outside : Message → ArrivalCase
@@ -113,9 +113,9 @@ case_outside request = if is_bye request || is_prack request then NoDialog else 
 abbrev pub case_of : List HeldRequest → Dialogs → DialogId → Message → ArrivalCase
 case_of requests dialogs name request =
     if not (has_to_tag request) && list_any (is_merged request) requests then Merged
-    else (if list_any is_unknown_option request.require then BadExtension
-    else (if has_to_tag request then case_inside requests name request (dialog_at name dialogs)
-    else case_outside request))
+    else if list_any is_unknown_option request.require then BadExtension
+    else if has_to_tag request then case_inside requests name request (dialog_at name dialogs)
+    else case_outside request
 
 -- ---- what the agent answers by itself
 

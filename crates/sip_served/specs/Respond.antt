@@ -74,9 +74,9 @@ abbrev pub reliable_refusal : HeldRequest → Respond → Option Refusal
 reliable_refusal held respond =
     if is_sent_reliably held respond.status respond.reliability
     then option_map refusal_of_fault (send_fault held.ledger)
-    else (if is_success respond.status && list_any (λ p. p.has_body) held.ledger.waiting
+    else if is_success respond.status && list_any (λ p. p.has_body) held.ledger.waiting
     then Some ReliablePending
-    else None)
+    else None
 
 -- the conditions under which an answer is refused, in the order in which they are looked at
 abbrev pub refusals : Dialogs → Respond → HeldRequest → List (Bool × Refusal)
@@ -129,7 +129,7 @@ abbrev pub answers : HeldRequest → ℕ → Reliability → Message → ℕ →
 answers held status reliability response now =
     if is_sent_reliably held status reliability
     then sends_as (send_answer held.ledger) response now
-    else (if is_final status then Finishes response status now ∷ [] else [])
+    else if is_final status then Finishes response status now ∷ [] else []
 
 -- the held request after that
 abbrev pub answered : ℕ → Reliability → Message → ℕ → HeldRequest → HeldRequest
@@ -182,9 +182,9 @@ dialogs_answered event held status response dialogs =
     let name = dialog_id_of held.request held.tag in
     if makes_dialog held status
     then (insert_entry is_dialog_id dialogs name (made_dialog event held status), [])
-    else (if confirms_dialog held status then (dialog_changed name (confirmed response) dialogs, [])
-    else (if rejects held status then early_ended held.id dialogs
-    else (dialogs, [])))
+    else if confirms_dialog held status then (dialog_changed name (confirmed response) dialogs, [])
+    else if rejects held status then early_ended held.id dialogs
+    else (dialogs, [])
 
 -- what happens to its request: the dialog that is made is its own
 abbrev pub makes : Id → HeldRequest → ℕ → List RequestHappening

@@ -39,9 +39,9 @@ success_told repeat.GivenUp held response =
 abbrev pub success_answer : ℕ → Success → SuccessDue
 success_answer now success =
     if is_some success.over then repeat.Nothing
-    else (if nat_le success.end now then repeat.GivenUp
-    else (if nat_le success.retransmission.due now then repeat.Again
-    else repeat.Nothing))
+    else if nat_le success.end now then repeat.GivenUp
+    else if nat_le success.retransmission.due now then repeat.Again
+    else repeat.Nothing
 
 -- what happens to the request
 abbrev pub success_goes : SuccessDue → ℕ → List RequestHappening

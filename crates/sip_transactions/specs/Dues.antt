@@ -10,7 +10,7 @@ pub record Dues : Type 0 where
   pub fired : ℕ
   pub ending : Option ℕ
 
--- the least time that so many firings take after the first
+-- the time in ms that so many firings take after the first, where each comes as soon as it is due
 unfoldable pub spent : ℕ → ℕ
 spent zero = 0
 spent (suc fired) = spent fired + min (T1 * 2 ^ suc fired) T2

@@ -1,5 +1,5 @@
 -- The rules of how a client request ends: by its last response, lost, or at a tick (RFC 3261,
--- sections 12.2.1.2 and 13.2.2.4; RFC 6026, section 7.2).
+-- sections 12.2.1.2 and 13.2.2.4).
 use Rattle.std.specs.Prelude.{ℕ, Bool, false, not, ◌&&◌, nat_le, List, [], ◌++◌, Option, None, filter, fold, if◌then◌else◌}
 use Rattle.std.specs.List.{flat_map, list_any}
 use Rattle.std.specs.Map.{lookup, remove_entry, values_of}
@@ -14,18 +14,18 @@ use Rattle.sip_clients.specs.declared.client.Client.{Client}
 use Rattle.sip_clients.specs.Client.{Clients, ClientTaken, Side}
 use Rattle.sip_clients.specs.Rules.Requests.{dialog_of_kind}
 
--- The early dialogs that a request made end with it, and where `gone` also the dialog that it was
--- sent in, if that is held still (RFC 3261, section 12.2.1.2).
+-- The early dialogs that a request made end with it. Where `ends_dialog`, the dialog that it was
+-- sent in ends too, if it is held still (RFC 3261, section 12.2.1.2).
 abbrev pub request_over : Client → Bool → Dialogs → Dialogs × List CallOut
-request_over client gone dialogs =
+request_over client ends_dialog dialogs =
     let early = early_ended client.id dialogs in
-    let own = option_map_or (λ life. if gone && lives early.0 life
+    let own = option_map_or (λ life. if ends_dialog && lives early.0 life
     then ended_at life.name early.0 else (early.0, []))
     (dialog_of_kind client.kind) (early.0, []) in
     (own.0, early.1 ++ own.1)
 
--- A request is over whose message could not be sent, or whose transaction timed out: that counts as
--- a 408, and ends its dialog (RFC 3261, section 8.1.3.1).
+-- A request is over whose transaction failed to send it, or timed out. A timeout counts as a 408,
+-- and ends its dialog (RFC 3261, section 8.1.3.1).
 unfoldable pub request_is_lost : Id → Bool → Side → ClientTaken
 request_is_lost id timed_out side =
     let ended = option_map_or (λ client. request_over client timed_out side.dialogs)

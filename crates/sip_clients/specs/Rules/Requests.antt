@@ -57,7 +57,7 @@ use Rattle.sip_clients.specs.declared.client.RequestKind.{RequestKind}
 use Rattle.sip_clients.specs.declared.client.RequestKind.TheVariants.{InitialInvite, ReInvite, InDialog, OutOfDialog}
 use Rattle.sip_clients.specs.declared.event.Event.{Event}
 use Rattle.sip_clients.specs.declared.outside.TheConstants.{FIRST_CSEQ}
-use Rattle.sip_clients.specs.Client.{Clients, ClientTaken, Side}
+use Rattle.sip_clients.specs.Client.{Clients, ClientTaken, Side, client_for}
 use Rattle.sip_clients.specs.Event.{branch_of, from_tag_of}
 
 -- ---- client requests
@@ -75,21 +75,7 @@ dialog_of_kind (ReInvite life) = Some life
 dialog_of_kind (InDialog life) = Some life
 dialog_of_kind _ = None
 
--- a client request that is just sent, known by the event that sends it
-abbrev pub new_request : Id → RequestKind → Message → Addr → Client
-new_request id kind request to = record {
-  id = id;
-  kind = kind;
-  request = request;
-  to = to;
-  provisional = false;
-  cancel = NotAsked;
-  last_rseq = None;
-  answers = [];
-  removal = None;
-}
-
--- it is held, and its transaction starts (RFC 3261, section 17.1)
+-- A client request is held, and its transaction starts (RFC 3261, section 17.1).
 abbrev pub start : Clients × List CallOut → Client → Clients × List CallOut
 start done client = (
   insert_entry is_id done.0 client.id client,
@@ -130,7 +116,7 @@ invite_command event invite clients =
     let supporting = with_100rel invite.support
     (record request { contacts = contact_of event.local ∷ [] }) in
     start (clients, [])
-    (new_request event.id InitialInvite (with_content_of supporting invite.content) invite.address)
+    (client_for event.id InitialInvite (with_content_of supporting invite.content) invite.address)
 
 -- methods that neither Plain nor Request sends, since they have commands of their own
 abbrev pub has_command : List ℕ → Bool
@@ -146,7 +132,7 @@ plain_command event plain clients =
     else (let request = request_outside event plain.call_id plain.method plain.request_uri
     plain.from plain.to plain.routes in
     start (clients, [])
-    (new_request event.id OutOfDialog (with_content_of request plain.content) plain.address))
+    (client_for event.id OutOfDialog (with_content_of request plain.content) plain.address))
 
 -- ---- in a dialog
 
@@ -156,8 +142,9 @@ is_callee Caller = false
 is_callee Callee = true
 
 -- Why a request of this method isn't sent in a dialog, in order (RFC 3261, section 12.2.1.1): in an
--- early one there is no re-INVITE and no 2xx to acknowledge, and the callee ends it by its answer
--- (section 15). An ACK takes no number of its own.
+-- early one there is no re-INVITE and no 2xx to acknowledge, and the callee ends it by its response
+-- (section 15). An ACK takes no number of its own. No dialog that is held has ended, and no ACK is
+-- pending in an early one: these decide only in states that don't occur.
 abbrev pub refusals_in : Dialog → List ℕ → List (Bool × Refusal)
 refusals_in dialog method =
     let bad = bytes_eq method (codes "ACK") || bytes_eq method (codes "INVITE")
@@ -176,7 +163,7 @@ request_with_next_number event name method rack content held =
     let life : DialogReference = record { name = name; created_by = held.created_by } in
     let message = request_in held.dialog method (held.dialog.local_cseq + 1) content
     (branch_of event) event.local in
-    new_request event.id (if bytes_eq method (codes "INVITE") then ReInvite life else InDialog life)
+    client_for event.id (if bytes_eq method (codes "INVITE") then ReInvite life else InDialog life)
     (record message { rack = rack }) (hop_of held.dialog held.address)
 
 -- that number is taken
@@ -321,7 +308,7 @@ prack_command = pending_command (codes "PRACK") NothingToPrack
 
 -- the CANCEL of an INVITE, with its branch and to where it was sent (RFC 3261, section 9.1)
 abbrev pub cancel_request : Id → Client → Client
-cancel_request id invite = new_request id OutOfDialog (cancel_of invite.request) invite.to
+cancel_request id invite = client_for id OutOfDialog (cancel_of invite.request) invite.to
 
 -- a CANCEL was asked for before
 abbrev pub is_asked : Cancelling → Bool
@@ -333,15 +320,15 @@ is_asked _ = true
 abbrev pub cancel_of_request : Event → Cancel → Side → Client → ClientTaken
 cancel_of_request event command side invite =
     if not (is_invite_kind invite.kind) then refuse event command.call_id side NoSuchRequest
-    else (if is_some invite.removal then refuse event command.call_id side AlreadyFinal
-    else (if is_asked invite.cancel then (side, [])
+    else if is_some invite.removal then refuse event command.call_id side AlreadyFinal
+    else if is_asked invite.cancel then (side, [])
     else (
     let held : Cancelling → Clients = λ cancel. set_value (is_id command.id) side.clients
     (record invite { cancel = cancel }) in
     let done = if invite.provisional
     then start (held Sent, []) (cancel_request event.id invite)
     else (held (Waits event.id), []) in
-    (record side { clients = done.0 }, done.1))))
+    (record side { clients = done.0 }, done.1))
 
 -- The command Cancel is for the held request of its id.
 unfoldable pub cancel_command : Event → Cancel → Side → ClientTaken

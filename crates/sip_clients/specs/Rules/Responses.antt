@@ -1,5 +1,5 @@
 -- The rules of a response to a client request (RFC 3261, sections 9.1, 12.1.2, 12.2.1.2, 13.2.2 and
--- 13.2.2.4; RFC 3262, section 4; RFC 6026, section 7.2).
+-- 13.2.2.4; RFC 3262, section 4).
 use Rattle.std.specs.Prelude.{ℕ, ◌+◌, Bool, true, not, ◌&&◌, ◌||◌, ◌==◌, List, [], ◌∷◌, ◌++◌, length, Option, None, Some, fold, is_none, is_some, option_and_then, unwrap_or, if◌then◌else◌}
 use Rattle.std.specs.Map.{lookup, remove_entry, set_value}
 use Rattle.std.specs.Option.{option_map_or}
@@ -35,8 +35,8 @@ use Rattle.sip_clients.specs.Rules.Requests.{cancel_request, is_invite_kind, dia
 
 -- ---- what a response comes to
 
--- the request after it, or none if it is over; what is told, and the ACK that goes out, in order;
--- the PRACK that goes out after that
+-- the request after it, or none if it is over; the dialogs after it; what is told, and the ACK that
+-- goes out, in order; the PRACK that goes out after that
 pub record Outcome : Type 0 where
   pub request : Option Client
   pub dialogs : Dialogs
@@ -71,7 +71,7 @@ asks_for pending reply client after held dialogs =
       prack = done.prack;
     }
 
--- an initial INVITE, among INVITEs
+-- an initial INVITE and no re-INVITE (asked of INVITEs alone)
 abbrev pub is_initial : Client → Bool
 is_initial client = is_none (dialog_of_kind client.kind)
 
@@ -92,8 +92,8 @@ dialog_made_by reply client = record {
 -- that it was sent in (RFC 3261, section 12.2.1.2).
 abbrev pub last_response : ReceivedResponse → Client → Dialogs → Outcome
 last_response reply client dialogs =
-    let gone = (reply.status == 481) || (reply.status == 408) in
-    let ended = request_over client gone dialogs in
+    let ends_dialog = (reply.status == 481) || (reply.status == 408) in
+    let ended = request_over client ends_dialog dialogs in
     record { request = None; dialogs = ended.0; outs = notice_of reply ∷ ended.1; prack = [] }
 
 -- a 2xx that comes again: the same ACK, to the same address (RFC 3261, section 13.2.2.4)
@@ -116,8 +116,8 @@ abbrev pub success_in : Bool → Message → HeldDialog → HeldDialog
 success_in initial response held =
     let target = unwrap_or (contact_uri response) held.dialog.target in
     if is_ended held.dialog.state then held
-    else (if initial then record held { dialog = confirmed_by held.dialog response }
-    else record held { dialog = record held.dialog { target = target } })
+    else if initial then record held { dialog = confirmed_by held.dialog response }
+    else record held { dialog = record held.dialog { target = target } }
 
 -- the first 2xx of a dialog, which it makes where it isn't held; it asks for its ACK
 abbrev pub first_success : ReceivedResponse → Client → Dialogs → Outcome
@@ -165,13 +165,13 @@ outcome_of reply client dialogs =
     let sent_ack = lookup (is_dialog_id reply.name) client.answers in
     if final && not (is_invite_kind client.kind && is_success reply.status)
     then last_response reply client dialogs
-    else (if final && is_some sent_ack then success_again sent_ack client dialogs
-    else (if final && has_dialog client dialogs then first_success reply client dialogs
-    else (if final then kept (accepted reply client None) dialogs (notice_of reply ∷ [])
-    else (if not (has_dialog client dialogs && not (reply.status == 100)
+    else if final && is_some sent_ack then success_again sent_ack client dialogs
+    else if final && has_dialog client dialogs then first_success reply client dialogs
+    else if final then kept (accepted reply client None) dialogs (notice_of reply ∷ [])
+    else if not (has_dialog client dialogs && not (reply.status == 100)
     && has_to_tag reply.response)
     then kept client dialogs (notice_of reply ∷ [])
-    else dialog_response reply client dialogs))))
+    else dialog_response reply client dialogs
 
 -- the status of a response
 abbrev pub status_of : StartLine → Option ℕ

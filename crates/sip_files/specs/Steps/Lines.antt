@@ -19,9 +19,9 @@ use Rattle.sip_files.specs.Steps.Drafting.{no_lines, is_begun, is_whole, went, g
 abbrev pub version_at : List ℕ → Option Version
 version_at line =
     if bytes_eq line (version_line One) then Some One
-    else (if bytes_eq line (version_line Two) then Some Two
-    else (if bytes_eq line (version_line SessionOne) then Some SessionOne
-    else None))
+    else if bytes_eq line (version_line Two) then Some Two
+    else if bytes_eq line (version_line SessionOne) then Some SessionOne
+    else None
 
 -- the same, where a file of the kind may have it
 abbrev pub version_in : FileKind → List ℕ → Option Version

@@ -48,8 +48,8 @@ reason_at field = rest_at field >>= λ text. if is_reason text then Some text el
 unfoldable pub reliability_at : List ℕ → Option Reliability
 reliability_at field =
     if bytes_eq field (codes "plain") then Some reliability.Plain
-    else (if bytes_eq field (codes "reliable") then Some reliability.Reliable
-    else None)
+    else if bytes_eq field (codes "reliable") then Some reliability.Reliable
+    else None
 
 unfoldable pub datagram_at : List ℕ → Option Event
 datagram_at fields = do
@@ -66,7 +66,7 @@ method_at field = if is_token field then Some field else None
 
 abbrev pub tag_of : List ℕ → Option (Option (List ℕ))
 tag_of text = if length text == 0 then Some None
-    else (if is_token text then Some (Some text) else None)
+    else if is_token text then Some (Some text) else None
 
 unfoldable pub tag_at : List ℕ → Option (Option (List ℕ))
 tag_at field = word_at field >>= tag_of
@@ -74,9 +74,9 @@ tag_at field = word_at field >>= tag_of
 unfoldable pub support_at : List ℕ → Option ProvisionalSupport
 support_at field =
     if bytes_eq field (codes "none") then Some support.None
-    else (if bytes_eq field (codes "supported") then Some support.Supported
-    else (if bytes_eq field (codes "required") then Some support.Required
-    else None))
+    else if bytes_eq field (codes "supported") then Some support.Supported
+    else if bytes_eq field (codes "required") then Some support.Required
+    else None
 
 -- ---- several fields
 
@@ -191,14 +191,14 @@ cancel_in SessionOne fields = cancel_at fields
 abbrev pub command_at : Version → List ℕ → List ℕ → Option UserCommand
 command_at version keyword fields =
     if bytes_eq keyword (codes "invite") then option_map command.Invite (invite_at fields)
-    else (if bytes_eq keyword (codes "plain") then option_map command.Plain (plain_at fields)
-    else (if bytes_eq keyword (codes "request") then option_map command.Request (request_at fields)
-    else (if bytes_eq keyword (codes "respond") then option_map command.Respond (respond_at fields)
-    else (if bytes_eq keyword (codes "ack") then option_map command.Ack (body_at fields)
-    else (if bytes_eq keyword (codes "prack") then option_map command.Prack (body_at fields)
-    else (if bytes_eq keyword (codes "cancel")
+    else if bytes_eq keyword (codes "plain") then option_map command.Plain (plain_at fields)
+    else if bytes_eq keyword (codes "request") then option_map command.Request (request_at fields)
+    else if bytes_eq keyword (codes "respond") then option_map command.Respond (respond_at fields)
+    else if bytes_eq keyword (codes "ack") then option_map command.Ack (body_at fields)
+    else if bytes_eq keyword (codes "prack") then option_map command.Prack (body_at fields)
+    else if bytes_eq keyword (codes "cancel")
     then option_map command.Cancel (cancel_in version fields)
-    else None))))))
+    else None
 
 -- ---- failed sends
 
@@ -220,8 +220,8 @@ server_at fields =
 abbrev pub key_at : List ℕ → List ℕ → Option Key
 key_at side fields =
     if bytes_eq side (codes "client") then client_at fields
-    else (if bytes_eq side (codes "server") then server_at fields
-    else None)
+    else if bytes_eq side (codes "server") then server_at fields
+    else None
 
 unfoldable pub failed_at : List ℕ → Option Key
 failed_at fields = cut_at 32 fields >>= λ p. key_at p.0 p.1
@@ -242,17 +242,17 @@ header_in SessionOne fields = header_at fields
 unfoldable pub event_at : Version → List ℕ → List ℕ → Option Event
 event_at version keyword fields =
     if bytes_eq keyword (codes "datagram") then datagram_at fields
-    else (if bytes_eq keyword (codes "failed") then option_map Failed (failed_at fields)
-    else option_map Command (command_at version keyword fields))
+    else if bytes_eq keyword (codes "failed") then option_map Failed (failed_at fields)
+    else option_map Command (command_at version keyword fields)
 
 unfoldable pub keyword_line : Version → List ℕ → List ℕ → Option EventLine
 keyword_line version keyword fields =
     if bytes_eq keyword (codes "local") then option_map line.Local (address_at fields)
-    else (if bytes_eq keyword (codes "seed") then option_map line.Seed (seed_at fields)
-    else (if bytes_eq keyword (codes "first") then option_map line.First (number_at (2 ^ 62) fields)
-    else (if bytes_eq keyword (codes "round")
+    else if bytes_eq keyword (codes "seed") then option_map line.Seed (seed_at fields)
+    else if bytes_eq keyword (codes "first") then option_map line.First (number_at (2 ^ 62) fields)
+    else if bytes_eq keyword (codes "round")
     then option_map line.Round (number_at (2 ^ 64 - 1) fields)
-    else option_map line.Event (event_at version keyword fields))))
+    else option_map line.Event (event_at version keyword fields)
 
 -- a header line begins with the space, so it has no keyword
 abbrev pub parts_line : Version → List ℕ → List ℕ → Option EventLine

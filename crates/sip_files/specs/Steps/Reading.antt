@@ -22,17 +22,17 @@ read_now read = option_map (λ p. (p.0, p.1.now)) read
 abbrev pub byte_of_letter : ℕ → Option ℕ
 byte_of_letter letter =
     if letter == 115 then Some 32
-    else (if letter == 114 then Some 13
-    else (if letter == 110 then Some 10
-    else (if letter == 116 then Some 9
-    else (if letter == 92 then Some 92
-    else None))))
+    else if letter == 114 then Some 13
+    else if letter == 110 then Some 10
+    else if letter == 116 then Some 9
+    else if letter == 92 then Some 92
+    else None
 
 abbrev pub hex_value : ℕ → Option ℕ
 hex_value digit =
     if nat_le 48 digit && nat_le digit 57 then Some (digit - 48)
-    else (if nat_le 97 digit && nat_le digit 102 then Some (digit - 87)
-    else None)
+    else if nat_le 97 digit && nat_le digit 102 then Some (digit - 87)
+    else None
 
 unfoldable pub hex_byte : ℕ → ℕ → Option ℕ
 hex_byte high low = hex_value high >>= λ h. hex_value low >>= λ l. Some (h * 16 + l)
@@ -60,7 +60,7 @@ unfoldable pub byte_at : (ℕ → Bool) → List ℕ → Option (ℕ × List ℕ
 byte_at is_itself [] = None
 byte_at is_itself (b ∷ rest) =
     if b == 92 then escape_at is_itself rest
-    else (if is_itself b then Some (b, rest) else None)
+    else if is_itself b then Some (b, rest) else None
 
 -- all bytes, of which there are no more than this number
 abbrev pub bytes_from : (ℕ → Bool) → ℕ → List ℕ → Option (List ℕ)
@@ -76,9 +76,9 @@ bytes_at is_itself text = bytes_from is_itself (length text) text
 unfoldable pub word_at : List ℕ → Option (List ℕ)
 word_at field =
     if length field == 0 then None
-    else (if bytes_eq field (codes "-") then Some []
-    else (if bytes_eq field (codes "\\x2d") then Some (codes "-")
-    else bytes_at is_plain field))
+    else if bytes_eq field (codes "-") then Some []
+    else if bytes_eq field (codes "\\x2d") then Some (codes "-")
+    else bytes_at is_plain field
 
 unfoldable pub rest_at : List ℕ → Option (List ℕ)
 rest_at field = bytes_at is_plain_or_space field

@@ -194,9 +194,9 @@ request_in_dialog state call_id name arrival held =
     let noted : State = record state { dialogs = dialogs } in
     if not (is_above held request.cseq.number)
     then (state, own_response arrival 500 (codes "Server Internal Error"))
-    else (if is_prack request
+    else if is_prack request
     then prack_received noted call_id name held.created_by arrival request.rack
-    else request_for_user noted call_id name arrival)
+    else request_for_user noted call_id name arrival
 
 -- A request that comes up, by the first case that fits (RFC 3261, sections 8.2 and 12.2.2): a
 -- CANCEL; 482 where it was merged and has no To tag; 420; with a To tag 481 where its dialog isn't
@@ -206,14 +206,14 @@ request_received state call_id arrival now =
     let request = arrival.request in
     let name = dialog_id_of request arrival.tag in
     if is_cancel request then cancel_received state call_id arrival now
-    else (if not (has_to_tag request) && list_any (is_merged request) state.requests
+    else if not (has_to_tag request) && list_any (is_merged request) state.requests
     then (state, own_response arrival 482 (codes "Loop Detected"))
-    else (if list_any is_unknown_option request.require then bad_extension state arrival
-    else (if has_to_tag request
+    else if list_any is_unknown_option request.require then bad_extension state arrival
+    else if has_to_tag request
     then option_map_or (request_in_dialog state call_id name arrival)
     (dialog_at name state.dialogs) (no_such_call state arrival)
-    else (if is_bye request || is_prack request then no_such_call state arrival
-    else request_for_user state call_id name arrival))))
+    else if is_bye request || is_prack request then no_such_call state arrival
+    else request_for_user state call_id name arrival
 
 -- ---- an ACK
 

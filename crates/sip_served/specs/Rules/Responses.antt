@@ -116,10 +116,10 @@ dialogs_after event held status response dialogs =
     let name = dialog_id_of request held.tag in
     if makes_dialog held status
     then (insert_entry is_dialog_id dialogs name (dialog_by_request event held status), [])
-    else (if is_invite request && is_success status && not (has_to_tag request)
+    else if is_invite request && is_success status && not (has_to_tag request)
     then (dialog_changed name (after_2xx response) dialogs, [])
-    else (if is_invite request && nat_le 300 status then early_ended held.id dialogs
-    else (dialogs, [])))
+    else if is_invite request && nat_le 300 status then early_ended held.id dialogs
+    else (dialogs, [])
 
 -- a reliable provisional response that waits for its PRACK, and is sent again after T1
 abbrev pub provisional_sent : ℕ → Message → ℕ → Provisional
@@ -162,14 +162,14 @@ held_after event held respond response now =
       provisionals = held.provisionals
           ++ record { number = ledger.next; response = response } ∷ [];
     }
-    else (if is_final status
+    else if is_final status
     then record held {
       dialog = dialog;
       ledger = closed_now ledger;
       success = if awaits_ack then Some (success_sent response now) else held.success;
       removal = Some (now + LIFETIME);
     }
-    else record held { dialog = dialog })
+    else record held { dialog = dialog }
 
 -- a command of the user is refused, and nothing changes
 abbrev pub refuse : State → Id → Respond → Refusal → ServedTaken

@@ -27,9 +27,9 @@ success_at now held success =
     let no_ack = Notice (NoAck held.request.call_id held.id) in
     if is_none success.over && nat_le success.end now
     then (Some (record success { over = Some GivenUp }), no_ack ∷ [])
-    else (if is_none success.over && nat_le success.retransmission.due now
+    else if is_none success.over && nat_le success.retransmission.due now
     then (Some (record success { retransmission = later }), again ∷ [])
-    else (Some success, []))
+    else (Some success, [])
 
 -- where there is one
 abbrev pub success_tick : ℕ → HeldRequest → Option Success × List CallOut
@@ -44,13 +44,13 @@ provisionals_tick now held =
     let no_prack = Notice (NoPrack held.request.call_id held.id) in
     let due = map (λ p. p.number) (filter (is_repeated now) ledger.waiting) in
     if ledger.closed then (ledger, [])
-    else (if list_any (is_late now) ledger.waiting
+    else if list_any (is_late now) ledger.waiting
     then (record ledger { waiting = map given_up ledger.waiting }, no_prack ∷ [])
     else (
       record ledger { waiting = map (after_repeat now) ledger.waiting },
       map (λ one. Command held.id (Answer held.key one.response))
           (filter (λ one. list_any (λ number. one.number == number) due) held.provisionals),
-    ))
+    )
 
 -- Each held request at a tick; then those whose moment of removal has come are removed.
 unfoldable pub server_tick : State → ℕ → ServedTaken
