@@ -16,7 +16,9 @@ use crate::words::{
 use clap::ArgMatches;
 use sip_message::{Addr, CallId, Uri};
 use sip_text::Text;
-use sip_udp::{CallPlan, Endpoint, InputEnd, ListenPlan, UaFault, agent, call_from, listen_at};
+use sip_udp::{
+    AnswerBody, CallPlan, Endpoint, InputEnd, ListenPlan, UaFault, agent, call_from, listen_at,
+};
 use std::alloc::{AllocError, Global};
 use std::fs::{self, File};
 use std::io::{self, Read, Write};
@@ -60,12 +62,7 @@ fn listen_by<'a, T: Threads + Host, W: Write, E: Write>(
         (λ failure. failure.fault ≡ BadArgument → notices.new ≡ notices.old) }
 {
     let local = address_of(alloc, "--local", words.own.local)?;
-    let plan = ListenPlan {
-        ring: words.ring,
-        reliable: words.reliable,
-        status: words.status,
-        body: body_of(rt, alloc, words.body)?,
-    };
+    let plan = listen_plan(rt, alloc, words)?;
     let mut endpoint = endpoint_at(rt, local, words.own)?;
     endpoint.tells_drops = words.drops;
     endpoint.seconds = words.length.seconds;
@@ -98,6 +95,61 @@ fn call_by<'a, T: Threads + Host, W: Write, E: Write>(
     ended(end, notices.error)
 }
 
+// What the words of `ua listen` ask for.
+fn listen_plan<'a, T: Files>(
+    rt: &T,
+    alloc: Global,
+    words: ListenWords<'a>,
+) -> Result<ListenPlan, Failure<'a>> {
+    let moves = (300..=399).contains(&words.status);
+    let contact = match words.contact {
+        Some(word) if moves => Some(uri_of(alloc, "--contact", word)?),
+        Some(word) => return Err(bad_word("--contact", word, "only with --answer 300 to 399")),
+        None => None,
+    };
+    if let Some((status, wanted)) = missing_header(words.status, contact.is_some()) {
+        return Err(bad_word("--answer", status, wanted));
+    }
+    let body = match words.body {
+        _ if words.no_body => AnswerBody::Nothing,
+        None => AnswerBody::Inactive,
+        path => AnswerBody::Given(body_of(rt, alloc, path)?),
+    };
+    Ok(ListenPlan {
+        ring: words.ring,
+        reliable: words.reliable,
+        status: words.status,
+        body,
+        contact,
+    })
+}
+
+// The status, and the header without which an answer of it is wrong and which it hasn't (RFC 3261,
+// section 21; RFC 3329, section 2; RFC 4028, section 6).
+fn missing_header(status: u16, has_contact: bool) -> Option<(&'static str, &'static str)> {
+    match status {
+        300..=399 if !has_contact => Some(("3xx", "needs --contact")),
+        401 => Some((
+            "401",
+            "needs WWW-Authenticate, which this command doesn't send",
+        )),
+        405 => Some(("405", "needs Allow, which this command doesn't send")),
+        407 => Some((
+            "407",
+            "needs Proxy-Authenticate, which this command doesn't send",
+        )),
+        420 => Some(("420", "needs Unsupported, which this command doesn't send")),
+        421 => Some(("421", "needs Require, which this command doesn't send")),
+        422 => Some(("422", "needs Min-SE, which this command doesn't send")),
+        423 => Some(("423", "needs Min-Expires, which this command doesn't send")),
+        494 => Some((
+            "494",
+            "needs Security-Server, which this command doesn't send",
+        )),
+        _ => None,
+    }
+}
+
 // What the words of `ua call` ask for. Without a length it is over once nothing is held.
 fn plan_of<'a, T: Files>(
     rt: &T,
@@ -105,7 +157,7 @@ fn plan_of<'a, T: Files>(
     words: CallWords<'a>,
 ) -> Result<CallPlan, Failure<'a>> {
     let to = address_of(alloc, "--to", words.to)?;
-    let uri = uri_of(alloc, words.uri)?;
+    let uri = uri_of(alloc, "--uri", words.uri)?;
     let call_id = text_of(alloc, words.call_id)?;
     let call_id = CallId::new(call_id).ok_or(bad_word(
         "--call-id",
@@ -117,19 +169,20 @@ fn plan_of<'a, T: Files>(
         uri,
         call_id,
         body: body_of(rt, alloc, words.body)?,
+        is_reliable: words.reliable,
         hold: words.hold,
         leaves: words.leaves || words.length.is_open(),
         must_answer: words.must_answer,
     })
 }
 
-// The URI of `--uri`.
-fn uri_of<'a>(alloc: Global, word: &'a str) -> Result<Uri, Failure<'a>> {
+// The URI of an option.
+fn uri_of<'a>(alloc: Global, option: &'a str, word: &'a str) -> Result<Uri, Failure<'a>> {
     if !has_scheme(word) {
         let wanted = "no scheme, as in sip:bob@192.0.2.9";
-        return Err(bad_word("--uri", word, wanted));
+        return Err(bad_word(option, word, wanted));
     }
-    Uri::new(text_of(alloc, word)?).ok_or(bad_word("--uri", word, "not a URI"))
+    Uri::new(text_of(alloc, word)?).ok_or(bad_word(option, word, "not a URI"))
 }
 
 // Whether a text begins with a scheme and a colon.

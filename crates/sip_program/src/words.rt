@@ -120,7 +120,9 @@ pub(crate) struct ListenWords<'a> {
     pub ring: Option<u32>,
     pub reliable: bool,
     pub status: u16,
+    pub contact: Option<&'a str>,
     pub body: Option<&'a str>,
+    pub no_body: bool,
     pub drops: bool,
 }
 
@@ -132,6 +134,7 @@ pub(crate) struct CallWords<'a> {
     pub to: &'a str,
     pub uri: &'a str,
     pub call_id: &'a str,
+    pub reliable: bool,
     pub body: Option<&'a str>,
     pub hold: Option<u32>,
     pub leaves: bool,
@@ -302,7 +305,9 @@ pub(crate) fn listen_words<'a>(matches: &ArgMatches<'a>) -> Option<ListenWords<'
         ring: listen.get_one::<u32>("ring"),
         reliable: listen.get_flag("reliable"),
         status: listen.get_one::<u16>("answer")?,
+        contact: listen.get_str("contact"),
         body: listen.get_str("body"),
+        no_body: listen.get_flag("no-body"),
         drops: listen.get_flag("drops"),
     })
 }
@@ -316,6 +321,7 @@ pub(crate) fn call_words<'a>(matches: &ArgMatches<'a>) -> Option<CallWords<'a>> 
         to: call.get_str("to")?,
         uri: call.get_str("uri")?,
         call_id: call.get_str("call-id")?,
+        reliable: call.get_flag("reliable"),
         body: call.get_str("body"),
         hold: call.get_one::<u32>("hold"),
         leaves: call.get_flag("leave"),
@@ -377,6 +383,15 @@ fn listen_command<'a>(alloc: Global) -> Result<Command<'a>, AllocError> {
         .value_parser(value_parser!(u16).range(200..=699))
         .default_value("200")
         .help("The status that an INVITE is answered with, from 200 to 699");
+    let contact = Arg::new(alloc, "contact")
+        .long("contact")
+        .value_name("URI")
+        .help("Where an answer of 300 to 399 sends the caller, as sip:bob@192.0.2.9");
+    let no_body = Arg::new(alloc, "no-body")
+        .long("no-body")
+        .action(ArgAction::SetTrue)
+        .conflicts_with("body")?
+        .help("A 2xx to an INVITE has no body");
     Command::new(alloc, "listen")
         .about(
             "Answers calls over UDP: 200 to INVITE, BYE and OPTIONS, 501 to all else; a line for \
@@ -390,7 +405,13 @@ fn listen_command<'a>(alloc: Global) -> Result<Command<'a>, AllocError> {
         .arg(ring)?
         .arg(reliable)?
         .arg(answer)?
-        .arg(body_argument(alloc, "The body of a 2xx to an INVITE, an SDP text"))?
+        .arg(contact)?
+        .arg(body_argument(
+            alloc,
+            "The body of a 2xx to an INVITE, an SDP text; without it an SDP text whose streams are \
+            inactive, since there is no media",
+        ))?
+        .arg(no_body)?
         .arg(drops_argument(alloc))?
         .arg(record_argument(alloc))?
         .arg(stats_argument(alloc))
@@ -424,6 +445,10 @@ fn call_command<'a>(alloc: Global) -> Result<Command<'a>, AllocError> {
         .value_name("MS")
         .value_parser(value_parser!(u32))
         .help("How long the call stays up; without it, it ends as soon as it is answered");
+    let reliable = Arg::new(alloc, "reliable")
+        .long("reliable")
+        .action(ArgAction::SetTrue)
+        .help("The INVITE supports reliable provisional responses, which are acknowledged");
     let must_answer = Arg::new(alloc, "must-answer")
         .long("must-answer")
         .action(ArgAction::SetTrue)
@@ -444,6 +469,7 @@ fn call_command<'a>(alloc: Global) -> Result<Command<'a>, AllocError> {
         .arg(leave)?
         .arg(hold)?
         .arg(must_answer)?
+        .arg(reliable)?
         .arg(body_argument(alloc, "The body of the INVITE, an SDP text"))?
         .arg(drops_argument(alloc))?
         .arg(record_argument(alloc))?

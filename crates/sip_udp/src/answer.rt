@@ -1,9 +1,10 @@
 //! The answers that the users give to requests.
 
-use sip_message::{CallId, Content, Id, Reason};
+use crate::hang_up::nothing;
+use sip_message::{CallId, Content, ContentHeaders, DisplayText, Id, NameAddr, Reason, Uri};
 use sip_round::Event;
 use sip_served::{Reliability, Respond, UserCommand};
-use sip_text::Text;
+use sip_text::{Series, Text};
 use std::alloc::{AllocError, Global};
 
 const RINGING_STATUS: u16 = 180;
@@ -14,45 +15,88 @@ pub(crate) const SUCCESS: u16 = 200;
 
 const TEMPORARILY_UNAVAILABLE: u16 = 480;
 
+const NOT_ACCEPTABLE_HERE: u16 = 488;
+
 const NOT_IMPLEMENTED: u16 = 501;
 
-/// 200 to BYE and OPTIONS, and 501 to all else.
+/// 200 to BYE and OPTIONS, 488 to INVITE, and 501 to all else.
 pub(crate) fn answer(
     alloc: Global,
     call_id: &CallId,
     id: Id,
     method: &[u8],
 ) -> Result<Event, AllocError> {
-    let is_served = method == b"BYE".as_slice() || method == b"OPTIONS".as_slice();
-    let status = if is_served { SUCCESS } else { NOT_IMPLEMENTED };
-    let body = Text::from_vec(Vec::new(alloc));
-    respond(alloc, call_id, id, status, Reliability::Plain, body)
-}
-
-/// 180 Ringing.
-pub(crate) fn ringing(alloc: Global, call_id: &CallId, id: Id) -> Result<Event, AllocError> {
-    let body = Text::from_vec(Vec::new(alloc));
-    respond(alloc, call_id, id, RINGING_STATUS, Reliability::Plain, body)
-}
-
-/// 183 Session Progress, which its caller is to acknowledge (RFC 3262, section 3).
-pub(crate) fn progress(alloc: Global, call_id: &CallId, id: Id) -> Result<Event, AllocError> {
-    let body = Text::from_vec(Vec::new(alloc));
+    let status = if method == b"BYE".as_slice() || method == b"OPTIONS".as_slice() {
+        SUCCESS
+    } else if method == b"INVITE".as_slice() {
+        NOT_ACCEPTABLE_HERE
+    } else {
+        NOT_IMPLEMENTED
+    };
     respond(
         alloc,
         call_id,
         id,
-        SESSION_PROGRESS,
+        status,
+        Reliability::Plain,
+        nothing(alloc),
+    )
+}
+
+/// 180 Ringing.
+pub(crate) fn ringing(alloc: Global, call_id: &CallId, id: Id) -> Result<Event, AllocError> {
+    let status = RINGING_STATUS;
+    respond(
+        alloc,
+        call_id,
+        id,
+        status,
+        Reliability::Plain,
+        nothing(alloc),
+    )
+}
+
+/// 183 Session Progress, which its caller is to acknowledge (RFC 3262, section 3).
+pub(crate) fn progress(alloc: Global, call_id: &CallId, id: Id) -> Result<Event, AllocError> {
+    let status = SESSION_PROGRESS;
+    respond(
+        alloc,
+        call_id,
+        id,
+        status,
         Reliability::Reliable,
-        body,
+        nothing(alloc),
     )
 }
 
 /// 480 Temporarily Unavailable.
 pub(crate) fn unavailable(alloc: Global, call_id: &CallId, id: Id) -> Result<Event, AllocError> {
-    let body = Text::from_vec(Vec::new(alloc));
     let status = TEMPORARILY_UNAVAILABLE;
-    respond(alloc, call_id, id, status, Reliability::Plain, body)
+    respond(
+        alloc,
+        call_id,
+        id,
+        status,
+        Reliability::Plain,
+        nothing(alloc),
+    )
+}
+
+/// This Contact, and no body.
+pub(crate) fn contact(alloc: Global, uri: Uri) -> Result<Content, AllocError> {
+    let mut contacts = Series::new(alloc);
+    contacts.push(NameAddr {
+        display: DisplayText::nothing(alloc),
+        uri,
+        parameters: Series::new(alloc),
+    })?;
+    let headers = ContentHeaders {
+        contacts,
+        supported: Series::new(alloc),
+        require: Series::new(alloc),
+        others: Series::new(alloc),
+    };
+    Content::new(alloc, headers, Text::from_vec(Vec::new(alloc)))
 }
 
 /// A response of this status, with the usual reason.
@@ -62,7 +106,7 @@ pub(crate) fn respond(
     id: Id,
     status: u16,
     reliability: Reliability,
-    body: Text,
+    content: Content,
 ) -> Result<Event, AllocError> {
     let reason = Reason::new(Text::copy_of(alloc, reason_of(status))?);
     Ok(Event::Command(UserCommand::Respond(Respond {
@@ -70,7 +114,7 @@ pub(crate) fn respond(
         id,
         status,
         reliability,
-        content: Content::of_body(body),
+        content,
         reason: reason.unwrap_or(Reason::nothing(alloc)),
     })))
 }
@@ -81,11 +125,13 @@ fn reason_of(status: u16) -> &'static [u8] {
         RINGING_STATUS => b"Ringing",
         SESSION_PROGRESS => b"Session Progress",
         SUCCESS => b"OK",
+        300 => b"Multiple Choices",
+        301 => b"Moved Permanently",
         302 => b"Moved Temporarily",
         404 => b"Not Found",
         TEMPORARILY_UNAVAILABLE => b"Temporarily Unavailable",
         486 => b"Busy Here",
-        488 => b"Not Acceptable Here",
+        NOT_ACCEPTABLE_HERE => b"Not Acceptable Here",
         NOT_IMPLEMENTED => b"Not Implemented",
         503 => b"Service Unavailable",
         600 => b"Busy Everywhere",

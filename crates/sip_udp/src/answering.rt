@@ -1,11 +1,11 @@
 //! The user of `listen`.
 
-use crate::answer::{answer, progress, respond, ringing, unavailable};
-use crate::hang_up::bye;
+use crate::answer::{answer, contact, progress, respond, ringing, unavailable};
+use crate::hang_up::{bye, nothing};
 use crate::limit::TimeLeft;
 use crate::listen_plan::ListenPlan;
 use crate::user::User;
-use sip_message::{CallId, Id};
+use sip_message::{CallId, Content, Id};
 use sip_round::Event;
 use sip_served::{Notice, Refusal, Reliability};
 use sip_text::Text;
@@ -18,6 +18,10 @@ use std::mem;
 struct Unanswered {
     call_id: CallId,
     id: Id,
+    /// Its body, where it has one.
+    offer: Text,
+    /// How many INVITEs came before it in its dialog.
+    before: u32,
     /// The moment, in ms, at which it is answered; none as long as its 183 isn't acknowledged.
     due: Option<u64>,
 }
@@ -29,14 +33,19 @@ struct Made {
     id: Id,
     local_tag: Text,
     remote_tag: Text,
+    /// How many re-INVITEs came.
+    re_invites: u32,
     /// Whether the ACK of its 2xx came: before that no BYE may end it (RFC 3261, section 15).
     is_confirmed: bool,
 }
 
-/// Answers INVITEs by its plan, BYE and OPTIONS with 200, and every other request with 501. Once
-/// the input has ended, INVITEs that aren't answered get 480, and each dialog a BYE.
+/// Answers INVITEs by its plan, a re-INVITE at once, BYE and OPTIONS with 200, and every other
+/// request with 501. Once the input has ended, INVITEs that aren't answered get 480, and each dialog
+/// a BYE.
 #[derive(Drop)]
 pub(crate) struct Answering {
+    // One's own.
+    ip: [u8; 4],
     plan: ListenPlan,
     unanswered: Vec<Unanswered>,
     dialogs: Vec<Made>,
@@ -44,8 +53,9 @@ pub(crate) struct Answering {
 }
 
 impl Answering {
-    pub(crate) fn new(alloc: Global, plan: ListenPlan) -> Answering {
+    pub(crate) fn new(alloc: Global, ip: [u8; 4], plan: ListenPlan) -> Answering {
         Answering {
+            ip,
             plan,
             unanswered: Vec::new(alloc),
             dialogs: Vec::new(alloc),
@@ -53,26 +63,32 @@ impl Answering {
         }
     }
 
-    // An INVITE came with these tags, of which the first is one's own.
+    // An INVITE came with these tags, of which the first is one's own. In a dialog, where it is a
+    // re-INVITE, it is answered at once.
     fn invited(
         &mut self,
         alloc: Global,
         now: u64,
-        call_id: &CallId,
-        id: Id,
+        mut invite: Unanswered,
         tags: (&Text, &Text),
         events: &mut Vec<Event>,
     ) -> Result<(), AllocError> {
+        let Unanswered { call_id, id, .. } = &invite;
         if self.is_leaving {
-            events.push(unavailable(alloc, call_id, id)?)?;
+            events.push(unavailable(alloc, call_id, *id)?)?;
             return Ok(());
         }
-        self.remember(call_id, id, tags)?;
-        if !self.plan.reliable {
-            return self.alert(alloc, now, call_id, id, events);
+        if let Some(before) = self.re_invited(call_id, tags) {
+            invite.before = before;
+            events.push(self.final_answer(alloc, &invite)?)?;
+            return Ok(());
         }
-        self.wait(call_id, id, None)?;
-        events.push(progress(alloc, call_id, id)?)?;
+        self.remember(call_id, *id, tags)?;
+        if !self.plan.reliable {
+            return self.alert(alloc, now, invite, events);
+        }
+        events.push(progress(alloc, call_id, *id)?)?;
+        self.unanswered.push(invite)?;
         Ok(())
     }
 
@@ -81,20 +97,31 @@ impl Answering {
         &mut self,
         alloc: Global,
         now: u64,
-        call_id: &CallId,
-        id: Id,
+        mut invite: Unanswered,
         events: &mut Vec<Event>,
     ) -> Result<(), AllocError> {
         let Some(ring) = self.plan.ring else {
-            events.push(self.final_answer(alloc, call_id, id)?)?;
+            events.push(self.final_answer(alloc, &invite)?)?;
             return Ok(());
         };
-        self.wait(call_id, id, Some(now.saturating_add(u64::from(ring))))?;
-        events.push(ringing(alloc, call_id, id)?)?;
+        events.push(ringing(alloc, &invite.call_id, invite.id)?)?;
+        invite.due = Some(now.saturating_add(u64::from(ring)));
+        self.unanswered.push(invite)?;
         Ok(())
     }
 
-    // The dialog of an INVITE, where its answer makes one and an INVITE before hasn't.
+    // In the dialog of these tags comes a further INVITE; gives how many came before it.
+    fn re_invited(&mut self, call_id: &CallId, tags: (&Text, &Text)) -> Option<u32> {
+        for made in self.dialogs.iter_mut() {
+            if made.has(call_id, tags) {
+                made.re_invites = made.re_invites.saturating_add(1);
+                return Some(made.re_invites);
+            }
+        }
+        None
+    }
+
+    // The dialog of an INVITE, where its answer makes one.
     fn remember(
         &mut self,
         call_id: &CallId,
@@ -102,7 +129,7 @@ impl Answering {
         tags: (&Text, &Text),
     ) -> Result<(), AllocError> {
         let (local_tag, remote_tag) = tags;
-        if !self.plan.makes_dialogs() || self.dialogs.iter().any(|made| made.has(call_id, tags)) {
+        if !self.plan.makes_dialogs() {
             return Ok(());
         }
         let made = Made {
@@ -110,6 +137,7 @@ impl Answering {
             id,
             local_tag: local_tag.clone()?,
             remote_tag: remote_tag.clone()?,
+            re_invites: 0,
             is_confirmed: false,
         };
         self.dialogs.push(made)?;
@@ -156,20 +184,24 @@ impl Answering {
         self.hang_up(alloc, events)
     }
 
-    fn wait(&mut self, call_id: &CallId, id: Id, due: Option<u64>) -> Result<(), AllocError> {
-        let call_id = call_id.clone()?;
-        self.unanswered.push(Unanswered { call_id, id, due })?;
-        Ok(())
+    fn final_answer(&self, alloc: Global, invite: &Unanswered) -> Result<Event, AllocError> {
+        let Unanswered { call_id, id, .. } = invite;
+        let status = self.plan.status;
+        let content = self.content(alloc, invite)?;
+        respond(alloc, call_id, *id, status, Reliability::Plain, content)
     }
 
-    fn final_answer(&self, alloc: Global, call_id: &CallId, id: Id) -> Result<Event, AllocError> {
-        let status = self.plan.status;
-        let body = if self.plan.makes_dialogs() {
-            self.plan.body.clone()?
-        } else {
-            Text::from_vec(Vec::new(alloc))
-        };
-        respond(alloc, call_id, id, status, Reliability::Plain, body)
+    // What its final answer has beside its status: of a 2xx the body.
+    fn content(&self, alloc: Global, invite: &Unanswered) -> Result<Content, AllocError> {
+        if self.plan.makes_dialogs() {
+            let Unanswered { before, offer, .. } = invite;
+            let body = self.plan.body.to(alloc, self.ip, *before, offer)?;
+            return Ok(Content::of_body(body));
+        }
+        match &self.plan.contact {
+            Some(uri) => contact(alloc, uri.clone()?),
+            None => Ok(nothing(alloc)),
+        }
     }
 
     // The 183s of a call, or that of one INVITE, need no acknowledgement any more.
@@ -183,7 +215,7 @@ impl Answering {
     ) -> Result<(), AllocError> {
         for one in mem::replace(&mut self.unanswered, Vec::new(alloc)) {
             if one.due.is_none() && one.is_meant(call_id, id) {
-                self.alert(alloc, now, &one.call_id, one.id, events)?;
+                self.alert(alloc, now, one, events)?;
             } else {
                 self.unanswered.push(one)?;
             }
@@ -227,12 +259,19 @@ impl User for Answering {
                 method,
                 local_tag,
                 remote_tag,
-                ..
+                body,
             } => {
                 let method = method.as_slice();
                 if method == b"INVITE".as_slice() {
+                    let invite = Unanswered {
+                        call_id: call_id.clone()?,
+                        id: *id,
+                        offer: body.clone()?,
+                        before: 0,
+                        due: None,
+                    };
                     let tags = (local_tag, remote_tag);
-                    return self.invited(alloc, now, call_id, *id, tags, events);
+                    return self.invited(alloc, now, invite, tags, events);
                 }
                 events.push(answer(alloc, call_id, *id, method)?)?;
                 Ok(())
@@ -278,7 +317,7 @@ impl User for Answering {
         for one in mem::replace(&mut self.unanswered, Vec::new(alloc)) {
             match one.due {
                 Some(due) if due <= now => {
-                    events.push(self.final_answer(alloc, &one.call_id, one.id)?)?;
+                    events.push(self.final_answer(alloc, &one)?)?;
                 }
                 _ => self.unanswered.push(one)?,
             }

@@ -14,6 +14,8 @@ pub struct CallPlan {
     pub call_id: CallId,
     /// The body of the INVITE.
     pub body: Text,
+    /// Whether it supports reliable provisional responses (RFC 3262, section 4).
+    pub is_reliable: bool,
     /// How many ms the first dialog that a 2xx confirms stays up; without it the BYE goes out at
     /// once.
     pub hold: Option<u32>,
@@ -32,6 +34,7 @@ impl CallPlan {
             uri,
             call_id,
             body: Text::from_vec(Vec::new(alloc)),
+            is_reliable: false,
             hold: None,
             leaves: false,
             must_answer: false,
@@ -45,6 +48,7 @@ impl CallPlan {
             uri,
             call_id,
             body,
+            is_reliable,
             hold: _,
             leaves: _,
             must_answer: _,
@@ -56,7 +60,11 @@ impl CallPlan {
             from,
             to: uri,
             routes: Series::new(alloc),
-            support: ProvisionalSupport::None,
+            support: if is_reliable {
+                ProvisionalSupport::Supported
+            } else {
+                ProvisionalSupport::None
+            },
             content: Content::of_body(body),
         })
     }
@@ -69,6 +77,7 @@ impl Drop for CallPlan {
             uri: _,
             call_id: _,
             body: _,
+            is_reliable: _,
             hold: _,
             leaves: _,
             must_answer: _,

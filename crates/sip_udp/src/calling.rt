@@ -2,10 +2,11 @@
 
 use crate::answer::answer;
 use crate::call_plan::CallPlan;
-use crate::hang_up::{bye, nothing};
+use crate::hang_up::bye;
 use crate::limit::TimeLeft;
+use crate::sdp;
 use crate::user::User;
-use sip_message::{CallId, Id, StatusCode, Token, Uri};
+use sip_message::{CallId, Content, Id, StatusCode, Token, Uri};
 use sip_round::Event;
 use sip_served::{Cancel, DialogBody, Invite, Notice, UserCommand};
 use sip_text::Text;
@@ -38,17 +39,22 @@ struct Up {
 }
 
 /// Sends an INVITE and ends each dialog that a 2xx to it confirms by a BYE, the first one as late
-/// as its plan says. Where that 2xx has a body and the INVITE had none, its ACK waits for the user,
-/// who gives it, without a body, before the BYE. BYE and OPTIONS of the peer are answered with 200,
-/// every other request with 501. In the last second a call that isn't answered is cancelled and one
-/// that is up is ended, where it is to be, and always once the input has ended.
+/// as its plan says. Where that 2xx, or a reliable provisional response, has an offer and the INVITE
+/// had none, its ACK or PRACK waits for the user, who answers that its streams are inactive. BYE and
+/// OPTIONS of the peer are answered with 200, a re-INVITE with 488, every other request with 501. In
+/// the last second a call that isn't answered is cancelled and one that is up is ended, where it is
+/// to be, and always once the input has ended.
 #[derive(Drop)]
 pub(crate) struct Calling {
+    // One's own.
+    ip: [u8; 4],
     // Until it was sent.
     invite: Option<Invite>,
     call_id: CallId,
     // Whether the INVITE has a body: an offer, to which a body of its 2xx is the answer.
     has_offer: bool,
+    // Whether provisional responses to it may be reliable.
+    is_reliable: bool,
     hold: Option<u32>,
     leaves: bool,
     must_answer: bool,
@@ -57,14 +63,22 @@ pub(crate) struct Calling {
 }
 
 impl Calling {
-    pub(crate) fn new(alloc: Global, plan: CallPlan, from: Uri) -> Result<Calling, AllocError> {
+    pub(crate) fn new(
+        alloc: Global,
+        ip: [u8; 4],
+        plan: CallPlan,
+        from: Uri,
+    ) -> Result<Calling, AllocError> {
         let hold = plan.hold;
         let leaves = plan.leaves;
         let must_answer = plan.must_answer;
+        let is_reliable = plan.is_reliable;
         let invite = plan.invite(alloc, from)?;
         Ok(Calling {
+            ip,
             call_id: invite.call_id.clone()?,
             has_offer: !invite.content.body().is_empty(),
+            is_reliable,
             invite: Some(invite),
             hold,
             leaves,
@@ -91,8 +105,9 @@ impl Calling {
         }
         let former = self.stage;
         self.stage = Stage::Answered;
-        if !body.is_empty() && !self.has_offer {
-            events.push(ack(alloc, &self.call_id, local_tag, remote_tag)?)?;
+        if self.is_offered(body) {
+            let answer = self.offer_answer(alloc, local_tag, remote_tag, body)?;
+            events.push(Event::Command(UserCommand::Ack(answer)))?;
         }
         match self.hold {
             Some(hold) if former == Stage::Asked => {
@@ -105,6 +120,28 @@ impl Calling {
             _ => events.push(bye(alloc, &self.call_id, local_tag, remote_tag)?)?,
         }
         Ok(())
+    }
+
+    // Whether the body of a response is an offer.
+    fn is_offered(&self, body: &Text) -> bool {
+        !body.is_empty() && !self.has_offer
+    }
+
+    // The answer to the offer of a response with these tags.
+    fn offer_answer(
+        &self,
+        alloc: Global,
+        local_tag: &Text,
+        remote_tag: &Text,
+        offer: &Text,
+    ) -> Result<DialogBody, AllocError> {
+        let answer = sdp::inactive(alloc, self.ip, 0, offer.as_slice())?;
+        Ok(DialogBody {
+            call_id: self.call_id.clone()?,
+            local_tag: Token::new(local_tag.clone()?),
+            remote_tag: Token::new(remote_tag.clone()?),
+            content: Content::of_body(answer),
+        })
     }
 
     // No answer comes any more, where none has come.
@@ -158,6 +195,16 @@ impl User for Calling {
             } if *id == INVITE && status.code() >= 200 => {
                 self.answered(alloc, now, *status, local_tag, remote_tag, body, events)?;
             }
+            Notice::Response {
+                id,
+                local_tag,
+                remote_tag,
+                body,
+                ..
+            } if *id == INVITE && self.is_reliable && self.is_offered(body) => {
+                let answer = self.offer_answer(alloc, local_tag, remote_tag, body)?;
+                events.push(Event::Command(UserCommand::Prack(answer)))?;
+            }
             Notice::Timeout { id, .. } | Notice::Failed { id, .. } if *id == INVITE => {
                 self.refused();
             }
@@ -208,19 +255,4 @@ impl User for Calling {
 
 fn is_success(status: StatusCode) -> bool {
     (200..=299).contains(&status.code())
-}
-
-// The ACK of a dialog, without a body.
-fn ack(
-    alloc: Global,
-    call_id: &CallId,
-    local_tag: &Text,
-    remote_tag: &Text,
-) -> Result<Event, AllocError> {
-    Ok(Event::Command(UserCommand::Ack(DialogBody {
-        call_id: call_id.clone()?,
-        local_tag: Token::new(local_tag.clone()?),
-        remote_tag: Token::new(remote_tag.clone()?),
-        content: nothing(alloc),
-    })))
 }

@@ -1,8 +1,10 @@
 //! How `listen` answers INVITEs.
 
 use crate::answer::SUCCESS;
+use crate::sdp;
+use sip_message::Uri;
 use sip_text::Text;
-use std::alloc::Global;
+use std::alloc::{AllocError, Global};
 
 /// How an INVITE is answered.
 #[derive(Drop)]
@@ -15,17 +17,48 @@ pub struct ListenPlan {
     /// The status of its answer, from 200 to 699.
     pub status: u16,
     /// The body of an answer of 200 to 299.
-    pub body: Text,
+    pub body: AnswerBody,
+    /// Where an answer that isn't a 2xx sends its caller (RFC 3261, section 21.3).
+    pub contact: Option<Uri>,
+}
+
+/// The body of a 2xx to an INVITE.
+#[derive(Drop)]
+pub enum AnswerBody {
+    /// A session description without media, which answers that of the INVITE.
+    Inactive,
+    /// This text.
+    Given(Text),
+    /// No body.
+    Nothing,
+}
+
+impl AnswerBody {
+    /// The body for an INVITE with this one, from this IP; before it the dialog had so many.
+    pub(crate) fn to(
+        &self,
+        alloc: Global,
+        ip: [u8; 4],
+        version: u32,
+        offer: &Text,
+    ) -> Result<Text, AllocError> {
+        match self {
+            AnswerBody::Inactive => sdp::inactive(alloc, ip, version, offer.as_slice()),
+            AnswerBody::Given(text) => text.clone(),
+            AnswerBody::Nothing => Ok(Text::from_vec(Vec::new(alloc))),
+        }
+    }
 }
 
 impl ListenPlan {
     /// 200 at once, without a body.
-    pub fn usual(alloc: Global) -> ListenPlan {
+    pub fn usual() -> ListenPlan {
         ListenPlan {
             ring: None,
             reliable: false,
             status: SUCCESS,
-            body: Text::from_vec(Vec::new(alloc)),
+            body: AnswerBody::Nothing,
+            contact: None,
         }
     }
 

@@ -28,8 +28,8 @@ pub(crate) struct Telling {
 }
 
 /// Writes the line of each notice as it stands in an output file, and flushes after each; and where
-/// drops are told a line of each but those of keep-alives. In a session the header lines of the datagram that a notice
-/// tells of stand before its line.
+/// drops are told a line of each but those of keep-alives. In a session the header lines of the
+/// datagram that a notice tells of stand before its line.
 pub(crate) fn write_notices<W: Write>(
     alloc: Global,
     writer: &mut W,

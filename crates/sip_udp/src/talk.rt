@@ -53,7 +53,7 @@ pub fn listen<R: Threads + Clock + Sync, W: Write>(
     notices: &mut W,
 ) -> Result<(), UaFault> {
     let endpoint = Endpoint::new(socket, local, seed, None::<Vec<u8>>);
-    let plan = ListenPlan::usual(alloc);
+    let plan = ListenPlan::usual();
     let turns = u64::from(turns);
     let mut errors = Vec::new(alloc);
     listen_at(rt, alloc, endpoint, plan, turns, notices, &mut errors)
@@ -75,7 +75,7 @@ pub fn listen_at<R: Threads + Clock + Sync, F: Write + Drop, W: Write, E: Write>
     notices: &mut W,
     errors: &mut E,
 ) -> Result<(), UaFault> {
-    let user = Answering::new(alloc, plan);
+    let user = Answering::new(alloc, endpoint.config.local.ip, plan);
     talk(rt, alloc, endpoint, user, None, turns, notices, errors)
 }
 
@@ -121,7 +121,7 @@ pub fn call_from<R: Threads + Clock + Sync, F: Write + Drop, W: Write, E: Write>
     errors: &mut E,
 ) -> Result<(), UaFault> {
     let from = own_uri(alloc, endpoint.config.local)?;
-    let user = Calling::new(alloc, plan, from)?;
+    let user = Calling::new(alloc, endpoint.config.local.ip, plan, from)?;
     talk(rt, alloc, endpoint, user, None, turns, notices, errors)
 }
 

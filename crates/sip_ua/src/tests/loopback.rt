@@ -47,8 +47,8 @@ pub(super) fn bound<R: Net>(rt: &R) -> io::Result<(UdpSocket, Addr)> {
     Ok((socket, Addr { ip, port }))
 }
 
-fn listen_plan(alloc: Global, answers: Answers) -> ListenPlan {
-    let mut plan = ListenPlan::usual(alloc);
+fn listen_plan(answers: Answers) -> ListenPlan {
+    let mut plan = ListenPlan::usual();
     match answers {
         Answers::Usually => {}
         Answers::Rings(time) => plan.ring = Some(time),
@@ -74,7 +74,7 @@ pub(super) fn listened<R: Threads + Clock + Sync>(
     let mut record = Vec::new(alloc);
     let mut errors = Vec::new(alloc);
     let endpoint = Endpoint::new(socket, local, [7; 32], Some(&mut record));
-    let plan = listen_plan(alloc, answers);
+    let plan = listen_plan(answers);
     let ended = listen_at(
         rt,
         alloc,

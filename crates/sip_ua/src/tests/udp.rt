@@ -635,7 +635,7 @@ fn until_input_ends<T: Threads + Clock + Sync>(
     match plan {
         Some(plan) => call_from(rt, alloc, endpoint, plan, u64::MAX, &mut told, &mut errors)?,
         None => {
-            let plan = ListenPlan::usual(alloc);
+            let plan = ListenPlan::usual();
             listen_at(rt, alloc, endpoint, plan, u64::MAX, &mut told, &mut errors)?;
         }
     }
