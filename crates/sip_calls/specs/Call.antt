@@ -58,7 +58,8 @@ event_of calls id now = record { local = calls.local; seed = calls.seed; id = id
 
 -- ---- what comes up
 
--- the tag that an event makes for a request without a To tag
+-- the To tag that an event makes for a request without one, of index 0: an event that is a request
+-- makes no branch
 abbrev pub made_tag : Event → List ℕ
 made_tag event = name_of event.seed event.id 0
 
@@ -69,8 +70,8 @@ transaction_lost call id notice timed_out =
     let after = by_clients call (request_is_lost id timed_out (side_of call)) in
     (after.0, Notice notice ∷ after.1)
 
--- What comes up from a transaction: a response is for the client side, a request or an ACK for the
--- server side.
+-- What comes up from a transaction: a response is for the client side, a request or an ACK (the
+-- last case) for the server side.
 abbrev pub received : Call → Event → AnUp → Kind → CallTaken
 received call event up (kind.Response response) =
     by_clients call (response_received event up.id up.call_id response (side_of call))
@@ -115,7 +116,8 @@ item_of_call held call event (User command) =
     option_map_or (λ refusal. (call, refused event.id (call_of_command command) refusal))
     (call_refusal held command) (used_command call event command)
 
--- At a tick first the server side, and then the client side.
+-- At a tick first the server side (sip_served Rules/Ticks), and then the client side (sip_clients
+-- Rules/Ends).
 abbrev pub call_tick : Call → ℕ → CallTaken
 call_tick call now =
     let first = by_server call (served.server_tick call.served now) in

@@ -1,8 +1,7 @@
 -- The two sides of a call, over the same dialogs.
 use Rattle.std.specs.Prelude.{ℕ, Bool, ◌||◌, not, ◌==◌, List, ◌++◌, Option, length}
 use Rattle.sip_timers.specs.Earlier.{earlier}
-use Rattle.sip_served.specs.State.{ServedTaken}
-use Rattle.sip_served.specs.Step.{holds}
+use Rattle.sip_served.specs.State.{ServedTaken, holds}
 use Rattle.sip_served.specs.Tick as served
 use Rattle.sip_common.specs.declared.item.CallOut.{CallOut}
 use Rattle.sip_clients.specs.Client.{Side, ClientTaken}

@@ -481,7 +481,8 @@ module _ (life : DialogReference) (given : ReceivedResponse) (side : Side) (canc
     success_of_again client found f s at =
         by_answered (has_answer own.name client.answers) found refl at
       where
-        by_answered : (b : Bool) (found : Option HeldDialog) → has_answer own.name client.answers ≡ b
+        by_answered : (b : Bool) (found : Option HeldDialog) → has_answer own.name client.answers
+            ≡ b
             → dialog_at life.name side.dialogs ≡ found → Same own side cancel (again client)
         by_answered true found h at =
             rw (f, s, h) (stays own side cancel (again client) side.dialogs (ack_again client own))
@@ -496,7 +497,8 @@ module _ (life : DialogReference) (given : ReceivedResponse) (side : Side) (canc
 
     early_of_again : (client : Client) (held : HeldDialog) (rseq : Option ℕ)
         → is_final own.status ≡ false → is_dialog_response own ≡ true
-        → is_id held.created_by life.created_by ≡ true → dialog_at life.name side.dialogs ≡ Some held
+        → is_id held.created_by life.created_by ≡ true → dialog_at life.name side.dialogs
+        ≡ Some held
         → rseq_of own.response ≡ rseq → Same own side cancel (again client)
     unfolding prack_owed
     early_of_again client held None f d l at is =

@@ -21,21 +21,9 @@ Clients = List (Id × Client)
 abbrev pub client_at : Id → Clients → Option Client
 client_at id clients = lookup (is_id id) clients
 
--- that is changed so
-abbrev pub client_changed : Id → (Client → Client) → Clients → Clients
-client_changed id change clients =
-    option_map_or (λ client. set_value (is_id id) clients (change client))
-    (client_at id clients) clients
-
--- all but the request of this id
-abbrev pub without_client : Id → Clients → Clients
-without_client id clients = remove_entry (is_id id) clients
-
--- with the request of this id
-abbrev pub with_client : Id → Client → Clients → Clients
-with_client id client clients = insert_entry is_id clients id client
-
--- a request that was just sent
+-- A request that was just sent: no provisional response came, no CANCEL was asked for, no RSeq was
+-- taken (of a re-INVITE; otherwise the dialog has it), no 2xx came, no removal is set. `answers`
+-- has each dialog with a 2xx, with its ACK, or None where that wasn't sent.
 abbrev pub client_for : Id → RequestKind → Message → Addr → Client
 client_for id kind request to =
     record {
@@ -58,6 +46,22 @@ pub record Side : Type 0 where
 -- what is held after something happened, and what is told of it
 abbrev pub ClientTaken : Type 0
 ClientTaken = Side × List CallOut
+
+-- ---- for steps and laws: `run` needs nothing of what follows
+
+-- that is changed so
+abbrev pub client_changed : Id → (Client → Client) → Clients → Clients
+client_changed id change clients =
+    option_map_or (λ client. set_value (is_id id) clients (change client))
+    (client_at id clients) clients
+
+-- all but the request of this id
+abbrev pub without_client : Id → Clients → Clients
+without_client id clients = remove_entry (is_id id) clients
+
+-- with the request of this id
+abbrev pub with_client : Id → Client → Clients → Clients
+with_client id client clients = insert_entry is_id clients id client
 
 -- nothing happens
 abbrev pub nothing_done : Side → ClientTaken

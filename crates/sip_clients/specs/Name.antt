@@ -10,15 +10,17 @@ unfoldable pub hex : ℕ → ℕ → List ℕ
 hex zero number = []
 hex (suc count) number = hex count (number / 16) ++ hex_digit (number % 16) ∷ []
 
--- the word of ChaCha20 (10 double rounds) that a name ends in: the seed is the key, the round the
--- stream, and each place has 16 words
+-- the word of ChaCha20 (10 double rounds; rand_chacha, ChaCha) that a name ends in, so that it
+-- can't be guessed: the seed is the key, the round the stream, and each place has 16 words
 abbrev pub word_of_name : List ℕ → Id → ℕ → ℕ
 word_of_name seed id index = word_at 10 (key_of seed) id.round (16 * id.place + index)
 
--- the round, the place, the index and the word
+-- the round, the place, the index and the word; names differ by the first three alone
 abbrev pub name_of : List ℕ → Id → ℕ → List ℕ
 name_of seed id index =
     ((hex 16 id.round ++ hex 16 id.place) ++ hex 1 index) ++ hex 8 (word_of_name seed id index)
+
+-- ---- for steps and laws: `run` needs nothing of what follows
 
 -- names of different rounds, places or indexes differ, whatever the seeds
 abbrev pub NamesDiffer : Type 0

@@ -42,9 +42,9 @@ dialog_changed name change dialogs =
 
 -- the dialog that this event made is held still, and not a later one of the same ID
 abbrev pub lives : Dialogs → DialogReference → Bool
-lives dialogs life =
-    option_map_or (λ held. is_id held.created_by life.created_by) (dialog_at life.name dialogs)
-    false
+lives dialogs reference =
+    option_map_or (λ held. is_id held.created_by reference.created_by)
+    (dialog_at reference.name dialogs) false
 
 -- a reference to the held dialog of this ID
 abbrev pub reference_at : DialogId → Dialogs → Option DialogReference

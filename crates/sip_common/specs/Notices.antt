@@ -6,11 +6,13 @@ use Rattle.sip_common.specs.declared.item.CallOut.TheVariants.{Notice}
 use Rattle.sip_common.specs.declared.notice.Notice.TheVariants.{Refused, Request}
 use Rattle.sip_common.specs.declared.refusal.Refusal.{Refusal}
 
+-- the user is told that the command of an event is refused, and why
+abbrev pub refused : Id → List ℕ → Refusal → List CallOut
+refused event call_id refusal = Notice (Refused call_id event.place refusal) ∷ []
+
+-- ---- for steps and laws: `run` needs nothing of what follows
+
 -- the request that an output tells the user of
 abbrev pub request_told_by : CallOut → Option Id
 request_told_by (Notice (Request call_id id method local_tag remote_tag body)) = Some id
 request_told_by _ = None
-
--- the user is told that the command of an event is refused, and why
-abbrev pub refused : Id → List ℕ → Refusal → List CallOut
-refused event call_id refusal = Notice (Refused call_id event.place refusal) ∷ []

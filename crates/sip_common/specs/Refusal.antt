@@ -9,6 +9,8 @@ first_refusal [] otherwise = otherwise
 first_refusal ((holds, refusal) ∷ others) otherwise =
     if holds then Some refusal else first_refusal others otherwise
 
+-- ---- for steps and laws: `run` needs nothing of what follows
+
 -- the number of a refusal
 abbrev pub number_of : Refusal → ℕ
 number_of CallInUse = 1

@@ -7,7 +7,7 @@ use Rattle.sip_message.specs.declared.message.Message.{Message}
 use Rattle.sip_message.specs.Party.{tag_of}
 use Rattle.sip_common.specs.declared.held_dialog.DialogId.{DialogId}
 
--- the method is this one
+-- the method, which also stands in CSeq; a message where the two differ isn't read
 abbrev pub is_method : List ℕ → Message → Bool
 is_method method request = bytes_eq request.cseq.method method
 

@@ -35,7 +35,7 @@ agent_via local branch = record {
 abbrev pub contact_of : Addr → NameAddr
 contact_of local = record { display = []; uri = codes "sip:" ++ addr_text local; parameters = [] }
 
--- a request that wants a confirmed dialog, and that has a Contact
+-- the method is INVITE
 abbrev pub is_invite_method : List ℕ → Bool
 is_invite_method method = bytes_eq method (codes "INVITE")
 

@@ -24,7 +24,8 @@ module _ {E : Type 0} (name value line : List ℕ) (is : line ≡ header_text na
 
   pub none_said : (result : Result (Option GivenHeader) E)
       → IfOk result (λ found. found ≡ given_at line)
-      → IfOk result (λ found. IfNone found ((header : GivenHeader) → ¬ (SaysHeader name value header)))
+      → IfOk result (λ found. IfNone found ((header : GivenHeader)
+      → ¬ (SaysHeader name value header)))
   none_said (Ok None) found = λ header says. none_is_not_some header
       (found ∙ ap given_at is ∙ given_again (header_text name value) header says.given)
   none_said (Ok (Some header)) found = tt

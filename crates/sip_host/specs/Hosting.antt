@@ -64,8 +64,8 @@ Reports output old new = IsSomeAnd (sent_key (output_at old output))
 
 -- whatever rounds the agent stood for, it stands for these and the one of the host's events at this
 -- moment, and the outputs are those with which that one is answered after them, each with its
--- place; its events are kept, no event is left, no output is taken, and its next command has the same
--- headers
+-- place; its events are kept, no event is left, no output is taken, and its next command has the
+-- same headers
 pub record IsAnswered (moment : ℕ) (old new : Host) : Type 0 where
   pub stands : (config : Config) (rounds : List Round)
       → StandsFor shard_of old.agent config rounds
@@ -157,8 +157,8 @@ pub record RunsRound (moment : ℕ) (old new : Host) (answer : Answer) : Type 0 
 abbrev pub live_in : Holdings → ℕ × ℕ
 live_in holds = (holds.transactions, holds.calls)
 
--- what it holds of its rounds is what has begun in them and not ended (RFC 3261, sections 12 and 17);
--- what waits are the events of the next round
+-- what it holds of its rounds is what has begun in them and not ended (RFC 3261, sections 12 and
+-- 17); what waits are the events of the next round
 pub record HoldsSo (host : Host) (holds : Holdings) : Type 0 where
   pub broken : host.agent.shards ≡ None → live_in holds ≡ (0, 0)
   pub live : (config : Config) (rounds : List Round) → StandsFor shard_of host.agent config rounds

@@ -45,8 +45,8 @@ use sip_text::{Series, Text};
 use std::alloc::{AllocError, Global};
 use std::mem;
 
-/// One user agent, the headers of its next command, the events of its next round, and the events and
-/// the outputs of its last one.
+/// One user agent, the headers of its next command, the events of its next round, and the events
+/// and the outputs of its last one.
 #[derive(Drop)]
 pub struct Host {
     alloc: Global,
@@ -130,8 +130,8 @@ impl Host {
         Ok(())
     }
 
-    /// A header of the next command that is asked for by its fields: its name, the long or the compact
-    /// one in any case, and its value. It is kept until that command takes it.
+    /// A header of the next command that is asked for by its fields: its name, the long or the
+    /// compact one in any case, and its value. It is kept until that command takes it.
     ///
     /// # Errors
     ///
@@ -149,8 +149,8 @@ impl Host {
         Ok(())
     }
 
-    /// Starts a call: a first INVITE to an address. An event of the next round, with the headers that
-    /// are kept for it, and its id.
+    /// Starts a call: a first INVITE to an address. An event of the next round, with the headers
+    /// that are kept for it, and its id.
     ///
     /// # Errors
     ///

@@ -1,4 +1,5 @@
--- The scheme of a URI: a letter, and then letters, digits, `+`, `-` and `.` (RFC 3261, section 25.1).
+-- The scheme of a URI: a letter, and then letters, digits, `+`, `-` and `.` (RFC 3261, section
+-- 25.1).
 use Rattle.std.specs.Prelude.{ℕ, Bool, false, ◌&&◌, ◌||◌, ◌==◌, List, [], ◌∷◌}
 use Rattle.std.specs.Char.{is_ascii_alphabetic, is_ascii_alphanumeric}
 use Rattle.std.specs.List.{list_all}

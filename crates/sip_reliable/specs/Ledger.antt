@@ -20,8 +20,6 @@ pub record Ledger : Type 0 where
   pub closed : Bool
   pub waiting : List Provisional
 
--- ---- what the calls do
-
 -- whether the response of this number waits for its PRACK
 abbrev pub waits_for : ℕ → Ledger → Bool
 waits_for number l = list_any (λ p. p.number == number) l.waiting
@@ -31,6 +29,16 @@ waits_for number l = list_any (λ p. p.number == number) l.waiting
 abbrev pub must_wait : Ledger → Bool
 must_wait l =
     waits_for l.first l || (length l.waiting == MOST_WAITING) || list_any is_given_up l.waiting
+
+-- the response of this number waits no longer
+abbrev pub acknowledged : ℕ → Ledger → Ledger
+acknowledged number l = record l { waiting = filter (λ p. not (p.number == number)) l.waiting }
+
+-- no further reliable response is sent
+abbrev pub closed_now : Ledger → Ledger
+closed_now l = record l { closed = true }
+
+-- ---- for steps and laws: `run` needs nothing of what follows
 
 -- why the next can't be sent: the first reason that fits
 abbrev pub send_fault : Ledger → Option SendFault
@@ -54,14 +62,6 @@ send_answer l = ok_unless (send_fault l) l.next
 abbrev pub with_sent : Bool → ℕ → Ledger → Ledger
 with_sent has_body now l =
     record l { next = l.next + 1; waiting = l.waiting ++ sent_before l.next has_body now [] ∷ [] }
-
--- the response of this number waits no longer
-abbrev pub acknowledged : ℕ → Ledger → Ledger
-acknowledged number l = record l { waiting = filter (λ p. not (p.number == number)) l.waiting }
-
--- no further reliable response is sent
-abbrev pub closed_now : Ledger → Ledger
-closed_now l = record l { closed = true }
 
 -- ---- how many wait
 

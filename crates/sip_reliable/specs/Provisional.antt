@@ -37,10 +37,6 @@ is_late now p = is_some p.retransmission && nat_le (end_of p) now
 abbrev pub is_repeated : ℕ → Provisional → Bool
 is_repeated now p = option_map_or (λ r. nat_le r.due now) p.retransmission false
 
--- the next moment at which something is due
-abbrev pub due_moment : Provisional → Option ℕ
-due_moment p = option_map (λ r. min r.due (end_of p)) p.retransmission
-
 -- ---- what a tick makes of it
 
 -- it is sent no more
@@ -58,6 +54,12 @@ sent_again now p = record p {
 -- sent again where it is due
 abbrev pub after_repeat : ℕ → Provisional → Provisional
 after_repeat now p = if is_repeated now p then sent_again now p else p
+
+-- ---- for steps and laws: `run` needs nothing of what follows
+
+-- the next moment at which something is due
+abbrev pub due_moment : Provisional → Option ℕ
+due_moment p = option_map (λ r. min r.due (end_of p)) p.retransmission
 
 -- ---- what is read from what happened after it was sent, for the law over a whole life
 

@@ -1,5 +1,5 @@
 -- The server side of one Call-ID: what is held, and what is told when it changes.
-use Rattle.std.specs.Prelude.{Bool, List, [], ◌∷◌, ◌++◌, if◌then◌else◌}
+use Rattle.std.specs.Prelude.{Bool, List, [], ◌∷◌, ◌++◌, ◌||◌, length, nat_lt, if◌then◌else◌}
 use Rattle.sip_message.specs.declared.addr.Addr.{Addr}
 use Rattle.sip_message.specs.declared.id.Id.{Id}
 use Rattle.sip_common.specs.declared.item.CallOut.{CallOut}
@@ -18,17 +18,13 @@ pub record State : Type 0 where
 abbrev pub empty_at : Addr → State
 empty_at local = record { local = local; requests = []; dialogs = [] }
 
+-- something is held
+abbrev pub holds : State → Bool
+holds state = nat_lt 0 (length state.requests) || nat_lt 0 (length state.dialogs)
+
 -- what is held after something happened, and what is told of it
 abbrev pub ServedTaken : Type 0
 ServedTaken = State × List CallOut
-
--- nothing happens
-abbrev pub quiet : State → ServedTaken
-quiet state = (state, [])
-
--- something happens after something else
-abbrev pub followed : ServedTaken → (State → ServedTaken) → ServedTaken
-followed done more = ((more done.0).0, done.1 ++ (more done.0).1)
 
 -- the request that came by this event
 abbrev pub has_id : Id → HeldRequest → Bool
@@ -43,3 +39,13 @@ changed_first test change (x ∷ xs) =
 -- the request of this id is changed so
 abbrev pub changed_at : Id → (HeldRequest → HeldRequest) → List HeldRequest → List HeldRequest
 changed_at id change requests = changed_first (has_id id) change requests
+
+-- ---- for steps and laws: `run` needs nothing of what follows
+
+-- nothing happens
+abbrev pub quiet : State → ServedTaken
+quiet state = (state, [])
+
+-- something happens after something else
+abbrev pub followed : ServedTaken → (State → ServedTaken) → ServedTaken
+followed done more = ((more done.0).0, done.1 ++ (more done.0).1)

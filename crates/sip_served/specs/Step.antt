@@ -1,5 +1,5 @@
 -- What each item makes of the server side of its call.
-use Rattle.std.specs.Prelude.{ℕ, Bool, List, ◌||◌, length, nat_lt, if◌then◌else◌}
+use Rattle.std.specs.Prelude.{ℕ, List, if◌then◌else◌}
 use Rattle.sip_message.specs.declared.id.Id.{Id}
 use Rattle.sip_transactions.specs.declared.output.Kind.{Kind}
 use Rattle.sip_transactions.specs.declared.output.Kind.TheVariants.{Request, Ack, Response, Timeout, Failed}
@@ -41,7 +41,3 @@ server_command_taken state id _ now = quiet state
 abbrev pub server_item_taken : State → List ℕ → Id → Item → ℕ → ServedTaken
 server_item_taken state tag id (item.Up up) now = kind_taken state tag up up.kind now
 server_item_taken state tag id (item.User command) now = server_command_taken state id command now
-
--- something is held
-abbrev pub holds : State → Bool
-holds state = nat_lt 0 (length state.requests) || nat_lt 0 (length state.dialogs)

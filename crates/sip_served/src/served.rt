@@ -31,10 +31,9 @@ impl Served {
     ghost use Rattle.std.specs.Borrow.{sem};
     ghost use Rattle.sip_served.specs.Lending.{ServedLends};
     ghost use Rattle.sip_served.specs.Served.{after, lost};
-    ghost use Rattle.sip_served.specs.State.{empty_at};
+    ghost use Rattle.sip_served.specs.State.{empty_at, holds};
     ghost use Rattle.sip_served.specs.Rules.Arrivals.{server_item};
     ghost use Rattle.sip_served.specs.Rules.Ticks.{server_due, server_tick};
-    ghost use Rattle.sip_served.specs.Step.{holds};
 
     /// The server side of a Call-ID under which nothing is held, at the address `local`. Takes no
     /// memory.

@@ -10,6 +10,8 @@ pub record Dues : Type 0 where
   pub fired : ℕ
   pub ending : Option ℕ
 
+-- ---- for steps and laws: `run` needs nothing of what follows
+
 -- the time in ms that so many firings take after the first, where each comes as soon as it is due
 unfoldable pub spent : ℕ → ℕ
 spent zero = 0

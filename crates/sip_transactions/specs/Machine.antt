@@ -12,6 +12,8 @@ use Rattle.sip_model.specs.Machine.{Machine, Timed}
 abbrev pub transaction_machine : Machine Key Life (Timed Input) Out
 transaction_machine = record { step = λ key held timed. step_at key held timed.moment timed.input }
 
+-- ---- for steps and laws: `run` needs nothing of what follows
+
 -- the moment at which a timer of a life fires: the one that is due first
 abbrev pub life_due : Life → Option ℕ
 life_due life = earlier life.context.timers.ending life.context.timers.repeat

@@ -16,16 +16,7 @@ use Rattle.sip_model.specs.Machine.{Timed, given_at}
 use Rattle.sip_transactions.specs.declared.life.Life.{Life}
 use Rattle.sip_model.specs.Table.{Held, state_at}
 
--- the agent's address, and the lives that are held by key; a broken shard holds `None`
-pub record Lives : Type 0 where
-  pub local : Addr
-  pub held : Held Key Life
-
--- the life that is held for a key
-abbrev pub life_at : Lives → Key → Option Life
-life_at shard key = state_at key_cmp shard.held key
-
--- a response whose top Via names another sender than the agent
+-- a response whose top Via names another sender than the agent (RFC 3261, section 18.1.2)
 abbrev pub is_stray : Addr → Message → Bool
 is_stray local message = not (is_request_message message) && not (is_sent_by_of message local)
 
@@ -34,13 +25,6 @@ abbrev pub received : Addr → Id → Message → Addr → Option (Key × Input)
 received local id message reply_to =
     if is_stray local message then None
     else Some (key_of_message message, Receive id message reply_to)
-
--- a message that came, a command and a failure, as inputs of one transaction
-abbrev pub receipt : Id → Message → Addr → ℕ → Timed Input
-receipt id message reply_to now = given_at now (Receive id message reply_to)
-
-abbrev pub failed_send : Id → ℕ → Timed Input
-failed_send id now = given_at now (Failed id)
 
 -- the transaction that a command is for
 abbrev pub command_key : Command → Key
@@ -51,6 +35,24 @@ command_key (command.Answer key message) = key
 abbrev pub asked_by : Id → Command → Input
 asked_by id (command.Start key call_id message to) = Start id call_id message to
 asked_by id (command.Answer key message) = Answer id message
+
+-- ---- for steps and laws: `run` needs nothing of what follows
+
+-- the agent's address, and the lives that are held by key; a broken shard holds `None`
+pub record Lives : Type 0 where
+  pub local : Addr
+  pub held : Held Key Life
+
+-- the life that is held for a key
+abbrev pub life_at : Lives → Key → Option Life
+life_at shard key = state_at key_cmp shard.held key
+
+-- a message that came, a command and a failure, as inputs of one transaction
+abbrev pub receipt : Id → Message → Addr → ℕ → Timed Input
+receipt id message reply_to now = given_at now (Receive id message reply_to)
+
+abbrev pub failed_send : Id → ℕ → Timed Input
+failed_send id now = given_at now (Failed id)
 
 abbrev pub order : Id → Command → ℕ → Timed Input
 order id command now = given_at now (asked_by id command)

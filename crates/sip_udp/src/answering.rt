@@ -40,8 +40,8 @@ struct Made {
 }
 
 /// Answers INVITEs by its plan, a re-INVITE at once, BYE and OPTIONS with 200, and every other
-/// request with 501. Once the input has ended, INVITEs that aren't answered get 480, and each dialog
-/// a BYE.
+/// request with 501. Once the input has ended, INVITEs that aren't answered get 480, and each
+/// dialog a BYE.
 #[derive(Drop)]
 pub(crate) struct Answering {
     // One's own.

@@ -39,11 +39,11 @@ struct Up {
 }
 
 /// Sends an INVITE and ends each dialog that a 2xx to it confirms by a BYE, the first one as late
-/// as its plan says. Where that 2xx, or a reliable provisional response, has an offer and the INVITE
-/// had none, its ACK or PRACK waits for the user, who answers that its streams are inactive. BYE and
-/// OPTIONS of the peer are answered with 200, a re-INVITE with 488, every other request with 501. In
-/// the last second a call that isn't answered is cancelled and one that is up is ended, where it is
-/// to be, and always once the input has ended.
+/// as its plan says. Where that 2xx, or a reliable provisional response, has an offer and the
+/// INVITE had none, its ACK or PRACK waits for the user, who answers that its streams are inactive.
+/// BYE and OPTIONS of the peer are answered with 200, a re-INVITE with 488, every other request
+/// with 501. In the last second a call that isn't answered is cancelled and one that is up is
+/// ended, where it is to be, and always once the input has ended.
 #[derive(Drop)]
 pub(crate) struct Calling {
     // One's own.

@@ -104,9 +104,9 @@ pub fn call<R: Threads + Clock + Sync, W: Write>(
     call_from(rt, alloc, endpoint, plan, turns, notices, &mut errors)
 }
 
-/// Does what [`call`] does, from an endpoint and by a plan. Once the input of the endpoint has ended,
-/// the call is cancelled or ended, and at the latest a second later the turns are over. That a
-/// record was given up is told on `errors`.
+/// Does what [`call`] does, from an endpoint and by a plan. Once the input of the endpoint has
+/// ended, the call is cancelled or ended, and at the latest a second later the turns are over. That
+/// a record was given up is told on `errors`.
 ///
 /// # Errors
 ///

@@ -46,8 +46,8 @@ pub(crate) trait User: Drop {
     /// Whether it wants no more turns, where the agent holds something or nothing.
     fn is_over(&self, now: u64, holds: bool) -> bool;
 
-    /// Whether a turn begins as soon as there is an event, and is left out where there is nothing to
-    /// do.
+    /// Whether a turn begins as soon as there is an event, and is left out where there is nothing
+    /// to do.
     fn is_eager(&self) -> bool;
 
     /// Whether it has had what it was to have at least, at the end.

@@ -19,13 +19,13 @@ use Rattle.sip_clients.specs.Rules.Requests.{dialog_of_kind}
 abbrev pub request_over : Client → Bool → Dialogs → Dialogs × List CallOut
 request_over client ends_dialog dialogs =
     let early = early_ended client.id dialogs in
-    let own = option_map_or (λ life. if ends_dialog && lives early.0 life
-    then ended_at life.name early.0 else (early.0, []))
+    let own = option_map_or (λ reference. if ends_dialog && lives early.0 reference
+    then ended_at reference.name early.0 else (early.0, []))
     (dialog_of_kind client.kind) (early.0, []) in
     (own.0, early.1 ++ own.1)
 
--- A request is over whose transaction failed to send it, or timed out. A timeout counts as a 408,
--- and ends its dialog (RFC 3261, section 8.1.3.1).
+-- The transaction of a request failed to send it, or timed out: it is over. A timeout counts as a
+-- 408 (RFC 3261, section 8.1.3.1) and ends the dialog that it was sent in too.
 unfoldable pub request_is_lost : Id → Bool → Side → ClientTaken
 request_is_lost id timed_out side =
     let ended = option_map_or (λ client. request_over client timed_out side.dialogs)
@@ -47,6 +47,8 @@ client_tick side now =
       },
       flat_map (λ client. (early_ended client.id side.dialogs).1) over,
     )
+
+-- ---- for steps and laws: `run` needs nothing of what follows
 
 -- the first moment at which one is due to be removed
 unfoldable pub client_due : Clients → Option ℕ

@@ -1,5 +1,6 @@
 -- The rules of the client requests of one Call-ID, and of the user's commands that send them (RFC
--- 3261, sections 8.1.1, 9.1, 12.2.1.1, 13.2.1, 13.2.2.4 and 15.1.1; RFC 3262, section 4).
+-- 3261, sections 8.1.1, 9.1, 12.2.1.1, 13.2.1, 13.2.2.4 and 15.1.1; RFC 3262, section 4). Each part
+-- ends in the command that it is about.
 use Rattle.std.specs.Prelude.{ℕ, ◌+◌, ◌-◌, ◌^◌, Bool, true, false, not, ◌&&◌, ◌||◌, ◌==◌, nat_le, List, [], ◌∷◌, ◌++◌, Option, None, Some, codes, filter, find, fold, is_some, if◌then◌else◌}
 use Rattle.std.specs.Map.{lookup, set_value}
 use Rattle.std.specs.Option.{option_map_or}
@@ -65,14 +66,14 @@ use Rattle.sip_clients.specs.Event.{branch_of, from_tag_of}
 -- an INVITE: an initial one (`InitialInvite`) or a re-INVITE (`ReInvite`)
 abbrev pub is_invite_kind : RequestKind → Bool
 is_invite_kind InitialInvite = true
-is_invite_kind (ReInvite life) = true
+is_invite_kind (ReInvite reference) = true
 is_invite_kind _ = false
 
 -- the dialog of a re-INVITE or of another request in a dialog (`InDialog`); an initial INVITE and a
 -- request outside of dialogs (`OutOfDialog`) have none
 abbrev pub dialog_of_kind : RequestKind → Option DialogReference
-dialog_of_kind (ReInvite life) = Some life
-dialog_of_kind (InDialog life) = Some life
+dialog_of_kind (ReInvite reference) = Some reference
+dialog_of_kind (InDialog reference) = Some reference
 dialog_of_kind _ = None
 
 -- A client request is held, and its transaction starts (RFC 3261, section 17.1).
@@ -160,10 +161,11 @@ refusals_in dialog method =
 abbrev pub request_with_next_number : Event → DialogId → List ℕ → Option RAck → Content → HeldDialog
     → Client
 request_with_next_number event name method rack content held =
-    let life : DialogReference = record { name = name; created_by = held.created_by } in
+    let reference : DialogReference = record { name = name; created_by = held.created_by } in
     let message = request_in held.dialog method (held.dialog.local_cseq + 1) content
     (branch_of event) event.local in
-    client_for event.id (if bytes_eq method (codes "INVITE") then ReInvite life else InDialog life)
+    client_for event.id
+    (if bytes_eq method (codes "INVITE") then ReInvite reference else InDialog reference)
     (record message { rack = rack }) (hop_of held.dialog held.address)
 
 -- that number is taken
@@ -194,18 +196,22 @@ request_command event command side =
 
 -- ---- the ACK of a 2xx, and the PRACK of a reliable provisional response
 
--- what becomes of a pending one: the dialog after it; the ACK that goes out, or the PRACK; and what
--- is given at once: the same ACK, which has no transaction, or that it is refused
+-- Pending in a dialog is an ACK that a 2xx asked for (the id and the CSeq number of its INVITE), or
+-- a PRACK that a reliable provisional response asked for (its RSeq, and the CSeq number of its
+-- INVITE). What becomes of it: the dialog after it; the ACK that went out, to be kept; the PRACK
+-- that goes out, at most one; what is given at once: that ACK, which has no transaction, or why it
+-- is refused.
 pub record PendingOutcome : Type 0 where
   pub dialog : HeldDialog
   pub ack : Option SentAck
   pub prack : List Client
   pub outs : List CallOut
 
--- it goes out with this content (RFC 3261, section 13.2.2.4; RFC 3262, section 4)
+-- It goes out with this content, in this dialog, where it is pending no longer. An ACK has the
+-- number of its INVITE, a PRACK the next one (RFC 3261, section 13.2.2.4; RFC 3262, section 4).
 abbrev pub pending_sent : Event → DialogId → PendingRequest → Content → HeldDialog → PendingOutcome
-pending_sent event name (Ack invite number) content held =
-    let message = request_in held.dialog (codes "ACK") number content (branch_of event)
+pending_sent event name (Ack invite cseq) content held =
+    let message = request_in held.dialog (codes "ACK") cseq content (branch_of event)
     event.local in
     let to = hop_of held.dialog held.address in
     record {
@@ -214,8 +220,8 @@ pending_sent event name (Ack invite number) content held =
       prack = [];
       outs = Direct to (written message) ∷ [];
     }
-pending_sent event name (Prack rseq number) content held =
-    let rack = Some record { rseq = rseq; cseq = number; method = codes "INVITE" } in
+pending_sent event name (Prack rseq cseq) content held =
+    let rack = Some record { rseq = rseq; cseq = cseq; method = codes "INVITE" } in
     record {
       dialog = with_number held;
       ack = None;
@@ -223,56 +229,57 @@ pending_sent event name (Prack rseq number) content held =
       outs = [];
     }
 
--- it doesn't go out
+-- nothing goes out: the dialog as it stands, and what is told
 abbrev pub pending_unsent : HeldDialog → List CallOut → PendingOutcome
 pending_unsent held outs = record { dialog = held; ack = None; prack = []; outs = outs }
 
 -- its method
 abbrev pub method_of : PendingRequest → List ℕ
-method_of (Ack invite number) = codes "ACK"
-method_of (Prack rseq number) = codes "PRACK"
+method_of (Ack invite cseq) = codes "ACK"
+method_of (Prack rseq cseq) = codes "PRACK"
 
--- with this content it is refused, or goes out
+-- With this content it goes out in `without_it`, the dialog where it is pending no longer; or it is
+-- refused, and stays pending in `with_it`.
 abbrev pub pending_with : Event → List ℕ → DialogId → PendingRequest → HeldDialog → HeldDialog
     → Content → PendingOutcome
-pending_with event call_id name pending sent unsent content =
-    option_map_or (λ refusal. pending_unsent unsent (refused event.id call_id refusal))
-    (first_refusal (refusals_in sent.dialog (method_of pending)) None)
-    (pending_sent event name pending content sent)
+pending_with event call_id name pending without_it with_it content =
+    option_map_or (λ refusal. pending_unsent with_it (refused event.id call_id refusal))
+    (first_refusal (refusals_in without_it.dialog (method_of pending)) None)
+    (pending_sent event name pending content without_it)
 
--- Without a content it waits for the user. Where it goes out the dialog is `sent` before, otherwise
--- `unsent`.
+-- The same where a content is given. Without one nothing goes out, and it waits in `with_it` for
+-- the user.
 abbrev pub pending_outcome : Event → List ℕ → DialogId → PendingRequest → Option Content
     → HeldDialog
     → HeldDialog → PendingOutcome
-pending_outcome event call_id name pending content sent unsent =
-    option_map_or (pending_with event call_id name pending sent unsent) content
-    (pending_unsent unsent [])
+pending_outcome event call_id name pending content without_it with_it =
+    option_map_or (pending_with event call_id name pending without_it with_it) content
+    (pending_unsent with_it [])
 
 -- the same pending request
 abbrev pub is_same_pending : PendingRequest → PendingRequest → Bool
-is_same_pending (Ack invite number) (Ack other_invite other_number) =
-    is_id invite other_invite && (number == other_number)
-is_same_pending (Prack rseq number) (Prack other_rseq other_number) =
-    (rseq == other_rseq) && (number == other_number)
+is_same_pending (Ack invite cseq) (Ack other_invite other_cseq) =
+    is_id invite other_invite && (cseq == other_cseq)
+is_same_pending (Prack rseq cseq) (Prack other_rseq other_cseq) =
+    (rseq == other_rseq) && (cseq == other_cseq)
 is_same_pending _ _ = false
 
 -- the ACK is kept with its INVITE, for a 2xx that comes again
 abbrev pub ack_kept : PendingRequest → DialogId → Option SentAck → Clients → Clients
-ack_kept (Ack invite number) name (Some ack) clients =
+ack_kept (Ack invite cseq) name (Some ack) clients =
     option_map_or (λ client. set_value (is_id invite) clients
     (record client { answers = insert_entry is_dialog_id client.answers name (Some ack) }))
     (lookup (is_id invite) clients) clients
 ack_kept _ name ack clients = clients
 
--- it goes out by the user's command, or is refused; then it is pending no longer
+-- by the user's command it goes out and is pending no longer, or is refused and stays pending
 abbrev pub pending_by_user : Event → DialogBody → Side → DialogId → HeldDialog → PendingRequest
     → ClientTaken
 pending_by_user event command side name held pending =
     let others = filter (λ other. not (is_same_pending pending other)) held.pending_requests in
-    let sent = record held { pending_requests = others } in
-    let done = pending_outcome event command.call_id name pending (Some command.content) sent held
-    in
+    let without_it = record held { pending_requests = others } in
+    let content = Some command.content in
+    let done = pending_outcome event command.call_id name pending content without_it held in
     let after = fold start (ack_kept pending name done.ack side.clients, done.outs) done.prack in (
       record {
         dialogs = set_value (is_dialog_id name) side.dialogs done.dialog;
@@ -306,7 +313,8 @@ prack_command = pending_command (codes "PRACK") NothingToPrack
 
 -- ---- CANCEL
 
--- the CANCEL of an INVITE, with its branch and to where it was sent (RFC 3261, section 9.1)
+-- the CANCEL of an INVITE, with its branch and to where it was sent (RFC 3261, section 9.1); it is
+-- held as a request outside of dialogs
 abbrev pub cancel_request : Id → Client → Client
 cancel_request id invite = client_for id OutOfDialog (cancel_of invite.request) invite.to
 
@@ -315,19 +323,20 @@ abbrev pub is_asked : Cancelling → Bool
 is_asked NotAsked = false
 is_asked _ = true
 
--- An INVITE alone is cancelled, before its first 2xx, and once: at once after a provisional
--- response, and otherwise when the first one comes (RFC 3261, section 9.1).
+-- An INVITE without a final response is cancelled, and once: a second command does nothing. The
+-- CANCEL goes out at once after a provisional response, otherwise when the first one comes (RFC
+-- 3261, section 9.1).
 abbrev pub cancel_of_request : Event → Cancel → Side → Client → ClientTaken
 cancel_of_request event command side invite =
     if not (is_invite_kind invite.kind) then refuse event command.call_id side NoSuchRequest
     else if is_some invite.removal then refuse event command.call_id side AlreadyFinal
     else if is_asked invite.cancel then (side, [])
     else (
-    let held : Cancelling → Clients = λ cancel. set_value (is_id command.id) side.clients
+    let with_cancel : Cancelling → Clients = λ cancel. set_value (is_id command.id) side.clients
     (record invite { cancel = cancel }) in
     let done = if invite.provisional
-    then start (held Sent, []) (cancel_request event.id invite)
-    else (held (Waits event.id), []) in
+    then start (with_cancel Sent, []) (cancel_request event.id invite)
+    else (with_cancel (Waits event.id), []) in
     (record side { clients = done.0 }, done.1))
 
 -- The command Cancel is for the held request of its id.

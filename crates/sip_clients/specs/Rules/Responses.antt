@@ -1,5 +1,6 @@
 -- The rules of a response to a client request (RFC 3261, sections 9.1, 12.1.2, 12.2.1.2, 13.2.2 and
--- 13.2.2.4; RFC 3262, section 4).
+-- 13.2.2.4; RFC 3262, section 4). Read from the end: response_received finds the request,
+-- response_to treats its CANCEL, outcome_of chooses the case; the cases stand before them.
 use Rattle.std.specs.Prelude.{ℕ, ◌+◌, Bool, true, not, ◌&&◌, ◌||◌, ◌==◌, List, [], ◌∷◌, ◌++◌, length, Option, None, Some, fold, is_none, is_some, option_and_then, unwrap_or, if◌then◌else◌}
 use Rattle.std.specs.Map.{lookup, remove_entry, set_value}
 use Rattle.std.specs.Option.{option_map_or}
@@ -54,16 +55,17 @@ abbrev pub kept : Client → Dialogs → List CallOut → Outcome
 kept after dialogs outs =
     record { request = Some after; dialogs = dialogs; outs = outs; prack = [] }
 
--- The user is told of a response that asks for an ACK or a PRACK. That goes out by itself, unless
--- it has to carry an SDP answer (the response has a body and the INVITE had none) or is refused:
--- then it stands last in `pending_requests` (RFC 3261, section 13.2.1; RFC 3262, section 5).
+-- The user is told of a response that asks for an ACK or a PRACK. That goes out by itself, empty,
+-- unless it has to carry an SDP answer (the response has a body and the INVITE had none; own: each
+-- body counts as SDP) or is refused: then it stands last in `pending_requests`. `after` gives the
+-- request, with the ACK that went out (RFC 3261, section 13.2.1; RFC 3262, section 5).
 abbrev pub asks_for : PendingRequest → ReceivedResponse → Client → (Option SentAck → Client)
     → HeldDialog → Dialogs → Outcome
 asks_for pending reply client after held dialogs =
     let content = if not (length client.request.body == 0) || (length reply.response.body == 0)
     then Some (content_of_body []) else None in
-    let unsent = record held { pending_requests = held.pending_requests ++ pending ∷ [] } in
-    let done = pending_outcome reply.event reply.call_id reply.name pending content held unsent in
+    let with_it = record held { pending_requests = held.pending_requests ++ pending ∷ [] } in
+    let done = pending_outcome reply.event reply.call_id reply.name pending content held with_it in
     record {
       request = Some (after done.ack);
       dialogs = insert_entry is_dialog_id dialogs reply.name done.dialog;
@@ -75,7 +77,8 @@ asks_for pending reply client after held dialogs =
 abbrev pub is_initial : Client → Bool
 is_initial client = is_none (dialog_of_kind client.kind)
 
--- the dialog that a response makes (RFC 3261, section 12.1.2)
+-- the dialog that a response makes (RFC 3261, section 12.1.2); `address` is where its requests go
+-- if the URI of their next hop has no IPv4 address
 abbrev pub dialog_made_by : ReceivedResponse → Client → HeldDialog
 dialog_made_by reply client = record {
   dialog = opened_by_response client.request reply.response;
@@ -96,11 +99,12 @@ last_response reply client dialogs =
     let ended = request_over client ends_dialog dialogs in
     record { request = None; dialogs = ended.0; outs = notice_of reply ∷ ended.1; prack = [] }
 
--- a 2xx that comes again: the same ACK, to the same address (RFC 3261, section 13.2.2.4)
+-- a 2xx that comes again: the same ACK, to the same address; nothing where it wasn't sent yet (RFC
+-- 3261, section 13.2.2.4)
 abbrev pub success_again : Option (Option SentAck) → Client → Dialogs → Outcome
-success_again sent_ack client dialogs =
+success_again answer client dialogs =
     kept client dialogs (option_map_or (λ ack. Direct ack.to ack.bytes ∷ [])
-    (option_and_then (λ ack. ack) sent_ack) [])
+    (option_and_then (λ ack. ack) answer) [])
 
 -- after a 2xx the INVITE is held for 64*T1 from the first one on (RFC 3261, section 13.2.2.4), with
 -- its ACK where that was sent
@@ -110,8 +114,8 @@ accepted reply client ack = record client {
   removal = Some (unwrap_or client.removal (reply.event.moment + LIFETIME));
 }
 
--- A 2xx to an initial INVITE confirms its dialog, and one to a re-INVITE refreshes the target,
--- unless the dialog has ended (RFC 3261, sections 12.2.1.2 and 13.2.2.4).
+-- A 2xx to an initial INVITE confirms its dialog, and one to a re-INVITE refreshes the target (RFC
+-- 3261, sections 12.2.1.2 and 13.2.2.4). No held dialog has ended.
 abbrev pub success_in : Bool → Message → HeldDialog → HeldDialog
 success_in initial response held =
     let target = unwrap_or (contact_uri response) held.dialog.target in
@@ -129,8 +133,9 @@ first_success reply client dialogs =
 
 -- ---- provisional responses of a dialog
 
--- A reliable one is the next in this dialog, or to this re-INVITE, or is passed over; it asks for
--- its PRACK (RFC 3262, section 4).
+-- A reliable one is taken if it is the first, or has the RSeq after the last, of this dialog or, to
+-- a re-INVITE, of that request; others are passed over, and the user isn't told. It asks for its
+-- PRACK (RFC 3262, section 4).
 abbrev pub reliable_response : ReceivedResponse → Client → Dialogs → HeldDialog → ℕ → Outcome
 reliable_response reply client dialogs held rseq =
     let initial = is_initial client in
@@ -162,10 +167,10 @@ has_dialog client dialogs =
 abbrev pub outcome_of : ReceivedResponse → Client → Dialogs → Outcome
 outcome_of reply client dialogs =
     let final = is_final reply.status in
-    let sent_ack = lookup (is_dialog_id reply.name) client.answers in
+    let answer = lookup (is_dialog_id reply.name) client.answers in
     if final && not (is_invite_kind client.kind && is_success reply.status)
     then last_response reply client dialogs
-    else if final && is_some sent_ack then success_again sent_ack client dialogs
+    else if final && is_some answer then success_again answer client dialogs
     else if final && has_dialog client dialogs then first_success reply client dialogs
     else if final then kept (accepted reply client None) dialogs (notice_of reply ∷ [])
     else if not (has_dialog client dialogs && not (reply.status == 100)
@@ -183,24 +188,25 @@ abbrev pub waiting_cancel : Cancelling → Option Id
 waiting_cancel (Waits id) = Some id
 waiting_cancel _ = None
 
--- A response of this status to this request. A CANCEL that waits is sent after a provisional
--- response, and forgotten after a final one (RFC 3261, section 9.1).
+-- A response of this status to this request: first its effect on the CANCEL, then `outcome_of`,
+-- then the PRACK goes out, and last a CANCEL that waited for a provisional response; after a final
+-- one that is forgotten (RFC 3261, section 9.1). In `name` is the dialog of the request, or else
+-- the one of the From tag and the response's To tag.
 abbrev pub response_to : Event → Id → List ℕ → Message → Side → ℕ → Client → ClientTaken
 response_to event id call_id response side status client =
     let final = is_final status in
     let waiting = waiting_cancel client.cancel in
-    let cancel = if final then [] else option_map_or (λ by. cancel_request by client ∷ []) waiting
-    []
-    in
+    let cancel = if final then []
+    else option_map_or (λ asked_by. cancel_request asked_by client ∷ []) waiting [] in
     let after = record client {
       provisional = client.provisional || not final;
-      cancel = option_map_or (λ by. if final then NotAsked else Sent) waiting client.cancel;
+      cancel = option_map_or (λ asked_by. if final then NotAsked else Sent) waiting client.cancel;
     } in
     let reply : ReceivedResponse = record {
       event = event;
       id = id;
       call_id = call_id;
-      name = option_map_or (λ life. life.name) (dialog_of_kind client.kind)
+      name = option_map_or (λ reference. reference.name) (dialog_of_kind client.kind)
           (dialog_id_of_tags (tag_of client.request.from) (tag_of response.to));
       status = status;
       response = response;

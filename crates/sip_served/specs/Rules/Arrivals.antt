@@ -1,5 +1,7 @@
 -- The rules of what comes up to the server side of a Call-ID: requests (RFC 3261, sections 8.2 and
--- 12.2.2), CANCELs (section 9.2), PRACKs (RFC 3262, section 3) and ACKs (section 13.3.1.4).
+-- 12.2.2), CANCELs (section 9.2), PRACKs (RFC 3262, section 3) and ACKs (section 13.3.1.4). Read
+-- from the end: server_received takes what comes up, request_received a request by the first case
+-- that fits, ack_received an ACK; the cases stand before them.
 use Rattle.std.specs.Prelude.{ℕ, Bool, false, true, not, ◌+◌, ◌&&◌, ◌||◌, ◌==◌, List, [], ◌∷◌, ◌++◌, Option, None, Some, codes, find, filter, is_none, nat_le, reverse, unwrap_or, if◌then◌else◌}
 use Rattle.std.specs.List.{list_any, join_by}
 use Rattle.std.specs.Option.{option_map, option_map_or}
@@ -44,7 +46,7 @@ own_response arrival status reason =
     let response = response_of arrival.request status reason arrival.tag in
     Command arrival.id (Answer arrival.key response) ∷ []
 
--- with a 481
+-- a 481
 abbrev pub no_such_call : State → Arrival → ServedTaken
 no_such_call state arrival =
     (state, own_response arrival 481 (codes "Call/Transaction Does Not Exist"))
@@ -52,7 +54,8 @@ no_such_call state arrival =
 -- ---- for the user
 
 -- A request for the user, who is told of it: it is held, and no response to it was sent. A BYE in a
--- dialog ends the dialog (RFC 3261, section 15.1.2). The first RSeq is 1.
+-- dialog ends the dialog (RFC 3261, section 15.1.2). The first RSeq is 1. The ledger holds when
+-- each reliable response is sent again, `provisionals` its message.
 abbrev pub request_for_user : State → List ℕ → DialogId → Arrival → ServedTaken
 request_for_user state call_id name arrival =
     let request = arrival.request in
@@ -82,8 +85,8 @@ request_for_user state call_id name arrival =
 -- provisional response went out that the RAck names and that has no PRACK yet
 abbrev pub is_named_by : RAck → DialogId → Id → HeldRequest → Bool
 is_named_by rack name created_by held =
-    option_map_or (λ life. is_dialog_id life.name name && is_id life.created_by created_by)
-    held.dialog false
+    option_map_or (λ reference. is_dialog_id reference.name name
+    && is_id reference.created_by created_by) held.dialog false
     && is_invite held.request && bytes_eq rack.method held.request.cseq.method
     && (held.request.cseq.number == rack.cseq) && waits_for rack.rseq held.ledger
 
@@ -112,20 +115,22 @@ prack_received state call_id name created_by arrival (Some rack) =
 
 -- ---- a CANCEL
 
--- the keys of two requests have the same branch and sent-by, whatever their methods
+-- the keys of two requests, in lower case, have the same branch and sent-by, whatever their methods
 abbrev pub is_same_branch : Key → Key → Bool
 is_same_branch (Server branch sent_by method) (Server other other_sent_by other_method) =
     bytes_eq branch other && bytes_eq sent_by.host other_sent_by.host
     && (sent_by.port == other_sent_by.port)
 is_same_branch _ _ = false
 
--- after its final response, which a 487 is: 64*T1 later it is removed
+-- A 487 is its final response: `removal`, which each final one sets, says so, and 64*T1 later it is
+-- removed.
 abbrev pub after_487 : ℕ → HeldRequest → HeldRequest
 after_487 now held =
     record held { ledger = closed_now held.ledger; removal = Some (now + LIFETIME) }
 
--- The CANCEL of this request gets a 200 with the To tag of its responses. An INVITE without a final
--- response then gets a 487 as its final one, the user is told, and its early dialogs end.
+-- The CANCEL of this request gets a 200 with the To tag of its responses. An INVITE whose removal
+-- isn't set has no final response; it gets a 487 as that, the user is told, and its early dialogs
+-- end.
 abbrev pub cancel_for : State → List ℕ → Arrival → ℕ → HeldRequest → ServedTaken
 cancel_for state call_id arrival now held =
     let ok = own_response (record arrival { tag = held.tag }) 200 (codes "OK") in
@@ -169,33 +174,33 @@ bad_extension state arrival =
     let refused = record refusal { others = unsupported ∷ [] } in
     (state, Command arrival.id (Answer arrival.key refused) ∷ [])
 
--- the number is above those that came before it in the dialog, if any did (RFC 3261, section
--- 12.2.2; own: an equal one is none)
+-- The number is above the last that came in the dialog, if any came (RFC 3261, section 12.2.2; own:
+-- an equal one isn't above). No held dialog has ended.
 abbrev pub is_above : HeldDialog → ℕ → Bool
-is_above held number = not (is_ended held.dialog.state)
-    && option_map_or (λ last. not (nat_le number last)) held.dialog.remote_cseq true
+is_above held_dialog number = not (is_ended held_dialog.dialog.state)
+    && option_map_or (λ last. not (nat_le number last)) held_dialog.dialog.remote_cseq true
 
 -- the dialog after a request in it: its number, and of a re-INVITE its Contact as the remote target
 abbrev pub after_request : Message → HeldDialog → HeldDialog
-after_request request held =
+after_request request held_dialog =
     let contact = if is_invite request then contact_uri request else None in
-    record held {
-      dialog = record held.dialog {
+    record held_dialog {
+      dialog = record held_dialog.dialog {
         remote_cseq = Some request.cseq.number;
-        target = unwrap_or contact held.dialog.target;
+        target = unwrap_or contact held_dialog.dialog.target;
       };
     }
 
 -- A request in this held dialog: a 500 if its number isn't above; a PRACK; for the user.
 abbrev pub request_in_dialog : State → List ℕ → DialogId → Arrival → HeldDialog → ServedTaken
-request_in_dialog state call_id name arrival held =
+request_in_dialog state call_id name arrival held_dialog =
     let request = arrival.request in
     let dialogs = dialog_changed name (after_request request) state.dialogs in
     let noted : State = record state { dialogs = dialogs } in
-    if not (is_above held request.cseq.number)
+    if not (is_above held_dialog request.cseq.number)
     then (state, own_response arrival 500 (codes "Server Internal Error"))
     else if is_prack request
-    then prack_received noted call_id name held.created_by arrival request.rack
+    then prack_received noted call_id name held_dialog.created_by arrival request.rack
     else request_for_user noted call_id name arrival
 
 -- A request that comes up, by the first case that fits (RFC 3261, sections 8.2 and 12.2.2): a
@@ -257,6 +262,8 @@ server_received state made up (kind.Request request reply_to) now =
     record { id = up.id; key = up.key; request = request; reply_to = reply_to; tag = tag } now
 server_received state made up (kind.Ack ack) now = ack_received state up.call_id ack
 server_received state made up _ now = (state, [])
+
+-- ---- for steps and laws: `run` needs nothing of what follows
 
 -- What an item makes of the server side, at a moment in ms: what comes up, or the user's response.
 abbrev pub server_item : State → List ℕ → Id → Item → ℕ → ServedTaken

@@ -1,5 +1,7 @@
 -- The rules of the user's answer to a held request: when it is refused, the response that goes out,
--- and what is held then (RFC 3261, sections 8.2.6, 12.1.1 and 13.3.1; RFC 3262, section 3).
+-- and what is held then (RFC 3261, sections 8.2.6, 12.1.1 and 13.3.1; RFC 3262, section 3). Read
+-- from the end: respond_command finds the request, respond_to refuses or sends; the parts stand
+-- before them.
 use Rattle.std.specs.Prelude.{ℕ, ◌+◌, Bool, true, false, not, ◌&&◌, ◌||◌, nat_le, nat_lt, List, [], ◌∷◌, ◌++◌, length, Option, None, Some, codes, find, is_some, is_none, if◌then◌else◌}
 use Rattle.std.specs.List.{list_any}
 use Rattle.std.specs.Option.{option_map_or}
@@ -61,20 +63,19 @@ makes_dialog held status =
 
 -- Why a response is refused, the first that fits. ReliablePending: a further reliable one while the
 -- first has no PRACK, while 8 have none, or after they were given up; a 2xx while one with a body
--- has none (RFC 3262, section 3). Two stand for any ledger, and decide only in states that don't
--- occur: closed without a removal, and not supported where it may be reliable.
+-- has none (RFC 3262, section 3). Two decide only in states that don't occur.
 abbrev pub response_refusal : Dialogs → HeldRequest → Respond → Option Refusal
 response_refusal dialogs held respond =
     let status = respond.status in
     let reliable = is_sent_reliably held respond in
     let ledger = held.ledger in
-    let ended = option_map_or (λ life. not (lives dialogs life)) held.dialog false in
+    let ended = option_map_or (λ reference. not (lives dialogs reference)) held.dialog false in
     first_refusal ((not (nat_le 101 status && nat_le status 699), BadStatus)
-    ∷ (is_some held.removal, AlreadyFinal)
+    ∷ (is_some held.removal, AlreadyFinal)  -- a final one was sent
     ∷ (is_reliable respond.reliability && not (may_be_reliable held status), NotSupported)
     ∷ (is_dialog_response held status && ended, DialogEnded)
-    ∷ (reliable && ledger.closed, AlreadyFinal)
-    ∷ (reliable && not ledger.supported, NotSupported)
+    ∷ (reliable && ledger.closed, AlreadyFinal)  -- doesn't occur
+    ∷ (reliable && not ledger.supported, NotSupported)  -- doesn't occur
     ∷ (reliable && must_wait ledger, ReliablePending)
     ∷ (is_success status && list_any (λ p. p.has_body) ledger.waiting, ReliablePending)
     ∷ (reliable && nat_lt 4294967295 ledger.next, SequenceUsedUp) ∷ []) None
@@ -91,7 +92,8 @@ response_sent local held respond =
     let reliable = record plain { require = codes "100rel" ∷ []; rseq = Some held.ledger.next } in
     with_content_of (if is_sent_reliably held respond then reliable else plain) respond.content
 
--- the dialog that it makes (RFC 3261, section 12.1.1)
+-- the dialog that it makes (RFC 3261, section 12.1.1); `address` is where its requests go if the
+-- URI of their next hop has no IPv4 address
 abbrev pub dialog_by_request : Id → HeldRequest → ℕ → HeldDialog
 dialog_by_request event held status = record {
   dialog = opened_by_request held.request held.tag status;
@@ -102,11 +104,11 @@ dialog_by_request event held status = record {
   pending_requests = [];
 }
 
--- a 2xx confirms its dialog, unless that has ended
+-- a 2xx confirms its dialog (no held one has ended)
 abbrev pub after_2xx : Message → HeldDialog → HeldDialog
-after_2xx response held =
-    if is_ended held.dialog.state then held
-    else record held { dialog = confirmed_by held.dialog response }
+after_2xx response held_dialog =
+    if is_ended held_dialog.dialog.state then held_dialog
+    else record held_dialog { dialog = confirmed_by held_dialog.dialog response }
 
 -- The dialogs after it: it makes one, a 2xx confirms it, and any other final response ends the
 -- early ones (RFC 3261, sections 12.1.1 and 13.3.1).
@@ -144,11 +146,11 @@ abbrev pub held_after : Id → HeldRequest → Respond → Message → ℕ → H
 held_after event held respond response now =
     let status = respond.status in
     let ledger = held.ledger in
-    let life : DialogReference = record {
+    let reference : DialogReference = record {
       name = dialog_id_of held.request held.tag;
       created_by = event;
     } in
-    let dialog = if makes_dialog held status then Some life else held.dialog in
+    let dialog = if makes_dialog held status then Some reference else held.dialog in
     let awaits_ack = is_invite held.request && is_success status in
     if is_sent_reliably held respond
     then record held {

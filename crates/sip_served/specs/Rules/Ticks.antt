@@ -19,6 +19,7 @@ use Rattle.sip_served.specs.State.{State, ServedTaken}
 
 -- A 2xx to an INVITE that has no ACK is given up when its end is reached. Until then it is sent
 -- again when it is due, and each interval is twice the last, up to T2 (RFC 3261, section 13.3.1.4).
+-- Its interval is kept; that of a provisional response is counted.
 abbrev pub success_at : ℕ → HeldRequest → Success → Option Success × List CallOut
 success_at now held success =
     let interval = min (2 * success.retransmission.interval) T2 in
@@ -64,6 +65,8 @@ server_tick state now = (
   },
   flat_map (λ held. (success_tick now held).1 ++ (provisionals_tick now held).1) state.requests,
 )
+
+-- ---- for steps and laws: `run` needs nothing of what follows
 
 -- the moment at which a 2xx is sent again or given up
 abbrev pub success_due : Success → Option ℕ

@@ -66,9 +66,10 @@ handed_up hand context came up.Timeout = Some (hand kind.Timeout)
 handed_up hand context came up.Failed = Some (hand kind.Failed)
 handed_up hand context came up.NoTransaction = Some (Dropped context.id.place NoTransaction)
 
--- The row for a trigger, at a held transaction or, `otherwise`, at what an input begins one with:
--- the transaction after it; and what it hands up or drops, and then sends. What goes up has the id
--- and the Call-ID of the first input.
+-- The row for a trigger. `otherwise` is the context with which this input begins a transaction
+-- where none is held. Given are the transaction after it; and what goes up or is dropped, then what
+-- is sent. What goes up has the id and the Call-ID of the input that began it. `message` is what
+-- came or what the user gave, `came` how it would go up.
 unfoldable pub row_applied : Key → ℕ → Option Life → Context → Trigger → Option Message
     → Option Kind
     → Option Life × List Out
@@ -95,7 +96,8 @@ context_at_first id call_id to request =
 
 -- One input of a transaction at a moment, or the moment alone: then the ending timer comes before
 -- the repeating one. A message that comes or a start begins a life where none is held; the client
--- of an INVITE keeps the INVITE for its ACKs.
+-- of an INVITE keeps the INVITE for its ACKs. An answer or a failure where none is held does
+-- nothing.
 unfoldable pub step_at : Key → Option Life → ℕ → Option Input → Option Life × List Out
 step_at key held now (Some (Receive id message reply_to)) =
     let (trigger, kind) = trigger_of_message message.start message reply_to in
@@ -114,6 +116,7 @@ step_at key (Some life) now (Some (Answer id message)) = elim message.start [
 step_at key (Some life) now (Some (Failed id)) =
     row_applied key now (Some life) life.context on.Failed None None
 step_at key (Some life) now None =
-    let act = row_applied key now (Some life) life.context in let timers = life.context.timers in
-    if is_due now timers.ending then act on.TimeoutDue None None
-    else if is_due now timers.repeat then act on.RetransmitDue None None else (Some life, [])
+    let row_for = row_applied key now (Some life) life.context in
+    let timers = life.context.timers in
+    if is_due now timers.ending then row_for on.TimeoutDue None None
+    else if is_due now timers.repeat then row_for on.RetransmitDue None None else (Some life, [])

@@ -25,7 +25,12 @@ use Rattle.sip_transactions.specs.declared.step.Due.{Due}
 use Rattle.sip_transactions.specs.declared.step.Due.TheVariants.{Keep, Clear, Ending, Both, Again}
 use Rattle.sip_transactions.specs.declared.step.Pace.TheVariants.{Doubled, Capped, Even}
 
--- a row: the state after it, what it hands up, what it sends, and what becomes of the timers
+-- A row: the state after it (`Same`, `To` another, or `Ended`: no transaction); what goes up
+-- (`Message`: what came; `NoTransaction`: it is dropped); what is sent (`Given`: the message of the
+-- input; `Latest`: what was sent last, again; `Trying`: a 100; `Ack`: the ACK of what came); the
+-- timers. `Keep`: as they are. `Clear`: none runs. `Ending`: the ending one alone runs. `Both`: the
+-- repeating one runs T1 and the ending one 64*T1. `Again`: the repeating one runs anew, by T1
+-- doubled each time (`Doubled`), that but at most T2 (`Capped`), or T2 (`Even`).
 abbrev pub row : Next → Handed → Sent → Due → Step
 row next handed sent due = record { next = next; handed = handed; sent = sent; due = due }
 
@@ -51,7 +56,8 @@ invite_client (Some Proceeding) (Response 300-699) =
     row (To Completed) up.Message send.Ack (Ending 64*T1)  -- +D
 invite_client (Some Proceeding) (Response left) =
     row (To Proceeding) up.Message send.Nothing Clear  -- 100 to 199
-invite_client (Some Completed) (Response 300-699) = row Same up.Nothing send.Latest Keep
+invite_client (Some Completed) (Response 300-699) =
+    row Same up.Nothing send.Latest Keep  -- the ACK again
 invite_client (Some Completed) Failed = row Ended up.Failed send.Nothing Clear
 invite_client (Some Completed) TimeoutDue = row Ended up.Nothing send.Nothing Clear  -- !D
 invite_client (Some Accepted) (Response 2xx) = row Same up.Message send.Nothing Keep
@@ -84,7 +90,8 @@ client (Some Completed) TimeoutDue = row Ended up.Nothing send.Nothing Clear  --
 client state other = row Same up.Nothing send.Nothing Keep
 
 -- INVITE server transaction: RFC 3261, section 17.2.1, and RFC 6026, section 7.1. G repeats the
--- response, H ends the wait for the ACK, I absorbs repeated ACKs, L passes on the ACKs of a 2xx.
+-- response, H ends the wait for the ACK, I absorbs repeated ACKs, L passes on the ACKs of a 2xx. A
+-- 100 of the user isn't sent: the last row. A failed send ends no server transaction.
 abbrev pub invite_server : Option State → Trigger → Step
 invite_server None Request = row (To Proceeding) up.Message send.Trying Clear
 invite_server None Ack = row Ended up.Message send.Nothing Clear
