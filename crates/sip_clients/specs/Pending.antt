@@ -31,13 +31,16 @@ is_same_pending (Prack rseq number) (Prack other_rseq other_number) =
 
 -- ---- a response asks for it: it stays owed where it isn't sent
 
+-- it is pending, the last
+abbrev pub with_pending : PendingRequest → HeldDialog → HeldDialog
+with_pending pending held =
+    record held { pending_requests = held.pending_requests ++ pending ∷ [] }
+
 -- owed further, unless it was sent
 abbrev pub kept_unless_sent : PendingRequest → SendOutcome → HeldDialog → HeldDialog
 kept_unless_sent pending (Sent sending) held = held
-kept_unless_sent pending Waits held =
-    record held { pending_requests = held.pending_requests ++ pending ∷ [] }
-kept_unless_sent pending (Refused refusal) held =
-    record held { pending_requests = held.pending_requests ++ pending ∷ [] }
+kept_unless_sent pending Waits held = with_pending pending held
+kept_unless_sent pending (Refused refusal) held = with_pending pending held
 
 -- the dialog after it, and what becomes of what is to be sent
 unfoldable pub kept_pending : Event → PendingRequest → Option Content → HeldDialog → Outcome
