@@ -48,7 +48,7 @@ Example, and what it prints of a call:
   ua listen --local 127.0.0.1:5070 --seconds 30
 
   notice ua-call request 7.1 INVITE LOCAL-TAG REMOTE-TAG -
-  notice ua-call ack 7.1 -
+  notice ua-call ack 7.1 SDP
   notice ua-call request 9.1 BYE LOCAL-TAG REMOTE-TAG -
   notice ua-call ended LOCAL-TAG REMOTE-TAG";
 
@@ -56,7 +56,7 @@ const CALL_EXAMPLE: &str = "\
 Example, and what it prints of a call that is answered:
   ua call --local 127.0.0.1:5080 --to 127.0.0.1:5070 --uri sip:b@127.0.0.1 --seconds 2
 
-  notice ua-call response 0.1 200 LOCAL-TAG REMOTE-TAG -
+  notice ua-call response 0.1 200 LOCAL-TAG REMOTE-TAG SDP
   notice ua-call ended LOCAL-TAG REMOTE-TAG
   notice ua-call response 3.1 200 LOCAL-TAG REMOTE-TAG -";
 

@@ -16,11 +16,13 @@ fn ua_with<T: Threads + Host>(rt: &T, alloc: Global, words: &str) -> Result<Ende
     Ok(run_on(rt, alloc, words.as_slice(), &mut b"".as_slice()))
 }
 
-// A word of a notice, where ids are alike and tags are alike.
+// A word of a notice, where ids are alike, tags are alike, and session descriptions are alike.
 fn alike(word: &str) -> &str {
     let is_id = word.contains(".") && word.bytes().all(|b| b == b'.' || b.is_ascii_digit());
     if is_id {
         "ID"
+    } else if word == "SDP" || word.starts_with("v=0") {
+        "SDP"
     } else if word.len() >= TAG_LENGTH || word == "LOCAL-TAG" || word == "REMOTE-TAG" {
         "TAG"
     } else {
@@ -28,7 +30,7 @@ fn alike(word: &str) -> &str {
     }
 }
 
-// The notices among the lines of a text, with ids and tags alike. A 100 comes only where the peer
+// The notices among the lines of a text, with such words alike. A 100 comes only where the peer
 // is slow.
 fn notices_in(alloc: Global, text: &[u8]) -> Result<String, Fail> {
     let mut found = String::new(alloc);
