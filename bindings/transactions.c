@@ -11,9 +11,10 @@
 #define LIFE 32000
 
 static sip_ua agent = SIP_UA_NONE;
-static uint8_t text[65537];
-static char answer[512];
-static int answer_length = 0;
+static uint8_t text[65536];
+static char call_id[64];
+static size_t call_id_length = 0;
+static sip_ua_id asked;
 static unsigned long made = 0, told = 0, answered = 0;
 
 static void must(uint32_t status, const char *call)
@@ -41,38 +42,42 @@ static void request(void)
     must(sip_ua_datagram(&agent, &peer, (const uint8_t *)datagram, (size_t)length), "datagram");
 }
 
-/* What is told: `notice CALL-ID request ID ..`, and the answer of the next round. */
-static void take(const sip_ua_output *output)
+/* What was sent; and a request that is told, to be answered in the next round. */
+static void take(const sip_ua_typed_output *output)
 {
-    if (output->kind == SIP_UA_SEND) {
+    if (output->kind == SIP_UA_SEND)
         answered += memcmp(text, "SIP/2.0 200 ", 12) == 0;
+    if (output->kind != SIP_UA_NOTICE_REQUEST)
         return;
-    }
-    char *call_id = strchr((char *)text, ' ') + 1;
-    char *form = strchr(call_id, ' ') + 1;
-    if (strncmp(form, "request ", 8) != 0)
-        return;
-    char *id = form + 8;
+    if (output->call_id_len > sizeof call_id)
+        exit(1);
     told++;
-    answer_length = snprintf(answer, sizeof answer, "respond %.*s %.*s 200 plain - OK",
-                             (int)(form - 1 - call_id), call_id,
-                             (int)(strchr(id, ' ') - id), id);
+    asked = output->id;
+    call_id_length = output->call_id_len;
+    memcpy(call_id, sip_ua_texts_of(output, text).call_id.at, call_id_length);
+}
+
+static void answer(void)
+{
+    sip_ua_asked command;
+    sip_ua_respond_fields fields = { { (const uint8_t *)call_id, call_id_length }, asked, 200, 0,
+                                     sip_ua_string("OK"), { NULL, 0 }, NULL, 0 };
+    must(sip_ua_respond(&agent, &fields, &command), "respond");
+    call_id_length = 0;
 }
 
 static void run(uint64_t moment, int requests)
 {
-    sip_ua_output output;
-    if (answer_length > 0)
-        must(sip_ua_event_line(&agent, answer, (size_t)answer_length), "event_line");
-    answer_length = 0;
+    sip_ua_typed_output output;
+    if (call_id_length > 0)
+        answer();
     if (requests > 0)
         request();
     must(sip_ua_run(&agent, moment), "run");
     for (;;) {
-        must(sip_ua_next_output(&agent, &output, text, sizeof text - 1), "next_output");
+        must(sip_ua_next(&agent, &output, text, sizeof text), "next");
         if (output.kind == SIP_UA_NOTHING)
             return;
-        text[output.len] = '\0';
         take(&output);
     }
 }
