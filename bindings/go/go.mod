@@ -1,0 +1,3 @@
+module sipua
+
+go 1.18

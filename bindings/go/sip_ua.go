@@ -1,0 +1,162 @@
+// Package sipua is a SIP user agent core over libsip_ua: give it datagrams, commands and moments,
+// and send and tell what a round gives. Commands and what is told are lines of docs/FORMATS.md.
+// An agent is used by one goroutine at a time.
+//
+//	agent, err := sipua.New(netip.MustParseAddrPort("192.0.2.1:5060"), seed, 0)
+//	id, err := agent.Command("request c1 f1 t1 BYE -")
+//	outputs, err := agent.Run(moment)
+package sipua
+
+/*
+#cgo pkg-config: sip_ua
+#include <sip_ua.h>
+*/
+import "C"
+
+import (
+	"net/netip"
+	"unsafe"
+)
+
+// Error is what the library answered; after all but "broken" the agent is as it was before.
+type Error uint32
+
+func (e Error) Error() string { return C.GoString(C.sip_ua_status_text(C.uint32_t(e))) }
+
+// ID names a command or a request: the number of its round, and its place there from 1.
+type ID struct {
+	Round uint64
+	Place uint32
+}
+
+// Output is a datagram to be sent, where To is valid, otherwise a line that tells the user of a
+// notice or a drop. Place is that of the event that it comes of, or 0.
+type Output struct {
+	To    netip.AddrPort
+	Text  []byte
+	Place uint32
+	Index uint64
+}
+
+// Agent is one user agent. Close frees it.
+type Agent struct {
+	agent  C.sip_ua
+	buffer []byte
+}
+
+func done(status C.uint32_t) error {
+	if status != C.SIP_UA_OK {
+		return Error(status)
+	}
+	return nil
+}
+
+func bytesOf(data []byte) (*C.uint8_t, C.size_t) {
+	if len(data) == 0 {
+		return (*C.uint8_t)(unsafe.Pointer(&[1]byte{})), 0
+	}
+	return (*C.uint8_t)(unsafe.Pointer(&data[0])), C.size_t(len(data))
+}
+
+func address(of netip.AddrPort) C.sip_ua_address {
+	var told C.sip_ua_address
+	for i, b := range of.Addr().Unmap().As4() {
+		told.ip[i] = C.uint8_t(b)
+	}
+	told.port = C.uint16_t(of.Port())
+	return told
+}
+
+// New begins an agent. Via and Contact say the address local; seed is a secret, another one for
+// each agent; first is the number of the first round.
+func New(local netip.AddrPort, seed [32]byte, first uint64) (*Agent, error) {
+	start := C.sip_ua_configuration{local: address(local), first: C.uint64_t(first)}
+	for i, b := range seed {
+		start.seed[i] = C.uint8_t(b)
+	}
+	agent := &Agent{buffer: make([]byte, 65536)}
+	return agent, done(C.sip_ua_raw_new(&agent.agent, &start, 1))
+}
+
+// Datagram hands over what came from an address.
+func (a *Agent) Datagram(from netip.AddrPort, data []byte) error {
+	source := address(from)
+	at, size := bytesOf(data)
+	return done(C.sip_ua_raw_datagram(&a.agent, &source, at, size))
+}
+
+// Command asks for a command, the line of an event file, with its header lines before it where it
+// has some. It gives the ID by which lines tell of it.
+func (a *Agent) Command(lines string) (ID, error) {
+	at, size := bytesOf([]byte(lines))
+	if status := C.sip_ua_raw_event_lines(&a.agent, at, size); status != C.SIP_UA_OK {
+		return ID{}, Error(status)
+	}
+	var id C.sip_ua_id
+	err := done(C.sip_ua_raw_last_id(&a.agent, &id))
+	return ID{uint64(id.round), uint32(id.place)}, err
+}
+
+// Failed says that the output of this index of the last round could not be sent.
+func (a *Agent) Failed(index uint64) error {
+	return done(C.sip_ua_raw_failed(&a.agent, C.size_t(index)))
+}
+
+// Run deals with all that was given since the last round, at a moment in ms.
+func (a *Agent) Run(moment uint64) ([]Output, error) {
+	if status := C.sip_ua_raw_run(&a.agent, C.uint64_t(moment)); status != C.SIP_UA_OK {
+		return nil, Error(status)
+	}
+	var outputs []Output
+	for {
+		var told C.sip_ua_output
+		at, size := bytesOf(a.buffer)
+		if status := C.sip_ua_raw_next_output(&a.agent, &told, at, size); status != C.SIP_UA_OK {
+			return outputs, Error(status)
+		}
+		if told.kind == C.SIP_UA_NOTHING {
+			return outputs, nil
+		}
+		if int(told.len) > len(a.buffer) { // it is told again, to a buffer with room
+			a.buffer = make([]byte, told.len)
+			continue
+		}
+		output := Output{Place: uint32(told.place), Index: uint64(told.index)}
+		output.Text = append(output.Text, a.buffer[:told.len]...)
+		if told.kind == C.SIP_UA_SEND {
+			ip := *(*[4]byte)(unsafe.Pointer(&told.to.ip))
+			output.To = netip.AddrPortFrom(netip.AddrFrom4(ip), uint16(told.to.port))
+		}
+		outputs = append(outputs, output)
+	}
+}
+
+// NextDue is the first moment at which something is due, if there is one.
+func (a *Agent) NextDue() (uint64, bool, error) {
+	var due C.sip_ua_due
+	err := done(C.sip_ua_raw_next_due(&a.agent, &due))
+	return uint64(due.moment), bool(due.is_due), err
+}
+
+// HeaderValue is the value of this number, from 0, of a header of the datagram at a place of the
+// last round.
+func (a *Agent) HeaderValue(place uint32, name string, number uint64) (string, bool, error) {
+	for {
+		var told C.sip_ua_text
+		key, length := bytesOf([]byte(name))
+		at, size := bytesOf(a.buffer)
+		err := done(C.sip_ua_raw_header_value(&a.agent, C.uint32_t(place), key, length,
+			C.size_t(number), &told, at, size))
+		if err != nil || !bool(told.is_there) || int(told.len) <= len(a.buffer) {
+			text := ""
+			if err == nil && bool(told.is_there) {
+				text = string(a.buffer[:told.len])
+			}
+			return text, bool(told.is_there), err
+		}
+		a.buffer = make([]byte, told.len)
+	}
+}
+
+// Close ends the agent.
+func (a *Agent) Close() error { return done(C.sip_ua_raw_free(&a.agent)) }

@@ -1,0 +1,49 @@
+package sipua
+
+import (
+	"net/netip"
+	"strings"
+	"testing"
+)
+
+// An OPTIONS comes, is told, and is answered with a header.
+func TestAnOptionsIsAnswered(t *testing.T) {
+	agent, err := New(netip.MustParseAddrPort("192.0.2.1:5060"), [32]byte{7}, 0)
+	if err != nil {
+		t.Fatal(err)
+	}
+	defer agent.Close()
+	request := "OPTIONS sip:192.0.2.1 SIP/2.0\r\nVia: SIP/2.0/UDP 192.0.2.9;branch=z9hG4bKa1\r\n" +
+		"From: <sip:a@192.0.2.9>;tag=f1\r\nTo: <sip:192.0.2.1>\r\nCall-ID: c1\r\nCSeq: 7 OPTIONS\r\n\r\n"
+	if err := agent.Datagram(netip.MustParseAddrPort("192.0.2.9:5060"), []byte(request)); err != nil {
+		t.Fatal(err)
+	}
+	outputs, err := agent.Run(0)
+	if err != nil || len(outputs) != 1 {
+		t.Fatal(outputs, err)
+	}
+	if told := string(outputs[0].Text); !strings.HasPrefix(told, "notice c1 request 0.1 OPTIONS ") {
+		t.Fatal(told)
+	}
+	from, there, err := agent.HeaderValue(outputs[0].Place, "f", 0)
+	if err != nil || !there || from != "<sip:a@192.0.2.9>;tag=f1" {
+		t.Fatal(from, there, err)
+	}
+	if _, err := agent.Command("respond c1 0.1 200 plain -"); err == nil {
+		t.Fatal("a bad line was taken")
+	}
+	id, err := agent.Command(" Server: example\nrespond c1 0.1 200 plain - OK")
+	if err != nil || id != (ID{1, 1}) {
+		t.Fatal(id, err)
+	}
+	outputs, err = agent.Run(10)
+	if err != nil || len(outputs) != 1 || outputs[0].To != netip.MustParseAddrPort("192.0.2.9:5060") {
+		t.Fatal(outputs, err)
+	}
+	if answer := string(outputs[0].Text); !strings.Contains(answer, "\r\nServer: example\r\n") {
+		t.Fatal(answer)
+	}
+	if due, is, err := agent.NextDue(); err != nil || !is || due != 32010 {
+		t.Fatal(due, is, err)
+	}
+}
