@@ -1,3 +1,4 @@
 pub mod Help
 pub mod NoFile
 pub mod SessionOption
+pub mod WholeLines

@@ -1,5 +1,6 @@
 pub mod EventsStatus
 pub mod Inputs
+pub mod Repair
 pub mod RoundStatus
 pub mod Scheme
 pub mod Status

@@ -5,6 +5,7 @@ mod failure;
 mod host;
 mod noting;
 mod program;
+mod repair;
 mod status;
 mod talk_fault;
 mod talking;

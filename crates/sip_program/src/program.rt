@@ -6,16 +6,18 @@ ghost use Rattle.sip_files.specs.Replay.{TellsReplay, WritesAll, WritesFront};
 ghost use Rattle.sip_program.specs.Inputs.{HasRefusedRound, IsNoFile};
 ghost use Rattle.sip_program.specs.Status.{fault_status};
 ghost use Rattle.sip_ladder.specs.Drawing.{DrawsAll};
-ghost use Rattle.sip_program.specs.Words.{asks_help, asks_ladder, asks_replay, kind_asked};
+ghost use Rattle.sip_program.specs.Repair.{whole_lines};
+ghost use Rattle.sip_program.specs.Words.{asks_help, asks_ladder, asks_repair, asks_replay, kind_asked};
 ghost use Rattle.sip_files.specs.declared.file_replay.ReplayFault.TheVariants as replay_fault;
 
 use crate::failure::Failure;
 use crate::host::Host;
+use crate::repair::whole_lines;
 use crate::status::{finish, finish_talk, show, tell_input, tell_words};
 use crate::talk_fault::TalkFault;
 use crate::talking::talk_by;
 use crate::words::{self, CutName, ReplayWords, parse, replay_words};
-use sip_files::{FileKind, ReplayFault, replay};
+use sip_files::{FileKind, ReplayFault, read_all, replay};
 use sip_ladder::ladder;
 use sip_message::{First, Spread};
 use sip_round::Gate;
@@ -35,7 +37,8 @@ impl Gate for Open {
 /// own name.
 ///
 /// `ua replay` reads an event file from `input` and writes its output file to `output`, and `ua
-/// ladder` writes its ladder there; with `--session` both read a session file too. `ua listen` and
+/// ladder` writes its ladder there; with `--session` both read a session file too. With `--repair`
+/// `ua replay` takes the input up to its last LF. `ua listen` and
 /// `ua call` read nothing there, and write the lines of their notices to `output`; so does `ua
 /// agent`, which reads commands from the pipe of `rt`. Help and the version are written to `output`
 /// where they are asked for. A fault is told on `errors` after `ua: `, what is known of its cause
@@ -80,7 +83,14 @@ pub fn ua<T: Threads + Host, S: AsStr, R: Read, W: Write, E: Write>(
     ensures refused_to_draw { IsFalse (asks_replay (map S.text words.now))
         → IsTrue (asks_ladder (map S.text words.now)) → result ≡ 3
         → IfSome (R.remaining input.old) (HasRefusedRound (kind_asked (map S.text words.now))) }
+    ensures repairs { IsTrue (asks_repair (map S.text words.now)) → result ≡ 0
+        → IfSome (R.remaining input.old)
+        (λ input. WritesAll (kind_asked (map S.text words.now))
+        (W.contents output.old) (W.contents output.new) (whole_lines input)) }
+    ensures unrepaired { IsTrue (asks_repair (map S.text words.now)) → result ≢ 0 → result ≢ 4
+        → output.new ≡ output.old }
     ensures unread { IsFalse (asks_replay (map S.text words.now))
+        → IsFalse (asks_repair (map S.text words.now))
         → IsFalse (asks_ladder (map S.text words.now)) → input.new ≡ input.old }
     ensures helps { IsTrue (asks_help (map S.text words.now)) → result ≢ 0 → result ≢ 4
         → output.new ≡ output.old }
@@ -101,6 +111,10 @@ pub fn ua<T: Threads + Host, S: AsStr, R: Read, W: Write, E: Write>(
         let words = replay_words(&matches);
         let end = replay_by(rt, alloc, kind, words, input, output);
         finish_file(end, input, errors)
+    } else if words::asks_repair(words) {
+        let words = replay_words(&matches);
+        let end = repaired_by(rt, alloc, kind, words, input, output, errors);
+        finish_file(end, input, errors)
     } else if words::asks_ladder(words) {
         let end = ladder(rt, alloc, kind, input, output, &Open);
         finish_file(end, input, errors)
@@ -120,6 +134,38 @@ fn finish_file<R: Read, E: Write>(end: Result<(), ReplayFault>, input: &mut R, e
         tell_input(input, errors);
     }
     status
+}
+
+// Replays what is whole of the input, and tells how many bytes are left out.
+fn repaired_by<T: Threads + Sync, R: Read, W: Write, E: Write>(
+    rt: &T,
+    alloc: Global,
+    kind: FileKind,
+    words: ReplayWords,
+    input: &mut R,
+    output: &mut W,
+    errors: &mut E,
+) -> Result<(), ReplayFault>
+    requires some_shard { 0 < words.shards }
+    requires most_shards { words.shards ≤ 256 }
+    requires some_worker { 0 < words.workers }
+    requires most_workers { words.workers ≤ 64 }
+    ensures repairs { OnOk result (IfSome (R.remaining input.old)
+        (λ text. WritesAll kind (W.contents output.old) (W.contents output.new)
+        (whole_lines text))) }
+    ensures unwritten { IfErr result
+        (λ fault. fault ≢ replay_fault.Output → output.new ≡ output.old) }
+{
+    let text = read_all(alloc, input)?;
+    let mut whole = whole_lines(text.as_slice());
+    let left_out = text.len().saturating_sub(whole.len());
+    if left_out > 0 {
+        let _ = writeln!(
+            errors,
+            "ua: {left_out} bytes after the last whole line left out"
+        );
+    }
+    replay_by(rt, alloc, kind, words, &mut whole, output)
 }
 
 // Replays as the words say.

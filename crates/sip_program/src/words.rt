@@ -166,16 +166,24 @@ pub fn given_words<R: Env + AllocGlobal>(rt: &R) -> io::Result<Vec<String>> {
 pub(crate) fn asks_help<S: AsStr>(words: &[S]) -> bool
     ensures help { result ≡ spec.asks_help (map S.text words.now) }
     ensures no_replay { IsTrue result → IsFalse (spec.asks_replay (map S.text words.now)) }
+    ensures no_repair { IsTrue result → IsFalse (spec.asks_repair (map S.text words.now)) }
     ensures no_ladder { IsTrue result → IsFalse (spec.asks_ladder (map S.text words.now)) }
 {
     asks_command(words, "help") || has_help_option(words)
 }
 
-/// Whether the command that is asked for is `replay`.
+/// Whether the command that is asked for is `replay`, of a file as it is.
 pub(crate) fn asks_replay<S: AsStr>(words: &[S]) -> bool
     ensures { result ≡ spec.asks_replay (map S.text words.now) }
 {
-    !asks_help(words) && asks_command(words, "replay")
+    !asks_help(words) && (asks_command(words, "replay") && !has_repair_option(words))
+}
+
+/// Whether the command that is asked for is `replay`, of what is whole of a file.
+pub(crate) fn asks_repair<S: AsStr>(words: &[S]) -> bool
+    ensures { result ≡ spec.asks_repair (map S.text words.now) }
+{
+    !asks_help(words) && (asks_command(words, "replay") && has_repair_option(words))
 }
 
 /// Whether the command that is asked for is `ladder`.
@@ -211,6 +219,24 @@ fn is_help_option(word: &str) -> bool
     ensures { result ≡ spec.is_help_option word.now }
 {
     word == "--help" || word == "-h" || word == "--version" || word == "-V"
+}
+
+fn has_repair_option<S: AsStr>(words: &[S]) -> bool
+    ensures { result ≡ list_any spec.is_repair_option (map S.text words.now) }
+{
+    any_repair_option(words)
+}
+
+fn any_repair_option<S: AsStr>(words: &[S]) -> bool
+    ensures { result ≡ list_any (λ word. spec.is_repair_option (S.text word)) words.now }
+{
+    words.iter().any(|word| is_repair_option(word.as_str()))
+}
+
+fn is_repair_option(word: &str) -> bool
+    ensures { result ≡ spec.is_repair_option word.now }
+{
+    word == "--repair"
 }
 
 /// The kind of the file that is asked for: a session where one of the words is its option.
@@ -606,13 +632,21 @@ fn replay_command<'a>(alloc: Global) -> Result<Command<'a>, AllocError> {
             "How the parts are cut: by the sum of the bytes of a branch or a Call-ID, or all into \
             the first",
         );
+    let repair = Arg::new(alloc, "repair")
+        .long("repair")
+        .action(ArgAction::SetTrue)
+        .help(
+            "Of a file that was cut off the lines that are whole are run; how many bytes are left \
+            out is told on standard error",
+        );
     Command::new(alloc, "replay")
         .about("Runs the rounds of an event file on standard input, and writes its output file")
         .after_help(REPLAY_EXAMPLE)
         .arg(session_argument(alloc))?
         .arg(shards_argument(alloc, "1"))?
         .arg(workers_argument(alloc, "1"))?
-        .arg(cut)
+        .arg(cut)?
+        .arg(repair)
 }
 
 // The number of an option, which `clap` has found in its range.
