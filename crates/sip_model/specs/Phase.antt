@@ -52,7 +52,7 @@ module _ {K I : Type 0} (cmp : K → K → Ordering) (tick : ℕ → I) where
   abbrev pub own_inputs : Phase K I → K → List I
   own_inputs phase key = map tick (option_to_list phase.moment) ++ inputs_of cmp phase.items key
 
-  -- all that a key was given in phases, oldest first
+  -- all that a key was given in phases, oldest first: of each the tick, and then its own items
   abbrev pub history : List (Phase K I) → K → List I
   history phases key = flat_map (λ phase. map tick (option_to_list phase.moment)
       ++ map (λ item. item.input) (filter (λ item. is_at (cmp item.key) key) phase.items)) phases
