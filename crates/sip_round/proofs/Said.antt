@@ -19,7 +19,7 @@ use Rattle.sip_calls.specs.Call.{CallItem, call_machine}
 use Rattle.sip_calls.specs.CallShard.{call_cmp}
 use Rattle.sip_round.specs.Answers.{said_by_calls, said_by_transactions}
 
--- ---- of a phase
+-- ---- of a phase: as the code tells it, and as the rules say it
 
 abbrev pub told_by_transactions : List (Phase Key (Timed Input)) → Phase Key (Timed Input)
     → PhaseOutputs Key Out
@@ -31,8 +31,7 @@ transactions_say past phase =
     sym (said_by_histories keys_total exact_keys transaction_machine tick_at past phase)
 
 abbrev pub told_by_calls : Calls → List (Phase (List ℕ) (Timed CallItem))
-    → Phase (List ℕ) (Timed CallItem)
-    → PhaseOutputs (List ℕ) CallOut
+    → Phase (List ℕ) (Timed CallItem) → PhaseOutputs (List ℕ) CallOut
 told_by_calls calls = told_next call_cmp (call_machine calls) tick_at
 
 pub calls_say : (calls : Calls) (past : List (Phase (List ℕ) (Timed CallItem)))
@@ -41,7 +40,7 @@ pub calls_say : (calls : Calls) (past : List (Phase (List ℕ) (Timed CallItem))
 calls_say calls past phase =
     sym (said_by_histories nat_list_cmp_total exact_bytes (call_machine calls) tick_at past phase)
 
--- ---- of one key
+-- ---- of one key: what phases say of it is what its own inputs add
 
 pub transaction_alone : EachKeyAlone key_cmp transaction_machine tick_at
     → (before phases : List (Phase Key (Timed Input))) (key : Key)

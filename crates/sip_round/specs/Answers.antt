@@ -46,8 +46,7 @@ said_by_transactions = said_in key_cmp transaction_machine tick_at
 
 -- what all calls say to a phase
 abbrev pub said_by_calls : Calls → List (Phase (List ℕ) (Timed CallItem))
-    → Phase (List ℕ) (Timed CallItem)
-    → PhaseOutputs (List ℕ) CallOut
+    → Phase (List ℕ) (Timed CallItem) → PhaseOutputs (List ℕ) CallOut
 said_by_calls calls = said_in call_cmp (call_machine calls) tick_at
 
 -- what the first phase sends and drops: at the ticks, with place 0, and then by place
