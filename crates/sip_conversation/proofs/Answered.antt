@@ -30,6 +30,7 @@ use Rattle.sip_round.specs.declared.config.Config.{Config}
 use Rattle.sip_round.specs.declared.round.Round.{Round}
 use Rattle.sip_round.specs.Answers.{calls_of, past_of}
 use Rattle.sip_round.specs.Laws.{call_inputs_of, said_of_call}
+use Rattle.sip_round.proofs.Said.{call_alone}
 use Rattle.sip_conversation.specs.Answers.{AnswersSo, IsAnswered, Responds, own_statuses}
 use Rattle.sip_conversation.specs.Answers.IsAnswered.{ByAgent, ByUser}
 use Rattle.sip_conversation.specs.Messages.{CallSays}
@@ -116,7 +117,7 @@ module _ (config : Config) (rounds : List Round) where
         let inputs = call_inputs_of config rounds says.0 in
         each_of (OutFits Any Answers) (said_of_call config rounds says.0) out
         (subst (AllByRecursion (OutFits Any Answers))
-        (sym (alone [] (past_of config rounds).calls says.0))
+        (sym (call_alone (calls_of config) alone [] (past_of config rounds).calls says.0))
         (all_fit Any Answers own (calls_of config) says.0 None inputs
         (all_of (λ timed. InputFits Any Answers own timed.input) inputs
         (λ timed among. input_fits says.0 timed.moment timed.input among)) tt)) says.1

@@ -5,9 +5,10 @@ use Rattle.std.specs.declared.cmp.Ordering.{Ordering}
 use Rattle.std.proofs.lemmas.Grind.{flat_map-append}
 use Rattle.std.proofs.lemmas.List.{map-append}
 use Rattle.std.proofs.lemmas.List.Elements.{Contains-append_cases, Contains-append_left, Contains-append_right, filter-append}
-use Rattle.sip_model.specs.Laws.{said_by, said_from}
+use Rattle.sip_model.specs.Laws.{said_by}
 use Rattle.sip_model.specs.Machine.{Machine, tick_at}
-use Rattle.sip_model.specs.Phase.{Phase, told_next}
+use Rattle.sip_model.specs.Phase.{Phase}
+use Rattle.sip_model.specs.Rules.{said_in, said_since}
 use Rattle.sip_common.specs.declared.item.CallOut.{CallOut}
 use Rattle.sip_calls.specs.Call.{call_machine}
 use Rattle.sip_calls.specs.CallShard.{call_cmp}
@@ -51,19 +52,19 @@ given_longer config rounds more o among =
 module _ {K S I O : Type 0} (cmp : K → K → Ordering) (machine : Machine K S I O) (tick : ℕ → I)
     (key : K) where
   said_longer : (before phases more : List (Phase K I)) (o : O)
-      → Contains (said_from cmp machine tick key before phases) o
-      → Contains (said_from cmp machine tick key before (phases ++ more)) o
+      → Contains (said_since cmp machine tick key before phases) o
+      → Contains (said_since cmp machine tick key before (phases ++ more)) o
   said_longer before [] more o among = absurd (none_among o among)
   said_longer before (phase ∷ phases) more o among =
-      let here = said_by cmp machine tick key (told_next cmp machine tick before phase) in
+      let here = said_by cmp machine tick key (said_in cmp machine tick before phase) in
       let after = before ++ phase ∷ [] in
       ⊎_elim
       (λ one. Contains-append_left here
-      (said_from cmp machine tick key after (phases ++ more)) o one)
+      (said_since cmp machine tick key after (phases ++ more)) o one)
       (λ later. Contains-append_right here
-      (said_from cmp machine tick key after (phases ++ more)) o
+      (said_since cmp machine tick key after (phases ++ more)) o
       (said_longer after phases more o later))
-      (Contains-append_cases here (said_from cmp machine tick key after phases) o among)
+      (Contains-append_cases here (said_since cmp machine tick key after phases) o among)
 
 pub says_longer : (config : Config) (rounds more : List Round) (o : CallOut)
     → CallSays config rounds o → CallSays config (rounds ++ more) o
@@ -77,7 +78,7 @@ says_longer config rounds more o says =
     ap (λ p. p.calls) (past_from-append config config.first no_past rounds more)
     ∙ calls_are config number past more in (
       says.0,
-      subst (λ phases. Contains (said_from call_cmp machine tick_at says.0 [] phases) o)
+      subst (λ phases. Contains (said_since call_cmp machine tick_at says.0 [] phases) o)
           (sym same)
           (said_longer call_cmp machine tick_at says.0 [] past.calls
           (calls_from config number past more) o says.1),

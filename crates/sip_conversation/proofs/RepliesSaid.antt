@@ -31,6 +31,7 @@ use Rattle.sip_round.specs.Answers.{answers, calls_of, past_of}
 use Rattle.sip_round.specs.Given.{all_given, is_notice_of, notice_in}
 use Rattle.sip_round.specs.Laws.{call_inputs_of, said_of_call}
 use Rattle.sip_round.proofs.GivenNotices.{notices_given}
+use Rattle.sip_round.proofs.Said.{call_alone}
 use Rattle.sip_message.specs.Addr.{IsAddr}
 use Rattle.sip_conversation.specs.Conversation.{Carried, Side, Turn, given_by, peer, rounds_of}
 use Rattle.sip_conversation.specs.Messages.{CallsKeepRules, ComesUnchanged, IsSaid}
@@ -104,7 +105,7 @@ module _ (Tells : ℕ → List ℕ → List ℕ → List ℕ → Type 0) (config
       (flat_map notice_in (said_of_call config rounds call_id)) told
       (notices_tell Tells (said_of_call config rounds call_id)
       (subst (AllByRecursion (OutFits Tells Any))
-      (sym (alone [] (past_of config rounds).calls call_id))
+      (sym (call_alone (calls_of config) alone [] (past_of config rounds).calls call_id))
       (all_fit Tells Any any_own (calls_of config) call_id None
       (call_inputs_of config rounds call_id) fit tt)))
       (subst (λ outs. Contains outs told) (notices_given config rounds call_id)

@@ -11,9 +11,10 @@ use Rattle.sip_message.specs.declared.id.Id.{Id}
 use Rattle.sip_message.specs.declared.key.Key.{Key}
 use Rattle.sip_message.specs.Key.{key_cmp, keys_total}
 use Rattle.sip_model.specs.declared.item.Item as model
-use Rattle.sip_model.specs.Laws.{said_by, said_from}
+use Rattle.sip_model.specs.Laws.{said_by}
 use Rattle.sip_model.specs.Machine.{Machine, Timed, tick_at}
 use Rattle.sip_model.specs.Phase.{Phase, PhaseOutputs, history, inputs_of, own_inputs, timed_items}
+use Rattle.sip_model.specs.Rules.{said_since}
 use Rattle.sip_model.proofs.Ordered.{exact_at, is_at_itself}
 use Rattle.sip_transactions.specs.declared.input.Command.{Command}
 use Rattle.sip_transactions.specs.declared.input.Input.{Input}
@@ -100,7 +101,7 @@ module _ (config : Config) where
 
   some_call : (number : ℕ) (past : Past) (rounds : List Round) (o : CallOut)
       → Contains (calls_give number past rounds) o → (call_id : List ℕ)
-      × Contains (said_from call_cmp machine tick_at call_id past.calls
+      × Contains (said_since call_cmp machine tick_at call_id past.calls
       (calls_from config number past rounds)) o
   unfolding given_second past_after
   some_call number past [] o among = absurd (none_among o among)
@@ -112,12 +113,12 @@ module _ (config : Config) where
       (λ here. let one = some_key call_cmp nat_list_cmp_total machine tick_at told o here in (
         one.0,
         Contains-append_left (said_by call_cmp machine tick_at one.0 told)
-            (said_from call_cmp machine tick_at one.0 next.calls rest) o one.1,
+            (said_since call_cmp machine tick_at one.0 next.calls rest) o one.1,
       ))
       (λ later. let one = some_call (suc number) next rounds o later in (
         one.0,
         Contains-append_right (said_by call_cmp machine tick_at one.0 told)
-            (said_from call_cmp machine tick_at one.0 next.calls rest) o one.1,
+            (said_since call_cmp machine tick_at one.0 next.calls rest) o one.1,
       ))
       (Contains-append_cases (given_second config number past round)
       (calls_give (suc number) next rounds) o among)
@@ -129,7 +130,7 @@ module _ (config : Config) where
   call_says rounds o among =
       let one = some_call config.first no_past rounds o among in (
         one.0,
-        subst (λ phases. Contains (said_from call_cmp machine tick_at one.0 [] phases) o)
+        subst (λ phases. Contains (said_since call_cmp machine tick_at one.0 [] phases) o)
             (sym (calls_are config config.first no_past rounds)) one.1,
       )
 

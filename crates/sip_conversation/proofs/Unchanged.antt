@@ -37,6 +37,7 @@ use Rattle.sip_round.specs.Answers.{answers, no_past, past_of}
 use Rattle.sip_round.specs.Given.{all_given}
 use Rattle.sip_round.specs.Arrivals.{arrival_of}
 use Rattle.sip_round.specs.Laws.{call_inputs_of, inputs_of, said_of}
+use Rattle.sip_round.proofs.Said.{transaction_alone}
 use Rattle.sip_message.specs.Addr.{IsAddr}
 use Rattle.sip_conversation.specs.Conversation.{Carried, CarriedAfter, IsCarried, Side, Turn, given_by, peer, rounds_of}
 use Rattle.sip_conversation.specs.Datagrams.{IsTextSaid}
@@ -135,7 +136,7 @@ module _ (alone : EachKeyAlone key_cmp transaction_machine tick_at) where
           → AllByRecursion (IsFaithful Says IsMessage) (said_of config rounds key)
       says_faithfully key =
           subst (AllByRecursion (IsFaithful Says IsMessage))
-          (sym (alone [] (past_of config rounds).transactions key))
+          (sym (transaction_alone alone [] (past_of config rounds).transactions key))
           (faithful (inputs_of config rounds key) Says IsMessage (said key) key)
 
       text_of : (o : Out) → IsFaithful Says IsMessage o → SendFits config rounds (IsTextOf Says) o
@@ -339,7 +340,7 @@ module _ (alone : EachKeyAlone key_cmp transaction_machine tick_at) where
         let Came : Message → Type 0 = ComesUnchanged configs turns s in
         inputs_came Came (configs s) rounds
         (λ key. subst (AllByRecursion (OutCame Came))
-        (sym (alone [] (past_of (configs s) rounds).transactions key))
+        (sym (transaction_alone alone [] (past_of (configs s) rounds).transactions key))
         (all_go {P = IsFaithful Any Came} {Q = OutCame Came} (out_came turns s)
         (outputs_from transaction_machine key None (inputs_of (configs s) rounds key))
         (faithful (inputs_of (configs s) rounds key) Any Came (record {

@@ -8,9 +8,10 @@ use Rattle.sip_message.specs.declared.key.Key.{Key}
 use Rattle.sip_message.specs.declared.message.Message.{Message}
 use Rattle.sip_message.specs.Key.{key_cmp, keys_total}
 use Rattle.sip_model.specs.declared.item.Item as model
-use Rattle.sip_model.specs.Laws.{said_by, said_from}
+use Rattle.sip_model.specs.Laws.{said_by}
 use Rattle.sip_model.specs.Machine.{Timed, tick_at}
 use Rattle.sip_model.specs.Phase.{PhaseOutputs, history, inputs_of, own_inputs, timed_item, timed_items}
+use Rattle.sip_model.specs.Rules.{said_since}
 use Rattle.sip_transactions.specs.declared.output.Out.{Out}
 use Rattle.sip_transactions.specs.declared.output.Out.TheVariants as out
 use Rattle.sip_transactions.specs.Machine.{transaction_machine}
@@ -148,7 +149,7 @@ module _ (Came : Message → Type 0) where
         (tt, own_came call_id round.moment 0 (items_of_round config number past round) all)
 
     inputs_from_came : (number : ℕ) (past : Past) (rounds : List Round)
-        → ((key : Key) → AllByRecursion OutCame (said_from key_cmp transaction_machine tick_at key
+        → ((key : Key) → AllByRecursion OutCame (said_since key_cmp transaction_machine tick_at key
         past.transactions (transactions_from config number past rounds)))
         → (call_id : List ℕ) → AllByRecursion TimedCame
         (history call_cmp tick_at (calls_from config number past rounds) call_id)
@@ -167,7 +168,7 @@ module _ (Came : Message → Type 0) where
         let of_two : Key → List Out = λ key.
         said_by key_cmp transaction_machine tick_at key (said_by_transactions between two) in
         let of_rest : Key → List Out = λ key.
-        said_from key_cmp transaction_machine tick_at key (between ++ two ∷ []) rest in
+        said_since key_cmp transaction_machine tick_at key (between ++ two ∷ []) rest in
         let here : AllByRecursion OutCame (all_said told) =
         all_of OutCame (all_said told) (λ o among.
         let speaker = some_key key_cmp keys_total transaction_machine tick_at told o among in
@@ -192,5 +193,5 @@ module _ (Came : Message → Type 0) where
         (sym (calls_are config config.first no_past rounds))
         (inputs_from_came config.first no_past rounds
         (λ key. subst (λ phases. AllByRecursion OutCame
-        (said_from key_cmp transaction_machine tick_at key [] phases))
+        (said_since key_cmp transaction_machine tick_at key [] phases))
         (transactions_are config config.first no_past rounds) (all key)) call_id)

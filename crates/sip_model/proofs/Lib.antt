@@ -4,12 +4,14 @@ pub mod Held
 pub mod History
 pub mod IdlePhase
 pub mod ItemsLeft
+pub mod Lives
 pub mod Merged
 pub mod Named
 pub mod OneKey
 pub mod Ordered
 pub mod Parts
 pub mod Phases
+pub mod Rules
 pub mod Shards
 pub mod Spoken
 pub mod Tick

@@ -15,8 +15,7 @@ given_at now input = record { moment = now; input = Some input }
 abbrev pub tick_at : {I : Type 0} → ℕ → Timed I
 tick_at now = record { moment = now; input = None }
 
--- one step of each key's machine, from a state or from none: the state after it, and the outputs
--- that it adds
+-- a step of each key, from a state or none: the state after it, and the outputs that it adds
 pub record Machine (K S I O : Type 0) : Type 0 where
   pub step : K → Option S → I → Option S × List O
 
@@ -39,7 +38,7 @@ module _ {K S I O : Type 0} where
   abbrev pub state_from : Machine K S I O → K → Option S → List I → Option S
   state_from machine key state [] = state
   state_from machine key state (input ∷ inputs) =
-      state_from machine key (next machine key state input) inputs
+      state_from machine key (machine.step key state input).0 inputs
 
   -- the state of a key after all its inputs, oldest first; before them there is none
   abbrev pub state_after : Machine K S I O → K → List I → Option S
@@ -55,26 +54,20 @@ module _ {K S I O : Type 0} where
   abbrev pub outputs_from : Machine K S I O → K → Option S → List I → List O
   outputs_from machine key state [] = []
   outputs_from machine key state (input ∷ inputs) =
-      adds machine key state input ++ outputs_from machine key (next machine key state input) inputs
+      let after = machine.step key state input in after.1 ++ outputs_from machine key after.0 inputs
 
-  -- there is a state before each of the inputs
-  abbrev pub IsWithinLife : Machine K S I O → K → Option S → List I → Type 0
-  IsWithinLife machine key state [] = Unit {0}
-  IsWithinLife machine key state (input ∷ inputs) =
-      IsSome state × IsWithinLife machine key (next machine key state input) inputs
-
-  -- A life among the inputs of a key: those before it, after which there is no state; its first,
-  -- after which there is one; the rest of its own, before each of which there is one; and those
-  -- after it.
+  -- A life among the inputs of a key: after those before it there is no state, after its first
+  -- there is one, and before each of its rest; then come those after it.
   pub record LifeIn (machine : Machine K S I O) (key : K) (inputs : List I) : Type 0 where
     pub before : List I
     pub first : I
     pub rest : List I
     pub after : List I
     pub are : inputs ≡ before ++ (first ∷ (rest ++ after))
-    pub none_before : state_after machine key before ≡ None
-    pub begins : IsSome (next machine key None first)
-    pub within : IsWithinLife machine key (next machine key None first) rest
+    pub none_before : state_from machine key None before ≡ None
+    pub begins : IsSome (machine.step key None first).0
+    pub within : (part more : List I) (input : I) → rest ≡ part ++ (input ∷ more)
+        → IsSome (state_from machine key None (first ∷ part))
 
 module _ {K S I O : Type 0} {machine : Machine K S I O} {key : K} {inputs : List I} where
   -- the state that a life leaves; `None` where it has ended
@@ -83,11 +76,11 @@ module _ {K S I O : Type 0} {machine : Machine K S I O} {key : K} {inputs : List
 
   -- what is said to the first input of a life
   abbrev pub said_at_first : LifeIn machine key inputs → List O
-  said_at_first life = adds machine key None life.first
+  said_at_first life = (machine.step key None life.first).1
 
   -- to the rest of its inputs
   abbrev pub said_in_rest : LifeIn machine key inputs → List O
-  said_in_rest life = outputs_from machine key (next machine key None life.first) life.rest
+  said_in_rest life = outputs_from machine key (machine.step key None life.first).0 life.rest
 
   -- and after it
   abbrev pub said_after : LifeIn machine key inputs → List O

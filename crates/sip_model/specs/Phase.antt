@@ -26,11 +26,13 @@ timed_items now items = map (timed_item now) items
 
 -- a phase at a moment in ms, with a tick or without
 abbrev pub phase_at : {K I : Type 0} → ℕ → Bool → List (Item K I) → Phase K (Timed I)
-phase_at now ticks items =
-    record { moment = if ticks then Some now else None; items = timed_items now items }
+phase_at now ticks items = record {
+  moment = if ticks then Some now else None;
+  items = map (λ item.
+      record { place = item.place; key = item.key; input = given_at now item.input }) items;
+}
 
--- what is said in a phase: by each key to the tick, in key order; and by each item, beside its
--- place and its key
+-- what is said in a phase: by each key to the tick; and to each item, with its place and its key
 pub record PhaseOutputs (K O : Type 0) : Type 0 where
   pub ticks : List (K × List O)
   pub items : List ((ℕ × K) × List O)
@@ -50,9 +52,10 @@ module _ {K I : Type 0} (cmp : K → K → Ordering) (tick : ℕ → I) where
   abbrev pub own_inputs : Phase K I → K → List I
   own_inputs phase key = map tick (option_to_list phase.moment) ++ inputs_of cmp phase.items key
 
-  -- all that a key was given in phases, oldest first
+  -- all that a key was given in phases, oldest first: of each the tick, and then its own items
   abbrev pub history : List (Phase K I) → K → List I
-  history phases key = flat_map (λ phase. own_inputs phase key) phases
+  history phases key = flat_map (λ phase. map tick (option_to_list phase.moment)
+      ++ map (λ item. item.input) (filter (λ item. is_at (cmp item.key) key) phase.items)) phases
 
 -- the keys of items, each once
 abbrev pub named_by : {K I : Type 0} {cmp : K → K → Ordering} → FinSet cmp → List (Item K I)

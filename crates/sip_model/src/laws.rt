@@ -2,6 +2,7 @@
 
 ghost use Rattle.sip_model.specs.Laws.{EachKeyAlone, ShardsHoldApart, ShardsWorkApart, ToldInOrder};
 ghost use Rattle.sip_model.specs.Machine.{tick_at};
+ghost use Rattle.sip_model.specs.Rules.{SaidByAKey, SaidByHistories};
 ghost use Rattle.sip_model.specs.Shards.{ShardsTellAll};
 
 use crate::machine::StateMachine;
@@ -16,4 +17,11 @@ pub fn laws_of_phases<M: StateMachine>(_machine: &M)
     ensures shards_hold_apart { ShardsHoldApart M.Key.cmp (M.machine _machine.now) tick_at }
     ensures shards_tell_all { ShardsTellAll M.Key.cmp (M.machine _machine.now) tick_at }
     ensures told_in_order { ToldInOrder M.Key.cmp (M.machine _machine.now) tick_at }
+{}
+
+/// What is said in a phase, to its tick and to each item, is what the machine adds after the own
+/// inputs of the key; and so is what a key says in phases.
+pub fn phases_are_said_by_histories<M: StateMachine>(_machine: &M)
+    ensures phase { SaidByHistories M.Key.cmp (M.machine _machine.now) tick_at }
+    ensures key { SaidByAKey M.Key.cmp (M.machine _machine.now) tick_at }
 {}

@@ -11,9 +11,10 @@ use Rattle.std.proofs.lemmas.List.Folds.{list_any-append}
 use Rattle.sip_message.specs.declared.id.Id.{Id}
 use Rattle.sip_message.specs.declared.key.Key.{Key}
 use Rattle.sip_message.specs.Key.{key_cmp}
-use Rattle.sip_model.specs.Laws.{EachKeyAlone, said_by, said_from}
+use Rattle.sip_model.specs.Laws.{EachKeyAlone, said_by}
 use Rattle.sip_model.specs.Machine.{LifeIn, Timed, outputs_from, said_after, state_after, state_from, state_left, tick_at}
 use Rattle.sip_model.specs.Phase.{Phase, history, inputs_of, own_inputs, states_after, timed_items}
+use Rattle.sip_model.specs.Rules.{said_since}
 use Rattle.sip_model.proofs.Ordered.{by_bool}
 use Rattle.sip_model.proofs.Phases.{state_from-append}
 use Rattle.sip_transactions.specs.declared.input.Input.{Input}
@@ -43,6 +44,7 @@ use Rattle.sip_round.proofs.Lives.{outputs_append}
 use Rattle.sip_round.proofs.NamesRise.{Later, one_round_more}
 use Rattle.sip_round.proofs.OwnOutputs.{AreAllOwn, none_own, phase_own}
 use Rattle.sip_round.proofs.Runs.{answers_count, each_from-append, past_from-append}
+use Rattle.sip_round.proofs.Said.{call_alone, transaction_alone}
 
 nothing_of_both : {X : Type 0} (xs ys : List X) → xs ++ ys ≡ [] → (xs ≡ []) × (ys ≡ [])
 nothing_of_both [] ys none = (refl, none)
@@ -221,7 +223,7 @@ module _ (id : Id) where
     module _ (config : Config) (call_id : List ℕ) where
       abbrev Quiet : ℕ → Past → List Round → List (Phase Key (Timed Input)) → Type 0
       Quiet number past rounds more =
-          flat_map under (said_from key_cmp transaction_machine tick_at q past.transactions more)
+          flat_map under (said_since key_cmp transaction_machine tick_at q past.transactions more)
           ≡ []
           → AllByRecursion (λ timed. ComesNot timed.input)
           (history call_cmp tick_at (calls_from config number past rounds) call_id)
@@ -239,7 +241,7 @@ module _ (id : Id) where
           let by : List (Phase Key (Timed Input)) → Phase Key (Timed Input) → List Out =
           λ before phase.
           said_by key_cmp transaction_machine tick_at q (said_by_transactions before phase) in
-          let rest = said_from key_cmp transaction_machine tick_at q (between ++ two ∷ []) more in
+          let rest = said_since key_cmp transaction_machine tick_at q (between ++ two ∷ []) more in
           let parts = nothing_of_both (flat_map under (by past.transactions one))
           (flat_map under (by between two ++ rest))
           (sym (flat_map-append under (by past.transactions one) (by between two ++ rest))
@@ -282,7 +284,7 @@ module _ (over : NothingAfterEachEnd)
       → (past_of config (earlier ++ later)).transactions
       ≡ (past_of config earlier).transactions ++ more
       → HasEnded key id config earlier
-      → flat_map (under id) (said_from key_cmp transaction_machine tick_at key
+      → flat_map (under id) (said_since key_cmp transaction_machine tick_at key
       (past_of config earlier).transactions more) ≡ []
   nothing_under key id config earlier later more phases ended =
       let past = (past_of config earlier).transactions in
@@ -318,9 +320,9 @@ module _ (over : NothingAfterEachEnd)
       ap (list_any (carries id))
       (sym (outputs_append transaction_machine key (state_left life) life.after new))
       ∙ over config (earlier ++ later) key longer id ended.over ended.named in
-      none_under id (said_from key_cmp transaction_machine tick_at key past more)
+      none_under id (said_since key_cmp transaction_machine tick_at key past more)
       (ap (list_any (carries id))
-      (transactions_alone past more key
+      (transaction_alone transactions_alone past more key
       ∙ ap (λ state. outputs_from transaction_machine key state new) held)
       ∙ second_false (list_any (carries id) (said_after life))
       (list_any (carries id) (outputs_from transaction_machine key left new))
@@ -359,5 +361,6 @@ module _ (over : NothingAfterEachEnd)
               (answers_from config number past later))
               ∙ given_from config call_id number past later
               (own_from config call_id config.first no_past earlier (λ key. tt))
-              ∙ ap (flat_map notice_in) (calls_alone past.calls phases call_id);
+              ∙ ap (flat_map notice_in)
+              (call_alone (calls_of config) calls_alone past.calls phases call_id);
         }

@@ -27,13 +27,14 @@ use Rattle.sip_round.specs.Arrivals as arrival
 use Rattle.sip_round.specs.declared.config.Config.{Config}
 use Rattle.sip_round.specs.declared.round.Event.{Event}
 use Rattle.sip_round.specs.declared.round.Round.{Round}
-use Rattle.sip_round.specs.Answers.{Past, arrivals, first, items_of_round, no_past, past_after, past_from, past_of, said_by_transactions, second}
+use Rattle.sip_round.specs.Answers.{Past, arrivals, first, items_first, items_of_round, no_past, past_after, past_from, past_of, second}
 use Rattle.sip_round.specs.Arrivals.{Arrival, arrival_of, arrivals_from}
 use Rattle.sip_round.specs.Outputs.{joined, outs_of, raised_of, said_at, user_items}
 use Rattle.sip_round.specs.Phases.{call_items, transaction_item, transaction_items}
 use Rattle.sip_shards.proofs.Climbing.{Climbs, climbs_from_less}
 use Rattle.sip_round.proofs.EventsRise.{Places, Rise, places_from, rise_after, rise_apart}
 use Rattle.sip_round.proofs.FewUps.{Few, events_of, few_ups, no_ups, raised}
+use Rattle.sip_round.proofs.Said.{told_by_transactions, transactions_say}
 
 -- ---- lists
 
@@ -174,23 +175,25 @@ pub round_placed : (config : Config) (number : ℕ) (past : Past) (round : Round
     → Places number 1 (events_of (items_of_round config number past round))
 unfolding items_of_round first
 round_placed config number past round =
-    let told = said_by_transactions past.transactions (first config number past round) in
+    let phase = first config number past round in
+    let came = arrivals config number past round in
+    let told = told_by_transactions past.transactions phase in
     let before = states_after key_cmp transaction_machine tick_at past.transactions in
     let ticks = flat_map (raised_of (record { round = number; place = 0 })) (joined told.ticks) in
-    let rest = flat_map (λ a. items_at (said_at told) a.0 a.1)
-    (arrivals config number past round) in
+    let rest = flat_map (λ a. items_at (said_at told) a.0 a.1) came in
     let keys = filter (λ key. speaks
     (adds transaction_machine key (before key) (tick_at round.moment)))
     (keys_of_phases key_cmp past.transactions) in
     let few : (id : Id) (place : ℕ) → Few id (raised id (said_at told place)) =
     λ id place. few_at id place 1 (λ key.
     next transaction_machine key (before key) (tick_at round.moment))
-    (first config number past round).items
-    (arrivals_climb round.moment config.local number 1 round.events) in
-    subst (Places number 1) (sym (filter_map-append item_event ticks rest
+    phase.items (arrivals_climb round.moment config.local number 1 round.events) in
+    subst (λ said. Places number 1 (events_of (items_first number said came)))
+    (transactions_say past.transactions phase)
+    (subst (Places number 1) (sym (filter_map-append item_event ticks rest
     ∙ ap (λ ids. ids ++ events_of rest)
     (ticks_raise (record { round = number; place = 0 }) round.moment before keys)))
-    (arrivals_placed (said_at told) few config.local number 1 round.events)
+    (arrivals_placed (said_at told) few config.local number 1 round.events))
 
 -- ---- those of one call
 

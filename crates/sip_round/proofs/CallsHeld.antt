@@ -35,6 +35,7 @@ use Rattle.sip_round.specs.CallsHeld.{DialogsHaveTheirHistory, EachDialogOwesAsT
 use Rattle.sip_round.specs.Laws.{call_inputs_of}
 use Rattle.sip_round.proofs.CallEvents.{events_differ}
 use Rattle.sip_round.proofs.RequestsDiffer.{brought_rise, requests_differ}
+use Rattle.sip_round.proofs.Said.{call_alone}
 use Rattle.sip_round.proofs.SaidInDialogs.{said_in_dialog}
 
 -- what is held after rounds, input by input
@@ -87,7 +88,8 @@ dialogs_have_their_history config alone rounds call_id name held is =
           (of numbers.0 numbers.1) numbers.2;
       said = (
         end.0,
-        ap (cseqs_in name) (alone [] (past_of config rounds).calls call_id) ∙ end.1,
+        ap (cseqs_in name)
+            (call_alone calls alone [] (past_of config rounds).calls call_id) ∙ end.1,
       );
       remote = subst (λ (history : History). held.dialog.remote_cseq
           ≡ fold greater (opened history.opening).remote_cseq

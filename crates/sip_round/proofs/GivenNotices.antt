@@ -1,13 +1,14 @@
 -- The notices with a Call-ID, of all that rounds give, are those that the call's own history says.
-use Rattle.std.proofs.Common.{◌≡◌, ℕ, suc, List, [], ◌∷◌, ◌++◌, refl, sym, ap, ◌∙◌, append-nil, append_assoc}
+use Rattle.std.proofs.Common.{◌≡◌, ℕ, suc, List, [], ◌∷◌, ◌++◌, refl, sym, ap, ◌∙◌, append-nil, append_assoc, subst}
 use Rattle.std.specs.List.{flat_map}
 use Rattle.std.proofs.lemmas.Cmp.{nat_list_cmp_total}
 use Rattle.std.proofs.lemmas.Grind.{flat_map-append}
 use Rattle.std.proofs.lemmas.List.Elements.{filter-append}
 use Rattle.std.proofs.lemmas.Map.Lookups.{exact_bytes}
-use Rattle.sip_model.specs.Laws.{said_by, said_from}
+use Rattle.sip_model.specs.Laws.{said_by}
 use Rattle.sip_model.specs.Machine.{Timed, tick_at}
 use Rattle.sip_model.specs.Phase.{Phase, states_after}
+use Rattle.sip_model.specs.Rules.{said_since}
 use Rattle.sip_model.proofs.Spoken.{own_after, spoken}
 use Rattle.sip_common.specs.declared.item.CallOut.{CallOut}
 use Rattle.sip_calls.specs.Call.{call_machine, CallItem}
@@ -18,10 +19,11 @@ use Rattle.sip_round.specs.declared.output.Output.{Output}
 use Rattle.sip_round.specs.declared.round.Round.{Round}
 use Rattle.sip_round.specs.Answers.{Past, answer, answers, answers_from, calls_of, given_second, no_past, past_after, past_from, past_of, said_by_calls, second}
 use Rattle.sip_round.specs.Given.{AnswersGiveOwnNotices, all_given, is_notice_of, notice_in, notices_of}
-use Rattle.sip_round.specs.Outputs.{shown_of}
+use Rattle.sip_round.specs.Outputs.{all_said, shown_of}
 use Rattle.sip_round.proofs.NotTold.{told_in_second}
 use Rattle.sip_round.proofs.OwnItems.{second_own}
 use Rattle.sip_round.proofs.OwnNotices.{IsTimedOf, own_kept, own_notices, picked}
+use Rattle.sip_round.proofs.Said.{calls_say}
 
 notices_append : (q : List ℕ) (xs ys : List Output)
     → notices_of q (xs ++ ys) ≡ notices_of q xs ++ notices_of q ys
@@ -52,11 +54,15 @@ module _ (q : List ℕ) (config : Config) (number : ℕ) (past : Past) (round : 
   second_told : notices_of q (flat_map shown_of (given_second config number past round)) ≡ of_round
   unfolding given_second
   second_told =
+      let calls = calls_of config in
+      let phase = second config number past round in
       notices_shown q (given_second config number past round)
-      ∙ spoken call_cmp (call_machine (calls_of config)) notice_in picked IsCallOf IsTimedOf
-      nat_list_cmp_total exact_bytes (own_kept (calls_of config)) tick_at (λ moment key. tt)
-      (own_notices (calls_of config)) q past.calls (second config number past round) own
-      (second_own config number past round)
+      ∙ subst (λ said. flat_map (picked q) (all_said said)
+      ≡ flat_map notice_in (said_by call_cmp (call_machine calls) tick_at q said))
+      (calls_say calls past.calls phase)
+      (spoken call_cmp (call_machine calls) notice_in picked IsCallOf IsTimedOf
+      nat_list_cmp_total exact_bytes (own_kept calls) tick_at (λ moment key. tt)
+      (own_notices calls) q past.calls phase own (second_own config number past round))
 
   answer_told : notices_of q (answer config number past round) ≡ of_round
   answer_told =
@@ -100,7 +106,7 @@ module _ (config : Config) where
   pub given_from : (q : List ℕ) (number : ℕ) (past : Past) (rounds : List Round)
       → AreOwnCalls config past.calls
       → notices_of q (all_given (answers_from config number past rounds))
-      ≡ flat_map notice_in (said_from call_cmp (call_machine (calls_of config)) tick_at q
+      ≡ flat_map notice_in (said_since call_cmp (call_machine (calls_of config)) tick_at q
       past.calls (calls_from number past rounds))
   unfolding past_after
   given_from q number past [] own = refl
@@ -114,7 +120,7 @@ module _ (config : Config) where
       ++ given_from q (suc number) next rounds (own_then q config number past round own) i)
       ∙ sym (flat_map-append notice_in
       (said_by call_cmp machine tick_at q (said_by_calls (calls_of config) past.calls phase))
-      (said_from call_cmp machine tick_at q (past.calls ++ phase ∷ [])
+      (said_since call_cmp machine tick_at q (past.calls ++ phase ∷ [])
       (calls_from (suc number) next rounds)))
 
 pub notices_given : AnswersGiveOwnNotices
@@ -122,5 +128,5 @@ unfolding answers past_of
 notices_given config rounds q =
     given_from config q config.first no_past rounds (λ key. tt)
     ∙ ap (λ phases. flat_map notice_in
-    (said_from call_cmp (call_machine (calls_of config)) tick_at q [] phases))
+    (said_since call_cmp (call_machine (calls_of config)) tick_at q [] phases))
     (sym (calls_are config config.first no_past rounds))

@@ -1,5 +1,5 @@
 -- The Sends with a transaction's key, of all that rounds give, are those that its own history says.
-use Rattle.std.proofs.Common.{◌≡◌, ℕ, suc, ◌≤◌, Bool, true, false, cond, List, [], ◌∷◌, ◌++◌, map, nat_eq, refl, sym, ap, ◌∙◌, append-nil, append_assoc, arith}
+use Rattle.std.proofs.Common.{◌≡◌, ℕ, suc, ◌≤◌, Bool, true, false, cond, List, [], ◌∷◌, ◌++◌, map, nat_eq, refl, sym, ap, ◌∙◌, append-nil, append_assoc, subst, arith}
 use Rattle.std.specs.Prelude.{Option, filter}
 use Rattle.std.specs.BTreeMap.{is_at}
 use Rattle.std.specs.List.{flat_map}
@@ -10,9 +10,10 @@ use Rattle.sip_message.specs.declared.id.Id.{Id}
 use Rattle.sip_message.specs.declared.key.Key.{Key}
 use Rattle.sip_message.specs.Key.{key_cmp}
 use Rattle.sip_model.specs.declared.item.Item as model
-use Rattle.sip_model.specs.Laws.{said_by, said_from}
+use Rattle.sip_model.specs.Laws.{said_by}
 use Rattle.sip_model.specs.Machine.{Timed, adds, given_at, next, tick_at}
 use Rattle.sip_model.specs.Phase.{Phase, states_after, stepped, timed_items, told_items}
+use Rattle.sip_model.specs.Rules.{said_since}
 use Rattle.sip_transactions.specs.declared.input.Input.{Input}
 use Rattle.sip_transactions.specs.declared.life.Life.{Life}
 use Rattle.sip_transactions.specs.declared.output.Out.{Out}
@@ -34,6 +35,7 @@ use Rattle.sip_round.proofs.CallEvents.{TellsAt, arrivals_climb, none_later}
 use Rattle.sip_shards.proofs.Climbing.{Climbs}
 use Rattle.sip_round.proofs.NamesRise.{Later, one_round_more}
 use Rattle.sip_round.proofs.OwnOutputs.{AreAllOwn, none_own, phase_own}
+use Rattle.sip_round.proofs.Said.{told_by_transactions, transactions_say}
 
 -- ---- what a transaction says, and what calls say
 
@@ -153,17 +155,20 @@ module _ (q : Key) (config : Config) (number : ℕ) (past : Past) (round : Round
   unfolding first
   first_sent =
       let phase = first config number past round in
-      let told = said_by_transactions past.transactions phase in
+      let came = arrivals config number past round in
+      let told = told_by_transactions past.transactions phase in
       let states : Key → Option Life = λ key.
       next transaction_machine key
       (states_after key_cmp transaction_machine tick_at past.transactions key)
       (tick_at round.moment) in
-      sends_append q (flat_map sent_of (joined told.ticks))
-      (flat_map (sent_at (said_at told)) (arrivals config number past round))
+      subst (λ said. sends_with q (sent_first said came) ≡ flat_map (picked q) (all_said said))
+      (transactions_say past.transactions phase)
+      (sends_append q (flat_map sent_of (joined told.ticks))
+      (flat_map (sent_at (said_at told)) came)
       ∙ (λ i. sends_said q (joined told.ticks) i
       ++ sent_of_arrivals q round.moment number (said_at told) config.local 1 states round.events
       (λ at above. refl) i)
-      ∙ sym (flat_map-append (picked q) (joined told.ticks) (joined told.items))
+      ∙ sym (flat_map-append (picked q) (joined told.ticks) (joined told.items)))
       ∙ phase_own Output send_in picked sends_are_own q past.transactions phase
 
   answer_sent : sends_with q (answer config number past round)
@@ -194,7 +199,7 @@ module _ (q : Key) (config : Config) where
   abbrev Given : ℕ → Past → List Round → List (Phase Key (Timed Input)) → Type 0
   Given number past rounds phases =
       sends_with q (all_given (answers_from config number past rounds))
-      ≡ flat_map send_in (said_from key_cmp transaction_machine tick_at q past.transactions phases)
+      ≡ flat_map send_in (said_since key_cmp transaction_machine tick_at q past.transactions phases)
 
   one_round_given : (number : ℕ) (past : Past) (round : Round) (rounds : List Round)
       (phases : List (Phase Key (Timed Input)))
@@ -209,7 +214,7 @@ module _ (q : Key) (config : Config) where
       let by : List (Phase Key (Timed Input)) → Phase Key (Timed Input) → List Out =
       λ before phase.
       said_by key_cmp transaction_machine tick_at q (said_by_transactions before phase) in
-      let rest = said_from key_cmp transaction_machine tick_at q (between ++ two ∷ []) phases in
+      let rest = said_since key_cmp transaction_machine tick_at q (between ++ two ∷ []) phases in
       sends_append q (answer config number past round)
       (all_given (answers_from config (suc number) (past_after config number past round) rounds))
       ∙ (λ i. answer_sent q config number past round i ++ later i)
@@ -238,4 +243,4 @@ unfolding answers past_of
 sends_given config rounds q =
     let all = given q config rounds config.first no_past in
     all.holds ∙ ap (λ phases. flat_map send_in
-    (said_from key_cmp transaction_machine tick_at q [] phases)) (sym all.transactions)
+    (said_since key_cmp transaction_machine tick_at q [] phases)) (sym all.transactions)

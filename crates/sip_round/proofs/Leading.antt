@@ -29,7 +29,7 @@ use Rattle.sip_round.specs.declared.output.PlacedOutput.{PlacedOutput}
 use Rattle.sip_round.specs.declared.round.Round.{Round}
 use Rattle.sip_round.specs.declared.waiting.Waiting.{Waiting}
 use Rattle.sip_round.specs.AgentState.{ShardTables, calls_held, lives_held}
-use Rattle.sip_round.specs.Answers.{Past, arrivals, calls_of, first, given_second, items_of_round, past_after, placed_answer, placed_first, placed_second, placed_third, said_by_transactions, said_by_calls, second, third}
+use Rattle.sip_round.specs.Answers.{Past, arrivals, calls_of, first, given_second, items_first, items_of_round, past_after, placed_answer, placed_first, placed_second, placed_third, said_by_transactions, said_by_calls, second, third}
 use Rattle.sip_round.specs.Arrivals.{Arrival, arrivals_from}
 use Rattle.sip_round.specs.Steps.Arrived.{ArePlaced}
 use Rattle.sip_shards.specs.AllShards.{DealsAll, DealsParts}
@@ -42,6 +42,7 @@ use Rattle.sip_shards.proofs.Cutting.{map_long}
 use Rattle.sip_shards.proofs.Numbered.{places_timed}
 use Rattle.sip_round.proofs.ByEvent.{behind, each, flat_map-map, woven_by_place}
 use Rattle.sip_round.proofs.InForm.{told}
+use Rattle.sip_round.proofs.Said.{calls_say, told_by_calls, told_by_transactions, transactions_say}
 
 joined_by_place : {K O : Type 0} (told : List ((ℕ × K) × List O))
     → joined (map by_place told) ≡ joined told
@@ -71,14 +72,14 @@ module _ (owner : Key → ℕ) (old new : List (Held Key Life)) (number now : �
       → by_event (all_waiting arrived) said
       ≡ map (λ a. (
         a.0,
-        outs_of (said_at (said_by_transactions past (first_phase now arrived))) a.0
+        outs_of (said_at (told_by_transactions past (first_phase now arrived))) a.0
             a.1,
         user_items a.0 a.1,
       )) arrived
   woven_told past hold =
       ap (by_event (all_waiting arrived)) (deals.items_told past hold)
       ∙ woven_by_place 1 arrived placed
-      (said_by_transactions past (first_phase now arrived)).items
+      (told_by_transactions past (first_phase now arrived)).items
       ((law past (first_phase now arrived)).by_place
       ∙ places_timed now (transaction_items arrived))
 
@@ -96,10 +97,12 @@ module _ (owner : Key → ℕ) (old new : List (Held Key Life)) (number now : �
     count = deals.count;
     stands = deals.stands;
     sent = λ past hold.
-        let told : PhaseOutputs Key Out = said_by_transactions past (first_phase now arrived) in
+        let told : PhaseOutputs Key Out = told_by_transactions past (first_phase now arrived) in
         let sent : Id × List Out × List (Id × Item) → List PlacedOutput =
         λ w. flat_map (sent_at (w.0).place) w.1 in
-        ap (λ t. flat_map (sent_at 0) (joined t) ++ flat_map sent (by_event waiting said))
+        subst (λ said. first_given waiting ≡ placed_first said arrived)
+        (transactions_say past (first_phase now arrived))
+        (ap (λ t. flat_map (sent_at 0) (joined t) ++ flat_map sent (by_event waiting said))
         (deals.ticks_told past hold)
         ∙ ap (λ w. flat_map (sent_at 0) (joined told.ticks) ++ flat_map sent (by_event w said))
         waits
@@ -107,11 +110,13 @@ module _ (owner : Key → ℕ) (old new : List (Held Key Life)) (number now : �
         (woven_told past hold)
         ∙ ap (λ more. flat_map (sent_at 0) (joined told.ticks) ++ more)
         (flat_map-map sent (λ a. (a.0, outs_of (said_at told) a.0 a.1, user_items a.0 a.1))
-        arrived);
+        arrived));
     raised = λ past hold.
-        let told : PhaseOutputs Key Out = said_by_transactions past (first_phase now arrived) in
+        let told : PhaseOutputs Key Out = told_by_transactions past (first_phase now arrived) in
         let tick_id : Id = record { round = number; place = 0 } in
-        raises
+        subst (λ said. items ≡ items_first number said arrived)
+        (transactions_say past (first_phase now arrived))
+        (raises
         ∙ ap (λ t. flat_map (raised_of tick_id) (joined t)
         ++ flat_map (λ w. flat_map (raised_of w.0) w.1 ++ w.2) (by_event waiting said))
         (deals.ticks_told past hold)
@@ -121,7 +126,7 @@ module _ (owner : Key → ℕ) (old new : List (Held Key Life)) (number now : �
         ++ flat_map (λ w. flat_map (raised_of w.0) w.1 ++ w.2) w) (woven_told past hold)
         ∙ ap (λ more. flat_map (raised_of tick_id) (joined told.ticks) ++ more)
         (flat_map-map (λ (w : Id × List Out × List (Id × Item)). flat_map (raised_of w.0) w.1
-        ++ w.2) (λ a. (a.0, outs_of (said_at told) a.0 a.1, user_items a.0 a.1)) arrived);
+        ++ w.2) (λ a. (a.0, outs_of (said_at told) a.0 a.1, user_items a.0 a.1)) arrived));
   }
 
 -- ---- the second and the third
@@ -144,20 +149,23 @@ led_second shared owner old new now items ticks said none half commands deals no
       count = deals.count;
       stands = deals.stands;
       shown = λ past hold.
-          let told = said_by_calls shared past (second_phase now items) in
+          let told = told_by_calls shared past (second_phase now items) in
           let shown : ℕ × List CallOut → List PlacedOutput =
           λ group. flat_map (shown_at (place_of items group.0)) group.1 in
-          ap (λ t. flat_map (shown_at 0) (joined t) ++ flat_map shown said)
+          subst (λ all. second_given items ticks said ≡ placed_second all items)
+          (calls_say shared past (second_phase now items))
+          (ap (λ t. flat_map (shown_at 0) (joined t) ++ flat_map shown said)
           (deals.ticks_told past hold)
           ∙ ap (λ s. flat_map (shown_at 0) (joined told.ticks) ++ flat_map shown s)
           (deals.items_told past hold)
           ∙ ap (λ more. flat_map (shown_at 0) (joined told.ticks) ++ more)
-          (flat_map-map shown by_place told.items);
+          (flat_map-map shown by_place told.items));
       commanded = λ past hold. behind command_of ticks said none half commands asks_ticks asks
           ∙ ap (λ cs. cs ++ flat_map command_of (joined ticks ++ joined said)) nothing
           ∙ ap (flat_map command_of) (whole
-          (said_by_calls shared past (second_phase now items)) ticks said
-          (deals.ticks_told past hold) (deals.items_told past hold));
+          (told_by_calls shared past (second_phase now items)) ticks said
+          (deals.ticks_told past hold) (deals.items_told past hold)
+          ∙ ap all_said (calls_say shared past (second_phase now items)));
     }
 
 pub led_third : (owner : Key → ℕ) (old new : List (Held Key Life)) (now : ℕ)
@@ -169,8 +177,9 @@ led_third owner old new now commands ticks said deals = record {
   count = deals.count;
   stands = deals.stands;
   sent = λ past hold. ap (flat_map (sent_at 0))
-      (whole (said_by_transactions past (third_phase now commands)) ticks said
-      (deals.ticks_told past hold) (deals.items_told past hold));
+      (whole (told_by_transactions past (third_phase now commands)) ticks said
+      (deals.ticks_told past hold) (deals.items_told past hold)
+      ∙ ap all_said (transactions_say past (third_phase now commands)));
 }
 
 -- ---- whoever ran the pieces of the phases

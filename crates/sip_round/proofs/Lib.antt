@@ -30,6 +30,7 @@ pub mod RequestsOnce
 pub mod RequestsRise
 pub mod Runs
 pub mod SoFar
+pub mod Said
 pub mod SaidInDialogs
 pub mod StartedOnce
 pub mod StartedRequests

@@ -48,11 +48,12 @@ use Rattle.sip_round.specs.declared.config.Config.{Config}
 use Rattle.sip_round.specs.declared.round.Event.{Event}
 use Rattle.sip_round.specs.declared.round.Event.TheVariants as event
 use Rattle.sip_round.specs.declared.round.Round.{Round}
-use Rattle.sip_round.specs.Answers.{Past, calls_of, first, given_second, items_of_round, no_past, past_after, past_from, past_of, said_by_calls, second, third}
+use Rattle.sip_round.specs.Answers.{Past, calls_of, first, given_second, items_of_round, no_past, past_after, past_from, past_of, second, third}
 use Rattle.sip_round.specs.Arrivals.{Arrival, arrival_for, arrival_of, arrivals_from, datagram_arrival, message_arrival}
-use Rattle.sip_round.specs.Outputs.{command_of, joined}
+use Rattle.sip_round.specs.Outputs.{all_said, command_of, joined}
 use Rattle.sip_round.specs.Phases.{call_items, command_items, transaction_item, transaction_items}
 use Rattle.sip_round.proofs.EventsRise.{Places, Rise, places_from, rise_after, rise_apart}
+use Rattle.sip_round.proofs.Said.{calls_say, told_by_calls}
 use Rattle.sip_round.proofs.StartedOnce.{distinct_of_once, one_more_beside, one_more_of_both, started_from, started_once, how_many-append, ticks_start}
 
 abbrev name_of : Timed Input → Option Id
@@ -310,16 +311,18 @@ unfolding given_second second
 round_of_clients config number past round =
     let calls = calls_of config in
     let before = states_after call_cmp (call_machine calls) tick_at past.calls in
-    let told = said_by_calls calls past.calls (second config number past round) in
+    let phase = second config number past round in
+    let told = told_by_calls calls past.calls phase in
     let keys = filter (λ key. speaks
     (adds (call_machine calls) key (before key) (tick_at round.moment)))
     (keys_of_phases call_cmp past.calls) in
-    subst AllClients (sym (filter_map-append start_in (joined told.ticks) (joined told.items)
+    subst (λ said. AllClients (starts (all_said said))) (calls_say calls past.calls phase)
+    (subst AllClients (sym (filter_map-append start_in (joined told.ticks) (joined told.items)
     ∙ ap (λ s. s ++ starts (joined told.items))
     (ticks_start calls round.moment before keys)))
     (items_of_clients calls round.moment 0
     (λ key. next (call_machine calls) key (before key) (tick_at round.moment))
-    (items_of_round config number past round))
+    (items_of_round config number past round)))
 
 -- ---- over rounds
 

@@ -29,13 +29,14 @@ use Rattle.sip_round.specs.Arrivals as arrival
 use Rattle.sip_round.specs.declared.config.Config.{Config}
 use Rattle.sip_round.specs.declared.round.Event.{Event}
 use Rattle.sip_round.specs.declared.round.Round.{Round}
-use Rattle.sip_round.specs.Answers.{Past, arrivals, first, items_of_round, said_by_transactions, second}
+use Rattle.sip_round.specs.Answers.{Past, arrivals, first, items_first, items_of_round, second}
 use Rattle.sip_round.specs.Arrivals.{Arrival, arrival_of, arrivals_from}
 use Rattle.sip_round.specs.Outputs.{joined, outs_of, raised_of, said_at, user_items}
 use Rattle.sip_round.specs.Phases.{call_items, transaction_item, transaction_items}
 use Rattle.sip_round.proofs.CallEvents.{TellsAt}
 use Rattle.sip_round.proofs.NamesRise.{ArrivalNamed, Named, arrival_named}
 use Rattle.sip_round.proofs.OwnRequests.{AreOwnUps, IsKindBy, IsOwnUp, own_ups}
+use Rattle.sip_round.proofs.Said.{told_by_transactions, transactions_say}
 
 -- ---- an item of its own call, and of its own event
 
@@ -195,7 +196,8 @@ pub items_own : (config : Config) (number : ℕ) (past : Past) (round : Round)
 unfolding items_of_round first
 items_own config number past round =
     let phase = first config number past round in
-    let told = said_by_transactions past.transactions phase in
+    let came = arrivals config number past round in
+    let told = told_by_transactions past.transactions phase in
     let before = states_after key_cmp transaction_machine tick_at past.transactions in
     let between : Key → Option Life = λ key.
     next transaction_machine key (before key) (tick_at round.moment) in
@@ -203,14 +205,16 @@ items_own config number past round =
     (adds transaction_machine key (before key) (tick_at round.moment)))
     (keys_of_phases key_cmp past.transactions) in
     let id = event_at number 0 in
-    both IsOwnItem (flat_map (raised_of id) (joined told.ticks))
-    (flat_map (items_at (said_at told)) (arrivals config number past round))
+    subst (λ said. AreOwnItems (items_first number said came))
+    (transactions_say past.transactions phase)
+    (both IsOwnItem (flat_map (raised_of id) (joined told.ticks))
+    (flat_map (items_at (said_at told)) came)
     (raised_own id None (λ own is. absurd cc) (joined told.ticks)
     (ticks_own round.moment before keys))
     (arrivals_own (said_at told) config.local number
     (λ place. told_own number place between phase.items
     (arrivals_named round.moment config.local number 1 round.events))
-    1 round.events)
+    1 round.events))
 
 -- ---- the calls' phase
 

@@ -33,6 +33,7 @@ use Rattle.sip_transactions.proofs.Rules.{machine_is}
 use Rattle.sip_transactions.specs.Steps.Output.{handed_out, kind_of, made_bytes, outputs_of, send_out, sent_bytes, up_out}
 use Rattle.sip_round.specs.Answers.{said_by_transactions}
 use Rattle.sip_round.specs.Outputs.{all_said}
+use Rattle.sip_round.proofs.Said.{transactions_say}
 
 -- of a transaction nothing else is asked
 abbrev AnyHeld : Key → Option Life → Type 0
@@ -136,6 +137,9 @@ module _ (X : Type 0) (chosen : Out → List X) (picked : Key → Out → List X
         ≡ flat_map chosen
         (said_by key_cmp transaction_machine tick_at q (said_by_transactions before phase))
     phase_own q before phase =
-        spoken key_cmp transaction_machine chosen picked AnyHeld AnyInput keys_total exact_keys
+        subst (λ said. flat_map (picked q) (all_said said)
+        ≡ flat_map chosen (said_by key_cmp transaction_machine tick_at q said))
+        (transactions_say before phase)
+        (spoken key_cmp transaction_machine chosen picked AnyHeld AnyInput keys_total exact_keys
         (λ key held input own fits. tt) tick_at (λ moment key. tt) own_outputs q before phase
-        (λ key. tt) (any_items phase.items)
+        (λ key. tt) (any_items phase.items))

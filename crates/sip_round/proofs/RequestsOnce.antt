@@ -33,9 +33,9 @@ use Rattle.sip_round.specs.declared.config.Config.{Config}
 use Rattle.sip_round.specs.declared.output.Output.{Output}
 use Rattle.sip_round.specs.declared.output.Output.TheVariants as output
 use Rattle.sip_round.specs.declared.round.Round.{Round}
-use Rattle.sip_round.specs.Answers.{Past, answer, answers, answers_from, calls_of, given_second, items_of_round, no_past, past_after, said_by_calls, second}
+use Rattle.sip_round.specs.Answers.{Past, answer, answers, answers_from, calls_of, given_second, items_of_round, no_past, past_after, second}
 use Rattle.sip_round.specs.Given.{all_given, is_request_of, requests_of}
-use Rattle.sip_round.specs.Outputs.{joined, shown_of}
+use Rattle.sip_round.specs.Outputs.{all_said, joined, shown_of}
 use Rattle.sip_round.specs.Phases.{call_items}
 use Rattle.sip_round.proofs.CallEvents.{item_event}
 use Rattle.sip_round.proofs.EventsRise.{rise_apart}
@@ -43,6 +43,7 @@ use Rattle.sip_round.proofs.FewUps.{events_of}
 use Rattle.sip_round.proofs.NotTold.{told_in_second}
 use Rattle.sip_round.proofs.OwnItems.{AreOwnItems, IsItemBy, items_own}
 use Rattle.sip_round.proofs.OwnRequests.{IsKindBy}
+use Rattle.sip_round.proofs.Said.{calls_say, told_by_calls}
 use Rattle.sip_round.proofs.StartedOnce.{counted, events_from, events_rise, how_many-append, once_of_distinct}
 
 module _ (x : Id) where
@@ -159,16 +160,20 @@ module _ (x : Id) where
       let before = states_after call_cmp machine tick_at past.calls in
       let between : List ℕ → Option Call = λ q.
       next machine q (before q) (tick_at round.moment) in
-      let told = said_by_calls calls past.calls (second config number past round) in
+      let phase = second config number past round in
+      let told = told_by_calls calls past.calls phase in
       let keys = filter (λ key. speaks
       (adds machine key (before key) (tick_at round.moment)))
       (keys_of_phases call_cmp past.calls) in
-      omega (
+      subst (λ said. tells_of x (all_said said)
+      ≤ coming (items_of_round config number past round))
+      (calls_say calls past.calls phase)
+      (omega (
         arith,
         tells_append (joined told.ticks) (joined told.items),
         ticks_tell calls round.moment before keys,
         items_tell calls round.moment 0 between (items_of_round config number past round),
-      )
+      ))
 
   -- ---- each that comes up is of an event of its own
 

@@ -37,9 +37,9 @@ use Rattle.sip_round.specs.declared.config.Config.{Config}
 use Rattle.sip_round.specs.declared.output.Output.{Output}
 use Rattle.sip_round.specs.declared.output.Output.TheVariants as output
 use Rattle.sip_round.specs.declared.round.Round.{Round}
-use Rattle.sip_round.specs.Answers.{Past, answer, answers, answers_from, calls_of, given_second, items_of_round, no_past, past_after, said_by_calls, second}
+use Rattle.sip_round.specs.Answers.{Past, answer, answers, answers_from, calls_of, given_second, items_of_round, no_past, past_after, second}
 use Rattle.sip_round.specs.Given.{GivesRequestsById, all_given, told_request}
-use Rattle.sip_round.specs.Outputs.{joined, shown_of}
+use Rattle.sip_round.specs.Outputs.{all_said, joined, shown_of}
 use Rattle.sip_round.specs.Phases.{call_items}
 use Rattle.sip_round.proofs.CallEvents.{item_event, one_left, round_placed}
 use Rattle.sip_round.proofs.EventsRise.{Places, Rise, places_from, rise_after}
@@ -47,6 +47,7 @@ use Rattle.sip_round.proofs.FewUps.{events_of}
 use Rattle.sip_round.proofs.NotTold.{told_in_second}
 use Rattle.sip_round.proofs.OwnItems.{AreOwnItems, IsItemBy, items_own}
 use Rattle.sip_round.proofs.OwnRequests.{IsKindBy}
+use Rattle.sip_round.proofs.Said.{calls_say, told_by_calls}
 use Rattle.sip_round.proofs.StartedOnce.{counted, counted_one}
 
 -- ---- by the order of ids
@@ -269,15 +270,17 @@ round_told config number past round =
     let machine = call_machine calls in
     let before = states_after call_cmp machine tick_at past.calls in
     let between : List ℕ → Option Call = λ q. next machine q (before q) (tick_at round.moment) in
-    let told = said_by_calls calls past.calls (second config number past round) in
+    let phase = second config number past round in
+    let told = told_by_calls calls past.calls phase in
     let items = items_of_round config number past round in
     let keys = filter (λ key. speaks (adds machine key (before key) (tick_at round.moment)))
     (keys_of_phases call_cmp past.calls) in
-    subst (Places number 1) (sym (filter_map-append request_told_by (joined told.ticks)
+    subst (λ said. Places number 1 (asked (all_said said))) (calls_say calls past.calls phase)
+    (subst (Places number 1) (sym (filter_map-append request_told_by (joined told.ticks)
     (joined told.items)
     ∙ ap (λ ids. ids ++ asked (joined told.items)) (ticks_ask calls round.moment before keys)))
     (items_placed calls round.moment 0 number 1 between items (items_own config number past round)
-    (round_placed config number past round))
+    (round_placed config number past round)))
 
 -- ---- over rounds
 

@@ -30,12 +30,13 @@ use Rattle.sip_calls.specs.Provisionals.{event_in}
 use Rattle.sip_calls.proofs.CallStarts.{call_starts, count_option, how_many, id_exact, ids_of, tick_silent, waiting_in, weight}
 use Rattle.sip_round.specs.declared.config.Config.{Config}
 use Rattle.sip_round.specs.declared.round.Round.{Round}
-use Rattle.sip_round.specs.Answers.{Past, calls_of, given_second, items_of_round, no_past, past_after, said_by_calls, second}
-use Rattle.sip_round.specs.Outputs.{joined}
+use Rattle.sip_round.specs.Answers.{Past, calls_of, given_second, items_of_round, no_past, past_after, second}
+use Rattle.sip_round.specs.Outputs.{all_said, joined}
 use Rattle.sip_round.specs.Phases.{call_items}
 use Rattle.sip_round.proofs.CallEvents.{item_event, round_placed}
 use Rattle.sip_round.proofs.EventsRise.{Rise, places_from, rise_after, rise_apart}
 use Rattle.sip_round.proofs.FewUps.{events_of}
+use Rattle.sip_round.proofs.Said.{calls_say, told_by_calls}
 
 -- ---- ids that differ
 
@@ -186,7 +187,7 @@ round_starts config number past round x most later budget =
     let before = states_after call_cmp machine tick_at past.calls in
     let between : List ℕ → Option Call = λ q. next machine q (before q) (tick_at round.moment) in
     let after = states_after call_cmp machine tick_at (past.calls ++ phase ∷ []) in
-    let told = said_by_calls calls past.calls phase in
+    let told = told_by_calls calls past.calls phase in
     let keys = filter (λ key. speaks
     (adds machine key (before key) (tick_at round.moment)))
     (keys_of_phases call_cmp past.calls) in
@@ -196,7 +197,10 @@ round_starts config number past round x most later budget =
     (goes calls x) (keeps calls x) (refl, goes_in_parts calls x) most between timed later
     (subst (λ n. Left calls x most between (n + later)) (sym (coming calls x round.moment 0 items))
     left) in
-    record {
+    subst (λ said. Spent call_cmp (waits calls x) most
+    (how_many x (ids_of (starts (all_said said)))) after later)
+    (calls_say calls past.calls phase)
+    (record {
       left = spent.left;
       within = subst (λ n. n + spent.left ≤ most)
           (sym (goes_in_parts calls x (joined told.ticks) (joined told.items)
@@ -209,7 +213,7 @@ round_starts config number past round x most later budget =
           (sym (states_after_phase nat_list_cmp_total exact_bytes machine tick_at past.calls
           phase q)))
           spent.budget;
-    }
+    })
 
 -- ---- over rounds
 

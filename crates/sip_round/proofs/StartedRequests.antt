@@ -47,6 +47,7 @@ use Rattle.sip_round.specs.declared.round.Round.{Round}
 use Rattle.sip_round.specs.Answers.{answers, past_of}
 use Rattle.sip_round.specs.Given.{AnswersGiveOwnSends, GivesStartedRequests, send_in}
 use Rattle.sip_round.proofs.Lives.{in_lives}
+use Rattle.sip_round.proofs.Said.{transaction_alone}
 
 -- ---- tests of the tables of clients
 
@@ -231,7 +232,8 @@ started_requests alone own config rounds branch method life =
       to = first.to;
       begins = first.is;
       sends = own config rounds k
-          ∙ ap (flat_map send_in) (alone [] (past_of config rounds).transactions k
+          ∙ ap (flat_map send_in)
+          (transaction_alone alone [] (past_of config rounds).transactions k
           ∙ in_lives transaction_machine k life
           ∙ ap (λ outs. before ++ (outs ++ later)) first.sends)
           ∙ flat_map-append send_in before

@@ -6,7 +6,8 @@ use Rattle.sip_model.specs.Machine.{Timed, tick_at}
 use Rattle.sip_message.specs.declared.id.Id.{Id}
 use Rattle.sip_message.specs.declared.key.Key.{Key}
 use Rattle.sip_message.specs.Key.{key_cmp, branch_in}
-use Rattle.sip_model.specs.Phase.{Phase, PhaseOutputs, told_next}
+use Rattle.sip_model.specs.Phase.{Phase, PhaseOutputs}
+use Rattle.sip_model.specs.Rules.{said_in}
 use Rattle.sip_model.specs.Shards.{HoldFrom}
 use Rattle.sip_transactions.specs.declared.input.Input.{Input}
 use Rattle.sip_transactions.specs.declared.output.Out.{Out}
@@ -41,13 +42,12 @@ pub record Past : Type 0 where
 -- what all transactions say to a phase, after the phases before
 abbrev pub said_by_transactions : List (Phase Key (Timed Input)) → Phase Key (Timed Input)
     → PhaseOutputs Key Out
-said_by_transactions = told_next key_cmp transaction_machine tick_at
+said_by_transactions = said_in key_cmp transaction_machine tick_at
 
 -- what all calls say to a phase
 abbrev pub said_by_calls : Calls → List (Phase (List ℕ) (Timed CallItem))
-    → Phase (List ℕ) (Timed CallItem)
-    → PhaseOutputs (List ℕ) CallOut
-said_by_calls calls = told_next call_cmp (call_machine calls) tick_at
+    → Phase (List ℕ) (Timed CallItem) → PhaseOutputs (List ℕ) CallOut
+said_by_calls calls = said_in call_cmp (call_machine calls) tick_at
 
 -- what the first phase sends and drops: at the ticks, with place 0, and then by place
 abbrev pub placed_first : PhaseOutputs Key Out → List (Id × Arrival) → List PlacedOutput

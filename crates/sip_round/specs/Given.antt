@@ -9,7 +9,7 @@ use Rattle.sip_message.specs.declared.key.Key.TheVariants as key
 use Rattle.sip_message.specs.declared.message.Message.{Message}
 use Rattle.sip_message.specs.Key.{key_cmp}
 use Rattle.sip_message.specs.Written.{written}
-use Rattle.sip_model.specs.Machine.{LifeIn, Timed, given_at, outputs_from, said_after, said_in_rest, state_after, state_left}
+use Rattle.sip_model.specs.Machine.{LifeIn, Timed, given_at, outputs_from, said_after, said_in_rest, state_from, state_left}
 use Rattle.sip_transactions.specs.declared.input.Input.TheVariants.{Start}
 use Rattle.sip_transactions.specs.declared.output.Out.{Out}
 use Rattle.sip_transactions.specs.declared.output.Out.TheVariants as out
@@ -190,7 +190,7 @@ pub record NoneComesFrom (key : Key) (id : Id) (config : Config) (earlier later 
   pub none : AllByRecursion (λ timed. comes_from key id timed.input ≡ false) inputs
   pub told : notices_of call_id (all_given (drop (length earlier) given)) ≡ flat_map notice_in
       (outputs_from (call_machine (calls_of config)) call_id
-      (state_after (call_machine (calls_of config)) call_id
+      (state_from (call_machine (calls_of config)) call_id None
       (call_inputs_of config earlier call_id)) inputs)
 
 -- a transaction hands nothing up under the id of a life of it that has ended; and in the rounds

@@ -4,9 +4,9 @@ use Rattle.std.specs.List.{list_any}
 use Rattle.sip_message.specs.declared.id.Id.{Id}
 use Rattle.sip_message.specs.Key.{key_cmp}
 use Rattle.sip_message.specs.declared.key.Key.{Key}
-use Rattle.sip_model.specs.Laws.{said_from}
 use Rattle.sip_model.specs.Machine.{LifeIn, Timed, outputs_from, said_after, said_at_first, said_in_rest, state_left, tick_at}
 use Rattle.sip_model.specs.Phase.{history}
+use Rattle.sip_model.specs.Rules.{said_since}
 use Rattle.sip_transactions.specs.declared.input.Input.{Input}
 use Rattle.sip_transactions.specs.declared.output.Out.{Out}
 use Rattle.sip_transactions.specs.Laws.{IsServer, carries, id_of, requests_in}
@@ -27,7 +27,7 @@ inputs_of config rounds key = history key_cmp tick_at (past_of config rounds).tr
 -- all that the phases of rounds say of a transaction, in order
 abbrev pub said_of : Config → List Round → Key → List Out
 said_of config rounds key =
-    said_from key_cmp transaction_machine tick_at key [] (past_of config rounds).transactions
+    said_since key_cmp transaction_machine tick_at key [] (past_of config rounds).transactions
 
 -- what rounds say of a transaction is what is said before a life, to its first input, to the rest
 -- of it, and after it; its request comes up with the first input, and not again
@@ -70,7 +70,7 @@ call_inputs_of config rounds call_id =
 -- all that the phases of rounds say of a call, in order
 abbrev pub said_of_call : Config → List Round → List ℕ → List CallOut
 said_of_call config rounds call_id =
-    said_from call_cmp (call_machine (calls_of config)) tick_at call_id []
+    said_since call_cmp (call_machine (calls_of config)) tick_at call_id []
     (past_of config rounds).calls
 
 -- What rounds say of a call is what its inputs add, in order; and of the reliable provisional

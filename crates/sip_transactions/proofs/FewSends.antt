@@ -12,7 +12,8 @@ use Rattle.sip_message.specs.declared.key.Key.TheVariants as key
 use Rattle.sip_message.specs.declared.message.Message.{Message}
 use Rattle.sip_message.specs.Message.{is_request_message}
 use Rattle.sip_message.specs.Written.{written}
-use Rattle.sip_model.specs.Machine.{outputs_from, IsWithinLife, Timed, given_at}
+use Rattle.sip_model.specs.Machine.{outputs_from, Timed, given_at}
+use Rattle.sip_model.proofs.Lives.{IsWithinLife, is_within}
 use Rattle.sip_transactions.specs.declared.input.Input.{Input}
 use Rattle.sip_transactions.specs.declared.input.Input.TheVariants.{Start}
 use Rattle.sip_transactions.specs.declared.life.Context.{Context}
@@ -299,4 +300,5 @@ few_sends branch method inputs life now id call_id request to started own =
     subst (λ first. IsWithinLife step_machine k (stepped k None first).0 life.rest
     → sends_of (written request) (outputs_from step_machine k None (first ∷ life.rest))
     ≤ 1 + most_repeats (role_of k)) (sym started)
-    (few_from branch method now id call_id request to life.rest own) life.within
+    (few_from branch method now id call_id request to life.rest own)
+    (is_within step_machine k inputs life)

@@ -8,7 +8,8 @@ use Rattle.sip_message.specs.declared.key.Key.{Key}
 use Rattle.sip_message.specs.declared.message.Message.{Message}
 use Rattle.sip_message.specs.declared.start_line.StartLine.{StartLine}
 use Rattle.sip_message.specs.declared.start_line.StartLine.TheVariants as start
-use Rattle.sip_model.specs.Machine.{outputs_from, IsWithinLife, Timed}
+use Rattle.sip_model.specs.Machine.{outputs_from, Timed}
+use Rattle.sip_model.proofs.Lives.{IsWithinLife, is_within}
 use Rattle.sip_transactions.specs.declared.input.Input.{Input}
 use Rattle.sip_transactions.specs.declared.input.Input.TheVariants.{Receive, Start, Answer, Failed}
 use Rattle.sip_transactions.specs.declared.life.Context.{Context}
@@ -189,5 +190,6 @@ rest_silent key (Some life) (timed ∷ inputs) within =
 pub one_request_up : OneRequestUp step_machine
 one_request_up key server inputs life = (
   first_once key server life.first life.begins,
-  rest_silent key (stepped key None life.first).0 life.rest life.within,
+  rest_silent key (stepped key None life.first).0 life.rest
+      (is_within step_machine key inputs life),
 )

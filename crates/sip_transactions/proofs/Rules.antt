@@ -1,5 +1,5 @@
 -- The rules of transactions are their steps.
-use Rattle.std.proofs.Common.{◌≡◌, ℕ, Bool, true, false, List, [], ◌++◌, refl, sym, ◌∙◌, ap}
+use Rattle.std.proofs.Common.{◌≡◌, ℕ, Bool, true, false, List, [], ◌++◌, refl, sym, ◌∙◌, ap, subst}
 use Rattle.std.specs.Prelude.{codes, Option, None, Some, if◌then◌else◌, option_and_then, option_map, option_to_list, unwrap_or}
 use Rattle.std.specs.Option.{option_map_or, option_or}
 use Rattle.std.specs.Str.{bytes_eq}
@@ -14,6 +14,7 @@ use Rattle.sip_message.specs.declared.sent_by.SentBy.{SentBy}
 use Rattle.sip_message.specs.declared.start_line.StartLine.{StartLine}
 use Rattle.sip_message.specs.declared.start_line.StartLine.TheVariants as start
 use Rattle.sip_timers.specs.Queue.{is_due}
+use Rattle.sip_model.specs.Machine.{Machine, Timed}
 use Rattle.sip_transactions.specs.declared.input.Input.{Input}
 use Rattle.sip_transactions.specs.declared.input.Input.TheVariants as input
 use Rattle.sip_transactions.specs.declared.life.Context.{Context}
@@ -513,3 +514,8 @@ step_is key (Some life) now (Some (input.Failed id)) =
 pub machine_is : transaction_machine ≡ step_machine
 machine_is =
     λ i. record { step = λ key held timed. step_is key held timed.moment timed.input i }
+
+-- what holds of the machine of the steps holds of the machine of the rules
+pub at_steps : (P : Machine Key Life (Timed Input) Out → Type 0) → P step_machine
+    → P transaction_machine
+at_steps P holds = subst P (sym machine_is) holds

@@ -1,8 +1,7 @@
-use Rattle.std.proofs.Common.{subst, sym}
 use Rattle.sip_transactions.specs.Laws.{CommandsOnlySend}
 use Rattle.sip_transactions.proofs.LawSteps as steps
-use Rattle.sip_transactions.proofs.Rules.{machine_is}
+use Rattle.sip_transactions.proofs.Rules.{at_steps}
 use Rattle.sip_transactions.proofs.laws.commands_only_send.Goals as goal
 
 pub returns : goal.returns
-returns c = subst CommandsOnlySend (sym machine_is) steps.commands_only_send
+returns c = at_steps CommandsOnlySend steps.commands_only_send

@@ -1,8 +1,7 @@
-use Rattle.std.proofs.Common.{subst, sym}
 use Rattle.sip_transactions.specs.Laws.{FewSends}
 use Rattle.sip_transactions.proofs.FewSends as sends
-use Rattle.sip_transactions.proofs.Rules.{machine_is}
+use Rattle.sip_transactions.proofs.Rules.{at_steps}
 use Rattle.sip_transactions.proofs.laws.few_sends.Goals as goal
 
 pub returns : goal.returns
-returns c = subst FewSends (sym machine_is) sends.few_sends
+returns c = at_steps FewSends sends.few_sends

@@ -1,8 +1,7 @@
-use Rattle.std.proofs.Common.{subst, sym}
 use Rattle.sip_transactions.specs.Laws.{RequestsComeUpById}
 use Rattle.sip_transactions.proofs.RequestsById as by_id
-use Rattle.sip_transactions.proofs.Rules.{machine_is}
+use Rattle.sip_transactions.proofs.Rules.{at_steps}
 use Rattle.sip_transactions.proofs.laws.requests_come_up_by_id.Goals as goal
 
 pub returns : goal.returns
-returns c = subst RequestsComeUpById (sym machine_is) by_id.requests_come_up_by_id
+returns c = at_steps RequestsComeUpById by_id.requests_come_up_by_id
