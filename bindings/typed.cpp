@@ -206,7 +206,7 @@ static std::string written(const sip::TypedOutput &told) {
 
 static void run(sip::Agent &agent, std::uint64_t moment) {
     std::cout << "round " << moment << "\n";
-    for (const sip::TypedOutput &output : agent.run_typed(moment))
+    for (const sip::TypedOutput &output : agent.run(moment))
         std::cout << written(output) << "\n";
 }
 
