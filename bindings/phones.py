@@ -1,7 +1,8 @@
 """Runs examples/phone.py by its terminal, on loopback.
 
-    phones.py LIBRARY baresip CALLS FOLDER
-        so many calls to baresip, and as many from it; FOLDER gets the files of baresip
+    phones.py LIBRARY baresip CALLS FOLDER [THROUGH]
+        so many calls to baresip, which go through the address THROUGH where one is given, and as
+        many from it; FOLDER gets the files of baresip
     phones.py LIBRARY registrar ADDR
         two phones register with passwords, and one calls the other
 
@@ -116,12 +117,12 @@ def talk(phone, baresip, number):
     phone.wait_for("^ended$")
 
 
-def with_baresip(library, calls, folder):
+def with_baresip(library, calls, folder, through=BARESIP):
     programs = [Baresip(folder), Phone(library, PHONE, "bob@127.0.0.1")]
     baresip, phone = programs
     try:
         for number in range(int(calls)):
-            phone.say(f"call sip:carol@{BARESIP}")
+            phone.say(f"call sip:carol@{through}")
             phone.wait_for("^up$")
             talk(phone, baresip, number)
         print(f"  {calls} calls of phone.py to baresip")
