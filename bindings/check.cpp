@@ -80,7 +80,8 @@ int main() {
     expect(told.size() == 1 && !told[0].to, "a request is told");
     expect(told[0].place == 1, "by its place");
     const auto start = agent.start_line(1);
-    expect(start && start->method == "OPTIONS" && start->uri == "sip:a@192.0.2.1", "its start line");
+    expect(start && start->method == "OPTIONS", "its method");
+    expect(start && start->uri == "sip:a@192.0.2.1", "its Request-URI");
     expect(!agent.start_line(2), "no datagram");
     expect(agent.header_values(1, "f") == std::vector<std::string>{"<sip:b@192.0.2.9>;tag=f1"},
            "the values of a header");

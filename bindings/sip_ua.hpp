@@ -291,7 +291,8 @@ public:
             },
             [&] { return start.method_len + start.len; });
         if (start.kind == SIP_UA_REQUEST)
-            return StartLine{text.substr(0, start.method_len), text.substr(start.method_len), 0, ""};
+            return StartLine{text.substr(0, start.method_len), text.substr(start.method_len),
+                             0, {}};
         if (start.kind == SIP_UA_RESPONSE)
             return StartLine{{}, {}, start.status, text};
         return std::nullopt;

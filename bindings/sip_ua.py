@@ -390,7 +390,8 @@ class EndedNotice(Notice):
 
 @dataclass(frozen=True)
 class RefusedNotice(Notice):
-    """The command of this id was refused."""
+    """The command of this id was refused; or an ACK or a PRACK that was to go out by itself, after
+    the event of this id."""
 
     id: Id
     refusal: Refusal

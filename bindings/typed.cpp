@@ -1,5 +1,5 @@
-// Replays an event file or a session file through the class of C++, and writes its output file: each
-// command is asked for by its struct, and each output told by its fields.
+// Replays an event file or a session file through the class of C++, and writes its output file:
+// each command is asked for by its struct, and each output told by its fields.
 // `typed < EVENTS > OUTPUTS`; docs/FORMATS.md has the forms.
 #include "sip_ua.hpp"
 

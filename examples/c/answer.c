@@ -1,5 +1,10 @@
 /* An agent that answers over UDP: OPTIONS and other requests with 200, and calls with 180 and with
- * 200 and an SDP answer, until they are ended. `answer IP PORT [SECONDS]`; for ever without SECONDS.
+ * 200 and an SDP answer, until they are ended.
+ *
+ *     answer IP PORT [SECONDS [OUTSIDE-IP OUTSIDE-PORT]]
+ *
+ * Without SECONDS it goes on for ever. Behind a NAT the last two are the address by which peers
+ * reach the socket.
  *
  * The loop of a host: wait for a datagram until the moment at which something is due, hand over all
  * that came, run a round, send what is to be sent, and answer what the user is told. Answers are
@@ -125,17 +130,26 @@ static int patience(uint64_t end)
     return until <= moment ? 0 : until - moment > 1000000 ? 1000000 : (int)(until - moment);
 }
 
+static bool read_address(const char *ip, const char *port, struct sockaddr_in *address)
+{
+    memset(address, 0, sizeof *address);
+    address->sin_family = AF_INET;
+    address->sin_port = htons((uint16_t)atoi(port));
+    return inet_pton(AF_INET, ip, &address->sin_addr) == 1;
+}
+
 int main(int count, char **words)
 {
     sip_ua_configuration configuration = { 0 };
-    struct sockaddr_in local = { .sin_family = AF_INET };
-    if (count < 3 || inet_pton(AF_INET, words[1], &local.sin_addr) != 1) {
-        fprintf(stderr, "usage: answer IP PORT [SECONDS]\n");
+    struct sockaddr_in local, outside;
+    if (count < 3 || count == 5 || count > 6 || !read_address(words[1], words[2], &local)
+        || !read_address(words[count == 6 ? 4 : 1], words[count == 6 ? 5 : 2], &outside)) {
+        fprintf(stderr, "usage: answer IP PORT [SECONDS [OUTSIDE-IP OUTSIDE-PORT]]\n");
         return 2;
     }
-    configuration.local.port = (uint16_t)atoi(words[2]);
-    local.sin_port = htons(configuration.local.port);
-    memcpy(configuration.local.ip, &local.sin_addr, 4);
+    /* What Via and Contact say need not be the socket's own address. */
+    configuration.local.port = ntohs(outside.sin_port);
+    memcpy(configuration.local.ip, &outside.sin_addr, 4);
     udp = socket(AF_INET, SOCK_DGRAM, 0);
     if (udp < 0 || bind(udp, (struct sockaddr *)&local, sizeof local) != 0
         || getrandom(configuration.seed, sizeof configuration.seed, 0) < 0) {

@@ -113,7 +113,7 @@ static void take_response(const sip_ua_typed_output *output, const sip_ua_texts 
 {
     static char local[256], remote[256];
     say(output->place, output->status);
-    if (output->id.round != invite.round || output->id.place != invite.place) {
+    if (!sip_ua_is_id(output->id, invite)) {
         is_over = is_over || (hangs_up && output->status >= 200);
     } else if (output->status >= 200 && output->status < 300 && !is_answered) {
         is_answered = true;
