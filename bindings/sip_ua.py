@@ -8,13 +8,13 @@ moments, and gives back what is to be sent and told:
     agent.ask(Invite("c1", ("192.0.2.9", 5060), "sip:b@192.0.2.9", "sip:a@192.0.2.1",
                      "sip:b@192.0.2.9", body=offer))
     while True:
-        .. wait for a datagram, the user, or the moment of agent.next_due()
-        agent.datagram(source, data)
         for output in agent.run(moment):
             if isinstance(output, Send):
                 udp.sendto(output.datagram, output.to)
             elif isinstance(output, RequestNotice):
                 agent.ask(Response(output.call_id, output.id, 200, "OK"))
+        .. unless a command waits, wait for a datagram, the user, or agent.next_due()
+        agent.datagram(source, data)
 
 What is asked for is a Command: Invite, Plain, Request, Response, Ack, Prack, Cancel. What a round
 gives is an Output: a Send, a Drop, or a Notice of one of eleven types. sip_ua_udp.py is that loop
