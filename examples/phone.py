@@ -218,16 +218,21 @@ class Phone:
         if not command:
             return
         challenge, answer = CHALLENGES.get(output.status, (None, None))
-        if challenge and isinstance(command, (Invite, Plain)):
-            if answer not in dict(command.headers):
-                self.ask_again(command, answer, self.header(output, challenge))
-                return
-        if isinstance(command, Invite):
+        if challenge and self.may_ask_again(command, answer):
+            self.ask_again(command, answer, self.header(output, challenge))
+        elif isinstance(command, Invite):
             self.told_of_invite(output)
         elif isinstance(command, Plain):
             self.told_of_register(command, output)
         elif isinstance(command, Request) and command.method == "INVITE" and output.status == 200:
             print("on hold" if direction_of(command.body) == "sendonly" else "resumed", flush=True)
+
+    def may_ask_again(self, command, answer):
+        """A challenge is answered once, and not where the user has left the call."""
+        is_wanted = isinstance(command, Plain)
+        if isinstance(command, Invite) and self.call:
+            is_wanted = self.call.call_id == command.call_id and not self.call.is_left
+        return is_wanted and answer not in dict(command.headers)
 
     def ask_again(self, command, answer, challenge):
         """The same request with the answer to its challenge."""
