@@ -13,7 +13,7 @@ from dataclasses import dataclass, field
 from secrets import token_hex
 from typing import List, Optional
 
-from sip_ua import Ack, Cancel, Id, Invite, Request, Response
+from sip_ua import Ack, Cancel, Error, Id, Invite, Request, RequestNotice, Response
 from sip_ua_udp import open_endpoint
 
 CONTACT = {"contact", "m"}
@@ -78,8 +78,13 @@ class B2bua:
 
     def told(self, output):
         action = getattr(self, f"told_{type(output).__name__}", None)
-        if action:
-            action(output)
+        try:
+            if action:
+                action(output)
+        except Error as error:
+            print("not passed on:", error, flush=True)
+            if isinstance(output, RequestNotice):
+                self.respond(Leg(output.call_id), output.id, 400, "Bad Request")
 
     def headers(self, place, of_one_side=OF_ONE_SIDE):
         """The headers of a datagram that go on."""
@@ -144,12 +149,12 @@ class B2bua:
             self.respond(leg, told.id, 420, "Bad Extension", headers=[("Unsupported", "100rel")])
             return
         leg.other = Leg(token_hex(8), other=leg)
-        self.legs[leg.key()] = leg
         user, at, _ = self.endpoint.agent.start_line(place).uri.rpartition("@")
         uri = f"{user}@{self.next_hop}" if at else f"sip:{self.next_hop}"
         uris = (uri, uri_of(values(place, "From")[0]), uri_of(values(place, "To")[0]))
         said = (told.body, self.headers(place))
         self.pass_on(Invite(leg.other.call_id, address(self.next_hop), *uris, *said), leg, told)
+        self.legs[leg.key()] = leg
 
     def told_CancelNotice(self, told):
         """487 has answered the INVITE that came; the one that was passed on is cancelled."""

@@ -16,7 +16,7 @@ from secrets import token_hex
 from typing import Optional
 
 from digest import credentials
-from sip_ua import Cancel, Id, Invite, Plain, Request, Response
+from sip_ua import Cancel, Error, Id, Invite, Plain, Request, Response
 from sip_ua_udp import open_endpoint
 
 EXPIRES_S = 600
@@ -49,6 +49,7 @@ class Call:
     offer: bytes = b""
     local_tag: str = ""
     remote_tag: str = ""
+    is_answered: bool = False
     is_up: bool = False
     is_left: bool = False
 
@@ -74,10 +75,13 @@ class Phone:
             if word == "quit":
                 break
             action = getattr(self, f"do_{word}", None)
-            if action:
-                action(rest)
-            elif word:
-                print("no command:", word, flush=True)
+            try:
+                if action:
+                    action(rest)
+                elif word:
+                    print("no command:", word, flush=True)
+            except (ValueError, Error) as error:
+                print("not done:", error, flush=True)
         self.do_hangup("")
         self.register(0)
         await asyncio.sleep(0.5)
@@ -97,12 +101,13 @@ class Phone:
 
     def do_answer(self, _):
         call = self.call
-        if call and not (call.is_ours or call.is_up):
+        if call and not (call.is_ours or call.is_answered):
+            call.is_answered = True
             self.respond(call.call_id, call.invite, 200, "OK", self.answer_to(call.offer))
 
     def do_busy(self, _):
         call = self.call
-        if call and not (call.is_ours or call.is_up):
+        if call and not (call.is_ours or call.is_answered):
             self.respond(call.call_id, call.invite, 486, "Busy Here")
             self.over()
 
@@ -118,7 +123,8 @@ class Phone:
             self.ask(self.call.request("INFO", body, [TONE]))
 
     def do_hangup(self, _):
-        """Leaves a call: by BYE, CANCEL or 603. One that is answered all the same gets a BYE."""
+        """Leaves a call: by BYE, CANCEL or 603. One that is answered all the same, or whose ACK is
+        still to come, gets its BYE then."""
         call = self.call
         if not call or call.is_left:
             return
@@ -127,7 +133,7 @@ class Phone:
             self.ask(call.request("BYE"))
         elif call.is_ours:
             self.ask(Cancel(call.call_id, call.invite))
-        else:
+        elif not call.is_answered:
             self.respond(call.call_id, call.invite, 603, "Decline")
             self.over()
 
@@ -210,15 +216,23 @@ class Phone:
 
     def told_AckNotice(self, output):
         if self.call and not self.call.is_up and output.id == self.call.invite:
-            self.call.is_up = True
-            print("up", flush=True)
+            self.up()
+
+    def up(self):
+        self.call.is_up = True
+        print("up", flush=True)
+        if self.call.is_left:
+            self.ask(self.call.request("BYE"))
 
     def told_ResponseNotice(self, output):
         command = self.sent.get(output.id)
         if not command:
             return
         challenge, answer = CHALLENGES.get(output.status, (None, None))
+        if output.status >= 200 and isinstance(command, Plain):
+            del self.sent[output.id]
         if challenge and self.may_ask_again(command, answer):
+            self.sent.pop(output.id, None)
             self.ask_again(command, answer, self.header(output, challenge))
         elif isinstance(command, Invite):
             self.told_of_invite(output)
@@ -269,10 +283,7 @@ class Phone:
             self.ask(Request(output.call_id, *tags, "BYE"))
         else:
             call.local_tag, call.remote_tag = output.local_tag, output.remote_tag
-            call.is_up = True
-            print("up", flush=True)
-            if call.is_left:
-                self.ask(call.request("BYE"))
+            self.up()
 
     def told_EndedNotice(self, output):
         call = self.call
