@@ -25,7 +25,7 @@ template <class Call> static void expect_status(std::uint32_t status, const char
 static void typed(sip::Agent &agent) {
     const sip::Address peer = {{192, 0, 2, 9}, 5060};
     const char *uri = "sip:b@192.0.2.9";
-    agent.run(10);
+    agent.run_lines(10);
     const auto id = agent.invite(
         {"c2", peer, uri, "sip:a@192.0.2.1", uri, true, false, "v=0\r\n", {{"Subject", "one"}}});
     expect(id.is_given && id.place == 1, "the id of an INVITE");
@@ -36,7 +36,7 @@ static void typed(sip::Agent &agent) {
     agent.ack({"c4", "a", "b"});
     agent.prack({"c4", "a", "b"});
     agent.cancel("c4", id);
-    const auto told = agent.run_typed(11);
+    const auto told = agent.run(11);
     std::size_t refused = 0, sent = 0;
     for (const auto &output : told) {
         refused += output.numbers.kind == SIP_UA_NOTICE_REFUSED && output.call_id == "c4"
@@ -74,13 +74,14 @@ int main() {
     expect(!first.next_due(), "nothing is due of a new agent");
     first.datagram(from, options);
     sip::Agent agent(std::move(first));
-    expect_status(SIP_UA_NOT_HELD, "moved from", [&] { first.run(0); });
+    expect_status(SIP_UA_NOT_HELD, "moved from", [&] { first.run_lines(0); });
     expect_status(SIP_UA_NOT_HELD, "a question of it", [&] { first.start_line(1); });
-    auto told = agent.run(0);
+    auto told = agent.run_lines(0);
     expect(told.size() == 1 && !told[0].to, "a request is told");
     expect(told[0].place == 1, "by its place");
     const auto start = agent.start_line(1);
-    expect(start && start->method == "OPTIONS" && start->uri == "sip:a@192.0.2.1", "its start line");
+    expect(start && start->method == "OPTIONS", "its method");
+    expect(start && start->uri == "sip:a@192.0.2.1", "its Request-URI");
     expect(!agent.start_line(2), "no datagram");
     expect(agent.header_values(1, "f") == std::vector<std::string>{"<sip:b@192.0.2.9>;tag=f1"},
            "the values of a header");
@@ -90,14 +91,14 @@ int main() {
     agent.event_lines(" Allow: INVITE, ACK, BYE\nrespond c1 0.1 200 plain - OK");
     const auto id = agent.last_id();
     expect(id && id->round == 1 && id->place == 1, "the id of a command");
-    auto sent = agent.run(5);
+    auto sent = agent.run_lines(5);
     expect(sent.size() == 1 && sent[0].to && sent[0].text.rfind("SIP/2.0 200 OK\r\n", 0) == 0,
            "the answer is sent");
     expect(sent[0].text.find("\r\nAllow: INVITE, ACK, BYE\r\n") != std::string::npos,
            "with its header");
     expect(agent.next_due().has_value(), "the end of the transaction is due");
-    expect_status(SIP_UA_BACKWARDS, "a moment that goes back", [&] { agent.run(4); });
-    expect_status(SIP_UA_TOO_LARGE, "a moment above 2^62", [&] { agent.run(UINT64_MAX); });
+    expect_status(SIP_UA_BACKWARDS, "a moment that goes back", [&] { agent.run_lines(4); });
+    expect_status(SIP_UA_TOO_LARGE, "a moment above 2^62", [&] { agent.run_lines(UINT64_MAX); });
     expect_status(SIP_UA_BAD_LINE, "no line", [&] { agent.event_line("hello"); });
     expect_status(SIP_UA_BAD_LINE, "an empty line", [&] { agent.event_line(""); });
     expect_status(SIP_UA_NO_SEND, "no send", [&] { agent.failed(7); });

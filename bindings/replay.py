@@ -1,6 +1,6 @@
 """Replays event files and session files through sip_ua.py: `replay.py LIBRARY EVENTS OUTPUTS ..`
 compares what it writes of each with its output file, and says how many are the same. With `--typed`
-before the files each command is asked for by its fields, and each output is told by its fields."""
+before the files each command is asked for by its type, and each output is told by its type."""
 
 import re
 import sys
@@ -18,258 +18,254 @@ def rest(data: bytes) -> str:
     )
 
 
-_LETTERS = {b"s": b" ", b"r": b"\r", b"n": b"\n", b"t": b"\t", b"\\": b"\\"}
+_LETTERS = {"s": " ", "r": "\r", "n": "\n", "t": "\t", "\\": "\\"}
 
 
-def unspelled(field: bytes) -> bytes:
+def unspelled(field: str) -> bytes:
     """The bytes that a rest spells."""
-    return re.sub(
-        rb"\\(x..|.)",
-        lambda found: _LETTERS.get(found[1]) or bytes([int(found[1][1:], 16)]),
+    text = re.sub(
+        r"\\(x..|.)",
+        lambda found: _LETTERS.get(found[1]) or chr(int(found[1][1:], 16)),
         field,
     )
+    return text.encode("latin-1")
 
 
-def unspelled_word(field: bytes) -> bytes:
-    return b"" if field == b"-" else unspelled(field)
+def unspelled_word(field: str) -> bytes:
+    return b"" if field == "-" else unspelled(field)
 
 
-def word(data: bytes) -> str:
+def text_of(data: bytes) -> str:
+    """Bytes as the library takes and tells them."""
+    return data.decode("utf-8", "surrogateescape")
+
+
+def word(data) -> str:
+    if isinstance(data, str):
+        data = data.encode("utf-8", "surrogateescape")
     return {b"": "-", b"-": "\\x2d"}.get(data) or rest(data).replace(" ", "\\s")
 
 
-def address_of(field: bytes):
-    ip, port = field.decode().split(":")
+def address_of(field: str):
+    ip, port = field.split(":")
     return ip, int(port)
 
 
-def id_of(field: bytes):
-    round, place = field.split(b".")
-    return int(round), int(place)
-
-
-def header_of(line: bytes):
+def header_of(line: str):
     """The name and the value of a header line."""
-    name, _, value = unspelled(line[1:]).partition(b":")
-    return name.strip(), value.strip(b" \t")
+    name, _, value = text_of(unspelled(line[1:])).partition(":")
+    return name.strip(), value.strip(" \t")
 
 
-def ask(agent, line: bytes, headers: list) -> None:
-    """The command of a line by its fields. A status that no typed call takes stays a line."""
-    keyword, *fields = line.split(b" ")
-    if keyword == b"respond":
-        call_id, id, status, reliability, body, reason = line.split(b" ", 6)[1:]
-        if not 101 <= int(status) <= 699:
-            agent.command(line, headers)
-            return
-        agent.respond(
-            unspelled_word(call_id),
-            id_of(id),
-            int(status),
-            reliability == b"reliable",
-            unspelled(reason),
-            unspelled_word(body),
-            headers,
-        )
-        return
-    if keyword in (b"datagram", b"failed"):
-        agent.event_line(line)
-        return
-    call_id, words = unspelled_word(fields[0]), [unspelled_word(field) for field in fields[1:]]
-    if keyword == b"invite":
-        hundred = (words[4] != b"none", words[4] == b"required")
-        address = address_of(fields[1])
-        agent.invite(call_id, address, words[1], words[2], words[3], *hundred, words[5], headers)
-    elif keyword == b"plain":
-        agent.plain(call_id, address_of(fields[1]), *words[1:], headers=headers)
-    elif keyword == b"cancel":
-        agent.cancel(call_id, id_of(fields[1]))
-    else:
-        getattr(agent, keyword.decode())(call_id, *words, headers=headers)
+def command_of(line: str, headers: list):
+    """The command of a line by its fields, or None for what no type says: a status that isn't 101
+    to 699, and an event that is no command."""
+    keyword, *fields = line.split(" ", 6) if line.startswith("respond ") else line.split(" ")
+    if keyword in ("datagram", "failed"):
+        return None
+    call_id, *texts = (text_of(unspelled_word(field)) for field in fields)
+    if keyword == "respond":
+        request, status, is_reliable = id_of(fields[1]), int(fields[2]), fields[3] == "reliable"
+        said = (status, text_of(unspelled(fields[5])), unspelled_word(fields[4]))
+        answer = sip_ua.Response(call_id, request, *said, headers, is_reliable)
+        return answer if 101 <= status <= 699 else None
+    if keyword == "cancel":
+        return sip_ua.Cancel(call_id, id_of(fields[1]))
+    body = unspelled_word(fields[-1])
+    if keyword == "invite":
+        hundred = (texts[4] == "supported", texts[4] == "required")
+        return sip_ua.Invite(call_id, address_of(fields[1]), *texts[1:4], body, headers, *hundred)
+    if keyword == "plain":
+        return sip_ua.Plain(call_id, address_of(fields[1]), *texts[1:-1], body, headers)
+    kind = {"request": sip_ua.Request, "ack": sip_ua.Ack, "prack": sip_ua.Prack}[keyword]
+    return kind(call_id, *texts[:-1], body, headers)
 
 
-_FORMS = {
-    sip_ua.NOTICE_REQUEST: "request",
-    sip_ua.NOTICE_RESPONSE: "response",
-    sip_ua.NOTICE_ACK: "ack",
-    sip_ua.NOTICE_PRACK: "prack",
-    sip_ua.NOTICE_TIMEOUT: "timeout",
-    sip_ua.NOTICE_FAILED: "failed",
-    sip_ua.NOTICE_NO_ACK: "noack",
-    sip_ua.NOTICE_NO_PRACK: "noprack",
-    sip_ua.NOTICE_CANCEL: "cancel",
-    sip_ua.NOTICE_ENDED: "ended",
-    sip_ua.NOTICE_REFUSED: "refused",
-}
+def id_of(field: str):
+    return sip_ua.Id(*map(int, field.split(".")))
+
+
 _REASONS = (
     "NotOurs NoTransaction TooLong NoEmptyLine BadStartLine BadHeader Missing Repeated BadNumber "
     "OldBranch MethodMismatch Truncated NoMemory"
 ).split()
-_HEADERS = (
-    "Via From To Call-ID CSeq Max-Forwards Content-Length RSeq RAck Contact Record-Route Route "
-    "Require Supported"
-).split()
-
-
-def written_typed(output) -> bytes:
-    """The line of an output that is told by its fields."""
-    if output.kind == sip_ua.SEND:
-        return f"send {output.to[0]}:{output.to[1]} {rest(output.body)}\n".encode()
-    if output.kind == sip_ua.DROP:
-        header = f" {_HEADERS[output.header - 1]}" if output.header else ""
-        return f"drop {output.place} {_REASONS[output.reason - 1]}{header}\n".encode()
-    form = _FORMS[output.kind]
-    fields = ["notice", word(output.call_id), form]
-    if output.id is not None:
-        fields.append(f"{output.id[0]}.{output.id[1]}")
-    if form == "request":
-        fields.append(output.method.decode())
-    if form == "response":
-        fields.append(str(output.status))
-    if form == "prack":
-        fields.append(str(output.rseq))
-    if form == "refused":
-        fields += [str(output.command), str(output.refusal)]
-    if form in ("request", "response", "ended"):
-        fields += [word(output.local_tag), word(output.remote_tag)]
-    if form in ("request", "response", "ack", "prack"):
-        fields.append(word(output.body))
-    return (" ".join(fields) + "\n").encode()
 
 
 def written(output) -> bytes:
-    if output.to is None:
-        return output.text
-    ip, port = output.to
-    return f"send {ip}:{port} {rest(output.text)}\n".encode()
+    """The line of an output."""
+    if isinstance(output, sip_ua.Send):
+        return f"send {output.to[0]}:{output.to[1]} {rest(output.datagram)}\n".encode()
+    if isinstance(output, sip_ua.Line):
+        return f"{output.text}\n".encode()
+    if isinstance(output, sip_ua.Drop):
+        header = f" {output.header}" if output.header else ""
+        return f"drop {output.place} {_REASONS[output.reason - 1]}{header}\n".encode()
+    form = type(output).__name__[: -len("Notice")].lower()
+    fields = ["notice", word(output.call_id), form]
+    if form == "refused":
+        fields += [str(output.id.place), str(int(output.refusal))]
+    elif form != "ended":
+        fields.append(str(output.id))
+    for name in ("method", "status", "rseq"):
+        if hasattr(output, name):
+            fields.append(str(getattr(output, name)))
+    for name in ("local_tag", "remote_tag", "body"):
+        if hasattr(output, name):
+            fields.append(word(getattr(output, name)))
+    return (" ".join(fields) + "\n").encode()
 
 
-def replay(library: str, events: bytes, typed: bool = False) -> bytes:
-    lines = events.split(b"\n")[:-1]
-    head, agent, moment, made = {}, None, None, [b"sip-outputs 1\n"]
-    headers = b""
+class Replay:
+    """One of an event file or a session file."""
 
-    def run():
-        made.append(b"round %d\n" % moment)
-        if typed:
-            made.extend(written_typed(output) for output in agent.run_typed(moment))
-        else:
-            made.extend(written(output) for output in agent.run(moment))
+    def __init__(self, library: str, typed: bool):
+        self.library, self.typed, self.agent, self.moment = library, typed, None, 0
+        self.head, self.headers, self.made = {}, "", [b"sip-outputs 1\n"]
+        self.asked = 0
 
-    for line in lines[1:]:
-        keyword, _, fields = line.partition(b" ")
-        if keyword == b"round":
-            if agent is None:
-                ip, port = head[b"local"].decode().split(":")
-                seed = bytes.fromhex(head.get(b"seed", b"00" * 32).decode())
-                agent = Agent(library, (ip, int(port)), seed, int(head.get(b"first", b"0")))
+    def of(self, events: str) -> bytes:
+        for line in events.split("\n")[1:-1]:
+            if line.startswith("round "):
+                self.run_before(int(line[6:]))
+            elif self.agent is None:
+                keyword, _, field = line.partition(" ")
+                self.head[keyword] = field
+            elif line.startswith(" "):
+                self.headers += line + "\n"
             else:
-                run()
-            moment = int(fields)
-        elif agent is None:
-            head[keyword] = fields
-        elif line.startswith(b" "):
-            headers += line + b"\n"
-        elif typed:
-            ask(agent, line, [header_of(given) for given in headers.split(b"\n")[:-1]])
-            headers = b""
-        elif headers:
-            agent.event_lines(headers + line)
-            headers = b""
+                self.event(line)
+        if self.agent is not None:
+            self.run()
+            self.agent.close()
+        return b"".join(self.made)
+
+    def run_before(self, moment: int) -> None:
+        """Runs the round above this one, or starts the agent."""
+        if self.agent is None:
+            seed = bytes.fromhex(self.head.get("seed", "00" * 32))
+            first = int(self.head.get("first", "0"))
+            self.agent = Agent(self.library, address_of(self.head["local"]), seed, first)
         else:
-            agent.event_line(line)
-    if agent is not None:
-        run()
-        agent.close()
-    return b"".join(made)
+            self.run()
+        self.moment = moment
+
+    def run(self) -> None:
+        self.made.append(b"round %d\n" % self.moment)
+        run = self.agent.run if self.typed else self.agent.run_lines
+        self.made.extend(map(written, run(self.moment)))
+
+    def event(self, line: str) -> None:
+        headers = [header_of(given) for given in self.headers.split("\n")[:-1]]
+        command = command_of(line, headers) if self.typed else None
+        if command is not None:
+            self.agent.ask(command)
+            self.asked += 1
+        elif self.headers:
+            self.agent.event_lines(self.headers + line)
+        else:
+            self.agent.event_line(line)
+        self.headers = ""
+
+
+def status_of(call) -> int:
+    try:
+        call()
+    except Error as error:
+        return int(error.status)
+    return 0
 
 
 def faults(library: str) -> list:
     """Misuse, and the status that each is told by."""
     agent = Agent(library, ("192.0.2.1", 5060), bytes(32))
     agent.run(5)
-
-    def status(call):
-        try:
-            call()
-        except Error as error:
-            return error.status
-        return 0
-
-    told = [
-        status(lambda: agent.run(4)),
-        status(lambda: agent.run(1 << 63)),
-        status(lambda: agent.event_line(b"hello")),
-        status(lambda: agent.failed(0)),
-        status(agent.close),
-        status(agent.close),
-        status(lambda: agent.run(9)),
-        status(lambda: Agent(library, ("192.0.2.1", 5060), bytes(32), shards=257)),
+    return [
+        status_of(lambda: agent.run(4)),
+        status_of(lambda: agent.run(1 << 63)),
+        status_of(lambda: agent.event_line("hello")),
+        status_of(lambda: agent.failed(0)),
+        status_of(agent.close),
+        status_of(agent.close),
+        status_of(lambda: agent.run(9)),
+        status_of(lambda: Agent(library, ("192.0.2.1", 5060), bytes(32), shards=257)),
     ]
-    return told
 
 
 def reads(library: str) -> bool:
     """A command with a header, and what a datagram says that is dropped."""
     with Agent(library, ("192.0.2.1", 5060), bytes(32)) as agent:
-        asked = agent.command(
-            b"plain c1 192.0.2.9:5060 MESSAGE sip:b@192.0.2.9 sip:a@192.0.2.1 sip:b@192.0.2.9 hi",
-            [(b"Content-Type", b"text/plain")],
+        uris = ("sip:b@192.0.2.9", "sip:a@192.0.2.1", "sip:b@192.0.2.9")
+        message = sip_ua.Plain(
+            "c1",
+            ("192.0.2.9", 5060),
+            "MESSAGE",
+            *uris,
+            "h\u00e9".encode(),
+            [("Content-Type", "text/plain"), ("Subject", "\u00e9\udcff")],
         )
+        asked = agent.ask(message)
+        last = agent.last_id()
         sent = agent.run(0)[0]
-        data = b"INFO sip:a@b SIP/2.0\r\nf: <sip:c@d>\r\nSubject: one\r\n two\r\n\r\n"
+        data = b"INFO sip:a@b SIP/2.0\r\nf: <sip:c@d>\r\nSubject: one\r\n two \xff\r\n\r\n"
         agent.datagram(("192.0.2.9", 5060), data)
         dropped = agent.run(1)[0]
         return (
-            asked == (0, 1)
-            and b"\r\nContent-Type: text/plain\r\n" in sent.text
-            and dropped.place == 1
+            asked == last == (0, 1)
+            and b"\r\nContent-Type: text/plain\r\n" in sent.datagram
+            and b"\r\nSubject: \xc3\xa9\xff\r\n" in sent.datagram
+            and sent.datagram.endswith(b"\r\n\r\nh\xc3\xa9")
+            and dropped == sip_ua.Drop(1, sip_ua.DropReason.MISSING, "Via")
             and agent.datagram_at(1) == (("192.0.2.9", 5060), data)
-            and agent.start_line(1) == (b"INFO", b"sip:a@b", None, None)
-            and agent.header_values(1, b"from") == [b"<sip:c@d>"]
-            and agent.header_values(1, b"SUBJECT") == [b"one two"]
-            and agent.header_values(2, b"From") == []
+            and agent.start_line(1) == ("INFO", "sip:a@b", None, None)
+            and agent.header_values(1, "from") == ["<sip:c@d>"]
+            and agent.header_values(1, "SUBJECT") == ["one two \udcff"]
+            and agent.header_values(2, "From") == []
             and agent.start_line(0) is None
         )
 
 
 def bad_fields(library: str) -> bool:
-    """Commands with a bad part: which it is, and nothing is asked for."""
+    """Commands with a bad part: which it is, and nothing is asked for. One that is refused."""
     with Agent(library, ("192.0.2.1", 5060), bytes(32)) as agent:
-        at, uri = ("192.0.2.9", 5060), b"sip:b@192.0.2.9"
+        at, uri = ("192.0.2.9", 5060), "sip:b@192.0.2.9"
 
-        def part(call):
+        def part(command) -> int:
             try:
-                call()
+                agent.ask(command)
             except Error as error:
-                return error.bad_field if error.status == sip_ua.BAD_FIELD else -1
+                return int(error.field) if error.status == sip_ua.Status.BAD_FIELD else -1
             return 0
 
+        via, route = [("Via", "x")], [("Route", "<sip:r>")]
         told = [
-            part(lambda: agent.invite(b"", at, uri, uri, uri)),
-            part(lambda: agent.plain(b"c", at, b"A B", uri, uri, uri)),
-            part(lambda: agent.invite(b"c", at, b"sip:b b", uri, uri)),
-            part(lambda: agent.invite(b"c", at, uri, b"<sip:b>", uri)),
-            part(lambda: agent.invite(b"c", at, uri, uri, b"")),
-            part(lambda: agent.request(b"c", b"a;b", b"", b"BYE")),
-            part(lambda: agent.ack(b"c", b"a", b"b c")),
-            part(lambda: agent.respond(b"c", (0, 1), 99)),
-            part(lambda: agent.respond(b"c", (0, 1), 200, reason=b"a\r\nb")),
-            part(lambda: agent.prack(b"c", b"a", b"b", headers=[(b"Via", b"x")])),
-            part(lambda: agent.request(b"c", b"a", b"b", b"BYE", headers=[(b"Route", b"<sip:r>")])),
+            part(sip_ua.Invite("", at, uri, uri, uri)),
+            part(sip_ua.Plain("c", at, "A B", uri, uri, uri)),
+            part(sip_ua.Invite("c", at, "sip:b b", uri, uri)),
+            part(sip_ua.Invite("c", at, uri, "<sip:b>", uri)),
+            part(sip_ua.Invite("c", at, uri, uri, "")),
+            part(sip_ua.Request("c", "a;b", "", "BYE")),
+            part(sip_ua.Ack("c", "a", "b c")),
+            part(sip_ua.Response("c", sip_ua.Id(0, 1), 99)),
+            part(sip_ua.Response("c", sip_ua.Id(0, 1), 200, "a\r\nb")),
+            part(sip_ua.Prack("c", "a", "b", headers=via)),
+            part(sip_ua.Request("c", "a", "b", "BYE", headers=route)),
         ]
         asked = agent.stats().events
-        id = agent.invite(b"c", at, uri, uri, uri, headers=[(b"Subject", b"a\xe9")])
+        id = agent.ask(sip_ua.Invite("c", at, uri, uri, uri, headers=[("Subject", "a")]))
+        refused = agent.ask(sip_ua.Request("c", "a", "b", "BYE"))
         held = agent.stats()
-        sent = agent.run_typed(0)
+        outputs = agent.run(0)
+        notices = [told for told in outputs if isinstance(told, sip_ua.Notice)]
+        sent = [told.datagram for told in outputs if isinstance(told, sip_ua.Send)]
         return (
             told == [1, 2, 3, 4, 5, 6, 7, 8, 9, 10, 10]
             and asked == 0
             and id == (0, 1)
-            and held == (0, 0, 0, 1, 0)
+            and held == (0, 0, 0, 2, 0)
             and agent.stats() == (1, 1, 1, 0, 0)
-            and b"\r\nSubject: a\xe9\r\n" in sent[0].body
-            and b"Via: x" not in sent[0].body
+            and notices == [sip_ua.RefusedNotice(2, "c", refused, sip_ua.Refusal.NO_SUCH_DIALOG)]
+            and b"\r\nSubject: a\r\n" in sent[0]
+            and b"Via: x" not in sent[0]
         )
 
 
@@ -277,15 +273,19 @@ def main() -> int:
     library, files = sys.argv[1], sys.argv[2:]
     typed = files[:1] == ["--typed"]
     files = files[typed:]
-    same = 0
+    same = asked = 0
     for events, outputs in zip(files[::2], files[1::2]):
         with open(events, "rb") as given, open(outputs, "rb") as wanted:
-            if replay(library, given.read(), typed) == wanted.read():
+            replay = Replay(library, typed)
+            if replay.of(text_of(given.read())) == wanted.read():
                 same += 1
+                asked += replay.asked
             else:
                 print(f"  differs: {events}")
     total = len(files) // 2
     print(f"  {same} of {total} replays are the same")
+    if typed:
+        print(f"  {asked} commands by their fields")
     right = faults(library) == [7, 8, 3, 5, 0, 1, 1, 12]
     print("  misuse: " + ("told" if right else f"not told: {faults(library)}"))
     read = reads(library)

@@ -224,7 +224,7 @@ public:
     }
 
     /// A round at a moment in ms, and its outputs by their fields.
-    std::vector<TypedOutput> run_typed(std::uint64_t moment) {
+    std::vector<TypedOutput> run(std::uint64_t moment) {
         check(sip_ua_run(&agent, moment));
         std::vector<TypedOutput> outputs;
         for (;;) {
@@ -253,8 +253,8 @@ public:
     /// The send of this index of the last round could not be sent.
     void failed(std::size_t output) { check(sip_ua_failed(&agent, output)); }
 
-    /// A round at a moment in ms, and its outputs.
-    std::vector<Output> run(std::uint64_t moment) {
+    /// The same, with what is told as lines of an output file.
+    std::vector<Output> run_lines(std::uint64_t moment) {
         check(sip_ua_run(&agent, moment));
         std::vector<Output> outputs;
         while (auto output = next_output())
@@ -291,7 +291,8 @@ public:
             },
             [&] { return start.method_len + start.len; });
         if (start.kind == SIP_UA_REQUEST)
-            return StartLine{text.substr(0, start.method_len), text.substr(start.method_len), 0, ""};
+            return StartLine{text.substr(0, start.method_len), text.substr(start.method_len),
+                             0, {}};
         if (start.kind == SIP_UA_RESPONSE)
             return StartLine{{}, {}, start.status, text};
         return std::nullopt;

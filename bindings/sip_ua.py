@@ -1,108 +1,408 @@
-"""A SIP user agent core for Python 3.8 and later, over ctypes: one file, no build step.
+"""A SIP user agent core (RFC 3261, with reliable provisional responses) for Python 3.9 and later:
+one file over ctypes, no build step.
 
-The library is a static one; `cc -shared` makes it loadable (`bindings/run` shows how):
+The program has the socket, the clock and the user. An Agent is given datagrams, commands and
+moments, and gives back what is to be sent and told:
 
-    cc -shared -o libsip_ua.so -Wl,--whole-archive libsip_c.a -Wl,--no-whole-archive liblibc_c.a
+    agent = Agent("./libsip_ua.so", ("192.0.2.1", 5060), os.urandom(32))
+    agent.ask(Invite("c1", ("192.0.2.9", 5060), "sip:b@192.0.2.9", "sip:a@192.0.2.1",
+                     "sip:b@192.0.2.9", body=offer))
+    while True:
+        for output in agent.run(moment):
+            if isinstance(output, Send):
+                udp.sendto(output.datagram, output.to)
+            elif isinstance(output, RequestNotice):
+                agent.ask(Response(output.call_id, output.id, 200, "OK"))
+        .. unless a command waits, wait for a datagram, the user, or agent.next_due()
+        agent.datagram(source, data)
 
-    agent = Agent("./libsip_ua.so", ("192.0.2.1", 5060), seed=os.urandom(32))
-    agent.invite(b"c1", ("192.0.2.9", 5060), b"sip:b@192.0.2.9", b"sip:a@192.0.2.1",
-                 b"sip:b@192.0.2.9", body=offer)
-    agent.datagram(("192.0.2.9", 5060), b"OPTIONS ..")
-    for output in agent.run_typed(moment):
-        if output.kind == SEND:
-            udp.sendto(output.body, output.to)
-        elif output.kind == NOTICE_REQUEST:
-            agent.respond(output.call_id, output.id, 200, reason=b"OK")
+What is asked for is a Command: Invite, Plain, Request, Response, Ack, Prack, Cancel. What a round
+gives is an Output: a Send, a Drop, or a Notice of one of eleven types. sip_ua_udp.py is that loop
+over asyncio.
 
-An agent is used by one thread at a time. Moments are in ms and never go back.
+Texts are str, UTF-8 on the wire; bytes that are none go through it unchanged (surrogateescape).
+Bodies and datagrams are bytes. Moments are in ms from any beginning, and never go back. An agent is
+used by one thread at a time. The library is libsip_ua.so of `bindings/install`.
 """
 
 import ctypes
+import enum
 import ipaddress
-from typing import List, NamedTuple, Optional, Sequence, Tuple
+from dataclasses import dataclass
+from typing import ClassVar, List, NamedTuple, Optional, Sequence, Tuple, Union
 
-NOT_HELD = 1
-HELD = 2
-BAD_LINE = 3
-TOO_MANY_EVENTS = 4
-NO_SEND = 5
-OUTPUTS_LEFT = 6
-BACKWARDS = 7
-TOO_LARGE = 8
-USED_UP = 9
-NO_MEMORY = 10
-BROKEN = 11
-BAD_CONFIGURATION = 12
-BAD_FIELD = 14
+__all__ = (
+    "Agent Error Status Field Id Command Invite Plain Request Response Ack Prack Cancel "
+    "Output Send Line Drop DropReason Notice RequestNotice ResponseNotice AckNotice PrackNotice "
+    "TimeoutNotice FailedNotice NoAckNotice NoPrackNotice CancelNotice EndedNotice RefusedNotice "
+    "Refusal Stats StartLine Datagram"
+).split()
 
-SEND = 1
-DROP = 3
-NOTICE_REQUEST = 4
-NOTICE_RESPONSE = 5
-NOTICE_ACK = 6
-NOTICE_PRACK = 7
-NOTICE_TIMEOUT = 8
-NOTICE_FAILED = 9
-NOTICE_NO_ACK = 10
-NOTICE_NO_PRACK = 11
-NOTICE_CANCEL = 12
-NOTICE_ENDED = 13
-NOTICE_REFUSED = 14
+Address = Tuple[str, int]
+Headers = Sequence[Tuple[str, str]]
 
-FIELD_HEADERS = 10
 
-_SEND = 1
-_REQUEST = 1
-_RESPONSE = 2
+class _Number(enum.IntEnum):
+    def __str__(self) -> str:
+        return self.name.lower().replace("_", " ")
+
+
+class Status(_Number):
+    """What the library answered. After all but BROKEN the agent is as it was before the call."""
+
+    NOT_HELD = 1
+    HELD = 2
+    BAD_LINE = 3
+    TOO_MANY_EVENTS = 4
+    NO_SEND = 5
+    OUTPUTS_LEFT = 6
+    BACKWARDS = 7
+    TOO_LARGE = 8
+    USED_UP = 9
+    NO_MEMORY = 10
+    BROKEN = 11
+    BAD_CONFIGURATION = 12
+    NULL = 13
+    BAD_FIELD = 14
+
+
+class Field(_Number):
+    """The part of a command that doesn't keep its rule; sip_ua.h says the rules."""
+
+    CALL_ID = 1
+    METHOD = 2
+    REQUEST_URI = 3
+    FROM = 4
+    TO = 5
+    LOCAL_TAG = 6
+    REMOTE_TAG = 7
+    STATUS = 8
+    REASON = 9
+    HEADERS = 10
+
+
+class Refusal(_Number):
+    """Why a command was refused."""
+
+    CALL_IN_USE = 1
+    NO_SUCH_CALL = 2
+    NO_SUCH_DIALOG = 3
+    NO_SUCH_REQUEST = 4
+    ALREADY_FINAL = 5
+    BAD_STATUS = 6
+    RELIABLE_PENDING = 7
+    NOT_SUPPORTED = 8
+    NOTHING_TO_ACK = 9
+    NOTHING_TO_PRACK = 10
+    SEQUENCE_USED_UP = 11
+    STRICT_ROUTE = 12
+    DIALOG_ENDED = 13
+    BAD_METHOD = 14
+
+
+class DropReason(_Number):
+    """Why a datagram was dropped."""
+
+    NOT_OURS = 1
+    NO_TRANSACTION = 2
+    TOO_LONG = 3
+    NO_EMPTY_LINE = 4
+    BAD_START_LINE = 5
+    BAD_HEADER = 6
+    MISSING = 7
+    REPEATED = 8
+    BAD_NUMBER = 9
+    OLD_BRANCH = 10
+    METHOD_MISMATCH = 11
+    TRUNCATED = 12
+    NO_MEMORY = 13
 
 
 class Error(Exception):
-    """The library answered a fault; `status` is one of the numbers above. After BAD_FIELD,
-    `bad_field` is the part of the command that is bad: SIP_UA_FIELD_.. of sip_ua.h."""
+    """The library answered a fault: `status`, and after BAD_FIELD the `field` that is bad."""
 
-    def __init__(self, status: int, bad_field: int = 0):
-        super().__init__(f"sip_ua status {status}" + (f", field {bad_field}" if bad_field else ""))
-        self.status = status
-        self.bad_field = bad_field
+    def __init__(self, status: int, field: int = 0):
+        self.status = Status(status)
+        self.field = Field(field) if field else None
+        super().__init__(str(self.status) + (f": {self.field}" if self.field else ""))
 
 
-class Output(NamedTuple):
-    """An output of a round: a datagram with the address that it goes to, or a line without one.
+class Id(NamedTuple):
+    """The id of a request or a command: the number of a round, and the place in it from 1."""
 
-    `place` is that of the event that it comes of, from 1, or 0 where no event stands behind it: it
-    comes with time, or is the request or the answer of a command.
-    """
-
-    index: int
-    to: Optional[Tuple[str, int]]
-    text: bytes
+    round: int
     place: int
 
+    def __str__(self) -> str:
+        return f"{self.round}.{self.place}"
 
-class TypedOutput(NamedTuple):
-    """An output of a round by its fields: those that its kind doesn't have are 0, empty or None.
-    `body` is of a send the datagram."""
 
-    kind: int
-    index: int
-    to: Optional[Tuple[str, int]]
-    place: int
-    id: Optional[Tuple[int, int]]
+# ---- commands
+
+
+@dataclass(frozen=True)
+class Command:
+    """What an agent can be asked for. Headers are pairs of a name and a value. A body has the type
+    application/sdp where no header Content-Type says another one."""
+
+    call_id: str
+    _name: ClassVar[str] = ""
+
+    def _words(self) -> tuple:
+        raise NotImplementedError
+
+
+@dataclass(frozen=True)
+class Invite(Command):
+    """Starts a call: a first INVITE to an address. `from_uri` and `to_uri` have no tags."""
+
+    address: Address
+    request_uri: str
+    from_uri: str
+    to_uri: str
+    body: bytes = b""
+    headers: Headers = ()
+    supports_100rel: bool = False
+    requires_100rel: bool = False
+    _name: ClassVar[str] = "invite"
+
+    def _words(self) -> tuple:
+        uris = (self.request_uri, self.from_uri, self.to_uri)
+        hundred = (self.supports_100rel, self.requires_100rel)
+        return (self.call_id, _address(self.address), *uris, *hundred, self.body)
+
+
+@dataclass(frozen=True)
+class Plain(Command):
+    """Sends a request outside of any dialog to an address, as REGISTER or OPTIONS."""
+
+    address: Address
+    method: str
+    request_uri: str
+    from_uri: str
+    to_uri: str
+    body: bytes = b""
+    headers: Headers = ()
+    _name: ClassVar[str] = "plain"
+
+    def _words(self) -> tuple:
+        uris = (self.request_uri, self.from_uri, self.to_uri)
+        return (self.call_id, _address(self.address), self.method, *uris, self.body)
+
+
+@dataclass(frozen=True)
+class Request(Command):
+    """Sends a request in a dialog, as BYE or a later INVITE. Notices tell its tags."""
+
+    local_tag: str
+    remote_tag: str
+    method: str
+    body: bytes = b""
+    headers: Headers = ()
+    _name: ClassVar[str] = "request"
+
+    def _words(self) -> tuple:
+        return (self.call_id, self.local_tag, self.remote_tag, self.method, self.body)
+
+
+@dataclass(frozen=True)
+class Response(Command):
+    """Answers a request, by the id that its RequestNotice tells. The status is 101 to 699."""
+
+    id: Id
     status: int
-    rseq: int
-    command: int
-    refusal: int
-    reason: int
-    header: int
-    call_id: bytes
-    local_tag: bytes
-    remote_tag: bytes
-    method: bytes
+    reason: str = ""
+    body: bytes = b""
+    headers: Headers = ()
+    is_reliable: bool = False
+    _name: ClassVar[str] = "respond"
+
+    def _words(self) -> tuple:
+        status = _number(self.status, 16)
+        return (self.call_id, *_id(self.id), status, self.is_reliable, self.reason, self.body)
+
+
+@dataclass(frozen=True)
+class Ack(Command):
+    """Sends the ACK of the oldest 2xx of a dialog that is owed one. Most go out by themselves."""
+
+    local_tag: str
+    remote_tag: str
+    body: bytes = b""
+    headers: Headers = ()
+    _name: ClassVar[str] = "ack"
+
+    def _words(self) -> tuple:
+        return (self.call_id, self.local_tag, self.remote_tag, self.body)
+
+
+@dataclass(frozen=True)
+class Prack(Command):
+    """Sends the PRACK of the oldest reliable provisional response of a dialog that is owed one.
+    Most go out by themselves."""
+
+    local_tag: str
+    remote_tag: str
+    body: bytes = b""
+    headers: Headers = ()
+    _name: ClassVar[str] = "prack"
+
+    def _words(self) -> tuple:
+        return (self.call_id, self.local_tag, self.remote_tag, self.body)
+
+
+@dataclass(frozen=True)
+class Cancel(Command):
+    """Cancels an INVITE that was sent, by the id that `ask` gave for it."""
+
+    id: Id
+    headers: ClassVar[Headers] = ()
+    _name: ClassVar[str] = "cancel"
+
+    def _words(self) -> tuple:
+        return (self.call_id, *_id(self.id))
+
+
+# ---- outputs
+
+
+@dataclass(frozen=True)
+class Output:
+    """What a round gives. `place` is that of the event that it comes of, from 1; it is 0 where no
+    event stands behind it: it comes with time, or is the request or the answer of a command."""
+
+    place: int
+
+
+@dataclass(frozen=True)
+class Send(Output):
+    """A datagram to be sent to an address. Where that fails, `Agent.failed` takes the index."""
+
+    index: int
+    to: Address
+    datagram: bytes
+
+
+@dataclass(frozen=True)
+class Line(Output):
+    """What is told as a line of an output file, without its end; `run_lines` gives it."""
+
+    text: str
+
+
+@dataclass(frozen=True)
+class Drop(Output):
+    """The datagram of `place` was dropped; after MISSING and REPEATED `header` is the header."""
+
+    reason: DropReason
+    header: Optional[str]
+
+
+@dataclass(frozen=True)
+class Notice(Output):
+    """What the user is told of a call."""
+
+    call_id: str
+
+
+@dataclass(frozen=True)
+class RequestNotice(Notice):
+    """A request to answer. `local_tag` is the one that the answers carry."""
+
+    id: Id
+    method: str
+    local_tag: str
+    remote_tag: str
     body: bytes
 
 
+@dataclass(frozen=True)
+class ResponseNotice(Notice):
+    """A response to the request of this id, which a command sent. The tags are those of its dialog:
+    the local one of From, the remote one of To."""
+
+    id: Id
+    status: int
+    local_tag: str
+    remote_tag: str
+    body: bytes
+
+
+@dataclass(frozen=True)
+class AckNotice(Notice):
+    """The ACK of a 2xx to the INVITE of this id came."""
+
+    id: Id
+    body: bytes
+
+
+@dataclass(frozen=True)
+class PrackNotice(Notice):
+    """The PRACK of a provisional response to the INVITE of this id came, and was answered."""
+
+    id: Id
+    rseq: int
+    body: bytes
+
+
+@dataclass(frozen=True)
+class TimeoutNotice(Notice):
+    """No response to the request of this id came in time, or no ACK of its rejection."""
+
+    id: Id
+
+
+@dataclass(frozen=True)
+class FailedNotice(Notice):
+    """A send of the request of this id, or of its answer, failed."""
+
+    id: Id
+
+
+@dataclass(frozen=True)
+class NoAckNotice(Notice):
+    """No ACK of a 2xx to the INVITE of this id came in 32 s."""
+
+    id: Id
+
+
+@dataclass(frozen=True)
+class NoPrackNotice(Notice):
+    """No PRACK of a provisional response to the INVITE of this id came in 32 s."""
+
+    id: Id
+
+
+@dataclass(frozen=True)
+class CancelNotice(Notice):
+    """The peer cancelled the INVITE of this id, and 487 answers it."""
+
+    id: Id
+
+
+@dataclass(frozen=True)
+class EndedNotice(Notice):
+    """The dialog of these tags ended."""
+
+    local_tag: str
+    remote_tag: str
+
+
+@dataclass(frozen=True)
+class RefusedNotice(Notice):
+    """The command of this id was refused; or an ACK or a PRACK that was to go out by itself, after
+    the event of this id."""
+
+    id: Id
+    refusal: Refusal
+
+
+# ---- what is asked of an agent
+
+
 class Stats(NamedTuple):
-    """What is held, and what waits."""
+    """What is held: transactions and calls. What waits: events of the next round, which has this
+    number, and outputs of the last one."""
 
     transactions: int
     calls: int
@@ -114,13 +414,20 @@ class Stats(NamedTuple):
 class StartLine(NamedTuple):
     """A start line: of a request method and Request-URI, of a response status and reason."""
 
-    method: Optional[bytes]
-    uri: Optional[bytes]
+    method: Optional[str]
+    uri: Optional[str]
     status: Optional[int]
-    reason: Optional[bytes]
+    reason: Optional[str]
 
 
-Headers = Sequence[Tuple[bytes, bytes]]
+class Datagram(NamedTuple):
+    """A datagram that came in."""
+
+    source: Address
+    data: bytes
+
+
+# ---- the plain functions of the library
 
 
 class _Agent(ctypes.Structure):
@@ -130,12 +437,15 @@ class _Agent(ctypes.Structure):
 class _Address(ctypes.Structure):
     _fields_ = [("ip", ctypes.c_uint8 * 4), ("port", ctypes.c_uint16)]
 
+    def told(self) -> Address:
+        return str(ipaddress.IPv4Address(bytes(self.ip))), self.port
+
 
 class _Configuration(ctypes.Structure):
     _fields_ = [("local", _Address), ("seed", ctypes.c_uint8 * 32), ("first", ctypes.c_uint64)]
 
 
-class _Output(ctypes.Structure):
+class _LineOutput(ctypes.Structure):
     _fields_ = [
         ("kind", ctypes.c_uint32),
         ("to", _Address),
@@ -143,6 +453,9 @@ class _Output(ctypes.Structure):
         ("index", ctypes.c_size_t),
         ("len", ctypes.c_size_t),
     ]
+
+    def lengths(self) -> Tuple[int, ...]:
+        return (self.len,)
 
 
 class _Due(ctypes.Structure):
@@ -155,6 +468,9 @@ class _Id(ctypes.Structure):
         ("place", ctypes.c_uint32),
         ("round", ctypes.c_uint64),
     ]
+
+    def told(self) -> Id:
+        return Id(self.round, self.place)
 
 
 class _Asked(ctypes.Structure):
@@ -181,6 +497,10 @@ class _TypedOutput(ctypes.Structure):
         ("body_len", ctypes.c_size_t),
     ]
 
+    def lengths(self) -> Tuple[int, ...]:
+        tags = (self.local_tag_len, self.remote_tag_len)
+        return (self.call_id_len, *tags, self.method_len, self.body_len)
+
 
 class _Stats(ctypes.Structure):
     _fields_ = [
@@ -195,9 +515,15 @@ class _Stats(ctypes.Structure):
 class _Arrival(ctypes.Structure):
     _fields_ = [("is_there", ctypes.c_bool), ("source", _Address), ("len", ctypes.c_size_t)]
 
+    def lengths(self) -> Tuple[int, ...]:
+        return (self.len,)
+
 
 class _Text(ctypes.Structure):
     _fields_ = [("is_there", ctypes.c_bool), ("len", ctypes.c_size_t)]
+
+    def lengths(self) -> Tuple[int, ...]:
+        return (self.len,)
 
 
 class _Start(ctypes.Structure):
@@ -208,363 +534,275 @@ class _Start(ctypes.Structure):
         ("len", ctypes.c_size_t),
     ]
 
+    def lengths(self) -> Tuple[int, ...]:
+        return (self.method_len, self.len)
 
-_bytes = ctypes.c_char_p
-_size = ctypes.c_size_t
+
+_at = ctypes.POINTER
 _place = ctypes.c_uint32
-_text = (_bytes, _size)
-_id = (ctypes.c_uint64, _place)
-_asked = (ctypes.POINTER(_Asked),)
+_size = ctypes.c_size_t
+_text = (ctypes.c_char_p, _size)
+_room = (ctypes.c_void_p, _size)
+_event = (ctypes.c_uint64, _place)
+_asked = (_at(_Asked),)
+_hundred = (ctypes.c_bool, ctypes.c_bool)
 _FUNCTIONS = {
     "header": _text * 2,
-    "invite": _text
-    + (ctypes.POINTER(_Address),)
-    + _text * 3
-    + (ctypes.c_bool,) * 2
-    + _text
-    + _asked,
-    "plain": _text + (ctypes.POINTER(_Address),) + _text * 5 + _asked,
+    "invite": _text + (_at(_Address),) + _text * 3 + _hundred + _text + _asked,
+    "plain": _text + (_at(_Address),) + _text * 5 + _asked,
     "request": _text * 5 + _asked,
-    "respond": _text + _id + (ctypes.c_uint16, ctypes.c_bool) + _text * 2 + _asked,
+    "respond": _text + _event + (ctypes.c_uint16, ctypes.c_bool) + _text * 2 + _asked,
     "ack": _text * 4 + _asked,
     "prack": _text * 4 + _asked,
-    "cancel": _text + _id + _asked,
-    "next": (ctypes.POINTER(_TypedOutput), ctypes.c_void_p, _size),
-    "stats": (ctypes.POINTER(_Stats),),
-    "new": (ctypes.POINTER(_Configuration), _size),
-    "datagram": (ctypes.POINTER(_Address), _bytes, _size),
-    "event_line": (_bytes, _size),
-    "event_lines": (_bytes, _size),
+    "cancel": _text + _event + _asked,
+    "next": (_at(_TypedOutput),) + _room,
+    "next_output": (_at(_LineOutput),) + _room,
+    "stats": (_at(_Stats),),
+    "new": (_at(_Configuration), _size),
+    "datagram": (_at(_Address),) + _text,
+    "event_line": _text,
+    "event_lines": _text,
     "failed": (_size,),
     "run": (ctypes.c_uint64,),
-    "next_output": (ctypes.POINTER(_Output), ctypes.c_void_p, _size),
-    "next_due": (ctypes.POINTER(_Due),),
-    "last_id": (ctypes.POINTER(_Id),),
-    "datagram_at": (_place, ctypes.POINTER(_Arrival), ctypes.c_void_p, _size),
-    "start_line": (_place, ctypes.POINTER(_Start), ctypes.c_void_p, _size),
-    "header_value": (_place, _bytes, _size, _size, ctypes.POINTER(_Text), ctypes.c_void_p, _size),
+    "next_due": (_at(_Due),),
+    "last_id": (_at(_Id),),
+    "datagram_at": (_place, _at(_Arrival)) + _room,
+    "start_line": (_place, _at(_Start)) + _room,
+    "header_value": (_place,) + _text + (_size, _at(_Text)) + _room,
     "free": (),
 }
+_SEND = 1
+_DROP = 3
+_REQUEST = 1
+_RESPONSE = 2
+_HEADERS = (
+    "Via From To Call-ID CSeq Max-Forwards Content-Length RSeq RAck Contact Record-Route Route "
+    "Require Supported"
+).split()
 
 
 def _functions(path: str):
     library = ctypes.CDLL(path)
     for name, kinds in _FUNCTIONS.items():
         function = getattr(library, "sip_ua_raw_" + name)
-        function.argtypes = (ctypes.POINTER(_Agent),) + kinds
+        function.argtypes = (_at(_Agent),) + kinds
         function.restype = ctypes.c_uint32
     return library
 
 
-def _address(address: Tuple[str, int]) -> _Address:
+def _address(address: Address) -> _Address:
     ip, port = address
-    if not 0 <= port <= 65535:
-        raise ValueError("port")
-    return _Address((ctypes.c_uint8 * 4)(*ipaddress.IPv4Address(ip).packed), port)
+    return _Address((ctypes.c_uint8 * 4)(*ipaddress.IPv4Address(ip).packed), _number(port, 16))
 
 
-_SPELLED = {92: b"\\\\", 13: b"\\r", 10: b"\\n", 9: b"\\t"}
-
-
-def rest(data: bytes) -> bytes:
-    """Bytes as the last field of a line spells them."""
-    return b"".join(
-        _SPELLED.get(byte) or (bytes([byte]) if 31 < byte < 127 else b"\\x%02x" % byte)
-        for byte in data
-    )
-
-
-def word(data: bytes) -> bytes:
-    """Bytes as a word of a line, such as a body: a space is spelled too, and nothing is `-`."""
-    spelled = rest(data).replace(b" ", b"\\s")
-    return b"\\x2d" if spelled == b"-" else spelled or b"-"
+def _id(event: Id) -> Tuple[int, int]:
+    return _number(event[0], 64), _number(event[1], 32)
 
 
 def _number(number: int, bits: int) -> int:
     if not 0 <= number < 1 << bits:
-        raise ValueError("number")
+        raise ValueError(f"{number} is no number of {bits} bits")
     return number
 
 
+def _encoded(text: str) -> bytes:
+    return text.encode("utf-8", "surrogateescape")
+
+
+def _decoded(data: bytes) -> str:
+    return data.decode("utf-8", "surrogateescape")
+
+
+def _passed(words: tuple) -> list:
+    """What is passed for texts, bodies, addresses and numbers."""
+    passed = []
+    for word in words:
+        if isinstance(word, str):
+            word = _encoded(word)
+        if isinstance(word, (bytes, bytearray, memoryview)):
+            passed += (bytes(word), len(bytes(word)))
+        else:
+            passed.append(ctypes.byref(word) if isinstance(word, ctypes.Structure) else word)
+    return passed
+
+
+def _notice(told: _TypedOutput, round: int, texts: List[bytes]) -> Notice:
+    """The notice of a kind from 4 on."""
+    call_id, local_tag, remote_tag, method = map(_decoded, texts[:4])
+    place, body, event = told.place, texts[4], told.id.told()
+    tags = (local_tag, remote_tag)
+    makers = (
+        lambda: RequestNotice(place, call_id, event, method, *tags, body),
+        lambda: ResponseNotice(place, call_id, event, told.status, *tags, body),
+        lambda: AckNotice(place, call_id, event, body),
+        lambda: PrackNotice(place, call_id, event, told.rseq, body),
+        lambda: TimeoutNotice(place, call_id, event),
+        lambda: FailedNotice(place, call_id, event),
+        lambda: NoAckNotice(place, call_id, event),
+        lambda: NoPrackNotice(place, call_id, event),
+        lambda: CancelNotice(place, call_id, event),
+        lambda: EndedNotice(place, call_id, *tags),
+        lambda: RefusedNotice(place, call_id, Id(round, told.command), Refusal(told.refusal)),
+    )
+    return makers[told.kind - _DROP - 1]()
+
+
 class Agent:
-    """One user agent. Use it in a `with`, or end it by `close`."""
+    """One user agent. Use it in a `with`, or end it by `close`.
+
+    `library` is the path of libsip_ua.so. `local` is the address that Via and Contact say: mostly
+    the socket's own, behind a NAT the one by which peers reach it. `seed` is a secret of 32 random
+    bytes, from which tags and branches are made, another one for each agent. `first` is the number
+    of the first round. More than one shard, up to 256, changes no answer.
+    """
 
     def __init__(
-        self,
-        library: str,
-        local: Tuple[str, int],
-        seed: bytes,
-        first: int = 0,
-        shards: int = 1,
+        self, library: str, local: Address, seed: bytes, first: int = 0, shards: int = 1
     ):
         if len(seed) != 32:
-            raise ValueError("seed")
+            raise ValueError("the seed has 32 bytes")
         self._agent = _Agent()
         self._library = _functions(library)
         self._buffer = ctypes.create_string_buffer(65536)
-        start = _Configuration(_address(local), (ctypes.c_uint8 * 32)(*seed), _number(first, 64))
-        self._call("new", ctypes.byref(start), _number(shards, 64))
+        self._round = _number(first, 64)
+        start = _Configuration(_address(local), (ctypes.c_uint8 * 32)(*seed), first)
+        self._call("new", start, _number(shards, 64))
 
     def _call(self, name: str, *words) -> None:
-        status = getattr(self._library, "sip_ua_raw_" + name)(ctypes.byref(self._agent), *words)
+        function = getattr(self._library, "sip_ua_raw_" + name)
+        status = function(ctypes.byref(self._agent), *_passed(words))
         if status != 0:
             raise Error(status)
 
-    def datagram(self, source: Tuple[str, int], data: bytes) -> None:
-        """A datagram came in."""
-        self._call("datagram", ctypes.byref(_address(source)), bytes(data), len(data))
-
-    def event_line(self, line: bytes) -> None:
-        """A line of an event file without its end, as a command of the user."""
-        self._call("event_line", bytes(line), len(line))
-
-    def event_lines(self, lines: bytes) -> None:
-        """The lines of an event as a session file has them, the last one without its end."""
-        self._call("event_lines", bytes(lines), len(lines))
-
-    def command(self, line: bytes, headers: Sequence[Tuple[bytes, bytes]] = ()) -> Tuple[int, int]:
-        """A command of the user with headers of its own, each a name and a value; the id, round and
-        place, by which lines tell of it."""
-        given = b"".join(b" %s: %s\n" % (name, rest(value)) for name, value in headers)
-        self.event_lines(given + line)
-        told = _Id()
-        self._call("last_id", ctypes.byref(told))
-        return told.round, told.place
-
-    def _ask(self, name: str, headers: Headers, *words) -> Tuple[int, int]:
-        """A command by its fields; texts are bytes. Its id."""
-        for header, value in headers:
-            try:
-                self._call("header", bytes(header), len(header), bytes(value), len(value))
-            except Error as error:
-                raise Error(error.status, FIELD_HEADERS if error.status == BAD_FIELD else 0)
-        given = []
-        for word in words:
-            given += (bytes(word), len(word)) if isinstance(word, (bytes, bytearray)) else (word,)
-        asked = _Asked()
-        try:
-            self._call(name, *given, ctypes.byref(asked))
-        except Error as error:
-            raise Error(error.status, asked.bad_field)
-        return asked.id.round, asked.id.place
-
-    def invite(
-        self,
-        call_id: bytes,
-        address: Tuple[str, int],
-        request_uri: bytes,
-        from_uri: bytes,
-        to_uri: bytes,
-        supports_100rel: bool = False,
-        requires_100rel: bool = False,
-        body: bytes = b"",
-        headers: Headers = (),
-    ) -> Tuple[int, int]:
-        """Starts a call. The id, round and place, by which notices tell of it, as below."""
-        at = ctypes.byref(_address(address))
-        hundred = (supports_100rel, requires_100rel)
-        return self._ask(
-            "invite", headers, call_id, at, request_uri, from_uri, to_uri, *hundred, body
-        )
-
-    def plain(
-        self,
-        call_id: bytes,
-        address: Tuple[str, int],
-        method: bytes,
-        request_uri: bytes,
-        from_uri: bytes,
-        to_uri: bytes,
-        body: bytes = b"",
-        headers: Headers = (),
-    ) -> Tuple[int, int]:
-        """Sends a request outside of any dialog."""
-        at = ctypes.byref(_address(address))
-        return self._ask(
-            "plain", headers, call_id, at, method, request_uri, from_uri, to_uri, body
-        )
-
-    def request(
-        self,
-        call_id: bytes,
-        local_tag: bytes,
-        remote_tag: bytes,
-        method: bytes,
-        body: bytes = b"",
-        headers: Headers = (),
-    ) -> Tuple[int, int]:
-        """Sends a request in a dialog."""
-        return self._ask("request", headers, call_id, local_tag, remote_tag, method, body)
-
-    def respond(
-        self,
-        call_id: bytes,
-        id: Tuple[int, int],
-        status: int,
-        is_reliable: bool = False,
-        reason: bytes = b"",
-        body: bytes = b"",
-        headers: Headers = (),
-    ) -> Tuple[int, int]:
-        """Answers a request, by the id that its notice tells."""
-        round, place = _number(id[0], 64), _number(id[1], 32)
-        status = _number(status, 16)
-        return self._ask(
-            "respond", headers, call_id, round, place, status, is_reliable, reason, body
-        )
-
-    def ack(
-        self,
-        call_id: bytes,
-        local_tag: bytes,
-        remote_tag: bytes,
-        body: bytes = b"",
-        headers: Headers = (),
-    ) -> Tuple[int, int]:
-        """Sends the ACK of the oldest 2xx of a dialog that is owed one."""
-        return self._ask("ack", headers, call_id, local_tag, remote_tag, body)
-
-    def prack(
-        self,
-        call_id: bytes,
-        local_tag: bytes,
-        remote_tag: bytes,
-        body: bytes = b"",
-        headers: Headers = (),
-    ) -> Tuple[int, int]:
-        """Sends the PRACK of the oldest provisional response of a dialog that is owed one."""
-        return self._ask("prack", headers, call_id, local_tag, remote_tag, body)
-
-    def cancel(self, call_id: bytes, id: Tuple[int, int]) -> Tuple[int, int]:
-        """Cancels an INVITE that was sent, by its id."""
-        return self._ask("cancel", (), call_id, _number(id[0], 64), _number(id[1], 32))
-
-    def failed(self, output: int) -> None:
-        """The send of this index of the last round could not be sent."""
-        self._call("failed", _number(output, 64))
-
-    def run(self, moment: int) -> List[Output]:
-        """A round at a moment in ms, and its outputs."""
-        self._call("run", _number(moment, 64))
-        outputs = []
-        while True:
-            output = self._next_output()
-            if output is None:
-                return outputs
-            outputs.append(output)
-
-    def _next_output(self) -> Optional[Output]:
-        told = _Output()
-        while True:
-            self._call("next_output", ctypes.byref(told), self._buffer, len(self._buffer))
-            if told.kind == 0 or told.len <= len(self._buffer):
-                break
-            self._buffer = ctypes.create_string_buffer(told.len)
-        if told.kind == 0:
-            return None
-        to = None
-        if told.kind == _SEND:
-            to = (str(ipaddress.IPv4Address(bytes(told.to.ip))), told.to.port)
-        return Output(told.index, to, ctypes.string_at(self._buffer, told.len), told.place)
-
-    def run_typed(self, moment: int) -> List[TypedOutput]:
-        """A round at a moment in ms, and its outputs by their fields."""
-        self._call("run", _number(moment, 64))
-        outputs = []
-        while True:
-            output = self._next()
-            if output is None:
-                return outputs
-            outputs.append(output)
-
-    def _next(self) -> Optional[TypedOutput]:
-        told = _TypedOutput()
-        while True:
-            self._call("next", ctypes.byref(told), self._buffer, len(self._buffer))
-            lengths = (
-                told.call_id_len,
-                told.local_tag_len,
-                told.remote_tag_len,
-                told.method_len,
-                told.body_len,
-            )
-            if sum(lengths) <= len(self._buffer):
-                break
-            self._buffer = ctypes.create_string_buffer(sum(lengths))
-        if told.kind == 0:
-            return None
-        data, texts, start = ctypes.string_at(self._buffer, sum(lengths)), [], 0
-        for length in lengths:
+    def _texts(self, name: str, told, *words) -> List[bytes]:
+        """What is told is filled in, and its texts given, for which the buffer grows."""
+        self._call(name, *words, told, self._buffer, len(self._buffer))
+        if sum(told.lengths()) > len(self._buffer):
+            self._buffer = ctypes.create_string_buffer(sum(told.lengths()))
+            self._call(name, *words, told, self._buffer, len(self._buffer))
+        data, texts, start = ctypes.string_at(self._buffer, sum(told.lengths())), [], 0
+        for length in told.lengths():
             texts.append(data[start : start + length])
             start += length
-        to = None
-        if told.kind == SEND:
-            to = (str(ipaddress.IPv4Address(bytes(told.to.ip))), told.to.port)
-        return TypedOutput(
-            told.kind,
-            told.index,
-            to,
-            told.place,
-            (told.id.round, told.id.place) if told.id.is_given else None,
-            told.status,
-            told.rseq,
-            told.command,
-            told.refusal,
-            told.reason,
-            told.header,
-            *texts,
-        )
+        return texts
 
-    def stats(self) -> Stats:
-        """What is held, and what waits."""
-        told = _Stats()
-        self._call("stats", ctypes.byref(told))
-        return Stats(told.transactions, told.calls, told.next_round, told.events, told.outputs)
+    # -- what goes in
 
-    def _text(self, name: str, told, *words) -> bytes:
-        """What is told is filled in, and its text given, for which the buffer grows."""
-        self._call(name, *words, ctypes.byref(told), self._buffer, len(self._buffer))
-        length = told.len + getattr(told, "method_len", 0)
-        if length > len(self._buffer):
-            self._buffer = ctypes.create_string_buffer(length)
-            self._call(name, *words, ctypes.byref(told), self._buffer, length)
-        return ctypes.string_at(self._buffer, length)
+    def datagram(self, source: Address, data: bytes) -> None:
+        """A datagram came in from this address."""
+        self._call("datagram", _address(source), data)
 
-    def datagram_at(self, place: int) -> Optional[Tuple[Tuple[str, int], bytes]]:
-        """The source and the bytes of the datagram that came in at a place of the last round."""
+    def ask(self, command: Command) -> Id:
+        """Asks for a command in the next round. The id is the one by which notices tell of it. A
+        part that doesn't keep its rule is an Error BAD_FIELD, and nothing is asked for; what the
+        agent itself refuses, as a dialog that isn't held, a RefusedNotice tells."""
+        words, asked = command._words(), _Asked()
+        for name, value in command.headers:
+            try:
+                self._call("header", name, value)
+            except Error as error:
+                is_bad = error.status == Status.BAD_FIELD
+                raise Error(error.status, Field.HEADERS if is_bad else 0) from None
+        try:
+            self._call(command._name, *words, asked)
+        except Error as error:
+            raise Error(error.status, asked.bad_field) from None
+        return asked.id.told()
+
+    def event_line(self, line: str) -> None:
+        """A line of an event file without its end: a command, or another event."""
+        self._call("event_line", line)
+
+    def event_lines(self, lines: str) -> None:
+        """The lines of an event of a session file, the last one without its end: a command with its
+        header lines before it."""
+        self._call("event_lines", lines)
+
+    def last_id(self) -> Optional[Id]:
+        """The id of the event that was given last, if the next round has one."""
+        told = _Id()
+        self._call("last_id", told)
+        return told.told() if told.is_given else None
+
+    def failed(self, index: int) -> None:
+        """The Send of this index of the last round could not be sent."""
+        self._call("failed", _number(index, 64))
+
+    # -- a round
+
+    def run(self, moment: int) -> List[Output]:
+        """Runs a round: deals with all events since the last one, at a moment in ms. Its outputs:
+        Send, Drop, and the types of Notice."""
+        self._call("run", _number(moment, 64))
+        outputs, told = [], _TypedOutput()
+        while True:
+            texts = self._texts("next", told)
+            if told.kind == 0:
+                break
+            if told.kind == _SEND:
+                outputs.append(Send(told.place, told.index, told.to.told(), texts[-1]))
+            elif told.kind == _DROP:
+                header = _HEADERS[told.header - 1] if told.header else None
+                outputs.append(Drop(told.place, DropReason(told.reason), header))
+            else:
+                outputs.append(_notice(told, self._round, texts))
+        self._round += 1
+        return outputs
+
+    def run_lines(self, moment: int) -> List[Union[Send, Line]]:
+        """The same round. What is told is a Line of an output file (docs/FORMATS.md)."""
+        self._call("run", _number(moment, 64))
+        outputs, told = [], _LineOutput()
+        while True:
+            (text,) = self._texts("next_output", told)
+            if told.kind == 0:
+                break
+            if told.kind == _SEND:
+                outputs.append(Send(told.place, told.index, told.to.told(), text))
+            else:
+                outputs.append(Line(told.place, _decoded(text[:-1])))
+        self._round += 1
+        return outputs
+
+    def next_due(self) -> Optional[int]:
+        """The first moment at which something is due, if there is one: run a round then."""
+        due = _Due()
+        self._call("next_due", due)
+        return due.moment if due.is_due else None
+
+    # -- what the datagrams of the last round say
+
+    def datagram_at(self, place: int) -> Optional[Datagram]:
+        """The datagram that came in at this place of the last round, if one did."""
         told = _Arrival()
-        data = self._text("datagram_at", told, _number(place, 32))
-        if not told.is_there:
-            return None
-        return (str(ipaddress.IPv4Address(bytes(told.source.ip))), told.source.port), data
+        (data,) = self._texts("datagram_at", told, _number(place, 32))
+        return Datagram(told.source.told(), data) if told.is_there else None
 
     def start_line(self, place: int) -> Optional[StartLine]:
         """Its start line, if it has one."""
         told = _Start()
-        text = self._text("start_line", told, _number(place, 32))
+        method, text = map(_decoded, self._texts("start_line", told, _number(place, 32)))
         if told.kind == _REQUEST:
-            return StartLine(text[: told.method_len], text[told.method_len :], None, None)
-        if told.kind == _RESPONSE:
-            return StartLine(None, None, told.status, text)
-        return None
+            return StartLine(method, text, None, None)
+        return StartLine(None, None, told.status, text) if told.kind == _RESPONSE else None
 
-    def header_values(self, place: int, name: bytes) -> List[bytes]:
-        """The values of a header of it, by its long or its compact name in any case."""
-        values = []
+    def header_values(self, place: int, name: str) -> List[str]:
+        """The values of a header of it, by its long or its compact name in any case. A value has no
+        folds, and no blanks at its ends."""
+        values: List[str] = []
         while True:
             told = _Text()
-            value = self._text(
-                "header_value", told, _number(place, 32), bytes(name), len(name), len(values)
-            )
+            words = (_number(place, 32), name, len(values))
+            (value,) = self._texts("header_value", told, *words)
             if not told.is_there:
                 return values
-            values.append(value)
+            values.append(_decoded(value))
 
-    def next_due(self) -> Optional[int]:
-        """The first moment at which something is due."""
-        due = _Due()
-        self._call("next_due", ctypes.byref(due))
-        return due.moment if due.is_due else None
+    def stats(self) -> Stats:
+        """What is held, and what waits."""
+        told = _Stats()
+        self._call("stats", told)
+        return Stats(told.transactions, told.calls, told.next_round, told.events, told.outputs)
 
     def close(self) -> None:
         """Ends the agent. A second time, and any call after it, is NOT_HELD."""

@@ -1,38 +1,41 @@
 """An agent of sip_ua.py over a UDP socket of asyncio: rounds are run when something came or is due.
 
-    endpoint = await open_endpoint("./libsip_ua.so", ("192.0.2.1", 5060), on_line)
-    endpoint.command(b"plain c1 192.0.2.9:5060 OPTIONS sip:b@192.0.2.9 sip:a@192.0.2.1 ..")
+    endpoint = await open_endpoint("./libsip_ua.so", ("192.0.2.1", 5060), on_told)
+    endpoint.ask(Plain("c1", ("192.0.2.9", 5060), "OPTIONS", "sip:b@192.0.2.9", ..))
 
-`on_line(line, place)` is told each notice and drop as a line without its end, after all sends of its
-round. In it `endpoint.agent.start_line(place)` and `header_values(place, name)` read the
-datagram that it tells of; it may give commands, and close the endpoint. All is used from the thread
-of the event loop.
+`on_told(output)` is called with each Notice and each Drop, after all sends of its round. In it
+`endpoint.agent.start_line(output.place)` and `header_values(output.place, name)` read the datagram
+that it tells of; it may ask for commands, and close the endpoint. All is used from the thread of
+the event loop.
 """
 
 import asyncio
 import os
-from typing import Callable, Optional, Sequence, Tuple
+from typing import Callable, Optional, Tuple, Union
 
-from sip_ua import Agent
+from sip_ua import Agent, Command, Drop, Id, Notice, Send
+
+__all__ = ["Endpoint", "open_endpoint"]
 
 Address = Tuple[str, int]
+OnTold = Callable[[Union[Notice, Drop]], None]
 
 
 class Endpoint(asyncio.DatagramProtocol):
     """An agent at a socket; `open_endpoint` makes one, and `close` ends it."""
 
-    def __init__(self, on_line: Callable[[bytes, int], None]):
+    def __init__(self, on_told: OnTold):
         self.agent: Optional[Agent] = None
-        self._on_line = on_line
+        self._on_told = on_told
         self._loop = asyncio.get_running_loop()
         self._start = self._loop.time()
         self._next: Optional[asyncio.Handle] = None
         self._transport: Optional[asyncio.DatagramTransport] = None
         self._has_failed = False
 
-    def command(self, line: bytes, headers: Sequence[Tuple[bytes, bytes]] = ()) -> Tuple[int, int]:
-        """A command with headers of its own; the id by which lines tell of it."""
-        event = self.agent.command(line, headers)
+    def ask(self, command: Command) -> Id:
+        """Asks for a command; the id by which notices tell of it."""
+        event = self.agent.ask(command)
         self._run_soon()
         return event
 
@@ -53,7 +56,7 @@ class Endpoint(asyncio.DatagramProtocol):
             self._run_soon()
 
     def error_received(self, exc: OSError) -> None:
-        """A send failed: this is called within sendto, or later for one that the network refused."""
+        """A send failed: called within sendto, or later for one that the network refused."""
         self._has_failed = True
 
     def _run_soon(self) -> None:
@@ -65,13 +68,13 @@ class Endpoint(asyncio.DatagramProtocol):
         self._next = None
         outputs = self.agent.run(int((self._loop.time() - self._start) * 1000))
         for output in outputs:
-            if output.to is not None and not self._sends(output.text, output.to):
+            if isinstance(output, Send) and not self._sends(output.datagram, output.to):
                 self.agent.failed(output.index)
                 self._run_soon()
         try:
             for output in outputs:
-                if output.to is None and self.agent is not None:
-                    self._on_line(output.text.rstrip(b"\n"), output.place)
+                if not isinstance(output, Send) and self.agent is not None:
+                    self._on_told(output)
         finally:
             if self._next is None and self.agent is not None:
                 self._wait()
@@ -90,14 +93,17 @@ class Endpoint(asyncio.DatagramProtocol):
 
 async def open_endpoint(
     library: str,
-    local: Address,
-    on_line: Callable[[bytes, int], None],
+    address: Address,
+    on_told: OnTold,
+    local: Optional[Address] = None,
     seed: Optional[bytes] = None,
 ) -> Endpoint:
-    """An endpoint at this address, with a random seed if none is given. Port 0 takes a free one."""
+    """An endpoint whose socket has this address; port 0 takes a free one. `local` is what Via and
+    Contact say, where that isn't the socket's address: behind a NAT the one by which peers reach
+    it. Without a seed it takes a random one."""
     transport, endpoint = await asyncio.get_running_loop().create_datagram_endpoint(
-        lambda: Endpoint(on_line), local_addr=local
+        lambda: Endpoint(on_told), local_addr=address
     )
-    own = transport.get_extra_info("sockname")[:2]
+    own = local or transport.get_extra_info("sockname")[:2]
     endpoint.agent = Agent(library, own, seed if seed is not None else os.urandom(32))
     return endpoint

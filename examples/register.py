@@ -8,9 +8,11 @@ Digest. Status 0 where the registrar answered 200."""
 
 import asyncio
 import sys
+from dataclasses import replace
 from secrets import token_hex
 
 from digest import credentials
+from sip_ua import Plain, RefusedNotice, ResponseNotice, TimeoutNotice, FailedNotice
 from sip_ua_udp import open_endpoint
 
 
@@ -21,36 +23,29 @@ def address(text):
 
 async def register(library, local, registrar, user, password):
     name, _, domain = user.partition("@")
-    contact = (b"Contact", f"<sip:{name}@{local}>;expires=600".encode())
     answers = asyncio.Queue()
 
-    def told(line, place):
-        _, _, form, *fields = line.split(b" ")
-        if form == b"response" and int(fields[1]) >= 200:
-            agent = endpoint.agent
-            challenges = agent.header_values(place, b"WWW-Authenticate")
-            contacts = agent.header_values(place, b"Contact")
-            answers.put_nowait((int(fields[1]), challenges, contacts))
-        elif form in (b"timeout", b"failed", b"refused"):
+    def told(output):
+        if isinstance(output, ResponseNotice) and output.status >= 200:
+            values = endpoint.agent.header_values
+            challenges = values(output.place, "WWW-Authenticate")
+            answers.put_nowait((output.status, challenges, values(output.place, "Contact")))
+        elif isinstance(output, (TimeoutNotice, FailedNotice, RefusedNotice)):
             answers.put_nowait((0, [], []))
 
-    async def ask(*more):
-        line = (
-            f"plain {token_hex(8)} {registrar} REGISTER sip:{domain}"
-            f" sip:{user} sip:{user} -"
-        )
-        endpoint.command(line.encode(), [contact, *more])
-        return await answers.get()
-
     endpoint = await open_endpoint(library, address(local), told)
-    status, challenges, contacts = await ask()
+    contact = ("Contact", f"<sip:{name}@{local}>;expires=600")
+    uris = (f"sip:{domain}", f"sip:{user}", f"sip:{user}")
+    request = Plain(token_hex(8), address(registrar), "REGISTER", *uris, headers=(contact,))
+    endpoint.ask(request)
+    status, challenges, contacts = await answers.get()
     if status == 401 and challenges:
-        answer = credentials(
-            challenges[0].decode(), name, password, "REGISTER", f"sip:{domain}"
-        )
-        status, _, contacts = await ask((b"Authorization", answer.encode()))
+        answer = credentials(challenges[0], name, password, "REGISTER", f"sip:{domain}")
+        headers = (contact, ("Authorization", answer))
+        endpoint.ask(replace(request, call_id=token_hex(8), headers=headers))
+        status, _, contacts = await answers.get()
     endpoint.close()
-    print(status, *(held.decode() for held in contacts))
+    print(status, *contacts)
     return 0 if status == 200 else 1
 
 

@@ -26,10 +26,11 @@
  * blocks, and none may be made from a signal handler, or in the forked child of a process with
  * threads.
  *
- * Moments are in ms, from any beginning, up to 2^62, and never go back. Ports and numbers are in the
- * byte order of the machine, addresses as four bytes, the first one first.
+ * Moments are in ms, from any beginning, up to 2^62, and never go back. Ports and numbers are in
+ * the byte order of the machine, addresses as four bytes, the first one first.
  *
- * Linking needs the static library libsip_c.a and the toolchain's liblibc_c.a, and no other library.
+ * Linking needs the static library libsip_c.a and the toolchain's liblibc_c.a, and no other
+ * library.
  *
  * What can't be told, and is the program's to keep:
  * - a `sip_ua` that is copied, moved in a union, or written to by the program; one whose bytes were
@@ -72,9 +73,10 @@ typedef struct sip_ua_address {
     uint16_t port;
 } sip_ua_address;
 
-/* What an agent is started with: the address that it sends from; a secret of 32 random bytes, from
- * which tags and branches are made, another one for each agent; and the number of its first round,
- * at most 2^62, mostly 0. */
+/* What an agent is started with: the address that Via and Contact say, which is mostly that of the
+ * socket, and behind a NAT the one by which peers reach it; a secret of 32 random bytes, from which
+ * tags and branches are made, another one for each agent; and the number of its first round, at
+ * most 2^62, mostly 0. */
 typedef struct sip_ua_configuration {
     sip_ua_address local;
     uint8_t seed[32];
@@ -514,9 +516,9 @@ static inline uint32_t sip_ua_event_line(sip_ua *agent, const char *line, size_t
 }
 
 /* The lines of an event as a session file has them, the last one without its line feed. Before the
- * line of a command may stand its header lines: each begins with a space and ends in a line feed, as
- * " Contact: <sip:a@192.0.2.1>\n"; a backslash in one is spelled as two, and the command `cancel`
- * takes none (docs/FORMATS.md). An event of the next round. The same answers. */
+ * line of a command may stand its header lines: each begins with a space and ends in a line feed,
+ * as " Contact: <sip:a@192.0.2.1>\n"; a backslash in one is spelled as two, and the command
+ * `cancel` takes none (docs/FORMATS.md). An event of the next round. The same answers. */
 static inline uint32_t sip_ua_event_lines(sip_ua *agent, const char *lines, size_t len)
 {
     if (agent == NULL || lines == NULL)
@@ -528,8 +530,8 @@ static inline uint32_t sip_ua_event_lines(sip_ua *agent, const char *lines, size
  *
  * What is asked for is what the line of the same name in docs/FORMATS.md asks for. Of `asked`,
  * which may be NULL, `id` is the one by which notices tell of the command, and `bad_field` is 0 but
- * after SIP_UA_BAD_FIELD. That, SIP_UA_TOO_MANY_EVENTS, SIP_UA_NO_MEMORY, SIP_UA_NULL: nothing was asked
- * for. A command that the core then refuses is told by a notice. */
+ * after SIP_UA_BAD_FIELD. That, SIP_UA_TOO_MANY_EVENTS, SIP_UA_NO_MEMORY, SIP_UA_NULL: nothing was
+ * asked for. A command that the core then refuses is told by a notice. */
 
 /* The bytes of a string, without its end. */
 static inline sip_ua_bytes sip_ua_string(const char *string)
@@ -706,8 +708,8 @@ static inline uint32_t sip_ua_cancel(sip_ua *agent, const sip_ua_cancel_fields *
 /* ---- the rest of a host's loop */
 
 /* The send of this index among the outputs of the last round could not be sent (the socket refused
- * it): an event of the next round. To be called before that. SIP_UA_NO_SEND, SIP_UA_TOO_MANY_EVENTS,
- * SIP_UA_NO_MEMORY. */
+ * it): an event of the next round. To be called before that. SIP_UA_NO_SEND,
+ * SIP_UA_TOO_MANY_EVENTS, SIP_UA_NO_MEMORY. */
 static inline uint32_t sip_ua_failed(sip_ua *agent, size_t output)
 {
     if (agent == NULL)
@@ -717,7 +719,8 @@ static inline uint32_t sip_ua_failed(sip_ua *agent, size_t output)
 
 /* Runs a round: deals with all events since the last one, at this moment. All outputs of the last
  * round must have been taken. SIP_UA_OUTPUTS_LEFT, SIP_UA_BACKWARDS, SIP_UA_TOO_LARGE,
- * SIP_UA_USED_UP, SIP_UA_NO_MEMORY (nothing has changed, and the events wait still), SIP_UA_BROKEN. */
+ * SIP_UA_USED_UP, SIP_UA_NO_MEMORY (nothing has changed, and the events still wait),
+ * SIP_UA_BROKEN. */
 static inline uint32_t sip_ua_run(sip_ua *agent, uint64_t moment)
 {
     if (agent == NULL)
@@ -738,9 +741,9 @@ static inline uint32_t sip_ua_next_output(sip_ua *agent, sip_ua_output *output, 
 }
 
 /* The next output of the last round, by its fields, as sip_ua_next_output gives it with a line.
- * Where its texts fit into `room` they were written to the buffer, and the output is taken; else the
- * buffer is as it was, and the next call gives the same output again: sip_ua_texts_len tells how
- * much room it needs. SIP_UA_NO_MEMORY. */
+ * Where its texts fit into `room` they were written to the buffer, and the output is taken; else
+ * the buffer is as it was, and the next call gives the same output again: sip_ua_texts_len tells
+ * how much room it needs. SIP_UA_NO_MEMORY. */
 static inline uint32_t sip_ua_next(sip_ua *agent, sip_ua_typed_output *output, uint8_t *buffer,
                                    size_t room)
 {
@@ -781,6 +784,12 @@ static inline bool sip_ua_is(sip_ua_bytes bytes, const char *string)
         && (bytes.len == 0 || memcmp(bytes.at, string, bytes.len) == 0);
 }
 
+/* Whether two ids are the same. */
+static inline bool sip_ua_is_id(sip_ua_id one, sip_ua_id other)
+{
+    return one.is_given == other.is_given && one.round == other.round && one.place == other.place;
+}
+
 /* What is held, and what waits. */
 static inline uint32_t sip_ua_stats(sip_ua *agent, sip_ua_counts *counts)
 {
@@ -808,9 +817,9 @@ static inline uint32_t sip_ua_last_id(sip_ua *agent, sip_ua_id *id)
 }
 
 /* The datagram that came in at a place of the last round, if one did: what an output of that place
- * tells of. It is kept until the next round has run, also where it was dropped. Where its `len` is at
- * most `room`, its bytes were written to the buffer; else the buffer is as it was, and `len` says how
- * much room is needed. With a room of 0 any buffer but NULL serves. */
+ * tells of. It is kept until the next round has run, also where it was dropped. Where its `len` is
+ * at most `room`, its bytes were written to the buffer; else the buffer is as it was, and `len`
+ * says how much room is needed. With a room of 0 any buffer but NULL serves. */
 static inline uint32_t sip_ua_datagram_at(sip_ua *agent, uint32_t place, sip_ua_arrival *arrival,
                                           uint8_t *buffer, size_t room)
 {
@@ -819,8 +828,8 @@ static inline uint32_t sip_ua_datagram_at(sip_ua *agent, uint32_t place, sip_ua_
     return sip_ua_raw_datagram_at(agent, place, arrival, buffer, room);
 }
 
-/* The start line of the same datagram. Where `method_len` and `len` together are at most `room`, the
- * text was written to the buffer; else that is as it was. SIP_UA_NO_MEMORY. */
+/* The start line of the same datagram. Where `method_len` and `len` together are at most `room`,
+ * the text was written to the buffer; else that is as it was. SIP_UA_NO_MEMORY. */
 static inline uint32_t sip_ua_start_line(sip_ua *agent, uint32_t place, sip_ua_start *start,
                                          uint8_t *buffer, size_t room)
 {
@@ -831,8 +840,8 @@ static inline uint32_t sip_ua_start_line(sip_ua *agent, uint32_t place, sip_ua_s
 
 /* The value of a header of the same datagram, by its number from 0: each header line of the name
  * counts. `is_there` is false where there is none of this number. The name may be the long or the
- * compact one, in any case. The value has no folds, and no blanks at its ends. Where its `len` is at
- * most `room`, it was written to the buffer; else that is as it was. SIP_UA_NO_MEMORY. */
+ * compact one, in any case. The value has no folds, and no blanks at its ends. Where its `len` is
+ * at most `room`, it was written to the buffer; else that is as it was. SIP_UA_NO_MEMORY. */
 static inline uint32_t sip_ua_header_value(sip_ua *agent, uint32_t place, const char *name,
                                            size_t name_len, size_t number, sip_ua_text *text,
                                            uint8_t *buffer, size_t room)

@@ -1,8 +1,13 @@
-/* An agent that answers over UDP: OPTIONS and other requests with 200, and calls with 180 and 200
- * until they are ended. `answer IP PORT [SECONDS]`, for ever without SECONDS.
+/* An agent that answers over UDP: OPTIONS and other requests with 200, and calls with 180 and with
+ * 200 and an SDP answer, until they are ended.
+ *
+ *     answer IP PORT [SECONDS [OUTSIDE-IP OUTSIDE-PORT]]
+ *
+ * Without SECONDS it goes on for ever. Behind a NAT the last two are the address by which peers
+ * reach the socket.
  *
  * The loop of a host: wait for a datagram until the moment at which something is due, hand over all
- * that came, run a round, send what is to be sent, and answer what the user is told. The answers are
+ * that came, run a round, send what is to be sent, and answer what the user is told. Answers are
  * events of the next round, which is run at once. */
 #define _POSIX_C_SOURCE 200809L
 #include "sip_ua.h"
@@ -19,8 +24,14 @@
 
 #define MOST_AT_ONCE 512
 
+/* The answer to an offer of audio, and the offer where an INVITE has none. Media is not shown here:
+ * a phone reads the offer, and answers each of its media lines. */
+#define SDP \
+    "v=0\r\no=- 1 1 IN IP4 127.0.0.1\r\ns=-\r\nc=IN IP4 127.0.0.1\r\nt=0 0\r\n" \
+    "m=audio 41000 RTP/AVP 0\r\n"
+
 static uint8_t datagram[65536];
-static uint8_t text[65537];
+static uint8_t texts[65535];
 static sip_ua agent = SIP_UA_NONE;
 static int udp;
 static bool has_answers;
@@ -35,7 +46,7 @@ static uint64_t now(void)
 static void must(uint32_t status, const char *call)
 {
     if (status != SIP_UA_OK) {
-        fprintf(stderr, "answer: %s: status %u\n", call, (unsigned)status);
+        fprintf(stderr, "answer: %s: %s\n", call, sip_ua_status_text(status));
         exit(1);
     }
 }
@@ -57,56 +68,53 @@ static void receive(void)
 }
 
 /* Sends a datagram, and reports where that fails. */
-static void send_output(const sip_ua_output *output)
+static void send_output(const sip_ua_typed_output *output)
 {
     struct sockaddr_in to = { .sin_family = AF_INET, .sin_port = htons(output->to.port) };
     memcpy(&to.sin_addr, output->to.ip, 4);
-    if (sendto(udp, text, output->len, 0, (struct sockaddr *)&to, sizeof to) < 0)
+    if (sendto(udp, texts, output->body_len, 0, (struct sockaddr *)&to, sizeof to) < 0)
         must(sip_ua_failed(&agent, output->index), "sip_ua_failed");
 }
 
-/* A command: `respond CALL-ID ID STATUS plain - REASON`. */
-static void respond(const char *call_id, const char *id, int status, const char *reason)
+/* Answers a request, by what was told of it. */
+static void respond(const sip_ua_typed_output *request, uint16_t status, const char *reason,
+                    const char *body)
 {
-    char line[65536];
-    int len = snprintf(line, sizeof line, "respond %s %s %d plain - %s", call_id, id, status, reason);
-    if (len > 0 && (size_t)len < sizeof line)
-        must(sip_ua_event_line(&agent, line, (size_t)len), "sip_ua_event_line");
+    sip_ua_respond_fields fields = {
+        .call_id = sip_ua_texts_of(request, texts).call_id,
+        .id = request->id,
+        .status = status,
+        .reason = sip_ua_string(reason),
+        .body = sip_ua_string(body),
+    };
+    must(sip_ua_respond(&agent, &fields, NULL), "sip_ua_respond");
     has_answers = true;
 }
 
-/* What the user is told: `notice CALL-ID request ID METHOD ..` asks for an answer. */
-static void tell(char *line)
+static void answer(const sip_ua_typed_output *request)
 {
-    char *rest = line;
-    const char *word = strtok_r(rest, " \n", &rest);
-    const char *call_id = strtok_r(NULL, " \n", &rest);
-    const char *form = strtok_r(NULL, " \n", &rest);
-    const char *id = strtok_r(NULL, " \n", &rest);
-    const char *method = strtok_r(NULL, " \n", &rest);
-    if (word == NULL || strcmp(word, "notice") != 0 || method == NULL
-        || strcmp(form, "request") != 0)
-        return;
-    if (strcmp(method, "INVITE") == 0)
-        respond(call_id, id, 180, "Ringing");
-    respond(call_id, id, 200, "OK");
+    if (sip_ua_is(sip_ua_texts_of(request, texts).method, "INVITE")) {
+        respond(request, 180, "Ringing", "");
+        respond(request, 200, "OK", SDP);
+    } else {
+        respond(request, 200, "OK", "");
+    }
 }
 
 /* A round, and all that it gives. */
 static void run(void)
 {
-    sip_ua_output output;
+    sip_ua_typed_output output;
     has_answers = false;
     must(sip_ua_run(&agent, now()), "sip_ua_run");
     for (;;) {
-        must(sip_ua_next_output(&agent, &output, text, sizeof text - 1), "sip_ua_next_output");
+        must(sip_ua_next(&agent, &output, texts, sizeof texts), "sip_ua_next");
         if (output.kind == SIP_UA_NOTHING)
             return;
-        text[output.len] = '\0';
         if (output.kind == SIP_UA_SEND)
             send_output(&output);
-        else
-            tell((char *)text);
+        else if (output.kind == SIP_UA_NOTICE_REQUEST)
+            answer(&output);
     }
 }
 
@@ -122,17 +130,26 @@ static int patience(uint64_t end)
     return until <= moment ? 0 : until - moment > 1000000 ? 1000000 : (int)(until - moment);
 }
 
+static bool read_address(const char *ip, const char *port, struct sockaddr_in *address)
+{
+    memset(address, 0, sizeof *address);
+    address->sin_family = AF_INET;
+    address->sin_port = htons((uint16_t)atoi(port));
+    return inet_pton(AF_INET, ip, &address->sin_addr) == 1;
+}
+
 int main(int count, char **words)
 {
     sip_ua_configuration configuration = { 0 };
-    struct sockaddr_in local = { .sin_family = AF_INET };
-    if (count < 3 || inet_pton(AF_INET, words[1], &local.sin_addr) != 1) {
-        fprintf(stderr, "usage: answer IP PORT [SECONDS]\n");
+    struct sockaddr_in local, outside;
+    if (count < 3 || count == 5 || count > 6 || !read_address(words[1], words[2], &local)
+        || !read_address(words[count == 6 ? 4 : 1], words[count == 6 ? 5 : 2], &outside)) {
+        fprintf(stderr, "usage: answer IP PORT [SECONDS [OUTSIDE-IP OUTSIDE-PORT]]\n");
         return 2;
     }
-    configuration.local.port = (uint16_t)atoi(words[2]);
-    local.sin_port = htons(configuration.local.port);
-    memcpy(configuration.local.ip, &local.sin_addr, 4);
+    /* What Via and Contact say need not be the socket's own address. */
+    configuration.local.port = ntohs(outside.sin_port);
+    memcpy(configuration.local.ip, &outside.sin_addr, 4);
     udp = socket(AF_INET, SOCK_DGRAM, 0);
     if (udp < 0 || bind(udp, (struct sockaddr *)&local, sizeof local) != 0
         || getrandom(configuration.seed, sizeof configuration.seed, 0) < 0) {

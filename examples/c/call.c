@@ -1,6 +1,7 @@
 /* A call over UDP: `call IP PORT TO-IP TO-PORT URI SECONDS` calls the URI at an address with an
  * offer, says what comes of it, and hangs up SECONDS after the answer. Where none comes within 20 s
- * it cancels the call. Status 0 where the call was answered and has ended, otherwise 1.
+ * it cancels the call. It takes reliable provisional responses. Where several branches of a fork
+ * answer it keeps the first. Status 0 where the call was answered and has ended, otherwise 1.
  *
  * Commands are functions with the fields of a request, and what is told is a struct: nothing is
  * spelled or taken apart. Beside these it shows a header of the program's own, the id of a command,
@@ -30,10 +31,10 @@ static uint8_t texts[65535];
 static sip_ua agent = SIP_UA_NONE;
 static int udp;
 static uint64_t moment;
-/* The INVITE, the tags of its dialog once it is answered, and when to hang up or to cancel. */
-static sip_ua_id invite;
-static sip_ua_bytes local_tag, remote_tag;
-static bool is_answered, hangs_up, is_over, has_command;
+/* The INVITE, the tags of its dialog once it is answered, its BYE; when to hang up or to cancel. */
+static sip_ua_id invite, bye;
+static char local_tag[256], remote_tag[256];
+static bool is_answered, is_over, has_command;
 static uint64_t until, seconds;
 
 static uint64_t now(void)
@@ -97,32 +98,53 @@ static void say(uint32_t place, unsigned status)
 }
 
 /* Keeps a tag beyond the buffer that it stands in. */
-static void keep(sip_ua_bytes tag, char *room, size_t size, sip_ua_bytes *kept)
+static void keep(sip_ua_bytes tag, char *room, size_t size)
 {
-    if (tag.len > size) {
+    if (tag.len >= size) {
         fprintf(stderr, "call: a tag of %zu bytes\n", tag.len);
         exit(1);
     }
     memcpy(room, tag.at, tag.len);
-    kept->at = room;
-    kept->len = tag.len;
+    room[tag.len] = '\0';
 }
 
-/* A response to the INVITE, to its CANCEL or to the BYE, by the id of its request. */
-static void take_response(const sip_ua_typed_output *output, const sip_ua_texts *said)
+/* Ends the dialog of these tags; the id of its BYE. */
+static sip_ua_id hang_up(sip_ua_bytes local, sip_ua_bytes remote)
 {
-    static char local[256], remote[256];
-    say(output->place, output->status);
-    if (output->id.round != invite.round || output->id.place != invite.place) {
-        is_over = is_over || (hangs_up && output->status >= 200);
-    } else if (output->status >= 200 && output->status < 300 && !is_answered) {
+    sip_ua_asked told;
+    sip_ua_request_fields fields = {
+        .call_id = sip_ua_string(CALL_ID),
+        .local_tag = local,
+        .remote_tag = remote,
+        .method = sip_ua_string("BYE"),
+    };
+    asked(sip_ua_request(&agent, &fields, &told), &told, "sip_ua_request");
+    return told.id;
+}
+
+/* A 2xx: the first one is the answer, and its ACK goes out by itself. So does that of another
+ * branch of a fork, which is then ended. */
+static void take_answer(const sip_ua_texts *said)
+{
+    if (is_answered) {
+        hang_up(said->local_tag, said->remote_tag);
+    } else {
         is_answered = true;
         until = moment + 1000 * seconds;
-        keep(said->local_tag, local, sizeof local, &local_tag);
-        keep(said->remote_tag, remote, sizeof remote, &remote_tag);
-    } else if (output->status >= 300) {
-        is_over = true;
+        keep(said->local_tag, local_tag, sizeof local_tag);
+        keep(said->remote_tag, remote_tag, sizeof remote_tag);
     }
+}
+
+/* A response to the INVITE, to its CANCEL, or to a BYE, by the id of its request. */
+static void take_response(const sip_ua_typed_output *output, const sip_ua_texts *said)
+{
+    bool is_of_invite = sip_ua_is_id(output->id, invite);
+    say(output->place, output->status);
+    if (is_of_invite && output->status >= 200 && output->status < 300)
+        take_answer(said);
+    else if (output->status >= 200)
+        is_over = is_over || is_of_invite || sip_ua_is_id(output->id, bye);
 }
 
 /* A request of the peer in the call gets a 200. */
@@ -157,10 +179,11 @@ static void tell(const sip_ua_typed_output *output)
         break;
     case SIP_UA_NOTICE_TIMEOUT:
     case SIP_UA_NOTICE_FAILED:
-        is_over = true;
+        is_over = is_over || sip_ua_is_id(output->id, invite) || sip_ua_is_id(output->id, bye);
         break;
     case SIP_UA_NOTICE_ENDED:
-        is_over = is_over || !hangs_up;
+        /* By the peer, unless our BYE is under way. */
+        is_over = is_over || (!bye.is_given && sip_ua_is(said.remote_tag, remote_tag));
         break;
     }
 }
@@ -196,24 +219,13 @@ static void call(const sip_ua_address *peer, const char *uri, const char *own)
         .request_uri = sip_ua_string(uri),
         .from = sip_ua_string(own),
         .to = sip_ua_string(uri),
+        .supports_100rel = true,
         .body = sip_ua_string(OFFER),
         .headers = headers,
         .header_count = sizeof headers / sizeof *headers,
     };
     asked(sip_ua_invite(&agent, &fields, &told), &told, "sip_ua_invite");
     invite = told.id;
-}
-
-static void hang_up(void)
-{
-    sip_ua_asked told;
-    sip_ua_request_fields fields = {
-        .call_id = sip_ua_string(CALL_ID),
-        .local_tag = local_tag,
-        .remote_tag = remote_tag,
-        .method = sip_ua_string("BYE"),
-    };
-    asked(sip_ua_request(&agent, &fields, &told), &told, "sip_ua_request");
 }
 
 static void cancel(void)
@@ -226,9 +238,8 @@ static void cancel(void)
 /* Hangs up, or cancels a call that nobody answers. */
 static void end_call(void)
 {
-    hangs_up = is_answered;
     if (is_answered)
-        hang_up();
+        bye = hang_up(sip_ua_string(local_tag), sip_ua_string(remote_tag));
     else
         cancel();
     until = UINT64_MAX;

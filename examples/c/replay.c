@@ -1,6 +1,6 @@
-/* Replays an event file through the library and writes its output file: `replay < EVENTS > OUTPUTS`.
- * Both forms are in docs/FORMATS.md. The library reads the lines of events and writes those of
- * notices; the head, the rounds and the sends are this program's. */
+/* Replays an event file through the library, and writes its output file: `replay < EVENTS >
+ * OUTPUTS`. Both forms are in docs/FORMATS.md. The library reads the lines of events and writes
+ * those of notices; the head, the rounds and the sends are this program's. */
 #define _POSIX_C_SOURCE 200809L
 #include "sip_ua.h"
 
@@ -21,7 +21,9 @@ static bool read_address(const char *text, sip_ua_address *address)
     unsigned a, b, c, d, port;
     if (sscanf(text, "%u.%u.%u.%u:%u", &a, &b, &c, &d, &port) != 5)
         return false;
-    *address = (sip_ua_address){ { (uint8_t)a, (uint8_t)b, (uint8_t)c, (uint8_t)d }, (uint16_t)port };
+    *address = (sip_ua_address){
+        .ip = { (uint8_t)a, (uint8_t)b, (uint8_t)c, (uint8_t)d }, .port = (uint16_t)port
+    };
     return a < 256 && b < 256 && c < 256 && d < 256 && port < 65536;
 }
 
