@@ -140,8 +140,7 @@ fn without_cookie(branch: &[u8]) -> &[u8]
 }
 
 // The beginning of the first line of what is no message.
-#[tactic(auto, using(crate::proofs::Printable::unread_is),
-    unfolding(crate::specs::Label::unread_label))]
+#[tactic(auto, using(crate::proofs::Printable::unread_is), unfolding(crate::specs::Label::unread_label))]
 fn unread(alloc: Global, bytes: &[u8], is_again: bool) -> Result<Text, AllocError>
     ensures printable { IfOk result (λ label. IsTrue (list_all spec.is_printable label)) }
     ensures label { IfOk result (λ label. label ≡ spec.unread_label bytes.now is_again) }

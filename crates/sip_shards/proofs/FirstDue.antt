@@ -73,25 +73,25 @@ module _ {X : Type 0} (P : X → Type 0) (xs : List X) (x d : X) (some : 1 ≤ l
 
 module _ {X K S : Type 0} (cmp : K → K → Ordering) (due : S → Option ℕ) (held : X → Held K S)
     (shards : List X) (shard d : X) (some : 1 ≤ length shards) (is : shard ≡ get_or shards 0 d)
-    where
-  pub due_in_first : (at : ℕ)
-      → ((key : K) × (due_of due (state_at cmp (held shard) key) ≡ Some at))
-      → IsDueIn cmp due at (map held shards)
-  due_in_first = by_list shards some is
-    where
-      by_list : (ss : List X) → 1 ≤ length ss → shard ≡ get_or ss 0 d → (at : ℕ)
-          → ((key : K) × (due_of due (state_at cmp (held shard) key) ≡ Some at))
-          → IsDueIn cmp due at (map held ss)
-      by_list [] some is at here = absurd (omega (arith, some))
-      by_list (s ∷ ss) some is at here =
-          inl (subst (λ it. (key : K) × (due_of due (state_at cmp (held it) key) ≡ Some at)) is
-          here)
+  where
+    pub due_in_first : (at : ℕ)
+        → ((key : K) × (due_of due (state_at cmp (held shard) key) ≡ Some at))
+        → IsDueIn cmp due at (map held shards)
+    due_in_first = by_list shards some is
+      where
+        by_list : (ss : List X) → 1 ≤ length ss → shard ≡ get_or ss 0 d → (at : ℕ)
+            → ((key : K) × (due_of due (state_at cmp (held shard) key) ≡ Some at))
+            → IsDueIn cmp due at (map held ss)
+        by_list [] some is at here = absurd (omega (arith, some))
+        by_list (s ∷ ss) some is at here =
+            inl (subst (λ it. (key : K) × (due_of due (state_at cmp (held it) key) ≡ Some at)) is
+            here)
 
-  pub due_in_rest : (at : ℕ) → IsDueIn cmp due at (map held (drop 1 shards))
-      → IsDueIn cmp due at (map held shards)
-  due_in_rest = by_list shards
-    where
-      by_list : (ss : List X) (at : ℕ) → IsDueIn cmp due at (map held (drop 1 ss))
-          → IsDueIn cmp due at (map held ss)
-      by_list [] at later = later
-      by_list (s ∷ ss) at later = inr later
+    pub due_in_rest : (at : ℕ) → IsDueIn cmp due at (map held (drop 1 shards))
+        → IsDueIn cmp due at (map held shards)
+    due_in_rest = by_list shards
+      where
+        by_list : (ss : List X) (at : ℕ) → IsDueIn cmp due at (map held (drop 1 ss))
+            → IsDueIn cmp due at (map held ss)
+        by_list [] at later = later
+        by_list (s ∷ ss) at later = inr later

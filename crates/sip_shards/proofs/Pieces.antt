@@ -161,7 +161,7 @@ module _ {P X M K S I O D : Type 0} (cmp : K → K → Ordering) (spec : M → M
       (subst (AllByRecursion (λ shard. machine_of shard ≡ machine)) (sym are_shards) alike)
 
   module _ {E : Type 0} (pieces : List P) (shards : List X)
-  (are_shards : map shard_of pieces ≡ shards)
+      (are_shards : map shard_of pieces ≡ shards)
       (alike : AllByRecursion (λ shard. machine_of shard ≡ machine) shards)
       (dones : List (ℕ × Result D E)) (new : List X) (all_ticks : List (K × List O))
       (all_said : List (ℕ × List O))
