@@ -570,7 +570,8 @@ module _ (Given : Message → Type 0) where
       )
 
   noted_asks : (pending : PendingRequest) (name : DialogId) (ack : Option SentAck)
-      (clients : Clients) → KeptAck ack → AskAll clients → AskAll (ack_kept pending name ack clients)
+      (clients : Clients) → KeptAck ack → AskAll clients
+      → AskAll (ack_kept pending name ack clients)
   noted_asks (Ack invite number) name None clients kept all = all
   noted_asks (Ack invite number) name (Some ack) clients kept all =
       each_changed Asks (is_id invite) (acked_with name ack)
