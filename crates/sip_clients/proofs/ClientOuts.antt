@@ -198,25 +198,26 @@ module _ (P : CallOut → Type 0) (allows : Allows P) where
       (settled_told answer.event answer.id done.3 put))
 
   -- a notice of the response is such a thing
-  abbrev pub ResponseAllowed : Message → Type 0
-  ResponseAllowed response = (event : Event) (id : Id) (call_id : List ℕ) (name : DialogId)
-      (status : ℕ) → status_of response.start ≡ Some status
+  abbrev pub ResponseAllowed : Event → Id → List ℕ → Message → Type 0
+  ResponseAllowed event id call_id response = (name : DialogId) (status : ℕ)
+      → status_of response.start ≡ Some status
       → P (response_notice (reply_of event id call_id name status response))
 
   found_told : (event : Event) (id : Id) (call_id : List ℕ) (response : Message)
       (status : Option ℕ) (found : Option Client) (side : Side)
-      → status_of response.start ≡ status → ResponseAllowed response
+      → status_of response.start ≡ status → ResponseAllowed event id call_id response
       → All (found_taken event id call_id response status found side).1
   found_told event id call_id response None found side is tells = tt
   found_told event id call_id response (Some status) None side is tells = tt
   found_told event id call_id response (Some status) (Some client) side is tells =
       replied_told (reply_of event id call_id (reply_name client.kind client response) status
       response) client side
-      (tells event id call_id (reply_name client.kind client response) status is)
+      (tells (reply_name client.kind client response) status is)
 
   pub response_told : (event : Event) (id : Id) (call_id : List ℕ) (response : Message)
       (side : Side)
-      → ResponseAllowed response → All (response_taken event id call_id response side).1
+      → ResponseAllowed event id call_id response
+      → All (response_taken event id call_id response side).1
   response_told event id call_id response side tells =
       found_told event id call_id response (status_of response.start) (client_at id side.clients)
       side refl tells

@@ -41,6 +41,12 @@ module _ {X : Type 0} where
   all_go goes [] all = tt
   all_go goes (x ∷ xs) all = (goes x all.0, all_go goes xs all.1)
 
+  pub all_both : {P Q R : X → Type 0} → ((x : X) → P x → Q x → R x) → (xs : List X)
+      → AllByRecursion P xs → AllByRecursion Q xs → AllByRecursion R xs
+  all_both goes [] one other = tt
+  all_both goes (x ∷ xs) one other =
+      (goes x one.0 other.0, all_both goes xs one.1 other.1)
+
   -- what a test keeps
   kept_step : (test : X → Bool) (y x : X) (ys kept : List X) (b : Bool) → test y ≡ b
       → (Contains kept x → Contains ys x × (test x ≡ true))

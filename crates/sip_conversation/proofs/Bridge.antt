@@ -20,10 +20,12 @@ use Rattle.sip_reader.specs.SkippedEnds.{without_line_ends}
 use Rattle.sip_reader.proofs.RoundTrip.{written_spelled}
 use Rattle.sip_reader.proofs.Spelled.{spelled_again}
 use Rattle.sip_transactions.specs.declared.input.Input.{Input}
-use Rattle.sip_transactions.specs.declared.input.Input.TheVariants.{Receive}
+use Rattle.sip_transactions.specs.declared.input.Input.TheVariants.{Failed, Receive}
 use Rattle.sip_transactions.specs.Shard.{is_stray, received}
 use Rattle.sip_round.specs.declared.config.Config.{Config}
+use Rattle.sip_round.specs.declared.round.Event.{Event}
 use Rattle.sip_round.specs.declared.round.Event.TheVariants.{Datagram}
+use Rattle.sip_round.specs.declared.round.Event.TheVariants as event
 use Rattle.sip_round.specs.Arrivals.{arrival_for, arrival_of, datagram_arrival, message_arrival}
 use Rattle.sip_conversation.specs.Messages.{come_from}
 use Rattle.sip_conversation.proofs.Rounds.{ArrivalFits}
@@ -100,3 +102,22 @@ module _ (config : Config) (Fits : Key → Input → Type 0) (id : Id) (from : A
       subst (λ text. ArrivalFits config Fits
       (datagram_arrival config.local id from (message_at text))) (sym is)
       (long_or_read message (message_at (written message)) fits (what_comes message rules))
+
+-- what holds of all that may be received, and of each failed send, holds of what arrives
+pub any_arrival : (config : Config) (Fits : Key → Input → Type 0)
+    → ((id : Id) (message : Message) (reply_to : Addr)
+    → Fits (key_of_message message) (Receive id message reply_to))
+    → ((key : Key) (id : Id) → Fits key (Failed id)) → (id : Id) (e : Event)
+    → ArrivalFits config Fits (arrival_of config.local id e)
+unfolding arrival_of message_arrival
+any_arrival config Fits receipts failures id (event.Datagram from bytes) =
+    by_read (message_at bytes)
+  where
+    by_read : (read : Result Message ReadFault)
+        → ArrivalFits config Fits (datagram_arrival config.local id from read)
+    by_read (Ok message) =
+        by_request config Fits id from (is_request_message message) message
+        (λ reply_to. receipts id (come_from from message) reply_to)
+    by_read (Err fault) = tt
+any_arrival config Fits receipts failures id (event.Failed key) = failures key id
+any_arrival config Fits receipts failures id (event.Command command) = tt

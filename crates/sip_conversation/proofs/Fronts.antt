@@ -44,6 +44,19 @@ module _ (configs : Side → Config) where
       front_keeps (before ++ turn ∷ []) after
       (subst (CallsKeepRules configs) (whole turns before after turn same) keep)
 
+  -- ---- before a turn
+
+  pub carried_before : (turns before after : List Turn) (turn : Turn)
+      → turns ≡ before ++ turn ∷ after → Carried configs turns → Carried configs before
+  carried_before turns before after turn same carried =
+      front_carried before (turn ∷ after) (subst (Carried configs) same carried)
+
+  pub keeps_before : (turns before after : List Turn) (turn : Turn)
+      → turns ≡ before ++ turn ∷ after → CallsKeepRules configs turns
+      → CallsKeepRules configs before
+  keeps_before turns before after turn same keep =
+      front_keeps before (turn ∷ after) (subst (CallsKeepRules configs) same keep)
+
 -- ---- a turn is none of the other side
 
 other_side : (s : Side) → is_side (peer s) s ≡ false

@@ -4,6 +4,7 @@ pub mod Answered
 pub mod Before
 pub mod Bridge
 pub mod CallOuts
+pub mod CallSays
 pub mod Carrying
 pub mod Fronts
 pub mod Longer
@@ -17,3 +18,5 @@ pub mod Sides
 pub mod Unchanged
 pub mod Unstamped
 pub mod Ups
+pub mod StartedFor
+pub mod StartedUps

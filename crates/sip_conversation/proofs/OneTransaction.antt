@@ -1,6 +1,6 @@
 -- What a transaction sends is the text of a message that it was given or made, and what it hands up
 -- is a message that came to it.
-use Rattle.std.proofs.Common.{◌≡◌, ℕ, Bool, true, false, cond, List, [], ◌∷◌, refl, sym, ap, ◌∙◌, codes, subst}
+use Rattle.std.proofs.Common.{◌≡◌, ℕ, Bool, true, false, cond, ◌&&◌, List, [], ◌∷◌, refl, sym, ap, ◌∙◌, codes, subst}
 use Rattle.std.specs.Prelude.{Contains, IfSome, Option, None, Some, not, option_map, option_to_list}
 use Rattle.std.specs.List.{AllByRecursion}
 use Rattle.std.proofs.lemmas.Bool.{false≢true}
@@ -12,6 +12,7 @@ use Rattle.sip_message.specs.declared.message.Message.{Message}
 use Rattle.sip_message.specs.declared.start_line.StartLine.{StartLine}
 use Rattle.sip_message.specs.declared.start_line.StartLine.TheVariants as start
 use Rattle.sip_message.specs.HopByHop.{ack_of}
+use Rattle.sip_message.specs.Message.{is_request_line, is_request_message}
 use Rattle.sip_message.specs.Written.{written}
 use Rattle.sip_model.specs.Machine.{Timed, given_at, outputs_from}
 use Rattle.sip_transactions.specs.declared.input.Input.{Input}
@@ -39,8 +40,8 @@ use Rattle.sip_transactions.specs.Rules.Step.{step_at}
 use Rattle.sip_transactions.proofs.Rules.{step_is}
 use Rattle.sip_transactions.specs.Steps.Output.{handed_out, kind_of, made_bytes, made_of, outputs_of, send_out, sent_bytes, trying_of}
 use Rattle.sip_transactions.specs.Rows.{rows_of}
-use Rattle.sip_transactions.proofs.LawSteps.{RowFor, by_step}
-use Rattle.sip_transactions.proofs.RowFacts.{row_passes, table_passes}
+use Rattle.sip_transactions.proofs.LawSteps.{RowFor, by_step, is_request}
+use Rattle.sip_transactions.proofs.RowFacts.{and-left, and-right, row_passes, table_passes}
 use Rattle.sip_common.proofs.Each.{both}
 use Rattle.sip_conversation.proofs.Among.{all_of}
 
@@ -64,8 +65,17 @@ made_fits order send.Latest = true
 made_fits order send.Trying = not order
 made_fits order send.Ack = not order
 
+-- a 100 is made of a request alone
+abbrev trying_fits : Trigger → Sent → Bool
+trying_fits trigger send.Nothing = true
+trying_fits trigger send.Given = true
+trying_fits trigger send.Latest = true
+trying_fits trigger send.Trying = is_request trigger
+trying_fits trigger send.Ack = true
+
 abbrev row_makes : Option State → Trigger → Step → Bool
-row_makes state trigger step = made_fits (is_order trigger) step.sent
+row_makes state trigger step =
+    made_fits (is_order trigger) step.sent && trying_fits trigger step.sent
 
 rows_make : (r : Role) → table_passes row_makes (rows_of r) ≡ true
 rows_make role.InviteClient = refl
@@ -87,6 +97,11 @@ arrival_orders : (line : StartLine) (method : List ℕ) → is_order (arrival_of
 arrival_orders (start.Request uri) method = message_orders (is_same_method method (codes "ACK"))
 arrival_orders (start.Response status reason) method = refl
 
+request_arrives : (line : StartLine) (method : List ℕ)
+    → is_request (arrival_of line method) ≡ true → is_request_line line ≡ true
+request_arrives (start.Request uri) method is = refl
+request_arrives (start.Response status reason) method is = absurd (false≢true is)
+
 -- ---- what is said of each output, and of each input
 
 module _ (Says : Message → Type 0) where
@@ -97,7 +112,7 @@ module _ (Says : Message → Type 0) where
 module _ (Came : Message → Type 0) where
   -- a message that came, if any, is one of which this is said
   abbrev pub KindCame : Kind → Type 0
-  KindCame (kind.Request message reply_to) = Came message
+  KindCame (kind.Request message reply_to) = Came message × (is_request_message message ≡ true)
   KindCame (kind.Ack message) = Came message
   KindCame (kind.Response message) = Came message
   KindCame kind.Timeout = Unit {0}
@@ -117,7 +132,8 @@ module _ (all : List (Timed Input)) (Says Came : Message → Type 0) where
     pub answered : (now : ℕ) (id : Id) (message : Message)
         → Contains all (given_at now (Answer id message)) → Says message
     pub tried : (now : ℕ) (id : Id) (request : Message) (reply_to : Addr)
-        → Contains all (given_at now (Receive id request reply_to)) → Says (trying_of request)
+        → Contains all (given_at now (Receive id request reply_to))
+        → is_request_message request ≡ true → Says (trying_of request)
     pub acknowledged : (now later : ℕ) (id answered : Id) (call_id : List ℕ)
         (invite response : Message) (to reply_to : Addr)
         → Contains all (given_at now (Start id call_id invite to))
@@ -170,16 +186,21 @@ module _ (all : List (Timed Input)) (Says Came : Message → Type 0) where
     made_of_arrival : (request : Option Message) → IfSome request WasStarted → (s : Sent) (now : ℕ)
         (id : Id) (message : Message) (reply_to : Addr)
         → Contains all (given_at now (Receive id message reply_to)) → made_fits false s ≡ true
+        → trying_fits (arrival_of message.start message.cseq.method) s ≡ true
         → IfSome (option_map written (made_of request s message)) (IsTextOf Says)
     unfolding made_of
-    made_of_arrival request started send.Nothing now id message reply_to among fits = tt
-    made_of_arrival request started send.Given now id message reply_to among fits =
+    made_of_arrival request started send.Nothing now id message reply_to among fits trying = tt
+    made_of_arrival request started send.Given now id message reply_to among fits trying =
         absurd (false≢true fits)
-    made_of_arrival request started send.Latest now id message reply_to among fits = tt
-    made_of_arrival request started send.Trying now id message reply_to among fits =
-        (trying_of message, refl, said.tried now id message reply_to among)
-    made_of_arrival None started send.Ack now id message reply_to among fits = tt
-    made_of_arrival (Some invite) started send.Ack now id message reply_to among fits = (
+    made_of_arrival request started send.Latest now id message reply_to among fits trying = tt
+    made_of_arrival request started send.Trying now id message reply_to among fits trying = (
+      trying_of message,
+      refl,
+      said.tried now id message reply_to among
+          (request_arrives message.start message.cseq.method trying),
+    )
+    made_of_arrival None started send.Ack now id message reply_to among fits trying = tt
+    made_of_arrival (Some invite) started send.Ack now id message reply_to among fits trying = (
       ack_of invite message,
       refl,
       said.acknowledged started.0 now started.1 id started.2 invite message started.3 reply_to
@@ -190,20 +211,25 @@ module _ (all : List (Timed Input)) (Says Came : Message → Type 0) where
         (held : Option Life) (now : ℕ) (input : Option Input) (trigger : Trigger)
         → Contains all (record { moment = now; input = input })
         → trigger_of held now input ≡ Some trigger → made_fits (is_order trigger) s ≡ true
+        → trying_fits trigger s ≡ true
         → IfSome (made_bytes request s (message_in input)) (IsTextOf Says)
-    made request started s held now None trigger among is fits = tt
-    made request started s held now (Some (Failed id)) trigger among is fits = tt
-    made request started s held now (Some (Start id call_id message to)) trigger among is fits =
+    made request started s held now None trigger among is fits trying = tt
+    made request started s held now (Some (Failed id)) trigger among is fits trying = tt
+    made request started s held now (Some (Start id call_id message to)) trigger among is fits
+        trying =
         made_of_start request s now id call_id message to among
         (ap (λ t. made_fits (is_order t) s) (same_Some on.Start trigger is) ∙ fits)
-    made request started s held now (Some (Answer id message)) trigger among is fits =
+    made request started s held now (Some (Answer id message)) trigger among is fits trying =
         made_of_answer request s now id message among
         (ap (λ b. made_fits b s) (sym (answer_orders message.start trigger is)) ∙ fits)
-    made request started s held now (Some (Receive id message reply_to)) trigger among is fits =
+    made request started s held now (Some (Receive id message reply_to)) trigger among is fits
+        trying =
         made_of_arrival request started s now id message reply_to among
         (ap (λ b. made_fits b s) (sym (arrival_orders message.start message.cseq.method)
         ∙ ap is_order (same_Some (arrival_of message.start message.cseq.method) trigger is))
         ∙ fits)
+        (ap (λ t. trying_fits t s)
+        (same_Some (arrival_of message.start message.cseq.method) trigger is) ∙ trying)
 
     -- ---- what a row leaves, and what it says
 
@@ -220,15 +246,18 @@ module _ (all : List (Timed Input)) (Says Came : Message → Type 0) where
         record { last = sound.last; request = sound.request }
 
     message_kind : (message : Message) (reply_to : Addr) (ack : Bool) → Came message
+        → is_request_message message ≡ true
         → KindCame Came (cond ack (kind.Ack message) (kind.Request message reply_to))
-    message_kind message reply_to true came = came
-    message_kind message reply_to false came = came
+    message_kind message reply_to true came request = came
+    message_kind message reply_to false came request = (came, request)
 
-    kind_came : (line : StartLine) (message : Message) (reply_to : Addr) → Came message
+    kind_came : (line : StartLine) (message : Message) (reply_to : Addr)
+        → is_request_line line ≡ is_request_message message → Came message
         → KindCame Came (kind_of line message reply_to)
-    kind_came (start.Request uri) message reply_to came =
+    kind_came (start.Request uri) message reply_to same came =
         message_kind message reply_to (is_same_method message.cseq.method (codes "ACK")) came
-    kind_came (start.Response status reason) message reply_to came = came
+        (sym same)
+    kind_came (start.Response status reason) message reply_to same came = came
 
     handed_came : (key : Key) (context : Context) (handed : Handed)
         (arrived : Option (Message × Addr)) → IfSome arrived (λ a. Came a.0)
@@ -238,7 +267,7 @@ module _ (all : List (Timed Input)) (Says Came : Message → Type 0) where
     handed_came key context up.Nothing arrived came = tt
     handed_came key context up.Message None came = tt
     handed_came key context up.Message (Some arrived) came =
-        (kind_came arrived.0.start arrived.0 arrived.1 came, tt)
+        (kind_came arrived.0.start arrived.0 arrived.1 refl came, tt)
     handed_came key context up.Timeout arrived came = (tt, tt)
     handed_came key context up.Failed arrived came = (tt, tt)
     handed_came key context up.NoTransaction arrived came = (tt, tt)
@@ -303,9 +332,16 @@ module _ (all : List (Timed Input)) (Says Came : Message → Type 0) where
     acted_sound key held now input None step among sound row = (tt, tt)
     acted_sound key held now input (Some context) step among sound row =
         let bytes = made_bytes context.request step.sent (message_in input) in
+        let test : (made_fits (is_order row.trigger) step.sent
+        && trying_fits row.trigger step.sent) ≡ true =
+        row_passes row_makes (rows_of (role_of key)) (rows_make (role_of key)) (state_of held)
+        row.trigger step row.row in
         let text = made context.request sound.request step.sent held now input row.trigger among
-        row.triggered (row_passes row_makes (rows_of (role_of key)) (rows_make (role_of key))
-        (state_of held) row.trigger step row.row) in (
+        row.triggered
+        (and-left (made_fits (is_order row.trigger) step.sent)
+        (trying_fits row.trigger step.sent) test)
+        (and-right (made_fits (is_order row.trigger) step.sent)
+        (trying_fits row.trigger step.sent) test) in (
           after_sound context step now bytes (entered step.next (state_of held))
               (last_sound context bytes sound text),
           both (IsFaithful Says Came)

@@ -6,14 +6,9 @@ use Rattle.std.specs.Option.{option_and_then}
 use Rattle.std.proofs.lemmas.List.{map-append}
 use Rattle.sip_message.specs.declared.id.Id.{Id}
 use Rattle.sip_message.specs.declared.message.Message.{Message}
-use Rattle.sip_message.specs.Addr.{IsAddr}
-use Rattle.sip_message.specs.Key.{key_cmp}
-use Rattle.sip_message.specs.Party.{tag_of}
-use Rattle.sip_model.specs.Laws.{EachKeyAlone}
-use Rattle.sip_model.specs.Machine.{Timed, tick_at}
+use Rattle.sip_model.specs.Machine.{Timed}
 use Rattle.sip_transactions.specs.declared.output.Kind.{Kind}
 use Rattle.sip_transactions.specs.declared.output.Kind.TheVariants as kind
-use Rattle.sip_transactions.specs.Machine.{transaction_machine}
 use Rattle.sip_common.specs.declared.held_dialog.DialogReference.{DialogReference}
 use Rattle.sip_common.specs.declared.item.CallOut.{CallOut}
 use Rattle.sip_common.specs.declared.item.CallOut.TheVariants as out
@@ -22,32 +17,30 @@ use Rattle.sip_common.specs.declared.notice.Notice.{Notice}
 use Rattle.sip_common.specs.declared.notice.Notice.TheVariants as notice
 use Rattle.sip_common.specs.Dialogs.{lives}
 use Rattle.sip_common.proofs.Each.{both}
-use Rattle.sip_served.specs.declared.held_request.HeldRequest.{HeldRequest}
-use Rattle.sip_served.specs.declared.held_request.Success.{Success}
-use Rattle.sip_served.specs.declared.provisionals.ReliableResponse.{ReliableResponse}
-use Rattle.sip_served.proofs.ServedOuts.{KeepsGiven}
 use Rattle.sip_clients.specs.declared.client.Client.{Client}
 use Rattle.sip_clients.specs.Client.{Side as Held, client_at}
 use Rattle.sip_clients.specs.Clients.{status_of}
 use Rattle.sip_clients.specs.Provisionals.{AnInvite, in_life, is_for, is_response, number_for, provisional_number, told_of}
 use Rattle.sip_calls.specs.declared.call.Call.{Call}
 use Rattle.sip_calls.specs.declared.calls.Calls.{Calls}
-use Rattle.sip_calls.specs.Call.{CallItem, call_machine}
-use Rattle.sip_calls.specs.CallShard.{call_cmp}
+use Rattle.sip_calls.specs.Call.{CallItem}
 use Rattle.sip_calls.specs.Provisionals.{IsConsecutive, done, number_in, number_in_life, number_up, shown, shown_from, side_held}
 use Rattle.sip_round.specs.declared.config.Config.{Config}
 use Rattle.sip_round.specs.declared.round.Round.{Round}
 use Rattle.sip_round.specs.Answers.{calls_of}
 use Rattle.sip_round.specs.Laws.{ProvisionalsInLives, call_inputs_of}
-use Rattle.sip_conversation.specs.Conversation.{Carried, Side, Turn, rounds_of}
-use Rattle.sip_conversation.specs.Messages.{CallsKeepRules, ComesUnchanged}
+use Rattle.sip_conversation.specs.Answers.{IsAnswered, RespondsSo, own_statuses}
+use Rattle.sip_conversation.specs.Answers.IsAnswered.{ByAgent, ByUser}
+use Rattle.sip_conversation.specs.Conversation.{Carried, Side, Turn, peer, rounds_of}
+use Rattle.sip_conversation.specs.Messages.{CallsKeepRules}
 use Rattle.sip_conversation.specs.Provisionals.{IsSaidReliably, ProvisionalsToldAsSaid, SaidReliably, rseqs_told, told_from, told_with}
-use Rattle.sip_conversation.proofs.CallOuts.{HeldGiven, InputFits, KindTells, NoticeTells, OutFits, ResponseTells, allows_served, step_fits}
-use Rattle.sip_conversation.proofs.Fronts.{carried_to, keeps_to}
+use Rattle.sip_conversation.proofs.Among.{each_of}
+use Rattle.sip_conversation.proofs.CallOuts.{InputFits, KindTells, NoticeTells, OutFits, ResponseTells, step_fits}
+use Rattle.sip_conversation.proofs.Fronts.{carried_before, carried_to, keeps_before, keeps_to}
 use Rattle.sip_conversation.proofs.OneTransaction.{KindCame}
-use Rattle.sip_conversation.proofs.RepliesSaid.{Any, any_own, gives, response_said, said_before}
+use Rattle.sip_conversation.proofs.RepliesSaid.{Came, IsFair, response_said}
 use Rattle.sip_conversation.proofs.Unchanged.{inputs_unchanged}
-use Rattle.sip_conversation.proofs.Ups.{ItemCame, TimedCame}
+use Rattle.sip_conversation.proofs.Ups.{ItemCame, TimedCame, UpCame}
 
 -- ---- their RSeqs
 
@@ -78,89 +71,90 @@ rseqs_shown calls invite life call (timed ∷ inputs) =
     ∙ ap (λ rseqs. told_of number after.1 ++ rseqs)
     (rseqs_shown calls invite life after.0 inputs))
 
--- ---- of answers nothing is asked
+-- ---- who gives them
 
-any_success : (o : Option Success) → IfSome o (λ success. Any success.response)
-any_success None = tt
-any_success (Some success) = tt
+-- a status that the agent gives by itself is that of no reliable provisional response
+module _ (response : Message) (rseq : ℕ) where
+  abbrev IsNone : ℕ → Type 0
+  IsNone status = provisional_number (Some status) response ≡ Some rseq → ⊥
 
-any_provisionals : (responses : List ReliableResponse)
-    → AllByRecursion (λ one. Any one.response) responses
-any_provisionals [] = tt
-any_provisionals (one ∷ responses) = (tt, any_provisionals responses)
-
-module _ (Tells : ℕ → List ℕ → List ℕ → List ℕ → Type 0) where
-  any_requests : (requests : List HeldRequest)
-      → AllByRecursion (KeepsGiven (OutFits Tells Any) Any (allows_served Tells Any)) requests
-  any_requests [] = tt
-  any_requests (held ∷ requests) = (
-    record {
-      success = any_success held.success;
-      provisionals = any_provisionals held.provisionals;
-    },
-    any_requests requests,
+  own_none : AllByRecursion IsNone own_statuses
+  own_none = (
+    λ is. absurd cc,
+    (
+      λ is. absurd cc,
+      (
+        λ is. absurd cc,
+        (λ is. absurd cc, (λ is. absurd cc, (λ is. absurd cc, (λ is. absurd cc, tt)))),
+      ),
+    ),
   )
 
-  any_held : (call : Option Call) → HeldGiven Tells Any any_own call
-  any_held None = tt
-  any_held (Some call) = any_requests call.served.requests
+by_user : (config : Config) (rounds : List Round) (response : Message) (rseq status : ℕ)
+    (body : List ℕ) → provisional_number (Some status) response ≡ Some rseq
+    → IsAnswered config rounds status body → RespondsSo config rounds status body
+by_user config rounds response rseq status body number (ByUser responds) = responds
+by_user config rounds response rseq status body number (ByAgent among none) =
+    absurd (each_of (IsNone response rseq) own_statuses status (own_none response rseq) among
+    number)
 
-module _ (configs : Side → Config)
-    (alone : (s : Side) → EachKeyAlone call_cmp (call_machine (calls_of (configs s))) tick_at)
-    (before : List Turn) (turn : Turn) where
-  abbrev Said : ℕ → ℕ → List ℕ → List ℕ → List ℕ → Type 0
-  Said rseq status local_tag remote_tag body =
+module _ (configs : Side → Config) (fair : IsFair configs) (before : List Turn) (turn : Turn)
+    (carried : Carried configs before) (keep : CallsKeepRules configs before) where
+  abbrev Said : ℕ → List ℕ → ℕ → List ℕ → List ℕ → List ℕ → Type 0
+  Said rseq call_id status local_tag remote_tag body =
       SaidReliably configs before turn.side rseq status local_tag remote_tag body
 
-  abbrev Came : Message → Type 0
-  Came message = ComesUnchanged configs (before ++ turn ∷ []) turn.side message
+  abbrev Comes : Message → Type 0
+  Comes message = Came configs fair before turn carried keep message
 
   -- ---- a response that comes
 
-  said_so : (response : Message) → Came response → (rseq : ℕ)
+  said_so : (response : Message) → Comes response → (rseq : ℕ)
       → provisional_number (status_of response.start) response ≡ Some rseq
-      → ResponseTells (Said rseq) Any any_own response
-  said_so response comes rseq number status is =
-      let so = response_said configs alone (before ++ turn ∷ []) turn.side response comes status is
-      in
+      → (call_id : List ℕ) → ResponseTells (Said rseq) call_id response
+  said_so response comes rseq number call_id status is =
+      let so = response_said configs fair before turn carried keep response comes status is in
+      let here : provisional_number (Some status) response ≡ Some rseq =
+      ap (λ o. provisional_number o response) (sym is) ∙ number in
       record {
-        response = said_before configs before turn status (tag_of response.from)
-            (tag_of response.to) response.body so.said;
-        number = ap (provisional_number (Some status)) so.whole
-            ∙ (ap (λ o. provisional_number o response) (sym is) ∙ number);
+        response = so.said;
+        number = ap (provisional_number (Some status)) so.whole ∙ here;
+        by_user = by_user (configs (peer turn.side)) (rounds_of (peer turn.side) before) response
+            rseq status response.body here so.said.answered;
       }
 
   module _ (calls : Calls) (invite : AnInvite) (life : DialogReference) where
-    chosen : (b : Bool) (response : Message) → Came response → (rseq : ℕ)
+    chosen : (b : Bool) (response : Message) → Comes response → (rseq : ℕ)
         → cond b (provisional_number (status_of response.start) response) None ≡ Some rseq
-        → ResponseTells (Said rseq) Any any_own response
-    chosen true response comes rseq is = said_so response comes rseq is
-    chosen false response comes rseq is = absurd cc
+        → (call_id : List ℕ) → ResponseTells (Said rseq) call_id response
+    chosen true response comes rseq is call_id = said_so response comes rseq is call_id
+    chosen false response comes rseq is call_id = absurd cc
 
-    by_client : (o : Option Client) (id : Id) (response : Message) → Came response → (rseq : ℕ)
+    by_client : (o : Option Client) (id : Id) (response : Message) → Comes response → (rseq : ℕ)
         → option_and_then (number_for invite life id response) o ≡ Some rseq
-        → ResponseTells (Said rseq) Any any_own response
-    by_client None id response comes rseq is = absurd cc
-    by_client (Some client) id response comes rseq is =
-        chosen (is_for invite life id client client.kind response) response comes rseq is
+        → (call_id : List ℕ) → ResponseTells (Said rseq) call_id response
+    by_client None id response comes rseq is call_id = absurd cc
+    by_client (Some client) id response comes rseq is call_id =
+        chosen (is_for invite life id client client.kind response) response comes rseq is call_id
 
-    kind_number : (k : Kind) (id : Id) (held : Held) → KindCame Came k → (rseq : ℕ)
-        → number_up invite life id k held ≡ Some rseq → KindTells (Said rseq) Any any_own k
-    kind_number (kind.Request request reply_to) id held came rseq is = tt
-    kind_number (kind.Ack ack) id held came rseq is = tt
-    kind_number (kind.Response response) id held came rseq is =
-        by_client (client_at id held.clients) id response came rseq is
-    kind_number kind.Timeout id held came rseq is = tt
-    kind_number kind.Failed id held came rseq is = tt
+    kind_number : (k : Kind) (id : Id) (held : Held) → KindCame Comes k → (rseq : ℕ)
+        → number_up invite life id k held ≡ Some rseq
+        → (call_id : List ℕ) → KindTells (Said rseq) call_id k
+    kind_number (kind.Request request reply_to) id held came rseq is call_id = tt
+    kind_number (kind.Ack ack) id held came rseq is call_id = tt
+    kind_number (kind.Response response) id held came rseq is call_id =
+        by_client (client_at id held.clients) id response came rseq is call_id
+    kind_number kind.Timeout id held came rseq is call_id = tt
+    kind_number kind.Failed id held came rseq is call_id = tt
 
     input_number : (input : Option CallItem) (held : Held)
-        → IfSome input (λ i. ItemCame Came i.1) → (rseq : ℕ)
+        → IfSome input (λ i. ItemCame (UpCame Comes) i.1) → (rseq : ℕ)
         → number_in invite life input held ≡ Some rseq
-        → InputFits (Said rseq) Any any_own input
+        → InputFits (Said rseq) input
     input_number None held came rseq is = tt
     input_number (Some (event, Up up)) held came rseq is =
-        kind_number up.kind up.id held came rseq is
-    input_number (Some (event, User command)) held came rseq is = gives (Said rseq) command
+        kind_number up.kind up.id held came rseq is up.call_id
+    input_number (Some (event, User command)) held came rseq is = tt
 
     -- ---- those that are told
 
@@ -169,9 +163,9 @@ module _ (configs : Side → Config)
         (λ (one : ℕ × CallOut). IsSaidReliably configs before turn.side one.0 one.1) told
 
     abbrev Fit : ℕ → List CallOut → Type 0
-    Fit rseq outs = AllByRecursion (OutFits (Said rseq) Any) outs
+    Fit rseq outs = AllByRecursion (OutFits (Said rseq)) outs
 
-    notice_told : (rseq : ℕ) (told : Notice) → NoticeTells (Said rseq) Any told
+    notice_told : (rseq : ℕ) (told : Notice) → NoticeTells (Said rseq) told
         → (outs : List CallOut) → Tell (map (λ out. (rseq, out)) (filter is_response outs))
         → Tell (map (λ out. (rseq, out)) (filter is_response (out.Notice told ∷ outs)))
     notice_told rseq (notice.Request call_id id method local_tag remote_tag body) fits outs rest =
@@ -207,7 +201,7 @@ module _ (configs : Side → Config)
     in_life_number false o rseq is = absurd cc
 
     told_said : (call : Option Call) (inputs : List (Timed CallItem))
-        → AllByRecursion (TimedCame Came) inputs
+        → AllByRecursion (TimedCame (UpCame Comes)) inputs
         → Tell (told_from calls invite life call inputs)
     told_said call [] came = tt
     told_said call (timed ∷ inputs) came =
@@ -217,20 +211,17 @@ module _ (configs : Side → Config)
         both (λ (one : ℕ × CallOut). IsSaidReliably configs before turn.side one.0 one.1)
         (told_with number after.1) (told_from calls invite life after.0 inputs)
         (told_so number after.1
-        (λ rseq is. (step_fits (Said rseq) Any any_own calls call timed.input timed.moment
+        (λ rseq is. step_fits (Said rseq) calls call timed.input timed.moment
         (input_number timed.input (side_held call) came.0 rseq
-        (in_life_number alive (number_in invite life timed.input (side_held call)) rseq is))
-        (any_held (Said rseq) call)).1))
+        (in_life_number alive (number_in invite life timed.input (side_held call)) rseq is))))
         (told_said after.0 inputs came.1)
 
-pub provisionals_said : (configs : Side → Config) → ((s : Side) → IsAddr (configs s).local)
-    → EachKeyAlone key_cmp transaction_machine tick_at
-    → ((s : Side) → EachKeyAlone call_cmp (call_machine (calls_of (configs s))) tick_at)
+pub provisionals_said : (configs : Side → Config) → IsFair configs
     → ((s : Side) (rounds : List Round) → ProvisionalsInLives (configs s) rounds)
     → (turns : List Turn) → Carried configs turns → CallsKeepRules configs turns
     → ProvisionalsToldAsSaid configs turns
-provisionals_said configs addresses alone calls_alone in_lives turns carried keep before after turn
-    same call_id invite life =
+provisionals_said configs fair in_lives turns carried keep before after turn same call_id invite
+    life =
     let front = before ++ turn ∷ [] in
     let rounds = rounds_of turn.side front in
     let calls = calls_of (configs turn.side) in
@@ -242,8 +233,10 @@ provisionals_said configs addresses alone calls_alone in_lives turns carried kee
     record {
       consecutive = subst IsConsecutive rseqs order.consecutive;
       once = subst (AllPairs (λ x y. x ≢ y)) rseqs order.once;
-      said = told_said configs calls_alone before turn calls invite life None inputs
-          (inputs_unchanged alone configs addresses front
+      said = told_said configs fair before turn
+          (carried_before configs turns before after turn same carried)
+          (keeps_before configs turns before after turn same keep) calls invite life None inputs
+          (inputs_unchanged fair.transactions configs fair.addresses front
           (carried_to configs turns before after turn same carried)
           (keeps_to configs turns before after turn same keep) turn.side call_id);
     }

@@ -51,7 +51,7 @@ use Rattle.sip_conversation.proofs.OneTransaction.{AreSaid, IsFaithful, IsTextOf
 use Rattle.sip_conversation.proofs.Rounds.{ArrivalFits, OutFits, RoundFits, TimedFits, call_says, calls_give, inputs_fit}
 use Rattle.sip_conversation.proofs.Rules.{ack_keeps, stamped_keeps, trying_keeps}
 use Rattle.sip_conversation.proofs.Sends.{SendFits, direct_sends_fit, own_sends_fit}
-use Rattle.sip_conversation.proofs.Ups.{OutCame, TimedCame, inputs_came}
+use Rattle.sip_conversation.proofs.Ups.{OutCame, TimedCame, UpCame, inputs_came}
 use Rattle.sip_common.proofs.Each.{both}
 
 come_keeps : (source : Addr) → IsAddr source → (message : Message) → IsMessage message
@@ -115,10 +115,10 @@ module _ (alone : EachKeyAlone key_cmp transaction_machine tick_at) where
         started = λ now id call_id message to among.
             sound_input key now (input.Start id call_id message to) among;
         answered = λ now id message among. sound_input key now (input.Answer id message) among;
-        tried = λ now id request reply_to among. (
+        tried = λ now id request reply_to among is. (
           trying_keeps request
               (sound_input key now (input.Receive id request reply_to) among),
-          Trying key id request reply_to (now, among) refl,
+          Trying key id request reply_to (now, among) is refl,
         );
         acknowledged = λ now later id answered call_id invite response to reply_to among came. (
           ack_keeps invite response
@@ -326,36 +326,44 @@ module _ (alone : EachKeyAlone key_cmp transaction_machine tick_at) where
 
     out_came : (turns : List Turn) (s : Side) (o : Out)
         → IsFaithful Any (ComesUnchanged configs turns s) o
-        → OutCame (ComesUnchanged configs turns s) o
+        → OutCame (UpCame (ComesUnchanged configs turns s)) o
     out_came turns s (out.Up up) faithful = faithful
     out_came turns s (out.Send key to bytes) faithful = tt
     out_came turns s (out.Dropped place why) faithful = tt
 
-    pub inputs_unchanged : (turns : List Turn) → Carried configs turns
-        → CallsKeepRules configs turns → (s : Side) (call_id : List ℕ)
-        → AllByRecursion (TimedCame (ComesUnchanged configs turns s))
-        (call_inputs_of (configs s) (rounds_of s turns) call_id)
-    inputs_unchanged turns carried keep s call_id =
+    -- what comes up from a transaction
+    pub ups_unchanged : (turns : List Turn) → Carried configs turns → CallsKeepRules configs turns
+        → (s : Side) (key : Key)
+        → AllByRecursion (OutCame (UpCame (ComesUnchanged configs turns s)))
+        (said_of (configs s) (rounds_of s turns) key)
+    ups_unchanged turns carried keep s key =
         let rounds = rounds_of s turns in
         let Came : Message → Type 0 = ComesUnchanged configs turns s in
-        inputs_came Came (configs s) rounds
-        (λ key. subst (AllByRecursion (OutCame Came))
+        subst (AllByRecursion (OutCame (UpCame Came)))
         (sym (transaction_alone alone [] (past_of (configs s) rounds).transactions key))
-        (all_go {P = IsFaithful Any Came} {Q = OutCame Came} (out_came turns s)
+        (all_go {P = IsFaithful Any Came} {Q = OutCame (UpCame Came)} (out_came turns s)
         (outputs_from transaction_machine key None (inputs_of (configs s) rounds key))
         (faithful (inputs_of (configs s) rounds key) Any Came (record {
           started = λ now id call_id message to among. tt;
           answered = λ now id message among. tt;
-          tried = λ now id request reply_to among. tt;
+          tried = λ now id request reply_to among is. tt;
           acknowledged = λ now later id answered call_id invite response to reply_to among came. tt;
           came = λ now id message reply_to among.
               messages_unchanged turns carried keep s key id message reply_to (now, among);
-        }) key))) call_id
+        }) key))
+
+    pub inputs_unchanged : (turns : List Turn) → Carried configs turns
+        → CallsKeepRules configs turns → (s : Side) (call_id : List ℕ)
+        → AllByRecursion (TimedCame (UpCame (ComesUnchanged configs turns s)))
+        (call_inputs_of (configs s) (rounds_of s turns) call_id)
+    inputs_unchanged turns carried keep s call_id =
+        inputs_came (UpCame (ComesUnchanged configs turns s)) (configs s) (rounds_of s turns)
+        (ups_unchanged turns carried keep s) call_id
 
     kind_unchanged : (turns : List Turn) (s : Side) (k : Kind)
         → KindCame (ComesUnchanged configs turns s) k
         → IfSome (message_up k) (ComesUnchanged configs turns s)
-    kind_unchanged turns s (kind.Request message reply_to) came = came
+    kind_unchanged turns s (kind.Request message reply_to) came = came.0
     kind_unchanged turns s (kind.Ack message) came = came
     kind_unchanged turns s (kind.Response message) came = came
     kind_unchanged turns s kind.Timeout came = tt
@@ -367,7 +375,7 @@ module _ (alone : EachKeyAlone key_cmp transaction_machine tick_at) where
         → IfSome (message_up up.kind) (ComesUnchanged configs turns s)
     calls_hear turns carried keep s call_id up comes =
         kind_unchanged turns s up.kind
-        (each_of (TimedCame (ComesUnchanged configs turns s))
+        (each_of (TimedCame (UpCame (ComesUnchanged configs turns s)))
         (call_inputs_of (configs s) (rounds_of s turns) call_id)
         (given_at comes.0 (comes.1, Up up))
         (inputs_unchanged turns carried keep s call_id) comes.2)

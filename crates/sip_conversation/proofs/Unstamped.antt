@@ -12,7 +12,7 @@ use Rattle.sip_model.proofs.Ordered.{by_bool}
 use Rattle.sip_clients.specs.Clients.{status_of}
 use Rattle.sip_conversation.specs.Messages.{come_from}
 
-no_status : (line : StartLine) (status : ℕ) → is_request_line line ≡ true
+pub no_status : (line : StartLine) (status : ℕ) → is_request_line line ≡ true
     → status_of line ≡ Some status → ⊥
 no_status (start.Request uri) status request is = absurd cc
 no_status (start.Response code reason) status request is = false≢true request

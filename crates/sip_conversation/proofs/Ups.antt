@@ -14,6 +14,7 @@ use Rattle.sip_model.specs.Phase.{PhaseOutputs, history, inputs_of, own_inputs, 
 use Rattle.sip_model.specs.Rules.{said_since}
 use Rattle.sip_transactions.specs.declared.output.Out.{Out}
 use Rattle.sip_transactions.specs.declared.output.Out.TheVariants as out
+use Rattle.sip_transactions.specs.declared.output.Up.{Up as AnUp}
 use Rattle.sip_transactions.specs.Machine.{transaction_machine}
 use Rattle.sip_common.specs.Command.{call_of_item}
 use Rattle.sip_common.specs.declared.item.Item.{Item}
@@ -34,15 +35,19 @@ use Rattle.sip_conversation.proofs.Among.{all_of, each_of}
 use Rattle.sip_conversation.proofs.OneTransaction.{KindCame}
 use Rattle.sip_conversation.proofs.Rounds.{all_of_parts, some_key, transactions_are, transactions_from}
 
-module _ (Came : Message → Type 0) where
-  -- a message that comes up, if any, is one of which this is said
+-- a message that comes up, if any, is one of which this is said
+abbrev pub UpCame : (Message → Type 0) → AnUp → Type 0
+UpCame Came up = KindCame Came up.kind
+
+module _ (Comes : AnUp → Type 0) where
+  -- what comes up is such a thing
   abbrev pub OutCame : Out → Type 0
-  OutCame (out.Up up) = KindCame Came up.kind
+  OutCame (out.Up up) = Comes up
   OutCame (out.Send key to bytes) = Unit {0}
   OutCame (out.Dropped place why) = Unit {0}
 
   abbrev pub ItemCame : Item → Type 0
-  ItemCame (Up up) = KindCame Came up.kind
+  ItemCame (Up up) = Comes up
   ItemCame (User command) = Unit {0}
 
   abbrev pub TimedCame : Timed CallItem → Type 0

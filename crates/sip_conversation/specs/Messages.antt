@@ -1,5 +1,5 @@
 -- What a message that comes is: one that the other side said before.
-use Rattle.std.specs.Prelude.{◌≡◌, ℕ, List, [], ◌∷◌, ◌++◌, Contains, Option, None, Some, IfSome, if◌then◌else◌}
+use Rattle.std.specs.Prelude.{◌≡◌, ℕ, true, List, [], ◌∷◌, ◌++◌, Contains, Option, None, Some, IfSome, if◌then◌else◌}
 use Rattle.sip_message.specs.declared.addr.Addr.{Addr}
 use Rattle.sip_message.specs.declared.id.Id.{Id}
 use Rattle.sip_message.specs.declared.key.Key.{Key}
@@ -42,7 +42,7 @@ module _ (config : Config) (rounds : List Round) where
   CallSays out = (call_id : List ℕ) × Contains (said_of_call config rounds call_id) out
 
   -- In these rounds an agent said this message. A call asked a transaction to send it, or sent its
-  -- text outside of any transaction. Or a transaction made it: the 100 of a message that came to it
+  -- text outside of any transaction. Or a transaction made it: the 100 of a request that came to it
   -- (RFC 3261, section 17.2.1), or the ACK of a request that it was to start and of a message that
   -- came to it (17.1.1.3).
   pub data IsSaid (message : Message) : Type 0 where
@@ -50,7 +50,7 @@ module _ (config : Config) (rounds : List Round) where
         → message_of command ≡ message → IsSaid message
     Direct : (to : Addr) → CallSays (call_out.Direct to (written message)) → IsSaid message
     Trying : (key : Key) (id : Id) (request : Message) (reply_to : Addr)
-        → IsGiven key (input.Receive id request reply_to)
+        → IsGiven key (input.Receive id request reply_to) → is_request_message request ≡ true
         → message ≡ trying_of request → IsSaid message
     Acknowledges : (key : Key) (id answered : Id) (call_id : List ℕ) (invite response : Message)
         (to reply_to : Addr) → IsGiven key (input.Start id call_id invite to)

@@ -15,7 +15,8 @@ use Rattle.sip_calls.specs.Provisionals.{IsConsecutive, done, number_in_life}
 use Rattle.sip_round.specs.declared.config.Config.{Config}
 use Rattle.sip_round.specs.Answers.{calls_of}
 use Rattle.sip_round.specs.Laws.{call_inputs_of}
-use Rattle.sip_conversation.specs.Conversation.{Side, Turn, rounds_of}
+use Rattle.sip_conversation.specs.Answers.{RespondsSo}
+use Rattle.sip_conversation.specs.Conversation.{Side, Turn, peer, rounds_of}
 use Rattle.sip_conversation.specs.Replies.{SaidResponse}
 
 -- ---- what a user is told of them
@@ -36,11 +37,12 @@ told_from calls invite life call (input ∷ inputs) =
 -- ---- what the other side said
 
 -- the other side said in these turns such a response, with this RSeq, as a reliable provisional one
--- with a tag in To
+-- with a tag in To, as its user responded
 pub record SaidReliably (configs : Side → Config) (turns : List Turn) (side : Side)
     (rseq status : ℕ) (local_tag remote_tag body : List ℕ) : Type 0 where
   pub response : SaidResponse configs turns side status local_tag remote_tag body
   pub number : provisional_number (Some status) response.original ≡ Some rseq
+  pub by_user : RespondsSo (configs (peer side)) (rounds_of (peer side) turns) status body
 
 -- the response of a notice is such a one, and there is no other notice
 abbrev pub IsSaidReliably : (Side → Config) → List Turn → Side → ℕ → CallOut → Type 0

@@ -1,19 +1,25 @@
--- A response that a user is told of: one that the other side said before.
+-- A response that a user is told of: one that the other side said before, to a request that came to
+-- it.
 use Rattle.std.specs.Prelude.{◌≡◌, ℕ, List, [], ◌∷◌, ◌++◌, Contains, Some}
+use Rattle.sip_message.specs.declared.addr.Addr.{Addr}
 use Rattle.sip_message.specs.declared.id.Id.{Id}
 use Rattle.sip_message.specs.declared.message.Message.{Message}
+use Rattle.sip_message.specs.MessageKey.{key_of_message}
 use Rattle.sip_message.specs.Party.{tag_of}
 use Rattle.sip_message.specs.Rules.{IsMessage}
+use Rattle.sip_transactions.specs.declared.input.Input.TheVariants.{Start}
 use Rattle.sip_common.specs.declared.notice.Notice.TheVariants.{Response}
 use Rattle.sip_clients.specs.Clients.{status_of}
 use Rattle.sip_round.specs.declared.config.Config.{Config}
 use Rattle.sip_round.specs.declared.output.Output.TheVariants.{Notice}
-use Rattle.sip_conversation.specs.Answers.{AnswersSo}
+use Rattle.sip_round.specs.declared.round.Round.{Round}
+use Rattle.sip_conversation.specs.Answers.{AnswersARequest, IsAnswered}
 use Rattle.sip_conversation.specs.Conversation.{Side, Turn, given_by, peer, rounds_of}
-use Rattle.sip_conversation.specs.Messages.{IsSaid}
+use Rattle.sip_conversation.specs.Messages.{ComesUnchanged, IsGiven, IsSaid}
 
--- the other side said in these turns a response of this status, these tags in From and To, and this
--- body; where it answered a request with it, that is an answer of its user or of the agent itself
+-- The other side said in these turns a response of this status, these tags in From and To, and this
+-- body. It is an answer of its user or of the agent itself, to a request that came to it: one that
+-- this side said, but for the stamp.
 pub record SaidResponse (configs : Side → Config) (turns : List Turn) (side : Side) (status : ℕ)
     (local_tag remote_tag body : List ℕ) : Type 0 where
   pub original : Message
@@ -23,13 +29,31 @@ pub record SaidResponse (configs : Side → Config) (turns : List Turn) (side : 
   pub from : tag_of original.from ≡ local_tag
   pub to : tag_of original.to ≡ remote_tag
   pub body_is : original.body ≡ body
-  pub answers : AnswersSo (configs (peer side)) (rounds_of (peer side) turns) original status body
+  pub answered : IsAnswered (configs (peer side)) (rounds_of (peer side) turns) status body
+  pub request : AnswersARequest (ComesUnchanged configs turns (peer side)) original
 
--- so is, in the turns before a turn, each response that its user is told of by its end
+-- in these rounds a transaction with the branch and the method of the response was started under
+-- this Call-ID
+pub record IsStartedFor (config : Config) (rounds : List Round) (call_id : List ℕ)
+    (response : Message) : Type 0 where
+  pub id : Id
+  pub request : Message
+  pub to : Addr
+  pub given : IsGiven config rounds (key_of_message response) (Start id call_id request to)
+
+-- the other side said such a response before a turn, and by its end this side started a transaction
+-- for it under the Call-ID of the notice
+pub record ToldResponse (configs : Side → Config) (before : List Turn) (turn : Turn)
+    (call_id : List ℕ) (status : ℕ) (local_tag remote_tag body : List ℕ) : Type 0 where
+  pub response : SaidResponse configs before turn.side status local_tag remote_tag body
+  pub started : IsStartedFor (configs turn.side) (rounds_of turn.side (before ++ turn ∷ []))
+      call_id response.original
+
+-- so is each response that the user of a turn's side is told of by its end
 abbrev pub ResponsesToldWereSaid : (Side → Config) → List Turn → Type 0
 ResponsesToldWereSaid configs turns =
     (before after : List Turn) (turn : Turn) → turns ≡ before ++ turn ∷ after
     → (call_id : List ℕ) (id : Id) (status : ℕ) (local_tag remote_tag body : List ℕ)
     → Contains (given_by configs (before ++ turn ∷ []) turn.side)
     (Notice (Response call_id id status local_tag remote_tag body))
-    → SaidResponse configs before turn.side status local_tag remote_tag body
+    → ToldResponse configs before turn call_id status local_tag remote_tag body

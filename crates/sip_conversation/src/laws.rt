@@ -57,10 +57,9 @@ pub fn calls_hear_unchanged(one: Config, other: Config)
 /// In such a conversation a user is told of reliable provisional responses to an INVITE, in one
 /// life of a dialog, with consecutive RSeqs, of each once (RFC 3262, section 4). In the turns
 /// before the one in which it is told, the other side said a reliable provisional response of this
-/// RSeq, with the status, the tags and the body that are told; where it answered a request with it,
-/// its user gave the command to respond with that status and that body, since the agent itself
-/// gives no such answer. The law doesn't say that this request is the INVITE, nor that the first of
-/// these RSeqs is 1.
+/// RSeq, with the status, the tags and the body that are told, as its user gave the command to
+/// respond with that status and that body. The law doesn't say that it was to this INVITE, nor that
+/// the first of these RSeqs is 1.
 pub fn provisionals_told_were_said(one: Config, other: Config)
     ensures { (turns : List Turn) → Carried (of_sides one other) turns
         → CallsKeepRules (of_sides one other) turns
@@ -81,8 +80,11 @@ pub fn provisionals_told_were_said(one: Config, other: Config)
 
 /// In such a conversation, of each response that a user is told of in a turn the other side said
 /// one of that status, with those tags in From and To, and with that body, in the turns before.
-/// Where it answered a request with it, its user gave the command to respond with that status and
-/// that body, or the agent itself answered with 200, 420, 481, 482, 487 or 500 and no body.
+/// Its user gave the command to respond with that status and that body, or the agent itself
+/// answered with 100, 200, 420, 481, 482, 487 or 500 and no body. It copies Via, From, Call-ID and
+/// CSeq of a request that came to the other side, one that this side said before, but for the stamp
+/// (RFC 3261, section 8.2.6.2). A transaction with its branch and its method was started under the
+/// Call-ID with which it is told. The law doesn't say that this is the Call-ID of the response.
 pub fn responses_told_were_said(one: Config, other: Config)
     ensures { (turns : List Turn) → Carried (of_sides one other) turns
         → CallsKeepRules (of_sides one other) turns

@@ -30,4 +30,4 @@ pub mod TickFollows
 pub mod TickRules
 pub mod Ticks
 pub mod Unacknowledged
-pub mod ServedOuts
+pub mod ServedAnswers

@@ -14,13 +14,15 @@ use Rattle.sip_conversation.proofs.laws.provisionals_told_were_said.Goals as goa
 
 pub returns : goal.returns
 returns c =
-    provisionals_said (of_sides c.args.one c.args.other)
-    (each_side (λ config. IsAddr config.local) c.args.one c.args.other
-    c.numbers_fit.ensures c.numbers_fit-2.ensures)
-    c.laws_of_phases.ensures.each_key_alone
-    (each_side (λ config. EachKeyAlone call_cmp (call_machine (calls_of config)) tick_at)
-    c.args.one c.args.other c.laws_of_phases-2.ensures.each_key_alone
-    c.laws_of_phases-3.ensures.each_key_alone)
+    provisionals_said (of_sides c.args.one c.args.other) record {
+      addresses = each_side (λ config. IsAddr config.local) c.args.one c.args.other
+          c.numbers_fit.ensures c.numbers_fit-2.ensures;
+      transactions = c.laws_of_phases.ensures.each_key_alone;
+      calls = each_side
+          (λ config. EachKeyAlone call_cmp (call_machine (calls_of config)) tick_at)
+          c.args.one c.args.other c.laws_of_phases-2.ensures.each_key_alone
+          c.laws_of_phases-3.ensures.each_key_alone;
+    }
     (each_side (λ config. (rounds : List Round) → ProvisionalsInLives config rounds)
     c.args.one c.args.other c.provisionals_in_each_life.ensures
     c.provisionals_in_each_life-2.ensures)

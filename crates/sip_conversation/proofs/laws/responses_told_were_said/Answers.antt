@@ -11,10 +11,12 @@ use Rattle.sip_conversation.proofs.laws.responses_told_were_said.Goals as goal
 
 pub returns : goal.returns
 returns c =
-    responses_said (of_sides c.args.one c.args.other)
-    (each_side (λ config. IsAddr config.local) c.args.one c.args.other
-    c.numbers_fit.ensures c.numbers_fit-2.ensures)
-    c.laws_of_phases.ensures.each_key_alone
-    (each_side (λ config. EachKeyAlone call_cmp (call_machine (calls_of config)) tick_at)
-    c.args.one c.args.other c.laws_of_phases-2.ensures.each_key_alone
-    c.laws_of_phases-3.ensures.each_key_alone)
+    responses_said (of_sides c.args.one c.args.other) record {
+      addresses = each_side (λ config. IsAddr config.local) c.args.one c.args.other
+          c.numbers_fit.ensures c.numbers_fit-2.ensures;
+      transactions = c.laws_of_phases.ensures.each_key_alone;
+      calls = each_side
+          (λ config. EachKeyAlone call_cmp (call_machine (calls_of config)) tick_at)
+          c.args.one c.args.other c.laws_of_phases-2.ensures.each_key_alone
+          c.laws_of_phases-3.ensures.each_key_alone;
+    }
