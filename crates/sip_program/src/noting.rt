@@ -1,6 +1,39 @@
-//! A writer that notes why a write failed.
+//! A reader and a writer that note why a read or a write failed.
 
-use std::io::{self, Write};
+ghost use Rattle.std.specs.Prelude.{◌≡◌};
+
+use std::io::{self, Read, Write};
+
+/// A reader that keeps what the last read that failed had against it.
+#[derive(Drop)]
+pub(crate) struct NotingRead<R> {
+    reader: R,
+    pub(crate) error: Option<io::Error>,
+}
+
+impl<R> NotingRead<R> {
+    /// Nothing has failed.
+    pub(crate) fn new(reader: R) -> NotingRead<R>
+        ensures { result.reader ≡ reader }
+    {
+        NotingRead {
+            reader,
+            error: None,
+        }
+    }
+}
+
+impl<R: Read> Read for NotingRead<R> {
+    ghost remaining = { λ noting. R.remaining noting.reader };
+
+    fn read(&mut self, buf: &mut [u8]) -> io::Result<usize> {
+        let result = self.reader.read(buf);
+        if let Err(error) = &result {
+            self.error = Some(*error);
+        }
+        result
+    }
+}
 
 /// A writer that keeps what the last write or flush that failed had against it.
 #[derive(Drop)]

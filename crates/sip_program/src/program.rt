@@ -12,8 +12,9 @@ ghost use Rattle.sip_files.specs.declared.file_replay.ReplayFault.TheVariants as
 
 use crate::failure::Failure;
 use crate::host::Host;
+use crate::noting::NotingRead;
 use crate::repair::whole_lines;
-use crate::status::{finish, finish_talk, show, tell_input, tell_words};
+use crate::status::{finish, finish_talk, show, tell_words};
 use crate::talk_fault::TalkFault;
 use crate::talking::talk_by;
 use crate::words::{self, CutName, ReplayWords, parse, replay_words};
@@ -23,7 +24,7 @@ use sip_message::{First, Spread};
 use sip_round::Gate;
 use std::alloc::Global;
 use std::convert::AsStr;
-use std::io::{Read, Write};
+use std::io::{self, Read, Write};
 use std::thread::Threads;
 
 /// The gate of the program: it holds no piece of work up.
@@ -109,29 +110,40 @@ pub fn ua<T: Threads + Host, S: AsStr, R: Read, W: Write, E: Write>(
     let kind = words::kind_asked(words);
     if words::asks_replay(words) {
         let words = replay_words(&matches);
-        let end = replay_by(rt, alloc, kind, words, input, output);
-        finish_file(end, input, errors)
+        let mut input = NotingRead::new(input);
+        let end = replay_by(rt, alloc, kind, words, &mut input, output);
+        finish_file(end, input.error, errors)
     } else if words::asks_repair(words) {
         let words = replay_words(&matches);
-        let end = repaired_by(rt, alloc, kind, words, input, output, errors);
-        finish_file(end, input, errors)
+        let mut input = NotingRead::new(input);
+        let end = repaired_by(rt, alloc, kind, words, &mut input, output, errors);
+        finish_file(end, input.error, errors)
     } else if words::asks_ladder(words) {
-        let end = ladder(rt, alloc, kind, input, output, &Open);
-        finish_file(end, input, errors)
+        let mut input = NotingRead::new(input);
+        let end = ladder(rt, alloc, kind, &mut input, output, &Open);
+        finish_file(end, input.error, errors)
     } else {
         let end = talk_by(rt, alloc, &matches, output, errors);
         finish_talk(end, errors)
     }
 }
 
-// Tells the fault of a replay and why its input can't be read, and gives the status of the end.
-fn finish_file<R: Read, E: Write>(end: Result<(), ReplayFault>, input: &mut R, errors: &mut E) -> u8
+// Tells the fault of a replay and what a read that failed had against it, and gives the status of
+// the end.
+fn finish_file<E: Write>(
+    end: Result<(), ReplayFault>,
+    unread: Option<io::Error>,
+    errors: &mut E,
+) -> u8
     ensures { MatchResult end (λ _. result ≡ 0) (λ fault. result ≡ fault_status fault) }
 {
     let is_unread = end == Err(ReplayFault::Input);
     let status = finish(end, errors);
-    if is_unread {
-        tell_input(input, errors);
+    match unread {
+        Some(error) if is_unread => {
+            let _ = writeln!(errors, "ua: standard input: {error}");
+        }
+        _ => {}
     }
     status
 }

@@ -13,7 +13,7 @@ use clap::error::ErrorKind;
 use sip_files::{EventsFault, ReplayFault};
 use sip_round::RoundFault;
 use sip_udp::UaFault;
-use std::io::{self, Read, Write};
+use std::io::{self, Write};
 
 const SUCCESS: u8 = 0;
 
@@ -98,13 +98,6 @@ pub(crate) fn finish_talk<E: Write>(end: Result<(), Failure>, errors: &mut E) ->
             }
             talk_status(fault)
         }
-    }
-}
-
-/// Tells why an input of which a read failed can't be read: the system is asked once more.
-pub(crate) fn tell_input<R: Read, E: Write>(input: &mut R, errors: &mut E) {
-    if let Err(error) = input.read(&mut [0]) {
-        let _ = writeln!(errors, "ua: standard input: {error}");
     }
 }
 

@@ -21,7 +21,7 @@ use sip_udp::{
 };
 use std::alloc::{AllocError, Global};
 use std::fs::{self, File};
-use std::io::{self, Read, Write};
+use std::io::{self, Write};
 use std::net::{Ipv4Addr, Net, SocketAddrV4, UdpSocket};
 use std::random::RandomSource;
 use std::rt::Files;
@@ -254,10 +254,7 @@ fn agent_by<'a, T: Threads + Host, W: Write, E: Write>(
         &mut notices,
         errors,
     );
-    match end {
-        Err(UaFault::Input) => Err(failed_input(rt)),
-        end => ended(end, notices.error),
-    }
+    ended(end, notices.error)
 }
 
 // How one who talks ended, where this is what a write of a notice that failed had against it.
@@ -278,23 +275,6 @@ fn ended<'a>(end: Result<(), UaFault>, output: Option<io::Error>) -> Result<(), 
         fault: TalkFault::Ua(fault),
         cause,
     })
-}
-
-// The failure of a pipe that can't be read. The system is asked once more why.
-fn failed_input<'a, T: Host>(rt: &T) -> Failure<'a>
-    ensures { result.fault ≢ BadArgument }
-{
-    let fault = TalkFault::Ua(UaFault::Input);
-    match rt.commands().read(&mut [0]) {
-        Ok(_) => Failure::unknown(fault),
-        Err(error) => Failure::new(
-            fault,
-            Cause::Stream {
-                name: "standard input",
-                error,
-            },
-        ),
-    }
 }
 
 // The input whose end ends the turns. That of a terminal doesn't.
