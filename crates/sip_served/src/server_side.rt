@@ -8,6 +8,7 @@ ghost use Rattle.sip_served.specs.Respond as answers;
 ghost use Rattle.sip_served.specs.Rules.Arrivals as rules;
 ghost use Rattle.sip_served.specs.Rules.Responses.{respond_command};
 ghost use Rattle.sip_served.specs.Rules.Ticks.{server_due, server_tick};
+ghost use Rattle.sip_served.specs.State as state;
 ghost use Rattle.sip_served.specs.Step as step;
 ghost use Rattle.std.specs.List.{slice_get};
 ghost use Rattle.sip_served.specs.Tick.{is_kept_at};
@@ -87,7 +88,7 @@ impl ServerSide {
 
     /// Whether any request or dialog is held. Takes no memory.
     pub fn holds(&self) -> bool
-        ensures { result ≡ step.holds self.now }
+        ensures { result ≡ state.holds self.now }
     {
         !self.requests.is_empty() || !self.dialogs.is_empty()
     }
