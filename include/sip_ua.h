@@ -29,8 +29,8 @@
  * Moments are in ms, from any beginning, up to 2^62, and never go back. Ports and numbers are in
  * the byte order of the machine, addresses as four bytes, the first one first.
  *
- * Linking needs the static library libsip_c.a and the toolchain's liblibc_c.a, and no other
- * library.
+ * Linking needs libsip_ua.a or libsip_ua.so, as they are installed, and no other library; from the
+ * build, libsip_c.a and the toolchain's liblibc_c.a.
  *
  * What can't be told, and is the program's to keep:
  * - a `sip_ua` that is copied, moved in a union, or written to by the program; one whose bytes were

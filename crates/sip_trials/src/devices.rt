@@ -29,6 +29,9 @@ const SUCCESS: u8 = 0;
 
 const FAILED_DEVICE: u8 = 4;
 
+/// What is told where a read failed.
+const UNREAD: &[u8] = b"ua: input failed\nua: standard input: other error\n";
+
 /// How many times a device is made at most.
 const MOST_TURNS: u64 = 100_000;
 
@@ -205,7 +208,7 @@ fn is_whole<T: Threads + Host>(
     let mut errors = Vec::new(alloc);
     let status = ua(threads, alloc, &WORDS, input, output, &mut errors);
     let (wanted, told, length) = if input.has_failed()? {
-        (FAILED_DEVICE, b"ua: input failed\n".as_slice(), 0)
+        (FAILED_DEVICE, UNREAD, 0)
     } else if output.has_failed()? {
         let length = output.fails_at.saturating_mul(output.most as u64);
         (FAILED_DEVICE, b"ua: output failed\n".as_slice(), length)
