@@ -21,7 +21,7 @@ const MAX_WORKERS: usize = 64;
 /// What `ua --version` tells.
 const VERSION: &str = "1.0";
 
-/// What the help of the whole ends in.
+/// The end of `ua --help`.
 const EXAMPLES: &str = "\
 Examples:
   ua replay < call.events > call.outputs
@@ -30,9 +30,14 @@ Examples:
   ua call --local 127.0.0.1:5080 --to 127.0.0.1:5070 --uri sip:b@127.0.0.1 --seconds 2
   ua agent --local 127.0.0.1:5080 --record mine.events < commands
 
-Status: 0 success, 1 no event file or session file, 2 bad words, 3 a refused round, 4 a device that
-failed, \
-5 no memory, 6 not answered";
+Exit status:
+  0  success
+  1  the input is no event file, or no session file
+  2  a wrong option or command
+  3  a round was refused
+  4  a file, a stream or the socket failed
+  5  out of memory
+  6  the call was not answered (with --must-answer)";
 
 const REPLAY_EXAMPLE: &str = "\
 Example:
@@ -270,8 +275,8 @@ fn is_session_option(word: &str) -> bool
 pub(crate) fn parse<'a, S: AsStr>(alloc: Global, words: &'a [S]) -> Result<ArgMatches<'a>, Error> {
     let command = Command::new(alloc, "ua")
         .about(
-            "A SIP user agent's core: it replays event files and draws them, and listens, calls \
-            and does what a pipe asks for over UDP",
+            "A SIP user agent over UDP: answers calls, places a call, or runs commands from a \
+            pipe; replays what it recorded, and draws it",
         )
         .after_help(EXAMPLES)
         .version(VERSION)
@@ -395,34 +400,34 @@ fn listen_command<'a>(alloc: Global) -> Result<Command<'a>, AllocError> {
         .long("ring")
         .value_name("MS")
         .value_parser(value_parser!(u32))
-        .help("An INVITE gets 180, and its answer so many ms later, unless its caller cancels it");
+        .help("Send 180, and the final response MS milliseconds later, unless the caller cancels");
     let reliable = Arg::new(alloc, "reliable")
         .long("reliable")
         .action(ArgAction::SetTrue)
         .help(
-            "Where its caller supports it, an INVITE first gets a reliable 183, and the rest once \
-            that is acknowledged",
+            "First send a 183 reliably, if the caller supports that, and the other responses \
+            after its PRACK",
         );
     let answer = Arg::new(alloc, "answer")
         .long("answer")
         .value_name("STATUS")
         .value_parser(value_parser!(u16).range(200..=699))
         .default_value("200")
-        .help("The status that an INVITE is answered with, from 200 to 699");
+        .help("The status of the final response to an INVITE, from 200 to 699");
     let contact = Arg::new(alloc, "contact")
         .long("contact")
         .value_name("URI")
-        .help("Where an answer of 300 to 399 sends the caller, as sip:bob@192.0.2.9");
+        .help("The Contact of a response from 300 to 399, such as sip:bob@192.0.2.9");
     let no_body = Arg::new(alloc, "no-body")
         .long("no-body")
         .action(ArgAction::SetTrue)
         .conflicts_with("body")?
-        .help("A 2xx to an INVITE has no body");
+        .help("Send no body in a 2xx to an INVITE");
     Command::new(alloc, "listen")
         .about(
-            "Answers calls over UDP: 200 to INVITE, BYE and OPTIONS, 501 to all else; a line for \
-            each notice. At the end of standard input, if it is no terminal and wasn't empty from \
-            the start, it ends the calls that are up, and a second later itself",
+            "Answers calls over UDP: 200 to INVITE, BYE and OPTIONS, 501 to anything else. Prints \
+            a line for each notice. When standard input ends, it ends all calls, and exits within \
+            a second; a terminal, or an input that is empty from the start, is ignored",
         )
         .after_help(LISTEN_EXAMPLE)
         .arg(local_argument(alloc))?
@@ -434,8 +439,8 @@ fn listen_command<'a>(alloc: Global) -> Result<Command<'a>, AllocError> {
         .arg(contact)?
         .arg(body_argument(
             alloc,
-            "The body of a 2xx to an INVITE, an SDP text; without it an SDP text whose streams are \
-            inactive, since there is no media",
+            "A file with the SDP of a 2xx to an INVITE; by default an SDP with inactive streams, \
+            since there is no media",
         ))?
         .arg(no_body)?
         .arg(drops_argument(alloc))?
@@ -448,42 +453,42 @@ fn call_command<'a>(alloc: Global) -> Result<Command<'a>, AllocError> {
         .long("to")
         .value_name("ADDR")
         .required(true)
-        .help("Where the INVITE is sent, as 192.0.2.9:5060");
+        .help("The address to send the INVITE to, such as 192.0.2.9:5060");
     let uri = Arg::new(alloc, "uri")
         .long("uri")
         .value_name("URI")
         .required(true)
-        .help("Who is called, as sip:bob@192.0.2.9");
+        .help("The URI to call, such as sip:bob@192.0.2.9");
     let call_id = Arg::new(alloc, "call-id")
         .long("call-id")
         .value_name("TEXT")
         .default_value("ua-call")
-        .help("The Call-ID; another one for each call");
+        .help("The Call-ID; choose another one for each call");
     let leave = Arg::new(alloc, "leave")
         .long("leave")
         .action(ArgAction::SetTrue)
         .help(
-            "In the last second a call that isn't answered is cancelled, and one that is up ended; \
-            it stops earlier once nothing is held. The end of standard input does so without it",
+            "In the last second, cancel a call that isn't answered, or end one that is up; exit \
+            as soon as nothing is held. The end of standard input always does so",
         );
     let hold = Arg::new(alloc, "hold")
         .long("hold")
         .value_name("MS")
         .value_parser(value_parser!(u32))
-        .help("How long the call stays up; without it, it ends as soon as it is answered");
+        .help("Hang up MS milliseconds after the answer; by default at once");
     let reliable = Arg::new(alloc, "reliable")
         .long("reliable")
         .action(ArgAction::SetTrue)
-        .help("The INVITE supports reliable provisional responses, which are acknowledged");
+        .help("Support reliable provisional responses, and acknowledge them by PRACK");
     let must_answer = Arg::new(alloc, "must-answer")
         .long("must-answer")
         .action(ArgAction::SetTrue)
-        .help("A call that isn't answered ends in status 6");
+        .help("Exit with status 6 if the call isn't answered");
     Command::new(alloc, "call")
         .about(
-            "Calls a URI over UDP and hangs up as soon as it is answered; a line for each notice. \
-            At the end of standard input, if it is no terminal and wasn't empty from the start, it \
-            gives the call up, and ends within a second",
+            "Calls a URI over UDP, hangs up after the answer, and exits. Prints a line for each \
+            notice. When standard input ends, it gives up the call, and exits within a second; a \
+            terminal, or an input that is empty from the start, is ignored",
         )
         .after_help(CALL_EXAMPLE)
         .arg(local_argument(alloc))?
@@ -508,19 +513,19 @@ fn agent_command<'a>(alloc: Global) -> Result<Command<'a>, AllocError> {
         .value_name("MS")
         .value_parser(value_parser!(u32))
         .default_value("32000")
-        .help("How long it goes on at most after the end of the input, while something is held");
+        .help("After the end of the input, wait at most so long for calls and transactions to end");
     let headers = Arg::new(alloc, "headers")
         .long("headers")
         .action(ArgAction::SetTrue)
         .help(
-            "Before a command its header lines may stand, each a space and `Name: value`; those of \
-            a message stand so before its notice; the record is a session file, for `ua replay \
+            "Take header lines before a command, each a space and `Name: value`, and print those \
+            of a message before its notice. The record is then a session file, for `ua replay \
             --session`",
         );
     Command::new(alloc, "agent")
         .about(
-            "Does over UDP what the lines of standard input ask for, each the command of an event \
-            file; a line for each notice and each drop",
+            "Runs commands over UDP, one on each line of standard input, written as in an event \
+            file. Prints a line for each notice and each drop",
         )
         .after_help(AGENT_EXAMPLE)
         .arg(local_argument(alloc))?
@@ -536,7 +541,7 @@ fn session_argument<'a>(alloc: Global) -> Arg<'a> {
     Arg::new(alloc, "session")
         .long("session")
         .action(ArgAction::SetTrue)
-        .help("The file may also be a session file, in which commands have header lines")
+        .help("Take a session file too, in which commands have header lines")
 }
 
 fn body_argument<'a>(alloc: Global, help: &'a str) -> Arg<'a> {
@@ -550,14 +555,14 @@ fn stats_argument<'a>(alloc: Global) -> Arg<'a> {
     Arg::new(alloc, "stats")
         .long("stats")
         .action(ArgAction::SetTrue)
-        .help("At the end a line on standard error tells the address and what was counted")
+        .help("At the end, write the address and the counts to standard error")
 }
 
 fn record_argument<'a>(alloc: Global) -> Arg<'a> {
     Arg::new(alloc, "record")
         .long("record")
         .value_name("FILE")
-        .help("A new file for the event file of the run, which `ua replay` answers in the same way")
+        .help("Write the run to FILE as an event file, for `ua replay`; FILE is overwritten")
 }
 
 fn local_argument<'a>(alloc: Global) -> Arg<'a> {
@@ -566,9 +571,9 @@ fn local_argument<'a>(alloc: Global) -> Arg<'a> {
         .value_name("ADDR")
         .required(true)
         .help(
-            "One's own address, as 192.0.2.1:5060: the socket is bound to it, and it stands in \
-            what is sent; a port of 0 is any that is free. With 0.0.0.0 datagrams to each address \
-            of the machine are taken, but peers are told to answer to 0.0.0.0",
+            "Your own address, such as 192.0.2.1:5060: the socket is bound to it, and Via and \
+            Contact have it. Port 0 takes any free port. 0.0.0.0 receives on all addresses of the \
+            machine, but tells peers to answer to 0.0.0.0",
         )
 }
 
@@ -577,10 +582,7 @@ fn turns_argument<'a>(alloc: Global) -> Arg<'a> {
         .long("turns")
         .value_name("N")
         .value_parser(value_parser!(u32))
-        .help(
-            "How many turns of 10 ms are taken at most; 3000 are half a minute. Without it and \
-            --seconds it goes on until the end of standard input",
-        )
+        .help("Exit after N turns of 10 ms; 3000 turns are half a minute")
 }
 
 fn seconds_argument<'a>(alloc: Global) -> Arg<'a> {
@@ -588,14 +590,14 @@ fn seconds_argument<'a>(alloc: Global) -> Arg<'a> {
         .long("seconds")
         .value_name("N")
         .value_parser(value_parser!(u32))
-        .help("How many seconds it goes on at most")
+        .help("Exit after N seconds")
 }
 
 fn drops_argument<'a>(alloc: Global) -> Arg<'a> {
     Arg::new(alloc, "drops")
         .long("drops")
         .action(ArgAction::SetTrue)
-        .help("A line for each datagram that is dropped, too, but not for keep-alives")
+        .help("Print a line for each dropped datagram too, but not for keep-alives")
 }
 
 fn shards_argument<'a>(alloc: Global, usual: &'a str) -> Arg<'a> {
@@ -605,8 +607,8 @@ fn shards_argument<'a>(alloc: Global, usual: &'a str) -> Arg<'a> {
         .value_parser(value_parser!(usize).range(1..=256))
         .default_value(usual)
         .help(
-            "Into how many parts transactions and calls are cut, from 1 to 256; each part is \
-            dealt with by one thread at a time",
+            "Split transactions and calls into N shards, from 1 to 256; one thread at a time works \
+            on a shard",
         )
 }
 
@@ -617,8 +619,7 @@ fn workers_argument<'a>(alloc: Global, usual: &'a str) -> Arg<'a> {
         .value_parser(value_parser!(usize).range(1..=64))
         .default_value(usual)
         .help(
-            "On how many threads at most the parts are dealt with, from 1 to 64; with 1 no thread \
-            is started",
+            "Work on the shards with at most N threads, from 1 to 64; with 1 no thread is started",
         )
 }
 
@@ -629,15 +630,15 @@ fn replay_command<'a>(alloc: Global) -> Result<Command<'a>, AllocError> {
         .value_parser(["spread", "first"].as_slice())
         .default_value("spread")
         .help(
-            "How the parts are cut: by the sum of the bytes of a branch or a Call-ID, or all into \
-            the first",
+            "How to split: by the sum of the bytes of a branch or a Call-ID, or everything into \
+            the first shard",
         );
     let repair = Arg::new(alloc, "repair")
         .long("repair")
         .action(ArgAction::SetTrue)
         .help(
-            "Of a file that was cut off the lines that are whole are run; how many bytes are left \
-            out is told on standard error",
+            "Run a file that was cut off up to its last whole line, and say on standard error how \
+            many bytes were left out",
         );
     Command::new(alloc, "replay")
         .about("Runs the rounds of an event file on standard input, and writes its output file")
