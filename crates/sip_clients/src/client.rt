@@ -30,7 +30,7 @@ pub enum Cancelling {
     Sent,
 }
 
-/// A request that was sent and whose responses the user is told of.
+/// A request that was sent, and of whose responses the user is told.
 pub struct Client {
     /// The event that sent it, by which it is found.
     pub id: Id,
@@ -41,7 +41,7 @@ pub struct Client {
     /// Whether a provisional response to it came.
     pub provisional: bool,
     pub cancel: Cancelling,
-    /// The reliable provisional responses to an INVITE in a dialog.
+    /// Of a re-INVITE the latest RSeq that was taken, if any.
     pub last_rseq: Inbound,
     /// The 2xx responses to an INVITE.
     pub answers: Answers,

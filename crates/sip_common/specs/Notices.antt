@@ -6,7 +6,8 @@ use Rattle.sip_common.specs.declared.item.CallOut.TheVariants.{Notice}
 use Rattle.sip_common.specs.declared.notice.Notice.TheVariants.{Refused, Request}
 use Rattle.sip_common.specs.declared.refusal.Refusal.{Refusal}
 
--- the user is told that the command of an event is refused, and why
+-- the user is told that the command of an event is refused, or the ACK or PRACK that the response
+-- of an event asked for, and why
 abbrev pub refused : Id → List ℕ → Refusal → List CallOut
 refused event call_id refusal = Notice (Refused call_id event.place refusal) ∷ []
 

@@ -40,7 +40,7 @@ pub struct HeldDialog {
     pub invite: Id,
     /// The event that made it. It tells this dialog from another under the same name.
     pub created_by: Id,
-    /// The reliable provisional responses of that INVITE that came in it.
+    /// The latest RSeq of those of that INVITE that was taken in it, if any.
     pub last_rseq: Inbound,
     /// The requests that are owed in it, the oldest first.
     pub pending_requests: Series<PendingRequest>,

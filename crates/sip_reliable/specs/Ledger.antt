@@ -34,7 +34,7 @@ must_wait l =
 abbrev pub acknowledged : ℕ → Ledger → Ledger
 acknowledged number l = record l { waiting = filter (λ p. not (p.number == number)) l.waiting }
 
--- no further reliable response is sent
+-- no further reliable response is sent, and none is sent again
 abbrev pub closed_now : Ledger → Ledger
 closed_now l = record l { closed = true }
 

@@ -36,7 +36,8 @@ request_is_lost id timed_out side =
 abbrev pub is_over : ℕ → Client → Bool
 is_over now client = option_map_or (λ moment. nat_le moment now) client.removal false
 
--- At a tick such INVITEs are removed, and their dialogs that are early still end.
+-- At a tick such INVITEs are removed, and their dialogs that are early still end: these are taken
+-- out at once, and their ends are told INVITE by INVITE.
 unfoldable pub client_tick : Side → ℕ → ClientTaken
 client_tick side now =
     let over = filter (is_over now) (values_of side.clients) in

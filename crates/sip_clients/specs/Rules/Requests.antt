@@ -196,11 +196,12 @@ request_command event command side =
 
 -- ---- the ACK of a 2xx, and the PRACK of a reliable provisional response
 
--- Pending in a dialog is an ACK that a 2xx asked for (the id and the CSeq number of its INVITE), or
--- a PRACK that a reliable provisional response asked for (its RSeq, and the CSeq number of its
--- INVITE). What becomes of it: the dialog after it; the ACK that went out, to be kept; the PRACK
--- that goes out, at most one; what is given at once: that ACK, which has no transaction, or why it
--- is refused.
+-- Read from the end: pending_command finds the dialog, oldest_pending the request, pending_by_user
+-- sends it; a response comes in at pending_outcome (asks_for). Pending in a dialog is an ACK that a
+-- 2xx asked for (the id and the CSeq number of its INVITE), or a PRACK that a reliable provisional
+-- response asked for (its RSeq, and the CSeq number of its INVITE). What becomes of it: the dialog
+-- after it; the ACK that went out, to be kept; the PRACK that goes out, at most one; what is given
+-- at once: that ACK, which has no transaction, or why it is refused.
 pub record PendingOutcome : Type 0 where
   pub dialog : HeldDialog
   pub ack : Option SentAck
@@ -325,7 +326,7 @@ is_asked _ = true
 
 -- An INVITE without a final response is cancelled, and once: a second command does nothing. The
 -- CANCEL goes out at once after a provisional response, otherwise when the first one comes (RFC
--- 3261, section 9.1).
+-- 3261, section 9.1). After a response of 300 to 699 the INVITE isn't held any more: NoSuchRequest.
 abbrev pub cancel_of_request : Event → Cancel → Side → Client → ClientTaken
 cancel_of_request event command side invite =
     if not (is_invite_kind invite.kind) then refuse event command.call_id side NoSuchRequest

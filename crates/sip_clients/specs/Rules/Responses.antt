@@ -57,8 +57,9 @@ kept after dialogs outs =
 
 -- The user is told of a response that asks for an ACK or a PRACK. That goes out by itself, empty,
 -- unless it has to carry an SDP answer (the response has a body and the INVITE had none; own: each
--- body counts as SDP) or is refused: then it stands last in `pending_requests`. `after` gives the
--- request, with the ACK that went out (RFC 3261, section 13.2.1; RFC 3262, section 5).
+-- body counts as SDP) or is refused, which the user is told with the place of this response: then
+-- it stands last in `pending_requests`. `held` is the dialog without it, `with_it` with it. `after`
+-- gives the request, with the ACK that went out (RFC 3261, section 13.2.1; RFC 3262, section 5).
 abbrev pub asks_for : PendingRequest → ReceivedResponse → Client → (Option SentAck → Client)
     → HeldDialog → Dialogs → Outcome
 asks_for pending reply client after held dialogs =
@@ -99,8 +100,8 @@ last_response reply client dialogs =
     let ended = request_over client ends_dialog dialogs in
     record { request = None; dialogs = ended.0; outs = notice_of reply ∷ ended.1; prack = [] }
 
--- a 2xx that comes again: the same ACK, to the same address; nothing where it wasn't sent yet (RFC
--- 3261, section 13.2.2.4)
+-- a 2xx that comes again: the same ACK, to the same address; nothing where it wasn't sent yet; the
+-- user isn't told again (RFC 3261, section 13.2.2.4)
 abbrev pub success_again : Option (Option SentAck) → Client → Dialogs → Outcome
 success_again answer client dialogs =
     kept client dialogs (option_map_or (λ ack. Direct ack.to ack.bytes ∷ [])
@@ -123,7 +124,9 @@ success_in initial response held =
     else if initial then record held { dialog = confirmed_by held.dialog response }
     else record held { dialog = record held.dialog { target = target } }
 
--- the first 2xx of a dialog, which it makes where it isn't held; it asks for its ACK
+-- The first 2xx of a dialog, which it makes where it isn't held; it asks for its ACK. A held dialog
+-- of this ID is of this INVITE, since its local tag is the From tag made for it; that the dialog of
+-- a re-INVITE is held, has_dialog has asked.
 abbrev pub first_success : ReceivedResponse → Client → Dialogs → Outcome
 first_success reply client dialogs =
     let found = lookup (is_dialog_id reply.name) dialogs in

@@ -205,7 +205,8 @@ request_in_dialog state call_id name arrival held_dialog =
 
 -- A request that comes up, by the first case that fits (RFC 3261, sections 8.2 and 12.2.2): a
 -- CANCEL; 482 where it was merged and has no To tag; 420; with a To tag 481 where its dialog isn't
--- held; without one 481 for a BYE or a PRACK; for the user.
+-- held, otherwise request_in_dialog (500, PRACK, for the user); without one 481 for a BYE or a
+-- PRACK; for the user.
 unfoldable pub request_received : State → List ℕ → Arrival → ℕ → ServedTaken
 request_received state call_id arrival now =
     let request = arrival.request in

@@ -111,7 +111,9 @@ after_2xx response held_dialog =
     else record held_dialog { dialog = confirmed_by held_dialog.dialog response }
 
 -- The dialogs after it: it makes one, a 2xx confirms it, and any other final response ends the
--- early ones (RFC 3261, sections 12.1.1 and 13.3.1).
+-- early ones (RFC 3261, sections 12.1.1 and 13.3.1). `event` is the user's command, which names the
+-- dialog here and its reference in held_after. By the refusal DialogEnded the dialog of held.dialog
+-- is held, so `name` finds that one and no later one.
 abbrev pub dialogs_after : Id → HeldRequest → ℕ → Message → Dialogs → Dialogs × List CallOut
 dialogs_after event held status response dialogs =
     let request = held.request in

@@ -95,7 +95,8 @@ context_at_first id call_id to request =
     record { id = id; call_id = call_id; to = to; request = request; last = None; timers = stopped }
 
 -- One input of a transaction at a moment, or the moment alone: then the ending timer comes before
--- the repeating one. A message that comes or a start begins a life where none is held; the client
+-- the repeating one. A request or a start begins a life where none is held, a response or an ACK
+-- none; the client
 -- of an INVITE keeps the INVITE for its ACKs. An answer or a failure where none is held does
 -- nothing.
 unfoldable pub step_at : Key → Option Life → ℕ → Option Input → Option Life × List Out

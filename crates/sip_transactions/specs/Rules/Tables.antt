@@ -30,7 +30,8 @@ use Rattle.sip_transactions.specs.declared.step.Pace.TheVariants.{Doubled, Cappe
 -- input; `Latest`: what was sent last, again; `Trying`: a 100; `Ack`: the ACK of what came); the
 -- timers. `Keep`: as they are. `Clear`: none runs. `Ending`: the ending one alone runs. `Both`: the
 -- repeating one runs T1 and the ending one 64*T1. `Again`: the repeating one runs anew, by T1
--- doubled each time (`Doubled`), that but at most T2 (`Capped`), or T2 (`Even`).
+-- doubled each time (`Doubled`), that but at most T2 (`Capped`), or T2 (`Even`). `To` the same
+-- state is the same as `Same`.
 abbrev pub row : Next → Handed → Sent → Due → Step
 row next handed sent due = record { next = next; handed = handed; sent = sent; due = due }
 
@@ -90,8 +91,9 @@ client (Some Completed) TimeoutDue = row Ended up.Nothing send.Nothing Clear  --
 client state other = row Same up.Nothing send.Nothing Keep
 
 -- INVITE server transaction: RFC 3261, section 17.2.1, and RFC 6026, section 7.1. G repeats the
--- response, H ends the wait for the ACK, I absorbs repeated ACKs, L passes on the ACKs of a 2xx. A
--- 100 of the user isn't sent: the last row. A failed send ends no server transaction.
+-- response, H ends the wait for the ACK, I absorbs repeated ACKs, L absorbs repeated INVITEs after
+-- a 2xx (the last row), lets further 2xx out and passes ACKs up. A 100 of the user isn't sent: the
+-- last row. A failed send ends no server transaction (RFC 6026); own: the user is told of it.
 abbrev pub invite_server : Option State → Trigger → Step
 invite_server None Request = row (To Proceeding) up.Message send.Trying Clear
 invite_server None Ack = row Ended up.Message send.Nothing Clear
