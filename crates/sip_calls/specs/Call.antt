@@ -86,8 +86,7 @@ received call event up of_server =
 abbrev pub with_clients : Call → Clients × List CallOut → CallTaken
 with_clients call taken = (record call { clients = taken.0 }, taken.1)
 
--- Invite and Plain begin a call, so they need a Call-ID under which nothing is held; all else needs
--- one under which something is
+-- Invite and Plain begin a call: nothing may be held under their Call-ID; for others something is
 abbrev pub call_refusal : Bool → UserCommand → Option Refusal
 call_refusal held (Invite invite) = if held then Some CallInUse else None
 call_refusal held (Plain plain) = if held then Some CallInUse else None
@@ -116,8 +115,7 @@ item_of_call held call event (User command) =
     option_map_or (λ refusal. (call, refused event.id (call_of_command command) refusal))
     (call_refusal held command) (used_command call event command)
 
--- At a tick first the server side (sip_served Rules/Ticks), and then the client side (sip_clients
--- Rules/Ends).
+-- A tick: first the server side (sip_served Rules/Ticks), then the client side (sip_clients Ends).
 abbrev pub call_tick : Call → ℕ → CallTaken
 call_tick call now =
     let first = by_server call (served.server_tick call.served now) in

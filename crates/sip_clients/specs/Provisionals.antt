@@ -21,8 +21,7 @@ pub data AnInvite : Type 0 where
   OfTheCall : AnInvite
   InTheDialog : Id → AnInvite
 
--- A request of this id, which asks so, is that INVITE, and this response to it is of this life of a
--- dialog.
+-- The request has this id and asks so, and this response to it is of this life of a dialog.
 abbrev pub is_for : AnInvite → DialogReference → Id → Client → RequestKind → Message → Bool
 is_for OfTheCall life id client InitialInvite response =
     is_dialog_id life.name (reply_name InitialInvite client response)
@@ -30,8 +29,7 @@ is_for (InTheDialog invite) life id client (ReInvite own) response =
     is_id id invite && (is_dialog_id life.name own.name && is_id own.created_by life.created_by)
 is_for _ life id client _ response = false
 
--- the RSeq of a reliable provisional response of a dialog: it isn't final and no 100, and has a To
--- tag
+-- the RSeq of a reliable provisional response of a dialog: not final, no 100, and with a To tag
 abbrev pub provisional_number : Option ℕ → Message → Option ℕ
 provisional_number None response = None
 provisional_number (Some status) response =

@@ -6,8 +6,7 @@ use Rattle.sip_common.specs.declared.item.CallOut.TheVariants.{Notice}
 use Rattle.sip_common.specs.declared.notice.Notice.TheVariants.{Refused, Request}
 use Rattle.sip_common.specs.declared.refusal.Refusal.{Refusal}
 
--- the user is told that the command of an event is refused, or the ACK or PRACK that the response
--- of an event asked for, and why
+-- the user is told why an event's command is refused, or the ACK or PRACK that it asked for
 abbrev pub refused : Id → List ℕ → Refusal → List CallOut
 refused event call_id refusal = Notice (Refused call_id event.place refusal) ∷ []
 

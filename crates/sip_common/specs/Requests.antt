@@ -47,8 +47,7 @@ supports_100rel request = list_any is_100rel request.supported || requires_100re
 abbrev pub is_unknown_option : List ℕ → Bool
 is_unknown_option option = not (is_100rel option)
 
--- the tag that the answers to a request carry in To: its own, or where it has none the one made for
--- it (RFC 3261, section 8.2.6.2)
+-- the To tag of the answers to a request: its own, or the one made (RFC 3261, section 8.2.6.2)
 abbrev pub local_tag_of : Message → List ℕ → List ℕ
 local_tag_of request made = if length (tag_of request.to) == 0 then made else tag_of request.to
 

@@ -14,8 +14,7 @@ pub record Provisional : Type 0 where
   pub sent : ℕ
   pub retransmission : Option Retransmission
 
--- the interval before a response is sent again, by how often it was: T1, 2*T1, 4*T1 and so on, with
--- no cap
+-- the interval before a response is sent again, by how often it was: T1, 2*T1, 4*T1 .., uncapped
 abbrev pub interval_after : ℕ → ℕ
 interval_after repeats = T1 * 2 ^ repeats
 

@@ -7,8 +7,7 @@ use Rattle.sip_common.specs.Dialogs.{Dialogs}
 use Rattle.sip_common.specs.Ids.{is_id}
 use Rattle.sip_served.specs.declared.held_request.HeldRequest.{HeldRequest}
 
--- the agent's own address, the held requests in the order in which they came up, and the held
--- dialogs
+-- the agent's own address, the held requests in the order of their arrival, and the held dialogs
 pub record State : Type 0 where
   pub local : Addr
   pub requests : List HeldRequest

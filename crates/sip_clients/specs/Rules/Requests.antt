@@ -172,8 +172,7 @@ request_with_next_number event name method rack content held =
 abbrev pub with_number : HeldDialog → HeldDialog
 with_number held = record held { dialog = with_next_number held.dialog }
 
--- A request in this held dialog is refused, or goes out; a BYE ends the dialog at once (RFC 3261,
--- section 15.1.1).
+-- A request in a held dialog is refused or sent; a BYE ends it at once (RFC 3261, section 15.1.1).
 abbrev pub request_in_dialog : Event → DialogRequest → Side → DialogId → HeldDialog → ClientTaken
 request_in_dialog event command side name held =
     option_map_or (refuse event command.call_id side)
@@ -248,8 +247,7 @@ pending_with event call_id name pending without_it with_it content =
     (first_refusal (refusals_in without_it.dialog (method_of pending)) None)
     (pending_sent event name pending content without_it)
 
--- The same where a content is given. Without one nothing goes out, and it waits in `with_it` for
--- the user.
+-- The same with a content that is given. Without one it waits in `with_it` for the user's.
 abbrev pub pending_outcome : Event → List ℕ → DialogId → PendingRequest → Option Content
     → HeldDialog
     → HeldDialog → PendingOutcome

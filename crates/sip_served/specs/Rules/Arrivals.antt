@@ -105,8 +105,7 @@ prack_for state call_id arrival rack invite = (
       ++ Notice (Prack call_id invite.id rack.rseq arrival.request.body) ∷ [],
 )
 
--- A PRACK in a held dialog is for the INVITE that its RAck names; there is none: 481 (RFC 3262,
--- section 3).
+-- A PRACK in a held dialog is for the INVITE of its RAck; without one: 481 (RFC 3262, section 3).
 abbrev pub prack_received : State → List ℕ → DialogId → Id → Arrival → Option RAck → ServedTaken
 prack_received state call_id name created_by arrival None = no_such_call state arrival
 prack_received state call_id name created_by arrival (Some rack) =
@@ -122,8 +121,7 @@ is_same_branch (Server branch sent_by method) (Server other other_sent_by other_
     && (sent_by.port == other_sent_by.port)
 is_same_branch _ _ = false
 
--- A 487 is its final response: `removal`, which each final one sets, says so, and 64*T1 later it is
--- removed.
+-- A 487 is its final response, so it sets `removal`: 64*T1 later the request is removed.
 abbrev pub after_487 : ℕ → HeldRequest → HeldRequest
 after_487 now held =
     record held { ledger = closed_now held.ledger; removal = Some (now + LIFETIME) }
@@ -156,8 +154,7 @@ cancel_received state call_id arrival now =
 
 -- ---- any request
 
--- the same request came up on another way: a held one has its From tag and its CSeq (RFC 3261,
--- section 8.2.2.2)
+-- it came up another way, too: a held one has its From tag and CSeq (RFC 3261, section 8.2.2.2)
 abbrev pub is_merged : Message → HeldRequest → Bool
 is_merged request held =
     str_eq_ignore_ascii_case (tag_of held.request.from) (tag_of request.from)
@@ -246,8 +243,7 @@ ack_for state call_id ack invite = (
   Notice (Ack call_id invite.id ack.body) ∷ [],
 )
 
--- The ACK of a 2xx (RFC 3261, section 13.3.1.4). Of any other ACK nobody is told, and nothing
--- changes.
+-- The ACK of a 2xx (RFC 3261, section 13.3.1.4). Any other ACK changes and tells nothing.
 unfoldable pub ack_received : State → List ℕ → Message → ServedTaken
 ack_received state call_id ack =
     option_map_or (ack_for state call_id ack) (find (awaits ack) state.requests) (state, [])

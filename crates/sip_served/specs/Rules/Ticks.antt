@@ -19,8 +19,7 @@ use Rattle.sip_served.specs.State.{State, ServedTaken}
 
 -- A 2xx to an INVITE that has no ACK is given up when its end is reached. Until then it is sent
 -- again when it is due, and each interval is twice the last, up to T2 (RFC 3261, section 13.3.1.4).
--- A 2xx keeps its last interval, a provisional response how often it went out: two types named
--- Retransmission.
+-- A 2xx keeps its last interval, a provisional response a count: two types named Retransmission.
 abbrev pub success_at : ℕ → HeldRequest → Success → Option Success × List CallOut
 success_at now held success =
     let interval = min (2 * success.retransmission.interval) T2 in
