@@ -1,7 +1,8 @@
 -- What a replay writes for what it reads, and what each of its faults tells.
-use Rattle.std.specs.Prelude.{◌≡◌, ℕ, ◌≤◌, ◌^◌, Bool, List, ◌++◌, map, length, Option, None, Some, Result, Ok, Err, ◌⊎◌}
+use Rattle.std.specs.Prelude.{◌≡◌, ℕ, ◌<◌, ◌≤◌, ◌^◌, Bool, List, ◌++◌, map, length, Option, None, Some, Result, Ok, Err, ◌⊎◌}
 use Rattle.std.specs.List.{zip}
 use Rattle.std.specs.Io.KnownBytes.{Appends}
+use Rattle.sip_files.specs.declared.events_fault.EventsFault.TheVariants.{TooLong}
 use Rattle.sip_files.specs.declared.version.FileKind.{FileKind}
 use Rattle.sip_files.specs.EventFile.{SpellsFile, TellsFault}
 use Rattle.sip_files.specs.Outputs.{outputs_text}
@@ -57,6 +58,15 @@ TellsReplay kind (Round index fault) input =
     ⊎ RefusesRound kind index fault input
 TellsReplay kind Output input = Unit {0}
 TellsReplay kind NoMemory input = Unit {0}
+
+-- what a fault tells of a text that was only read: one that isn't of a stream or of memory, that it
+-- is too long
+abbrev pub TellsRead : ReplayFault → List ℕ → Type 0
+TellsRead Input text = Unit {0}
+TellsRead (Events fault) text = (fault ≡ TooLong) × (2 ^ 26 < length text)
+TellsRead (Round index fault) text = ⊥
+TellsRead Output text = ⊥
+TellsRead NoMemory text = Unit {0}
 
 -- how many reads failed in a call that ends so: one where it tells it, and else none
 abbrev pub input_failures : {T : Type 0} → Result T ReplayFault → ℕ

@@ -6,7 +6,7 @@ ghost use Rattle.std.specs.Io.KnownBytes.{Appends};
 ghost use Rattle.sip_files.specs.Counted.{Counts, CountsAtMost};
 ghost use Rattle.sip_files.specs.EventFile.{IsFile};
 ghost use Rattle.sip_files.specs.Outputs.{told};
-ghost use Rattle.sip_files.specs.Replay.{Replays, TellsReplay, WritesAll, WritesFront, input_failures, output_failures};
+ghost use Rattle.sip_files.specs.Replay.{Replays, TellsRead, TellsReplay, WritesAll, WritesFront, input_failures, output_failures};
 ghost use Rattle.sip_files.specs.declared.events_fault.EventsFault.{EventsFault};
 ghost use Rattle.sip_files.specs.declared.events_fault.EventsFault.TheVariants as events_fault;
 ghost use Rattle.sip_files.specs.declared.file_replay.ReplayFault.TheVariants as replay_fault;
@@ -123,6 +123,7 @@ pub fn read_all<R: CountedRead>(alloc: Global, reader: &mut R) -> Result<Vec<u8>
         IfSome (R.remaining reader.old) (λ input. text.items ≡ input)) }
     ensures fault { (kind : FileKind) → IfErr result
         (λ fault. IfSome (R.remaining reader.old) (TellsReplay kind fault)) }
+    ensures cause { IfErr result (λ fault. IfSome (R.remaining reader.old) (TellsRead fault)) }
     ensures unwritten { IfErr result (λ fault. fault ≢ replay_fault.Output) }
     ensures reads { CountsAtMost (R.reads reader.old) (R.reads reader.new) (2 ^ 26 + 2) }
     ensures input { Counts (R.failures reader.old) (R.failures reader.new) (input_failures result) }

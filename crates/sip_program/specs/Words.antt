@@ -22,14 +22,12 @@ asks_help words = asks_command (codes "help") words || list_any is_help_option w
 abbrev pub is_repair_option : List ℕ → Bool
 is_repair_option word = bytes_eq word (codes "--repair")
 
--- the command, and not its help; of a file as it is, or of what is whole of it
+-- the command, and not its help
 abbrev pub asks_replay : List (List ℕ) → Bool
-asks_replay words = not (asks_help words)
-    && (asks_command (codes "replay") words && not (list_any is_repair_option words))
+asks_replay words = not (asks_help words) && asks_command (codes "replay") words
 
 abbrev pub asks_repair : List (List ℕ) → Bool
-asks_repair words = not (asks_help words)
-    && (asks_command (codes "replay") words && list_any is_repair_option words)
+asks_repair words = list_any is_repair_option words
 
 abbrev pub asks_ladder : List (List ℕ) → Bool
 asks_ladder words = not (asks_help words) && asks_command (codes "ladder") words

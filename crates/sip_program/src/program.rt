@@ -1,12 +1,12 @@
 //! The program: what each command does.
 
-ghost use Rattle.std.specs.Prelude.{◌≡◌, ◌≢◌, ◌⊎◌, ◌<◌, ◌≤◌, Err, IfErr, IfSome, IsFalse, IsTrue, MatchResult, OnOk, map};
+ghost use Rattle.std.specs.Prelude.{◌≡◌, ◌≢◌, ◌⊎◌, ◌<◌, ◌≤◌, ◌^◌, Err, IfErr, IfSome, IsFalse, IsTrue, MatchResult, OnOk, length, map};
 ghost use Rattle.sip_files.specs.EventFile.{IsFile};
 ghost use Rattle.sip_files.specs.Replay.{TellsReplay, WritesAll, WritesFront};
 ghost use Rattle.sip_program.specs.Inputs.{HasRefusedRound, IsNoFile};
 ghost use Rattle.sip_program.specs.Status.{fault_status};
 ghost use Rattle.sip_ladder.specs.Drawing.{DrawsAll};
-ghost use Rattle.sip_program.specs.Repair.{whole_lines};
+ghost use Rattle.sip_program.specs.Repair.{TellsRepair, replayed};
 ghost use Rattle.sip_program.specs.Words.{asks_help, asks_ladder, asks_repair, asks_replay, kind_asked};
 ghost use Rattle.sip_files.specs.declared.file_replay.ReplayFault.TheVariants as replay_fault;
 
@@ -55,21 +55,28 @@ pub fn ua<T: Threads + Host, S: AsStr, R: Read, W: Write, E: Write>(
 ) -> u8
     ensures replays { IsTrue (asks_replay (map S.text words.now)) → result ≡ 0
         → IfSome (R.remaining input.old)
-        (WritesAll (kind_asked (map S.text words.now))
-        (W.contents output.old) (W.contents output.new)) }
+        (λ input. WritesAll (kind_asked (map S.text words.now))
+        (W.contents output.old) (W.contents output.new)
+        (replayed (asks_repair (map S.text words.now)) input)) }
     ensures unwritten { IsTrue (asks_replay (map S.text words.now)) → result ≢ 0 → result ≢ 4
         → output.new ≡ output.old }
     ensures no_file { IsTrue (asks_replay (map S.text words.now)) → result ≡ 1
-        → IfSome (R.remaining input.old) (IsNoFile (kind_asked (map S.text words.now))) }
+        → IfSome (R.remaining input.old)
+        (λ input. (2 ^ 26 < length input) ⊎ IsNoFile (kind_asked (map S.text words.now))
+        (replayed (asks_repair (map S.text words.now)) input)) }
     ensures refused_round { IsTrue (asks_replay (map S.text words.now)) → result ≡ 3
-        → IfSome (R.remaining input.old) (HasRefusedRound (kind_asked (map S.text words.now))) }
+        → IfSome (R.remaining input.old)
+        (λ input. HasRefusedRound (kind_asked (map S.text words.now))
+        (replayed (asks_repair (map S.text words.now)) input)) }
     ensures only { IsTrue (asks_replay (map S.text words.now))
         → IfSome (R.remaining input.old)
-        (λ input. IsFile (kind_asked (map S.text words.now)) input → result ≢ 1) }
+        (λ input. length input ≤ 2 ^ 26 → IsFile (kind_asked (map S.text words.now))
+        (replayed (asks_repair (map S.text words.now)) input) → result ≢ 1) }
     ensures front { IsTrue (asks_replay (map S.text words.now)) → result ≡ 4
         → (output.new ≡ output.old) ⊎ IfSome (R.remaining input.old)
-        (WritesFront (kind_asked (map S.text words.now))
-        (W.contents output.old) (W.contents output.new)) }
+        (λ input. WritesFront (kind_asked (map S.text words.now))
+        (W.contents output.old) (W.contents output.new)
+        (replayed (asks_repair (map S.text words.now)) input)) }
     ensures draws { IsFalse (asks_replay (map S.text words.now))
         → IsTrue (asks_ladder (map S.text words.now)) → result ≡ 0
         → IfSome (R.remaining input.old)
@@ -84,14 +91,7 @@ pub fn ua<T: Threads + Host, S: AsStr, R: Read, W: Write, E: Write>(
     ensures refused_to_draw { IsFalse (asks_replay (map S.text words.now))
         → IsTrue (asks_ladder (map S.text words.now)) → result ≡ 3
         → IfSome (R.remaining input.old) (HasRefusedRound (kind_asked (map S.text words.now))) }
-    ensures repairs { IsTrue (asks_repair (map S.text words.now)) → result ≡ 0
-        → IfSome (R.remaining input.old)
-        (λ input. WritesAll (kind_asked (map S.text words.now))
-        (W.contents output.old) (W.contents output.new) (whole_lines input)) }
-    ensures unrepaired { IsTrue (asks_repair (map S.text words.now)) → result ≢ 0 → result ≢ 4
-        → output.new ≡ output.old }
     ensures unread { IsFalse (asks_replay (map S.text words.now))
-        → IsFalse (asks_repair (map S.text words.now))
         → IsFalse (asks_ladder (map S.text words.now)) → input.new ≡ input.old }
     ensures helps { IsTrue (asks_help (map S.text words.now)) → result ≢ 0 → result ≢ 4
         → output.new ≡ output.old }
@@ -109,14 +109,10 @@ pub fn ua<T: Threads + Host, S: AsStr, R: Read, W: Write, E: Write>(
     }
     let kind = words::kind_asked(words);
     if words::asks_replay(words) {
+        let repairs = words::asks_repair(words);
         let words = replay_words(&matches);
         let mut input = NotingRead::new(input);
-        let end = replay_by(rt, alloc, kind, words, &mut input, output);
-        finish_file(end, input.error, errors)
-    } else if words::asks_repair(words) {
-        let words = replay_words(&matches);
-        let mut input = NotingRead::new(input);
-        let end = repaired_by(rt, alloc, kind, words, &mut input, output, errors);
+        let end = replay_by(rt, alloc, kind, repairs, words, &mut input, output, errors);
         finish_file(end, input.error, errors)
     } else if words::asks_ladder(words) {
         let mut input = NotingRead::new(input);
@@ -148,40 +144,50 @@ fn finish_file<E: Write>(
     status
 }
 
-// Replays what is whole of the input, and tells how many bytes are left out.
-fn repaired_by<T: Threads + Sync, R: Read, W: Write, E: Write>(
+// Replays the input, or with a repair its whole lines; tells how many bytes a repair leaves out.
+fn replay_by<T: Threads + Sync, R: Read, W: Write, E: Write>(
     rt: &T,
     alloc: Global,
     kind: FileKind,
+    repairs: bool,
     words: ReplayWords,
     input: &mut R,
     output: &mut W,
     errors: &mut E,
 ) -> Result<(), ReplayFault>
-    requires some_shard { 0 < words.shards }
-    requires most_shards { words.shards ≤ 256 }
-    requires some_worker { 0 < words.workers }
-    requires most_workers { words.workers ≤ 64 }
-    ensures repairs { OnOk result (IfSome (R.remaining input.old)
+    ensures replays { OnOk result (IfSome (R.remaining input.old)
         (λ text. WritesAll kind (W.contents output.old) (W.contents output.new)
-        (whole_lines text))) }
+        (replayed repairs text))) }
+    ensures fault { IfErr result
+        (λ fault. IfSome (R.remaining input.old) (TellsRepair kind repairs fault)) }
     ensures unwritten { IfErr result
         (λ fault. fault ≢ replay_fault.Output → output.new ≡ output.old) }
+    ensures front { result ≡ Err replay_fault.Output
+        → IfSome (R.remaining input.old)
+        (λ text. WritesFront kind (W.contents output.old) (W.contents output.new)
+        (replayed repairs text)) }
 {
+    if !repairs {
+        return replay_all(rt, alloc, kind, words, input, output);
+    }
     let text = read_all(alloc, input)?;
     let mut whole = whole_lines(text.as_slice());
-    let left_out = text.len().saturating_sub(whole.len());
+    tell_left_out(text.len().saturating_sub(whole.len()), errors);
+    replay_all(rt, alloc, kind, words, &mut whole, output)
+}
+
+// Tells how many bytes after the last whole line a repair leaves out, where there are some.
+fn tell_left_out<E: Write>(left_out: usize, errors: &mut E) {
     if left_out > 0 {
         let _ = writeln!(
             errors,
             "ua: {left_out} bytes after the last whole line left out"
         );
     }
-    replay_by(rt, alloc, kind, words, &mut whole, output)
 }
 
-// Replays as the words say.
-fn replay_by<T: Threads + Sync, R: Read, W: Write>(
+// Replays the input as the words say.
+fn replay_all<T: Threads + Sync, R: Read, W: Write>(
     rt: &T,
     alloc: Global,
     kind: FileKind,
@@ -189,10 +195,6 @@ fn replay_by<T: Threads + Sync, R: Read, W: Write>(
     input: &mut R,
     output: &mut W,
 ) -> Result<(), ReplayFault>
-    requires some_shard { 0 < words.shards }
-    requires most_shards { words.shards ≤ 256 }
-    requires some_worker { 0 < words.workers }
-    requires most_workers { words.workers ≤ 64 }
     ensures replays { OnOk result (IfSome (R.remaining input.old)
         (WritesAll kind (W.contents output.old) (W.contents output.new))) }
     ensures fault { IfErr result

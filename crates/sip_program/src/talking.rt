@@ -11,7 +11,8 @@ use crate::host::Host;
 use crate::noting::Noting;
 use crate::talk_fault::TalkFault;
 use crate::words::{
-    AgentWords, CallWords, ListenWords, OwnWords, agent_words, call_words, listen_words,
+    AgentWords, CallWords, LengthWords, ListenWords, OwnWords, agent_words, call_words,
+    listen_words,
 };
 use clap::ArgMatches;
 use sip_message::{Addr, CallId, Uri};
@@ -61,12 +62,8 @@ fn listen_by<'a, T: Threads + Host, W: Write, E: Write>(
     ensures { IfErr result
         (λ failure. failure.fault ≡ BadArgument → notices.new ≡ notices.old) }
 {
-    let local = address_of(alloc, "--local", words.own.local)?;
     let plan = listen_plan(rt, alloc, words)?;
-    let mut endpoint = endpoint_at(rt, local, words.own)?;
-    endpoint.tells_drops = words.drops;
-    endpoint.seconds = words.length.seconds;
-    endpoint.input = input_end(rt, alloc)?;
+    let endpoint = endpoint_of_turns(rt, alloc, words.own, words.length, words.drops)?;
     let turns = words.length.turns();
     let mut notices = Noting::new(notices);
     let end = listen_at(rt, alloc, endpoint, plan, turns, &mut notices, errors);
@@ -83,12 +80,8 @@ fn call_by<'a, T: Threads + Host, W: Write, E: Write>(
     ensures { IfErr result
         (λ failure. failure.fault ≡ BadArgument → notices.new ≡ notices.old) }
 {
-    let local = address_of(alloc, "--local", words.own.local)?;
     let plan = plan_of(rt, alloc, words)?;
-    let mut endpoint = endpoint_at(rt, local, words.own)?;
-    endpoint.tells_drops = words.drops;
-    endpoint.seconds = words.length.seconds;
-    endpoint.input = input_end(rt, alloc)?;
+    let endpoint = endpoint_of_turns(rt, alloc, words.own, words.length, words.drops)?;
     let turns = words.length.turns();
     let mut notices = Noting::new(notices);
     let end = call_from(rt, alloc, endpoint, plan, turns, &mut notices, errors);
@@ -239,8 +232,7 @@ fn agent_by<'a, T: Threads + Host, W: Write, E: Write>(
     ensures { IfErr result
         (λ failure. failure.fault ≡ BadArgument → notices.new ≡ notices.old) }
 {
-    let local = address_of(alloc, "--local", words.own.local)?;
-    let mut endpoint = endpoint_at(rt, local, words.own)?;
+    let mut endpoint = endpoint_of(rt, alloc, words.own)?;
     endpoint.division = words.division;
     endpoint.kind = words.kind;
     let pipe = rt.commands();
@@ -291,12 +283,28 @@ fn input_end<'a, T: Threads + Host>(
     }
 }
 
-// An endpoint at this address; where the port is 0, at the one that the socket got.
-fn endpoint_at<'a, T: Host>(
+// The endpoint of one who goes on for this length.
+fn endpoint_of_turns<'a, T: Threads + Host>(
     rt: &T,
-    local: Addr,
+    alloc: Global,
+    own: OwnWords<'a>,
+    length: LengthWords,
+    tells_drops: bool,
+) -> Result<Endpoint<T::File>, Failure<'a>> {
+    let mut endpoint = endpoint_of(rt, alloc, own)?;
+    endpoint.tells_drops = tells_drops;
+    endpoint.seconds = length.seconds;
+    endpoint.input = input_end(rt, alloc)?;
+    Ok(endpoint)
+}
+
+// An endpoint at this address; where the port is 0, at the one that the socket got.
+fn endpoint_of<'a, T: Host>(
+    rt: &T,
+    alloc: Global,
     own: OwnWords<'a>,
 ) -> Result<Endpoint<T::File>, Failure<'a>> {
+    let local = address_of(alloc, "--local", own.local)?;
     let seed = random_seed(rt)?;
     let (socket, local) = match bound(rt, local) {
         Ok(bound) => bound,

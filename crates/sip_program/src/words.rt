@@ -85,6 +85,10 @@ pub(crate) struct ReplayWords {
     pub shards: usize,
     pub workers: usize,
     pub cut: CutName,
+    ghost some_shard: { 0 < shards },
+    ghost most_shards: { shards ≤ 256 },
+    ghost some_worker: { 0 < workers },
+    ghost most_workers: { workers ≤ 64 },
 }
 
 /// The words that `ua listen`, `ua call` and `ua agent` all have, as they came.
@@ -171,24 +175,23 @@ pub fn given_words<R: Env + AllocGlobal>(rt: &R) -> io::Result<Vec<String>> {
 pub(crate) fn asks_help<S: AsStr>(words: &[S]) -> bool
     ensures help { result ≡ spec.asks_help (map S.text words.now) }
     ensures no_replay { IsTrue result → IsFalse (spec.asks_replay (map S.text words.now)) }
-    ensures no_repair { IsTrue result → IsFalse (spec.asks_repair (map S.text words.now)) }
     ensures no_ladder { IsTrue result → IsFalse (spec.asks_ladder (map S.text words.now)) }
 {
     asks_command(words, "help") || has_help_option(words)
 }
 
-/// Whether the command that is asked for is `replay`, of a file as it is.
+/// Whether the command that is asked for is `replay`.
 pub(crate) fn asks_replay<S: AsStr>(words: &[S]) -> bool
     ensures { result ≡ spec.asks_replay (map S.text words.now) }
 {
-    !asks_help(words) && (asks_command(words, "replay") && !has_repair_option(words))
+    !asks_help(words) && asks_command(words, "replay")
 }
 
-/// Whether the command that is asked for is `replay`, of what is whole of a file.
+/// Whether only the whole lines of the input are to be replayed.
 pub(crate) fn asks_repair<S: AsStr>(words: &[S]) -> bool
     ensures { result ≡ spec.asks_repair (map S.text words.now) }
 {
-    !asks_help(words) && (asks_command(words, "replay") && has_repair_option(words))
+    any_repair_option(words)
 }
 
 /// Whether the command that is asked for is `ladder`.
@@ -224,12 +227,6 @@ fn is_help_option(word: &str) -> bool
     ensures { result ≡ spec.is_help_option word.now }
 {
     word == "--help" || word == "-h" || word == "--version" || word == "-V"
-}
-
-fn has_repair_option<S: AsStr>(words: &[S]) -> bool
-    ensures { result ≡ list_any spec.is_repair_option (map S.text words.now) }
-{
-    any_repair_option(words)
 }
 
 fn any_repair_option<S: AsStr>(words: &[S]) -> bool
@@ -292,12 +289,7 @@ pub(crate) fn parse<'a, S: AsStr>(alloc: Global, words: &'a [S]) -> Result<ArgMa
 }
 
 /// The words of `ua replay`.
-pub(crate) fn replay_words(matches: &ArgMatches) -> ReplayWords
-    ensures some_shard { 0 < result.shards }
-    ensures most_shards { result.shards ≤ 256 }
-    ensures some_worker { 0 < result.workers }
-    ensures most_workers { result.workers ≤ 64 }
-{
+pub(crate) fn replay_words(matches: &ArgMatches) -> ReplayWords {
     let Some(replay) = matches.subcommand_matches("replay") else {
         return ReplayWords {
             shards: 1,
@@ -425,8 +417,8 @@ fn listen_command<'a>(alloc: Global) -> Result<Command<'a>, AllocError> {
         .help("Send no body in a 2xx to an INVITE");
     Command::new(alloc, "listen")
         .about(
-            "Answers calls over UDP: 200 to INVITE, BYE and OPTIONS, 501 to anything else. Prints \
-            a line for each notice. When standard input ends, it ends all calls, and exits within \
+            "Answers calls over UDP: 200 (or --answer) to INVITE, 200 to BYE and OPTIONS, 501 to \
+            anything else. Prints a line for each notice. When standard input ends, it ends all calls, and exits within \
             a second; a terminal, or an input that is empty from the start, is ignored",
         )
         .after_help(LISTEN_EXAMPLE)
@@ -468,8 +460,9 @@ fn call_command<'a>(alloc: Global) -> Result<Command<'a>, AllocError> {
         .long("leave")
         .action(ArgAction::SetTrue)
         .help(
-            "In the last second, cancel a call that isn't answered, or end one that is up; exit \
-            as soon as nothing is held. The end of standard input always does so",
+            "In the last second of --turns or --seconds, send CANCEL for a call that isn't \
+            answered, or BYE for one that is up; exit as soon as nothing is held. The end of \
+            standard input always does so",
         );
     let hold = Arg::new(alloc, "hold")
         .long("hold")
@@ -513,7 +506,9 @@ fn agent_command<'a>(alloc: Global) -> Result<Command<'a>, AllocError> {
         .value_name("MS")
         .value_parser(value_parser!(u32))
         .default_value("32000")
-        .help("After the end of the input, wait at most so long for calls and transactions to end");
+        .help(
+            "After the end of the input, wait at most MS milliseconds for calls and transactions",
+        );
     let headers = Arg::new(alloc, "headers")
         .long("headers")
         .action(ArgAction::SetTrue)
@@ -630,8 +625,8 @@ fn replay_command<'a>(alloc: Global) -> Result<Command<'a>, AllocError> {
         .value_parser(["spread", "first"].as_slice())
         .default_value("spread")
         .help(
-            "How to split: by the sum of the bytes of a branch or a Call-ID, or everything into \
-            the first shard",
+            "How to split. spread: by the sum of the bytes of a branch or a Call-ID. first: \
+            everything into the first shard",
         );
     let repair = Arg::new(alloc, "repair")
         .long("repair")
