@@ -507,7 +507,7 @@ fn agent_command<'a>(alloc: Global) -> Result<Command<'a>, AllocError> {
         .value_parser(value_parser!(u32))
         .default_value("32000")
         .help(
-            "After the end of the input, wait at most MS milliseconds for calls and transactions",
+            "After the end of the input, wait up to MS milliseconds for calls and transactions to end",
         );
     let headers = Arg::new(alloc, "headers")
         .long("headers")
