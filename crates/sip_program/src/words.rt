@@ -418,8 +418,9 @@ fn listen_command<'a>(alloc: Global) -> Result<Command<'a>, AllocError> {
     Command::new(alloc, "listen")
         .about(
             "Answers calls over UDP: 200 (or --answer) to INVITE, 200 to BYE and OPTIONS, 501 to \
-            anything else. Prints a line for each notice. When standard input ends, it ends all calls, and exits within \
-            a second; a terminal, or an input that is empty from the start, is ignored",
+            anything else. Prints a line for each notice. When standard input ends, it ends all \
+            calls, and exits within a second; a terminal, or an input that is empty from the \
+            start, is ignored",
         )
         .after_help(LISTEN_EXAMPLE)
         .arg(local_argument(alloc))?
@@ -507,7 +508,8 @@ fn agent_command<'a>(alloc: Global) -> Result<Command<'a>, AllocError> {
         .value_parser(value_parser!(u32))
         .default_value("32000")
         .help(
-            "After the end of the input, wait up to MS milliseconds for calls and transactions to end",
+            "After the end of the input, wait up to MS milliseconds for calls and transactions \
+            to end",
         );
     let headers = Arg::new(alloc, "headers")
         .long("headers")
