@@ -1,8 +1,8 @@
-//! A reader and a writer that note why a read or a write failed.
+//! A reader that notes why a read failed.
 
 ghost use Rattle.std.specs.Prelude.{◌≡◌};
 
-use std::io::{self, Read, Write};
+use std::io::{self, Read};
 
 /// A reader that keeps what the last read that failed had against it.
 #[derive(Drop)]
@@ -28,41 +28,6 @@ impl<R: Read> Read for NotingRead<R> {
 
     fn read(&mut self, buf: &mut [u8]) -> io::Result<usize> {
         let result = self.reader.read(buf);
-        if let Err(error) = &result {
-            self.error = Some(*error);
-        }
-        result
-    }
-}
-
-/// A writer that keeps what the last write or flush that failed had against it.
-#[derive(Drop)]
-pub(crate) struct Noting<'a, W> {
-    writer: &'a mut W,
-    pub(crate) error: Option<io::Error>,
-}
-
-impl<'a, W> Noting<'a, W> {
-    /// Nothing has failed.
-    pub(crate) fn new(writer: &'a mut W) -> Noting<'a, W> {
-        Noting {
-            writer,
-            error: None,
-        }
-    }
-}
-
-impl<W: Write> Write for Noting<'_, W> {
-    fn write(&mut self, bytes: &[u8]) -> io::Result<usize> {
-        let result = self.writer.write(bytes);
-        if let Err(error) = &result {
-            self.error = Some(*error);
-        }
-        result
-    }
-
-    fn flush(&mut self) -> io::Result<()> {
-        let result = self.writer.flush();
         if let Err(error) = &result {
             self.error = Some(*error);
         }

@@ -38,13 +38,12 @@ impl Gate for Open {
 /// own name.
 ///
 /// `ua replay` reads an event file from `input` and writes its output file to `output`, and `ua
-/// ladder` writes its ladder there; with `--session` both read a session file too. With `--repair`
-/// `ua replay` takes the input up to its last LF. `ua listen` and
-/// `ua call` read nothing there, and write the lines of their notices to `output`; so does `ua
-/// agent`, which reads commands from the pipe of `rt`. Help and the version are written to `output`
-/// where they are asked for. A fault is told on `errors` after `ua: `, what is known of its cause
-/// on a line after it, and a fault of the words as `clap` tells it. A write to `errors` that fails
-/// is passed over.
+/// ladder` writes its ladder there. With `--session` both also take a session file. With `--repair`
+/// `ua replay` takes the input up to its last LF. `ua listen`, `ua call` and `ua agent` write their
+/// notices to the stream of `rt`, and `ua agent` reads commands from its pipe. Help and the version
+/// are written to `output`. A fault is reported on `errors` after `ua: `, with what is known of its
+/// cause on a second line, and a fault of the words as `clap` reports it. A write to `errors` that
+/// fails is ignored.
 pub fn ua<T: Threads + Host, S: AsStr, R: Read, W: Write, E: Write>(
     rt: &T,
     alloc: Global,
@@ -119,7 +118,7 @@ pub fn ua<T: Threads + Host, S: AsStr, R: Read, W: Write, E: Write>(
         let end = ladder(rt, alloc, kind, &mut input, output, &Open);
         finish_file(end, input.error, errors)
     } else {
-        let end = talk_by(rt, alloc, &matches, output, errors);
+        let end = talk_by(rt, alloc, &matches, errors);
         finish_talk(end, errors)
     }
 }

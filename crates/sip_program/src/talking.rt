@@ -8,7 +8,6 @@ ghost use Rattle.sip_program.specs.declared.talk_fault.TalkFault.TheVariants.{Ba
 
 use crate::failure::{Cause, Failure};
 use crate::host::Host;
-use crate::noting::Noting;
 use crate::talk_fault::TalkFault;
 use crate::words::{
     AgentWords, CallWords, LengthWords, ListenWords, OwnWords, agent_words, call_words,
@@ -18,7 +17,8 @@ use clap::ArgMatches;
 use sip_message::{Addr, CallId, Uri};
 use sip_text::Text;
 use sip_udp::{
-    AnswerBody, CallPlan, Endpoint, InputEnd, ListenPlan, UaFault, agent, call_from, listen_at,
+    AnswerBody, CallPlan, Endpoint, InputEnd, ListenPlan, NoticeWriter, UaFault, Written, agent,
+    call_from, listen_at,
 };
 use std::alloc::{AllocError, Global};
 use std::fs::{self, File};
@@ -30,62 +30,50 @@ use std::sync::Arc;
 use std::thread::Threads;
 
 /// Listens, calls, or does what a pipe asks for, as the words say.
-pub(crate) fn talk_by<'a, T: Threads + Host, W: Write, E: Write>(
+pub(crate) fn talk_by<'a, T: Threads + Host, E: Write>(
     rt: &T,
     alloc: Global,
     matches: &ArgMatches<'a>,
-    notices: &mut W,
     errors: &mut E,
-) -> Result<(), Failure<'a>>
-    ensures { IfErr result
-        (λ failure. failure.fault ≡ BadArgument → notices.new ≡ notices.old) }
-{
+) -> Result<(), Failure<'a>> {
     if let Some(words) = listen_words(matches) {
-        return listen_by(rt, alloc, words, notices, errors);
+        return listen_by(rt, alloc, words, errors);
     }
     if let Some(words) = call_words(matches) {
-        return call_by(rt, alloc, words, notices, errors);
+        return call_by(rt, alloc, words, errors);
     }
     match agent_words(matches) {
-        Some(words) => agent_by(rt, alloc, words, notices, errors),
+        Some(words) => agent_by(rt, alloc, words, errors),
         None => Err(Failure::unknown(TalkFault::BadArgument)),
     }
 }
 
-fn listen_by<'a, T: Threads + Host, W: Write, E: Write>(
+fn listen_by<'a, T: Threads + Host, E: Write>(
     rt: &T,
     alloc: Global,
     words: ListenWords<'a>,
-    notices: &mut W,
     errors: &mut E,
-) -> Result<(), Failure<'a>>
-    ensures { IfErr result
-        (λ failure. failure.fault ≡ BadArgument → notices.new ≡ notices.old) }
-{
+) -> Result<(), Failure<'a>> {
     let plan = listen_plan(rt, alloc, words)?;
     let endpoint = endpoint_of_turns(rt, alloc, words.own, words.length, words.drops)?;
     let turns = words.length.turns();
-    let mut notices = Noting::new(notices);
+    let mut notices = notice_writer(rt, alloc)?;
     let end = listen_at(rt, alloc, endpoint, plan, turns, &mut notices, errors);
-    ended(end, notices.error)
+    ended(end, notices.finish(rt), errors)
 }
 
-fn call_by<'a, T: Threads + Host, W: Write, E: Write>(
+fn call_by<'a, T: Threads + Host, E: Write>(
     rt: &T,
     alloc: Global,
     words: CallWords<'a>,
-    notices: &mut W,
     errors: &mut E,
-) -> Result<(), Failure<'a>>
-    ensures { IfErr result
-        (λ failure. failure.fault ≡ BadArgument → notices.new ≡ notices.old) }
-{
+) -> Result<(), Failure<'a>> {
     let plan = plan_of(rt, alloc, words)?;
     let endpoint = endpoint_of_turns(rt, alloc, words.own, words.length, words.drops)?;
     let turns = words.length.turns();
-    let mut notices = Noting::new(notices);
+    let mut notices = notice_writer(rt, alloc)?;
     let end = call_from(rt, alloc, endpoint, plan, turns, &mut notices, errors);
-    ended(end, notices.error)
+    ended(end, notices.finish(rt), errors)
 }
 
 // What the words of `ua listen` ask for.
@@ -222,21 +210,17 @@ fn body_of<'a, T: Files>(
     }
 }
 
-fn agent_by<'a, T: Threads + Host, W: Write, E: Write>(
+fn agent_by<'a, T: Threads + Host, E: Write>(
     rt: &T,
     alloc: Global,
     words: AgentWords<'a>,
-    notices: &mut W,
     errors: &mut E,
-) -> Result<(), Failure<'a>>
-    ensures { IfErr result
-        (λ failure. failure.fault ≡ BadArgument → notices.new ≡ notices.old) }
-{
+) -> Result<(), Failure<'a>> {
     let mut endpoint = endpoint_of(rt, alloc, words.own)?;
     endpoint.division = words.division;
     endpoint.kind = words.kind;
     let pipe = rt.commands();
-    let mut notices = Noting::new(notices);
+    let mut notices = notice_writer(rt, alloc)?;
     let end = agent(
         rt,
         alloc,
@@ -246,27 +230,44 @@ fn agent_by<'a, T: Threads + Host, W: Write, E: Write>(
         &mut notices,
         errors,
     );
-    ended(end, notices.error)
+    ended(end, notices.finish(rt), errors)
 }
 
-// How one who talks ended, where this is what a write of a notice that failed had against it.
-fn ended<'a>(end: Result<(), UaFault>, output: Option<io::Error>) -> Result<(), Failure<'a>>
-    ensures { IfErr result (λ failure. failure.fault ≢ BadArgument) }
-{
-    let Err(fault) = end else {
-        return Ok(());
-    };
-    let cause = match (fault, output) {
-        (UaFault::Output, Some(error)) => Some(Cause::Stream {
-            name: "standard output",
-            error,
-        }),
-        _ => None,
-    };
-    Err(Failure {
-        fault: TalkFault::Ua(fault),
-        cause,
-    })
+// The writer of what a command tells.
+fn notice_writer<'a, T: Threads + Host>(
+    rt: &T,
+    alloc: Global,
+) -> Result<NoticeWriter, Failure<'a>> {
+    match NoticeWriter::start(rt, alloc, rt.notices()) {
+        Ok(writer) => Ok(writer),
+        Err(fault) => Err(Failure::unknown(TalkFault::Ua(fault))),
+    }
+}
+
+// How a command ended, by its turns and by what became of its notices. Tells how many were lost.
+fn ended<'a, E: Write>(
+    end: Result<(), UaFault>,
+    written: Written,
+    errors: &mut E,
+) -> Result<(), Failure<'a>> {
+    let Written { lost, error } = written;
+    if lost > 0 {
+        let _ = writeln!(
+            errors,
+            "ua: {lost} notices lost, since the output wasn't read"
+        );
+    }
+    match (end, error) {
+        (Ok(()), None) => Ok(()),
+        (Ok(()) | Err(UaFault::Output), Some(error)) => Err(Failure::new(
+            TalkFault::Ua(UaFault::Output),
+            Cause::Stream {
+                name: "standard output",
+                error,
+            },
+        )),
+        (Err(fault), _) => Err(Failure::unknown(TalkFault::Ua(fault))),
+    }
 }
 
 // The input whose end ends the turns. That of a terminal doesn't.

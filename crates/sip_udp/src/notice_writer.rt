@@ -1,0 +1,181 @@
+//! A writer with a thread of its own, so that an output that nobody reads holds no turn up.
+
+ghost use Rattle.std.specs.Prelude.{OnOk};
+ghost use Rattle.std.specs.Io.KnownBytes.{Appends};
+ghost use Rattle.std.specs.List.{flat_map};
+
+use crate::bell::Bell;
+use crate::fault::UaFault;
+use crate::notices::put;
+use sip_desk::{Desk, Poster, open};
+use std::alloc::Global;
+use std::io::{self, ErrorKind, Write};
+use std::mem;
+use std::net::Net;
+use std::sync::Arc;
+use std::sync::atomic::{AtomicBool, Ordering};
+use std::thread::{self, JoinHandle, Threads};
+use std::time::Duration;
+
+/// How many pieces may wait to be written.
+const ROOM: usize = 4_096;
+
+/// How many pieces are written by one call at most.
+const TOGETHER: usize = 64;
+
+/// How long the thread waits at its bell at most, in ms.
+const PAUSE: u64 = 1_000;
+
+/// A writer that never waits for its stream. What was written between two flushes is a piece. A
+/// thread writes the pieces to the stream, in order. A piece for which there is no room is lost.
+#[derive(Drop)]
+pub struct NoticeWriter {
+    alloc: Global,
+    piece: Vec<u8>,
+    line: Poster<Vec<u8>>,
+    lost: u64,
+    signals: Arc<Signals>,
+    thread: JoinHandle<Option<io::Error>>,
+}
+
+/// What became of all that was written.
+#[derive(Drop)]
+pub struct Written {
+    /// How many pieces were lost, since the stream took nothing.
+    pub lost: u64,
+    /// Why a write failed, if one did. Nothing was written after that.
+    pub error: Option<io::Error>,
+}
+
+// What the writer and its thread tell each other.
+#[derive(Drop)]
+struct Signals {
+    // It is rung where a piece was posted, and at the end.
+    bell: Bell,
+    // Nothing more is posted.
+    is_over: AtomicBool,
+    has_failed: AtomicBool,
+}
+
+impl NoticeWriter {
+    /// Starts the thread that writes to this stream.
+    ///
+    /// # Errors
+    ///
+    /// `NoMemory`; `Socket`, where the system has no more threads or sockets.
+    pub fn start<R: Threads + Net, W: Write + Send + Drop + 'static>(
+        rt: &R,
+        alloc: Global,
+        stream: W,
+    ) -> Result<NoticeWriter, UaFault> {
+        let (desk, mut posters) = open(alloc, 1, ROOM)?;
+        let Some(line) = posters.pop() else {
+            return Err(UaFault::NoMemory);
+        };
+        let signals = signals(rt, alloc)?;
+        let theirs = signals.clone()?;
+        let Ok(thread) = thread::spawn(rt, move || write_all(alloc, desk, stream, &theirs)) else {
+            return Err(UaFault::Socket);
+        };
+        Ok(NoticeWriter {
+            alloc,
+            piece: Vec::new(alloc),
+            line,
+            lost: 0,
+            signals,
+            thread,
+        })
+    }
+
+    /// Waits until the thread has written what was posted.
+    pub fn finish<R: Threads>(self, rt: &R) -> Written {
+        self.signals.is_over.store(true, Ordering::SeqCst);
+        self.signals.bell.ring();
+        let error = self.thread.join(rt);
+        Written {
+            lost: self.lost,
+            error,
+        }
+    }
+}
+
+impl Write for NoticeWriter {
+    fn write(&mut self, bytes: &[u8]) -> io::Result<usize> {
+        if self.signals.has_failed.load(Ordering::SeqCst) {
+            return Err(io::Error::from(ErrorKind::BrokenPipe));
+        }
+        self.piece.extend_from_slice(bytes)?;
+        Ok(bytes.len())
+    }
+
+    fn flush(&mut self) -> io::Result<()> {
+        let piece = mem::replace(&mut self.piece, Vec::new(self.alloc));
+        match self.line.post(piece) {
+            Ok(()) => self.signals.bell.ring(),
+            Err(_) => self.lost = self.lost.saturating_add(1),
+        }
+        Ok(())
+    }
+}
+
+fn signals<R: Net>(rt: &R, alloc: Global) -> Result<Arc<Signals>, UaFault> {
+    let Ok(bell) = Bell::new(rt) else {
+        return Err(UaFault::Socket);
+    };
+    let signals = Signals {
+        bell,
+        is_over: AtomicBool::new(false),
+        has_failed: AtomicBool::new(false),
+    };
+    match Arc::new(alloc, signals) {
+        Ok(signals) => Ok(signals),
+        Err(_) => Err(UaFault::NoMemory),
+    }
+}
+
+// Writes all that is posted. Gives why a write failed, if one did.
+fn write_all<W: Write + Drop>(
+    alloc: Global,
+    mut desk: Desk<Vec<u8>>,
+    mut stream: W,
+    signals: &Signals,
+) -> Option<io::Error> {
+    let end = write_until_over(alloc, &mut desk, &mut stream, signals);
+    signals.has_failed.store(end.is_err(), Ordering::SeqCst);
+    end.err()
+}
+
+fn write_until_over<W: Write>(
+    alloc: Global,
+    desk: &mut Desk<Vec<u8>>,
+    stream: &mut W,
+    signals: &Signals,
+) -> io::Result<()> {
+    for _ in 0..u64::MAX {
+        // Before it collects: what was posted before the end is then found.
+        let is_over = signals.is_over.load(Ordering::SeqCst);
+        let Ok(pieces) = desk.collect(TOGETHER) else {
+            return Err(io::Error::from(ErrorKind::OutOfMemory));
+        };
+        if !pieces.is_empty() {
+            write_pieces(alloc, stream, &pieces)?;
+        } else if is_over {
+            break;
+        } else {
+            signals.bell.wait(Duration::from_millis(PAUSE))?;
+        }
+    }
+    Ok(())
+}
+
+// Writes these pieces by one call, and flushes.
+fn write_pieces<W: Write>(alloc: Global, stream: &mut W, pieces: &[Vec<u8>]) -> io::Result<()>
+    ensures { OnOk result (Appends (W.contents stream.old) (W.contents stream.new)
+        (flat_map (λ piece. piece.items) pieces.now)) }
+{
+    let mut text = Vec::new(alloc);
+    for piece in pieces {
+        text.extend_from_slice(piece)?;
+    }
+    put(stream, &text)
+}
