@@ -5,6 +5,7 @@ mod dialog;
 mod examples;
 mod files;
 mod loopback;
+mod notices;
 mod recorded;
 mod reliable;
 mod shards;
