@@ -39,17 +39,25 @@ impl Gate for Open {
 ///
 /// `ua replay` reads an event file from `input` and writes its output file to `output`, and `ua
 /// ladder` writes its ladder there. With `--session` both also take a session file. With `--repair`
-/// `ua replay` takes the input up to its last LF. `ua listen`, `ua call` and `ua agent` write their
-/// notices to the stream of `rt`, and `ua agent` reads commands from its pipe. Help and the version
+/// `ua replay` takes the input up to its last LF. `ua listen`, `ua call` and `ua agent` write to
+/// `notices`, on a thread of their own, and `ua agent` reads commands from the pipe of `rt`. Help and the version
 /// are written to `output`. A fault is reported on `errors` after `ua: `, with what is known of its
 /// cause on a second line, and a fault of the words as `clap` reports it. A write to `errors` that
 /// fails is ignored.
-pub fn ua<T: Threads + Host, S: AsStr, R: Read, W: Write, E: Write>(
+pub fn ua<
+    T: Threads + Host,
+    S: AsStr,
+    R: Read,
+    W: Write,
+    N: Write + Send + Drop + 'static,
+    E: Write,
+>(
     rt: &T,
     alloc: Global,
     words: &[S],
     input: &mut R,
     output: &mut W,
+    notices: N,
     errors: &mut E,
 ) -> u8
     ensures replays { IsTrue (asks_replay (map S.text words.now)) → result ≡ 0
@@ -118,7 +126,7 @@ pub fn ua<T: Threads + Host, S: AsStr, R: Read, W: Write, E: Write>(
         let end = ladder(rt, alloc, kind, &mut input, output, &Open);
         finish_file(end, input.error, errors)
     } else {
-        let end = talk_by(rt, alloc, &matches, errors);
+        let end = talk_by(rt, alloc, &matches, notices, errors);
         finish_talk(end, errors)
     }
 }

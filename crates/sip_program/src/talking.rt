@@ -28,49 +28,52 @@ use std::rt::Files;
 use std::sync::Arc;
 use std::thread::Threads;
 
-/// Listens, calls, or does what a pipe asks for, as the words say.
-pub(crate) fn talk_by<'a, T: Threads + Host, E: Write>(
+/// Listens, calls, or does what a pipe asks for, as the words say. Notices are written to `stream`.
+pub(crate) fn talk_by<'a, T: Threads + Host, N: Write + Send + Drop + 'static, E: Write>(
     rt: &T,
     alloc: Global,
     matches: &ArgMatches<'a>,
+    stream: N,
     errors: &mut E,
 ) -> Result<(), Failure<'a>> {
     if let Some(words) = listen_words(matches) {
-        return listen_by(rt, alloc, words, errors);
+        return listen_by(rt, alloc, words, stream, errors);
     }
     if let Some(words) = call_words(matches) {
-        return call_by(rt, alloc, words, errors);
+        return call_by(rt, alloc, words, stream, errors);
     }
     match agent_words(matches) {
-        Some(words) => agent_by(rt, alloc, words, errors),
+        Some(words) => agent_by(rt, alloc, words, stream, errors),
         None => Err(Failure::unknown(TalkFault::BadArgument)),
     }
 }
 
-fn listen_by<'a, T: Threads + Host, E: Write>(
+fn listen_by<'a, T: Threads + Host, N: Write + Send + Drop + 'static, E: Write>(
     rt: &T,
     alloc: Global,
     words: ListenWords<'a>,
+    stream: N,
     errors: &mut E,
 ) -> Result<(), Failure<'a>> {
     let plan = listen_plan(rt, alloc, words)?;
     let endpoint = endpoint_of_turns(rt, alloc, words.own, words.length, words.drops)?;
     let turns = words.length.turns();
-    let mut notices = notice_writer(rt, alloc)?;
+    let mut notices = notice_writer(rt, alloc, stream)?;
     let end = listen_at(rt, alloc, endpoint, plan, turns, &mut notices, errors);
     ended(end, notices.finish(rt), errors)
 }
 
-fn call_by<'a, T: Threads + Host, E: Write>(
+fn call_by<'a, T: Threads + Host, N: Write + Send + Drop + 'static, E: Write>(
     rt: &T,
     alloc: Global,
     words: CallWords<'a>,
+    stream: N,
     errors: &mut E,
 ) -> Result<(), Failure<'a>> {
     let plan = plan_of(rt, alloc, words)?;
     let endpoint = endpoint_of_turns(rt, alloc, words.own, words.length, words.drops)?;
     let turns = words.length.turns();
-    let mut notices = notice_writer(rt, alloc)?;
+    let mut notices = notice_writer(rt, alloc, stream)?;
     let end = call_from(rt, alloc, endpoint, plan, turns, &mut notices, errors);
     ended(end, notices.finish(rt), errors)
 }
@@ -209,17 +212,18 @@ fn body_of<'a, T: Files>(
     }
 }
 
-fn agent_by<'a, T: Threads + Host, E: Write>(
+fn agent_by<'a, T: Threads + Host, N: Write + Send + Drop + 'static, E: Write>(
     rt: &T,
     alloc: Global,
     words: AgentWords<'a>,
+    stream: N,
     errors: &mut E,
 ) -> Result<(), Failure<'a>> {
     let mut endpoint = endpoint_of(rt, alloc, words.own)?;
     endpoint.division = words.division;
     endpoint.kind = words.kind;
     let pipe = rt.commands();
-    let mut notices = notice_writer(rt, alloc)?;
+    let mut notices = notice_writer(rt, alloc, stream)?;
     let end = agent(
         rt,
         alloc,
@@ -233,11 +237,12 @@ fn agent_by<'a, T: Threads + Host, E: Write>(
 }
 
 // The writer of what a command tells.
-fn notice_writer<'a, T: Threads + Host>(
+fn notice_writer<'a, T: Threads + Host, N: Write + Send + Drop + 'static>(
     rt: &T,
     alloc: Global,
+    stream: N,
 ) -> Result<NoticeWriter, Failure<'a>> {
-    match NoticeWriter::start(rt, alloc, rt.notices()) {
+    match NoticeWriter::start(rt, alloc, stream) {
         Ok(writer) => Ok(writer),
         Err(fault) => Err(Failure::unknown(TalkFault::Ua(fault))),
     }

@@ -120,6 +120,7 @@ fn run<T: Threads + Host>(
         &words,
         &mut events,
         &mut output,
+        Vec::new(alloc),
         &mut errors,
     );
     if status == 0 && errors.is_empty() {

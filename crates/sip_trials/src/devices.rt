@@ -206,7 +206,15 @@ fn is_whole<T: Threads + Host>(
     output: &mut Failing<'_>,
 ) -> Result<bool, Stop> {
     let mut errors = Vec::new(alloc);
-    let status = ua(threads, alloc, &WORDS, input, output, &mut errors);
+    let status = ua(
+        threads,
+        alloc,
+        &WORDS,
+        input,
+        output,
+        Vec::new(alloc),
+        &mut errors,
+    );
     let (wanted, told, length) = if input.has_failed()? {
         (FAILED_DEVICE, UNREAD, 0)
     } else if output.has_failed()? {

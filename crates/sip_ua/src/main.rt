@@ -15,6 +15,7 @@ fn main(rt: HostRuntime) -> ExitCode {
             words.as_slice(),
             &mut rt.stdin(),
             &mut rt.stdout(),
+            rt.stdout(),
             &mut rt.stderr(),
         ),
         Err(error) => no_words(&error, &mut rt.stderr()),

@@ -15,7 +15,7 @@ mod workers;
 
 use sip_program::{Host, given_words, no_words, ua};
 use sip_round::Gate;
-use std::alloc::{AllocError, Global};
+use std::alloc::Global;
 use std::env::FillError;
 use std::io::{self, Read, Write};
 use std::rt::Env;
@@ -46,21 +46,23 @@ impl Gate for Open {
     fn begin(&self, _shard: usize) {}
 }
 
-// The program, with these words and this input.
+// The program, with these words and this input. Its notices stand behind its output.
 fn run_on<T: Threads + Host, R: Read>(
     rt: &T,
     alloc: Global,
     words: &[&str],
     input: &mut R,
-) -> Ended {
+) -> io::Result<Ended> {
     let mut output = Vec::new(alloc);
     let mut errors = Vec::new(alloc);
-    let status = ua(rt, alloc, words, input, &mut output, &mut errors);
-    Ended {
+    let (mut reader, notices) = io::pipe(rt)?;
+    let status = ua(rt, alloc, words, input, &mut output, notices, &mut errors);
+    reader.read_to_end(&mut output)?;
+    Ok(Ended {
         status,
         output,
         errors,
-    }
+    })
 }
 
 // A run on an event file whose rounds begin so, and whose last round has so many events, of which
@@ -70,13 +72,13 @@ fn run_of_many<T: Threads + Host>(
     alloc: Global,
     rounds: &str,
     events: u32,
-) -> Result<Ended, AllocError> {
+) -> io::Result<Ended> {
     let mut input = Vec::from_slice(alloc, b"sip-events 1\nlocal 192.0.2.1:5060\n")?;
     input.extend_from_slice(rounds.as_bytes())?;
     for _ in 0..events {
         input.extend_from_slice(b"failed client b INFO\n")?;
     }
-    Ok(run_on(rt, alloc, ["replay"].as_slice(), &mut input.as_slice()))
+    run_on(rt, alloc, ["replay"].as_slice(), &mut input.as_slice())
 }
 
 // A round of the most events is answered, and one of more refused. Where several faults fit, the
@@ -121,15 +123,16 @@ impl Read for Long {
 
 // An event file has at most 2^26 bytes.
 #[test]
-fn a_text_of_more_than_an_event_file_has(rt: HostRuntime) {
+fn a_text_of_more_than_an_event_file_has(rt: HostRuntime) -> Result<(), Fail> {
     for (bytes_left, fault) in [
         (1 << 26, "ua: event file version\n"),
         ((1 << 26) + 1, "ua: event file too long\n"),
     ] {
         let mut reader = Long { bytes_left };
-        let ended = run_on(&rt, rt.alloc(), ["replay"].as_slice(), &mut reader);
+        let ended = run_on(&rt, rt.alloc(), ["replay"].as_slice(), &mut reader)?;
         assert!(rt; ended.is(1, "", fault));
     }
+    Ok(())
 }
 
 /// A writer that has to be flushed after what was written, and whose flushes may fail.
@@ -177,6 +180,7 @@ fn a_replay_flushes_its_output(rt: HostRuntime) {
             ["replay"].as_slice(),
             &mut b"sip-events 1\nlocal 192.0.2.1:5060\n".as_slice(),
             &mut writer,
+            Vec::new(alloc),
             &mut errors,
         );
         assert!(rt; status == expected);

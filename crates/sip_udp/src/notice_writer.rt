@@ -72,7 +72,7 @@ impl NoticeWriter {
         let Some(line) = posters.pop() else {
             return Err(UaFault::NoMemory);
         };
-        let signals = signals(rt, alloc)?;
+        let signals = new_signals(rt, alloc)?;
         let theirs = signals.clone()?;
         let Ok(thread) = thread::spawn(rt, move || write_all(alloc, desk, stream, &theirs)) else {
             return Err(UaFault::Socket);
@@ -118,7 +118,7 @@ impl Write for NoticeWriter {
     }
 }
 
-fn signals<R: Net>(rt: &R, alloc: Global) -> Result<Arc<Signals>, UaFault> {
+fn new_signals<R: Net>(rt: &R, alloc: Global) -> Result<Arc<Signals>, UaFault> {
     let Ok(bell) = Bell::new(rt) else {
         return Err(UaFault::Socket);
     };

@@ -3,7 +3,8 @@
 use super::loopback::bound;
 use super::{Ended, run_on};
 use sip_program::Host;
-use std::alloc::{AllocError, Global};
+use std::alloc::Global;
+use std::io;
 use std::test::Fail;
 use std::thread::{self, Threads};
 
@@ -11,9 +12,9 @@ use std::thread::{self, Threads};
 const TAG_LENGTH: usize = 41;
 
 // The program with these words, which stand with a space between each two.
-fn ua_with<T: Threads + Host>(rt: &T, alloc: Global, words: &str) -> Result<Ended, AllocError> {
+fn ua_with<T: Threads + Host>(rt: &T, alloc: Global, words: &str) -> io::Result<Ended> {
     let words: Vec<&str> = words.split(' ').collect(alloc)?;
-    Ok(run_on(rt, alloc, words.as_slice(), &mut b"".as_slice()))
+    run_on(rt, alloc, words.as_slice(), &mut b"".as_slice())
 }
 
 // A word of a notice, where ids are alike, tags are alike, and session descriptions are alike.

@@ -43,7 +43,7 @@ fn replayed_by<T: Threads + Host>(
     record: &[u8],
 ) -> Result<Vec<u8>, Fail> {
     let mut input = record;
-    let ended = run_on(rt, alloc, words, &mut input);
+    let ended = run_on(rt, alloc, words, &mut input)?;
     if ended.status == 0 {
         Ok(ended.output)
     } else {
@@ -433,7 +433,7 @@ fn headers_on_a_pipe_are_recorded_as_a_session(rt: HostRuntime) -> Result<(), Fa
             alloc,
             ["replay"].as_slice(),
             &mut run.record.as_slice()
-        )
+        )?
         .status
             == 1
     );

@@ -380,9 +380,9 @@ fn a_listener_whose_socket_fails_tells_so(rt: HostRuntime) -> Result<(), Fail> {
 }
 
 // The program with these words, which stand with a space between each two.
-fn ua_with<T: Threads + Host>(rt: &T, alloc: Global, words: &str) -> Result<Ended, AllocError> {
+fn ua_with<T: Threads + Host>(rt: &T, alloc: Global, words: &str) -> io::Result<Ended> {
     let words: Vec<&str> = words.split(' ').collect(alloc)?;
-    Ok(run_on(rt, alloc, words.as_slice(), &mut b"".as_slice()))
+    run_on(rt, alloc, words.as_slice(), &mut b"".as_slice())
 }
 
 // A send that fails reaches the agent, and a record that can't be written ends alone.
