@@ -1,4 +1,4 @@
-//! The answer to a tick of what was sent.
+//! What is due at a tick.
 
 use crate::provisional::MOST_WAITING;
 use arrayvec::ArrayVec;
@@ -9,6 +9,6 @@ pub enum Tick {
     Nothing,
     /// Those of these numbers are to be sent again, in this order. It is that of the numbers.
     Again(ArrayVec<u32, MOST_WAITING>),
-    /// No PRACK of one came in 32,000 ms: none is sent again.
+    /// One had no PRACK for 32,000 ms: from now on none is sent again.
     GivenUp,
 }
