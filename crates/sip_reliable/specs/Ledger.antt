@@ -130,8 +130,7 @@ first_moment waiting = fold (λ due p. earlier due (due_moment p)) None waiting
 abbrev pub next_moment : Ledger → Option ℕ
 next_moment l = if l.closed then None else first_moment l.waiting
 
--- nothing is due before the moment, and something is due at it; without a moment nothing is ever
--- due
+-- nothing is due before the moment, and something is at it; without a moment nothing ever is
 abbrev pub IsNextDue : (ℕ → Tick) → Option ℕ → Type 0
 IsNextDue answers None = (now : ℕ) → answers now ≡ Nothing
 IsNextDue answers (Some due) =

@@ -7,7 +7,7 @@ use arrayvec::ArrayVec;
 #[derive(Debug, Drop, PartialEq, Eq)]
 pub enum Tick {
     Nothing,
-    /// Those of these numbers are to be sent again, in this order. It is that of the numbers.
+    /// The responses with these numbers are to be sent again, in the order of the numbers.
     Again(ArrayVec<u32, MOST_WAITING>),
     /// One had no PRACK for 32,000 ms: from now on none is sent again.
     GivenUp,
