@@ -28,7 +28,7 @@ pub all_but_last : {X : Type 0} (P : X → Type 0) (xs : List X) (x : X)
 all_but_last P [] x all = (tt, all.0)
 all_but_last P (y ∷ ys) x all = let rest = all_but_last P ys x all.1 in ((all.0, rest.0), rest.1)
 
--- the results before the owner's are all thieves' results
+-- if all results are thieves', so are the last one and those before it
 pub thiefs_last : {J D : Type 0} (gives : J → D → Type 0) (deque : OwnerOf J)
     (all rest : List (Result (Served J D) NoMemory)) (result : Result (Served J D) NoMemory)
     (served : Served J D)
