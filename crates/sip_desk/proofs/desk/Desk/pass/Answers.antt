@@ -1,3 +1,5 @@
+-- `Desk::pass`: each turn of the loop takes at most one event of a line; with no event, all lines
+-- are dry.
 use Rattle.std.proofs.Common.{◌≡◌, ℕ, ◌+◌, ◌≤◌, ◌<◌, [], ◌∙◌, arith}
 use Rattle.std.proofs.lemmas.Bool.{ltb-false}
 use Rattle.std.specs.Vec.{vec_len, vec_capacity}
