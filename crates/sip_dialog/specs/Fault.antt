@@ -9,8 +9,7 @@ use Rattle.sip_dialog.specs.Dialog.{is_ended, is_early}
 use Rattle.sip_dialog.specs.Request.{is_invite_method}
 use Rattle.sip_dialog.specs.Route.{is_strict}
 
--- why no request with this method: an INVITE needs a confirmed dialog, and no CSeq is above 2^31 -
--- 1
+-- why no request with this method: an INVITE needs a confirmed dialog; no CSeq is above 2^31 - 1
 abbrev pub request_fault : Dialog → List ℕ → Option DialogFault
 request_fault dialog method =
     if is_ended dialog.state then Some Ended
