@@ -9,7 +9,7 @@ use std::io::{self, Read};
 
 /// A reader that may count its reads and those that failed.
 pub trait CountedRead {
-    // The bytes that are left, where they are known.
+    // The bytes that are left, if they are known.
     ghost remaining: { Self → Option (List ℕ) };
 
     // How often it was read, if it tells.

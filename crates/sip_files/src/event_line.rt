@@ -29,7 +29,7 @@ const MAX_FIRST: u64 = 1 << 62;
 pub enum EventLine {
     /// The address of the agent.
     Local(Addr),
-    /// The key of the words that made names end in.
+    /// The key of the words in which made names end.
     Seed([u8; 32]),
     /// The number of the first round.
     First(u64),

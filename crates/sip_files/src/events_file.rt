@@ -4,7 +4,6 @@
 //! `seed` and optionally `first N`, in this order, and then the rounds: `round MOMENT`, each
 //! followed by the lines of its events. The same comes after `sip-session 1`; there, header lines
 //! may stand before the line of a command. They are the headers of its content.
-//! stand before the line of a command: the headers of its content.
 
 ghost use Rattle.std.specs.Prelude.{◌≡◌, ℕ, List, ◌≤◌, ◌^◌, IfErr, IfOk, MatchResult, length};
 ghost use Rattle.sip_round.specs.declared.config.Config as config;

@@ -1,4 +1,4 @@
-//! Laws of the files' spellings. The contract of each is the law. A call does nothing.
+//! Laws of the files' spellings. The contract of each is the law, and a call does nothing.
 
 ghost use Rattle.std.specs.Prelude.{◌≡◌, ◌↔◌, ℕ, List, IsTrue, codes, nat_eq, not};
 ghost use Rattle.sip_files.specs.declared.event_line.EventLine.{EventLine};
