@@ -1,4 +1,4 @@
-//! Laws of the definitions. The contract of each is the law. A call does nothing.
+//! Laws of the definitions. The contract of each is the law, and a call does nothing.
 ghost use Rattle.std.specs.Prelude.{◌≡◌, List, ℕ, Some};
 ghost use Rattle.sip_message.specs.declared.addr.Addr.{Addr};
 ghost use Rattle.sip_message.specs.Addr.{IsAddr};
