@@ -36,7 +36,7 @@ kind_of_notice (notice.Cancel call_id id) = 12
 kind_of_notice (notice.Ended call_id local_tag remote_tag) = 13
 kind_of_notice (notice.Refused call_id place why) = 14
 
--- kind 2 is a line, which never stands for an output here
+-- kind 2 means a line of an output file; here each output has a kind of its own
 abbrev pub kind_of_output : Output → ℕ
 kind_of_output (Send key to bytes) = 1
 kind_of_output (Dropped place reason) = 3
