@@ -47,7 +47,7 @@ draws_front kind (Some input) text picture before after is drawn written = (
   written.3,
 )
 
--- what is true of a fault is true of each fault of a result that is that fault
+-- what a result promises if it is a fault, once it is one
 pub of_fault : {T E X : Type 0} (result : Result T E) (fault : E) → result ≡ Err fault
     → OnErr result X → X
 of_fault {X = X} result fault is holds = subst (λ r. OnErr r X) is holds

@@ -23,8 +23,7 @@ distinct (peer ∷ peers) =
 abbrev pub peers_of : List Way → List Addr
 peers_of ways = distinct (filter_map peer_of ways)
 
--- The twelfth column is that of all others. The columns take at most 36 characters, and each takes
--- at most 18.
+-- The twelfth column is that of all others. The columns take 36 characters at most, each 18.
 unfoldable pub columns_of : List Way → Columns
 columns_of ways =
     let peers = peers_of ways in
