@@ -63,22 +63,21 @@ Says kind text said.NoHeader =
 abbrev pub SaysRead : FileKind → ℕ → List ℕ → PipeLine → Type 0
 SaysRead kind number text line = (line.number ≡ number) × Says kind (line_of text) line.said
 
--- these are what the lines of a text say, from its front on, each once and in order, where the
--- first has this number, and this is left of the text
+-- these are what the lines of a text say, from its front on, each once and in order; the first line
+-- has this number, and this much of the text is left
 abbrev pub SayLines : FileKind → ℕ → List ℕ → List PipeLine → List ℕ → Type 0
 SayLines kind number text [] rest = rest ≡ text
 SayLines kind number text (line ∷ lines) rest =
     (0 < length text) × SaysRead kind number (take_through 10 text) line
     × SayLines kind (number + 1) (drop_through 10 text) lines rest
 
--- what was posted before, what is posted now, and the text of the pipe, whose first lines were
--- posted
+-- the first lines of the text of the pipe were posted, after what was posted before
 abbrev pub PostsFront : FileKind → List PipeLine → List PipeLine → List ℕ → Type 0
 PostsFront kind before now text =
     (lines : List PipeLine) × (rest : List ℕ) × (now ≡ before ++ lines)
     × SayLines kind 1 text lines rest
 
--- the same, when all its lines were posted
+-- all its lines were posted
 abbrev pub PostsAll : FileKind → List PipeLine → List PipeLine → List ℕ → Type 0
 PostsAll kind before now text =
     (lines : List PipeLine) × (now ≡ before ++ lines) × SayLines kind 1 text lines []
@@ -89,8 +88,8 @@ abbrev pub event_of : Option UserCommand → List Event
 event_of (Some command) = event.Command command ∷ []
 event_of None = []
 
--- a command with the header lines that stand right before it, where it takes them; where one of
--- them is none, they say no headers
+-- a command with the header lines right before it, if it takes them; if one of those lines isn't a
+-- header line, there is no command
 abbrev pub command_with : Option (List GivenHeader) → UserCommand → Option UserCommand
 command_with (Some headers) command = with_given headers command
 command_with None command = None

@@ -1,5 +1,4 @@
--- What an outlet is asked to send for the outputs of a round, and the failed sends that are
--- reported.
+-- What an outlet is asked to send for the outputs of a round, and which failed sends are reported.
 use Rattle.std.specs.Prelude.{◌≡◌, Bool, true, false, List, [], ◌∷◌, ◌++◌, map, Option, Some, None, IfSome}
 use Rattle.std.specs.List.{flat_map}
 use Rattle.sip_message.specs.declared.key.Key.{Key}

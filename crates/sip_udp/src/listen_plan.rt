@@ -16,7 +16,7 @@ pub struct ListenPlan {
     pub reliable: bool,
     /// The status of its answer, from 200 to 699.
     pub status: u16,
-    /// The body of an answer of 200 to 299.
+    /// The body of a response with a status from 200 to 299.
     pub body: AnswerBody,
     /// Where a response that isn't a 2xx sends its caller (RFC 3261, section 21.3).
     pub contact: Option<Uri>,
