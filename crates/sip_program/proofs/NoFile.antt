@@ -1,4 +1,4 @@
--- A file of the kind is not one of the texts that end in status 1.
+-- A replay doesn't end in status 1 if its input is a file of the kind.
 use Rattle.std.proofs.Common.{◌≡◌, ◌≢◌, ℕ, List, Option, Some, None, IfSome, ap, arith, sym, ◌∙◌}
 use Rattle.std.specs.Prelude.{IfErr, MatchResult, Result, Ok, Err}
 use Rattle.sip_files.specs.declared.version.FileKind.{FileKind}
@@ -48,7 +48,7 @@ a_round round_fault.TooManyEvents status is one = three status is one
 a_round round_fault.RoundsUsedUp status is one = three status is one
 a_round (round_fault.NoMemory broken) status is one = five status is one
 
--- what a replay that ends in status 1 tells of its input
+-- what a replay that ends in status 1 says about its input
 pub told_in_1 : (kind : FileKind) (known : Option (List ℕ)) (end : Result (Unit {0}) ReplayFault)
     (status : ℕ)
     → MatchResult end (λ done. status ≡ 0) (λ fault. status ≡ fault_status fault)

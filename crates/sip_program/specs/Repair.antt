@@ -1,4 +1,4 @@
--- What is whole of a file that was cut off: its lines that have an end.
+-- The whole lines of a file that was cut off, which are those with an end.
 use Rattle.std.specs.Prelude.{ℕ, Bool, not, ◌&&◌, ◌==◌, List, [], ◌∷◌, if◌then◌else◌}
 use Rattle.std.specs.List.{list_all}
 

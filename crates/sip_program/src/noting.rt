@@ -1,10 +1,10 @@
-//! A reader and a writer that note why a read or a write failed.
+//! A reader and a writer that remember why a read or a write failed.
 
 ghost use Rattle.std.specs.Prelude.{◌≡◌};
 
 use std::io::{self, Read, Write};
 
-/// A reader that keeps what the last read that failed had against it.
+/// A reader that keeps the error of the last read that failed.
 #[derive(Drop)]
 pub(crate) struct NotingRead<R> {
     reader: R,
@@ -35,7 +35,7 @@ impl<R: Read> Read for NotingRead<R> {
     }
 }
 
-/// A writer that keeps what the last write or flush that failed had against it.
+/// A writer that keeps the error of the last write or flush that failed.
 #[derive(Drop)]
 pub(crate) struct Noting<'a, W> {
     writer: &'a mut W,

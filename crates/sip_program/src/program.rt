@@ -27,24 +27,24 @@ use std::convert::AsStr;
 use std::io::{self, Read, Write};
 use std::thread::Threads;
 
-/// The gate of the program: it holds no piece of work up.
+/// The gate of the program. It holds up no piece of work.
 struct Open;
 
 impl Gate for Open {
     fn begin(&self, _shard: usize) {}
 }
 
-/// All that the program does, from its words to its status; the words stand without the program's
+/// All that the program does, from its words to its status. The words don't include the program's
 /// own name.
 ///
-/// `ua replay` reads an event file from `input` and writes its output file to `output`, and `ua
-/// ladder` writes its ladder there; with `--session` both read a session file too. With `--repair`
-/// `ua replay` takes the input up to its last LF. `ua listen` and
-/// `ua call` read nothing there, and write the lines of their notices to `output`; so does `ua
-/// agent`, which reads commands from the pipe of `rt`. Help and the version are written to `output`
-/// where they are asked for. A fault is told on `errors` after `ua: `, what is known of its cause
-/// on a line after it, and a fault of the words as `clap` tells it. A write to `errors` that fails
-/// is passed over.
+/// `ua replay` reads an event file from `input` and writes its output file to `output`. `ua ladder`
+/// writes the ladder of that file there. With `--session` both also read a session file. With
+/// `--repair`, `ua replay` reads the input only up to its last LF. `ua listen` and `ua call` read
+/// nothing from `input`, and write the lines of their notices to `output`. `ua agent` writes the
+/// same, and reads its commands from the pipe of `rt`. If help or the version is asked for, it is
+/// written to `output`. A fault is written to `errors` after `ua: `, and what is known about its
+/// cause on a line after it. A fault of the words is written as `clap` says it. A failed write to
+/// `errors` is ignored.
 pub fn ua<T: Threads + Host, S: AsStr, R: Read, W: Write, E: Write>(
     rt: &T,
     alloc: Global,
@@ -128,8 +128,8 @@ pub fn ua<T: Threads + Host, S: AsStr, R: Read, W: Write, E: Write>(
     }
 }
 
-// Tells the fault of a replay and what a read that failed had against it, and gives the status of
-// the end.
+// Writes the fault of a replay and the error of a read that failed, and gives the status of the
+// end.
 fn finish_file<E: Write>(
     end: Result<(), ReplayFault>,
     unread: Option<io::Error>,
@@ -148,7 +148,7 @@ fn finish_file<E: Write>(
     status
 }
 
-// Replays what is whole of the input, and tells how many bytes are left out.
+// Replays the whole lines of the input, and says how many bytes are left out.
 fn repaired_by<T: Threads + Sync, R: Read, W: Write, E: Write>(
     rt: &T,
     alloc: Global,
