@@ -1,3 +1,4 @@
+-- The loop of `set_out`: what was set out so far, with the arrivals of the events left.
 use Rattle.std.proofs.Common.{◌≡◌, ◌++◌, ◌+◌, drop}
 use Rattle.sip_round.specs.Arrivals.{arrivals_from}
 use Rattle.sip_round.specs.Phases.{transaction_items}
