@@ -35,7 +35,7 @@ pub enum ReplayFault {
     Input,
     /// What was read isn't a file of its kind.
     Events(EventsFault),
-    /// The round of this index, from 0, was refused.
+    /// The round with this index, from 0, was refused.
     Round(usize, RoundFault),
     /// A write failed. The beginning of the output file may have been written.
     Output,

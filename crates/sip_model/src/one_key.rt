@@ -80,8 +80,7 @@ fn enter_key<M: StateMachine>(
     };
     let (after, outputs) = machine.begin(alloc, entry.key(), now, input)?;
     arm_copy::<M>(dues, entry.key(), due_moment(machine, after.as_ref()))?;
-    // The contract of an unused entry says nothing of its map, so a state that isn't there is an
-    // error.
+    // A dropped entry says nothing about its map, so inserting a missing state fails instead.
     match Entry::Vacant(entry).or_try_insert_with(|| after.ok_or(NotHeld)) {
         Ok(_) => Ok(outputs),
         Err(NotHeld) => Ok(outputs),

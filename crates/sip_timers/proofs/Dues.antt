@@ -137,7 +137,7 @@ at_most a b o below =
     let above : is_gt (ordering_then (nat_cmp a b) o) ≡ true = rw (ge, apart) in
     absurd (false≢true (sym below ∙ above))))
 
--- ---- what is due comes first
+-- ---- due pairs stand in front
 
 -- how many pairs at the front of the index are due
 abbrev pub due_count : {K : Type 0} → ℕ → List (ℕ × K) → ℕ

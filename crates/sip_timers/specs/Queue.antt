@@ -5,7 +5,7 @@ use Rattle.std.specs.BTreeMap.{is_at}
 use Rattle.std.specs.Map.{lookup, keys_of}
 use Rattle.std.specs.declared.cmp.Ordering.{Ordering}
 
--- the moment at which the key is due, or `None` where it isn't armed
+-- the moment at which the key is due, or `None` if it isn't armed
 abbrev pub moment : {K : Type 0} → (K → K → Ordering) → List (K × ℕ) → K → Option ℕ
 moment cmp entries key = lookup (is_at (cmp key)) entries
 

@@ -5,7 +5,7 @@ use Rattle.sip_round.specs.Phases.{transaction_items}
 use Rattle.sip_round.specs.Steps.Waiting.{all_waiting}
 use Rattle.sip_round.proofs.waiting.set_out.Given as goal
 
--- the places so far, and what comes of the events that are left
+-- the places so far, and the arrivals of the events that are left
 abbrev pub invariant-loop-event : goal.invariant-loop-event
 invariant-loop-event l =
     let left = arrivals_from l.local l.round (l.place + 1) (drop l.event-index l.events) in
