@@ -98,6 +98,6 @@ module _ {E : Type 0} where
   TakesNothing old new =
       (line : ℕ) → (taken new line ≡ taken old line) × IsPrefix (seen old line) (seen new line)
 
-  -- no more is posted
+  -- the end shows exactly what the poster had posted
   abbrev pub IsFinal : Poster E → Ended E → Type 0
   IsFinal poster ended = all_posted ended ≡ posted poster

@@ -18,7 +18,7 @@ module _ {K S I O : Type 0} (cmp : K → K → Ordering) (machine : Machine K S 
   says phases key input =
       (machine.step key (state_from machine key None (history cmp tick phases key)) input).1
 
-  -- the outputs to each item, with its place and key, after phases and its key's earlier items
+  -- the outputs to each item, with its place and key, after phases and the items before it
   abbrev pub said_to : List (Phase K I) → Phase K I → List (Item K I) → List ((ℕ × K) × List O)
   said_to phases part [] = []
   said_to phases part (item ∷ items) =

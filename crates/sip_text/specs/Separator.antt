@@ -41,7 +41,7 @@ opens (Anywhere at) b = false
 opens Blank b = false
 opens Colon b = b == 91
 
--- where the reader stands after a byte: quotes and angle brackets, nothing, or square brackets hide
+-- what hides a separator: quotes and angle brackets, nothing, or square brackets
 abbrev pub step : Separator → Place → ℕ → Place
 step (Byte at) place b = after place b
 step (Anywhere at) place b = Plain
