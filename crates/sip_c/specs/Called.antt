@@ -184,7 +184,7 @@ pub record IsNextDue (config : Config) (rounds : List Round) (due : Option ℕ) 
 
 -- ---- what a datagram says
 
--- without an agent nothing is told of a datagram
+-- without an agent nothing is told about a datagram
 abbrev pub TellsNothing : {T : Type 0} → ℕ → T → T → List ℕ → List ℕ → Type 0
 TellsNothing number told nothing before after =
     (number ≡ 1) × (told ≡ nothing) × (after ≡ before)

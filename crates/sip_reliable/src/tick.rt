@@ -3,7 +3,7 @@
 use crate::provisional::MOST_WAITING;
 use arrayvec::ArrayVec;
 
-/// What is due of the reliable provisional responses that were sent (RFC 3262 section 3).
+/// What is due for the reliable provisional responses that were sent (RFC 3262 section 3).
 #[derive(Debug, Drop, PartialEq, Eq)]
 pub enum Tick {
     Nothing,

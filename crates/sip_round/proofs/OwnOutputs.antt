@@ -131,7 +131,7 @@ module _ (X : Type 0) (chosen : Out → List X) (picked : Key → Out → List X
     any_items [] = tt
     any_items (item ∷ items) = (tt, any_items items)
 
-    -- what a key picks of a phase is what is chosen of what its own transaction says
+    -- what a key picks from a phase is what is chosen from what its own transaction says
     pub phase_own : (q : Key) (before : List (Phase Key (Timed Input)))
         (phase : Phase Key (Timed Input))
         → flat_map (picked q) (all_said (said_by_transactions before phase))

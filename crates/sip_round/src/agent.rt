@@ -117,7 +117,7 @@ impl<C: Cut + Drop> Agent<C> {
         })
     }
 
-    /// How many transactions and how many calls are held.
+    /// How many transactions and calls are held.
     pub fn live(&self) -> (u128, u128)
         ensures broken { self.now.shards ≡ None → result ≡ (0, 0) }
 

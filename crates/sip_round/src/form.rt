@@ -26,7 +26,7 @@ pub(crate) trait Form: Sized + Drop {
     fn push(outputs: &mut Vec<Self>, place: u32, output: Output) -> Result<(), AllocError>
         ensures { OnOk result (outputs.new.items ≡ outputs.old.items ++ form place output ∷ []) };
 
-    /// What has to be kept of the places of these items.
+    /// What has to be kept to know the places of these items.
     fn places_of(alloc: Global, items: &[(Id, Item)]) -> Result<Self::Places, AllocError>
         ensures { IfOk result (ArePlacesOf form place_at items.now) };
 

@@ -82,7 +82,7 @@ IsCut at parts text = IsCutFrom at Plain parts text
 abbrev pub IsWhole : Separator → List ℕ → Type 0
 IsWhole at text = IsWholeFrom at Plain text
 
--- The text is these pieces, with a separator that counts between each two.
+-- The text is these pieces, with a separator that counts between one and the next.
 abbrev pub IsSplitFrom : Separator → Place → List (List ℕ) → List ℕ → Type 0
 IsSplitFrom at place [] text = ⊥
 IsSplitFrom at place (piece ∷ []) text = (text ≡ piece) × IsWholeFrom at place piece
