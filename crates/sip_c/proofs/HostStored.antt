@@ -1,11 +1,11 @@
--- How the owner of a host is stored: an address beside a handle of the heap. What a walk has of the
--- two.
+-- How the owner of a host is stored: as an address and a handle of the heap. What a walk through a
+-- function knows of the two.
 --     pair, pair_fits      the machine value of the two, and its type
 --     owner_tells          an owner is stored as the pair of its address
 --     handle_of, pair_of   what the fields own is what the handle owns, and back
 --     only_result          the end of a walk that keeps nothing but its result
---     two_lifetimes, within_both     what a call of a function over a host and the heap is passed
---                          beside its arguments
+--     two_lifetimes, within_both     what a call of a function over a host and the heap gets
+--                          besides its arguments
 use Rattle.std.proofs.Common.{◌≡◌, ℕ, List, [], ◌∷◌, refl, lit<, T}
 use Rattle.std.specs.Prelude.{Option, Some, None, IsSome}
 use Rattle.std.proofs.lemmas.Bool.{false≢true}
@@ -134,7 +134,7 @@ handle_laws =
     arg_laws (raw_type (layout Heap.the_row)) no Heap.the_row heap.the_row_laws
     (raw-raw (layout Heap.the_row))
 
--- a handle is let go by nothing
+-- nothing is done when a handle is dropped
 abbrev pub handle_drops : Dict
 handle_drops = impl ("sip_c::Destruct++none::drop" ∷ []) (tcons (layout Handle) tnil) dnil
 
@@ -143,7 +143,7 @@ alive κ ν = ‵ (flft κ full_share) ⊛ ‵ (flft ν full_share) ⊛ ‵ ftru
 
 module _ {M : Type 1} {𝓤 : Ura M} {𝓛 : Logic 𝓤} {K : Type 0} {Γ : List (Item 𝓤)} {G : Goal 𝓤 𝓛.H}
   where
-    -- no token is held, nothing is left of the parameter, and the result is handed over
+    -- no token is left, nothing of the parameter is left, and the result is handed over
     pub only_result : K → {owned : Fml}
         → Step K 𝓛 ((‵ ftrue ⊛ ‵ (fsep ftrue ftrue) ⊛ ‵ owned) ∷ Γ) G (‵ owned ∷ Γ) G
     only_result t = step (λ s. nothing t $ nothing t $ fjoin t $ join t $ nothing t $ join t $ s)

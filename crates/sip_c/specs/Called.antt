@@ -1,4 +1,4 @@
--- What calls through a handle do.
+-- What calls with a handle do.
 use Rattle.std.specs.Prelude.{◌≡◌, ◌⊎◌, ◌^◌, ◌-◌, ℕ, Bool, ◌&&◌, false, true, List, Option, None, Some, IsSomeAnd, Result, Ok, Err, length, nat_le, replicate, if◌then◌else◌}
 use Rattle.std.specs.List.{slice_get}
 use Rattle.std.specs.Option.{option_map}
@@ -42,12 +42,12 @@ use Rattle.sip_c.specs.declared.values.Told.{Told}
 abbrev pub addr_of : Address → Addr
 addr_of address = record { ip = address.ip; port = address.port }
 
--- what an agent is started with, as C gives it
+-- the values with which an agent is started, as C gives them
 abbrev pub config_of : Configuration → Config
 config_of given =
     record { local = addr_of given.local; seed = given.seed; first = given.first }
 
--- where a send goes, and zeros for a line
+-- where a send goes; zeros for a line
 abbrev pub address_of : Option Addr → Address
 address_of None = record { ip = replicate 4 0; port = 0 }
 address_of (Some to) = record { ip = to.ip; port = to.port }
@@ -57,7 +57,7 @@ abbrev pub kind_of : Option Addr → ℕ
 kind_of None = 2
 kind_of (Some to) = 1
 
--- what C is told of the next output, with zeros where there is none
+-- what C is told of the next output; zeros if there is none
 abbrev pub told_of : Option NextOutput → Told
 told_of None = record { kind = 0; to = address_of None; place = 0; index = 0; len = 0 }
 told_of (Some next) = record {
@@ -68,18 +68,18 @@ told_of (Some next) = record {
   len = next.len;
 }
 
--- a moment, with zeros where there is none
+-- a moment; zeros if there is none
 abbrev pub due_of : Option ℕ → Due
 due_of None = record { is_due = false; moment = 0 }
 due_of (Some moment) = record { is_due = true; moment = moment }
 
--- the id of an event, with zeros where there is none
+-- the id of an event; zeros if there is none
 abbrev pub id_of : Option Id → EventId
 id_of None = record { is_given = false; place = 0; round = 0 }
 id_of (Some id) = record { is_given = true; place = id.place; round = id.round }
 
--- the use of reliable provisional responses that an INVITE asks for: what it requires it supports
--- (RFC 3262, section 4)
+-- the use of reliable provisional responses that an INVITE asks for; what it requires, it also
+-- supports (RFC 3262, section 4)
 abbrev pub support_of : Bool → Bool → ProvisionalSupport
 support_of supports true = support.Required
 support_of true false = support.Supported
@@ -99,11 +99,11 @@ asked_of (Ok id) = record { id = id_of (Some id); bad_field = 0 }
 asked_of (Err (fault.BadField name)) = record { id = id_of None; bad_field = number_of_field name }
 asked_of (Err other) = nothing_asked
 
--- a number of 64 bits: the greatest stands for all above it
+-- a number in 64 bits; the highest one stands for all above it
 abbrev pub shown : ℕ → ℕ
 shown number = if nat_le number (2 ^ 64 - 1) then number else 2 ^ 64 - 1
 
--- what is held, with zeros where there is no agent
+-- what is held; zeros if there is no agent
 abbrev pub stats_of : Option Holdings → Stats
 stats_of None =
     record { transactions = 0; calls = 0; next_round = 0; events = 0; outputs = 0 }
@@ -115,18 +115,18 @@ stats_of (Some holds) = record {
   outputs = holds.outputs;
 }
 
--- the source and the length of a datagram, with zeros where there is none
+-- the source and the length of a datagram; zeros if there is none
 abbrev pub datagram_of : Option (Addr × ℕ) → Datagram
 datagram_of None = record { is_there = false; from = address_of None; len = 0 }
 datagram_of (Some came) =
     record { is_there = true; from = address_of (Some came.0); len = came.1 }
 
--- the length of a text, and 0 where there is none
+-- the length of a text; 0 if there is none
 abbrev pub length_of : Option ℕ → TextLength
 length_of None = record { is_there = false; len = 0 }
 length_of (Some length) = record { is_there = true; len = length }
 
--- a request line is of kind 1, a status line of kind 2, with zeros where there is none
+-- a request line is of kind 1, a status line of kind 2; zeros if there is none
 abbrev pub start_line_of : Option StartLength → StartLine
 start_line_of None = record { kind = 0; status = 0; method_len = 0; len = 0 }
 start_line_of (Some (start.Request method uri)) =
@@ -136,31 +136,31 @@ start_line_of (Some (start.Response status reason)) =
 
 -- ---- calls
 
--- whether an agent can be started so
+-- whether an agent can begin with these
 abbrev pub can_begin : Config → ℕ → Bool
 can_begin config shards = nat_le 1 shards && nat_le shards 256 && nat_le config.first (2 ^ 62)
 
--- an agent is started in a handle that held none, where it can be started so, or memory was refused
+-- if an agent can begin, it is in the handle, which held none; or memory ran out
 abbrev pub Makes : Bool → Option Host → ℕ → Config → ℕ → Type 0
 Makes true new number config shards =
     ((number ≡ 0) × IsSomeAnd new (Begins config shards)) ⊎ ((number ≡ 10) × (new ≡ None))
 Makes false new number config shards = (number ≡ 12) × (new ≡ None)
 
--- without an agent nothing is done; else the call does to the agent what it says, by its answer, of
--- which the number is given
+-- without an agent nothing is done; otherwise the call does to the agent what it promises for its
+-- answer, and gives the number of that answer
 abbrev pub Calls : Option Host → Option Host → ℕ → (Host → Host → Answer → Type 0) → Type 0
 Calls None new number Does = (number ≡ 1) × (new ≡ None)
 Calls (Some old) new number Does = IsSomeAnd new (λ after.
     (answer : Answer) × (number ≡ number_of_answer answer) × Does old after answer)
 
--- the same of a call whose answer is told beside its number
+-- the same for a call that tells its answer in addition to the number
 abbrev pub Asks : Option Host → Option Host → ℕ → Asked
     → (Host → Host → Result Id HostFault → Type 0) → Type 0
 Asks None new number told Does = (number ≡ 1) × (new ≡ None) × (told ≡ nothing_asked)
 Asks (Some old) new number told Does = IsSomeAnd new (λ after. (answer : Result Id HostFault)
     × (number ≡ number_of_answer answer) × (told ≡ asked_of answer) × Does old after answer)
 
--- the next output is told, or that there is none; for want of memory nothing has changed
+-- the next output is told, or that there is none; if memory ran out, nothing has changed
 abbrev pub Gives : Option PlacedOutput → Host → Host → ℕ → Told → List ℕ → List ℕ → Type 0
 Gives None old new number told before after =
     (number ≡ 0) × (told ≡ told_of None) × (new ≡ old) × (after ≡ before)
@@ -170,31 +170,31 @@ Gives (Some placed) old new number told before after =
     × (new ≡ after_taking old placed.output (length before)))
     ⊎ ((number ≡ 10) × (told ≡ told_of None) × (new ≡ old) × (after ≡ before))
 
--- the same through a handle, which may hold no agent
+-- the same with a handle, which may hold no agent
 abbrev pub GivesNext : Option Host → Option Host → ℕ → Told → List ℕ → List ℕ → Type 0
 GivesNext None new number told before after =
     (number ≡ 1) × (new ≡ None) × (told ≡ told_of None) × (after ≡ before)
 GivesNext (Some old) new number told before after = IsSomeAnd new (λ host.
     Gives (slice_get old.outputs.items old.taken) old host number told before after)
 
--- before the moment that is told a round without events gives nothing, and at it something is due
+-- before this moment a round without events gives nothing; at this moment something is due
 pub record IsNextDue (config : Config) (rounds : List Round) (due : Option ℕ) : Type 0 where
   pub before : (moment : ℕ) → is_due moment due ≡ false → IsQuietAfter config rounds moment
   pub at : (moment : ℕ) → due ≡ Some moment → IsDueAfter config rounds moment
 
 -- ---- what a datagram says
 
--- without an agent nothing is told of a datagram
+-- without an agent nothing is told about a datagram
 abbrev pub TellsNothing : {T : Type 0} → ℕ → T → T → List ℕ → List ℕ → Type 0
 TellsNothing number told nothing before after =
     (number ≡ 1) × (told ≡ nothing) × (after ≡ before)
 
--- for want of memory nothing is told either
+-- if memory runs out, nothing is told either
 abbrev pub TellsOrNot : {T : Type 0} → ℕ → T → T → List ℕ → List ℕ → Type 0 → Type 0
 TellsOrNot number told nothing before after Tells =
     ((number ≡ 0) × Tells) ⊎ ((number ≡ 10) × (told ≡ nothing) × (after ≡ before))
 
--- the datagram of a place
+-- the datagram at a place
 abbrev pub TellsDatagram : ℕ → Datagram → List ℕ → List ℕ → Host → Type 0
 TellsDatagram place told before after host =
     let came = datagram_in (event_at host.last_events place) in
@@ -207,7 +207,7 @@ TellsStart place told before after host = (says : Option (FirstLine (List ℕ)))
     × BeginsAt host place says × (told ≡ start_line_of (option_map start_of says))
     × (after ≡ put_if (option_map start_text says) before)
 
--- the value of this number of a header
+-- the value of a header that has this number
 abbrev pub TellsValue : ℕ → List ℕ → ℕ → TextLength → List ℕ → List ℕ → Host → Type 0
 TellsValue place name number told before after host = (values : List (List ℕ))
     × HasValuesAt host place name values

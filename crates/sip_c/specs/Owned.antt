@@ -1,4 +1,4 @@
--- What an owner of a boxed host has.
+-- What the owner of a boxed host has.
 use base.Fml.{Fml, ftrue}
 use base.Stored.{Coded}
 use denote.RawPtr.{Ptr}
@@ -14,6 +14,6 @@ abbrev pub owned_owns : Global → Ptr → Option the_row.Denot → Fml
 owned_owns alloc at None = ftrue
 owned_owns alloc at (Some host) = box_owns (ghosts.dealloc_token alloc) the_row at host
 
--- how a host, or none, stands in memory
+-- how a host, or no host, stands in memory
 abbrev pub host_coded : Coded (Option the_row.Denot)
 host_coded = coded_option the_row.coded

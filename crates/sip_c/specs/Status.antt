@@ -7,7 +7,7 @@ use Rattle.sip_host.specs.declared.host_fault.HostFault.TheVariants as host
 use Rattle.sip_round.specs.declared.round_fault.RoundFault.{RoundFault}
 use Rattle.sip_round.specs.declared.round_fault.RoundFault.TheVariants as round
 
--- of a round that is refused, or in which memory was
+-- the number of a round that was refused, or that ran out of memory
 abbrev pub number_of_round : RoundFault → ℕ
 number_of_round round.Broken = 11
 number_of_round round.MomentBackwards = 7
@@ -17,7 +17,7 @@ number_of_round round.RoundsUsedUp = 9
 number_of_round (round.NoMemory false) = 10
 number_of_round (round.NoMemory true) = 11
 
--- of a call that is refused
+-- the number of a call that was refused
 abbrev pub number_of : HostFault → ℕ
 number_of host.BadLine = 3
 number_of host.TooManyEvents = 4
@@ -27,7 +27,7 @@ number_of (host.Round fault) = number_of_round fault
 number_of host.NoMemory = 10
 number_of (host.BadField name) = 14
 
--- of a part of a command
+-- the number of a part of a command
 abbrev pub number_of_field : Field → ℕ
 number_of_field field.CallId = 1
 number_of_field field.Method = 2
@@ -40,7 +40,7 @@ number_of_field field.Status = 8
 number_of_field field.Reason = 9
 number_of_field field.Headers = 10
 
--- of a call's answer: 0 where all is well
+-- the number of a call's answer; 0 if all went well
 abbrev pub number_of_answer : {T : Type 0} → Result T HostFault → ℕ
 number_of_answer (Ok done) = 0
 number_of_answer (Err fault) = number_of fault

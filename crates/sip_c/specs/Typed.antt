@@ -1,4 +1,4 @@
--- An output as C is told it by fields: numbers, and texts one behind the other.
+-- An output as C gets it in fields: numbers, and texts one after another.
 use Rattle.std.specs.Prelude.{◌≡◌, ◌⊎◌, ℕ, List, [], ◌++◌, Option, None, Some, IsSomeAnd, length, nat_lt, if◌then◌else◌}
 use Rattle.std.specs.List.{slice_get}
 use Rattle.sip_parts.specs.declared.header_name.HeaderName.{HeaderName}
@@ -36,13 +36,13 @@ kind_of_notice (notice.Cancel call_id id) = 12
 kind_of_notice (notice.Ended call_id local_tag remote_tag) = 13
 kind_of_notice (notice.Refused call_id place why) = 14
 
--- 2 is a line, which is told in no other way
+-- kind 2 means a line of an output file; here each output has a kind of its own
 abbrev pub kind_of_output : Output → ℕ
 kind_of_output (Send key to bytes) = 1
 kind_of_output (Dropped place reason) = 3
 kind_of_output (Noticed told) = kind_of_notice told
 
--- the request that a notice tells of
+-- the id of the request that a notice is about
 abbrev pub id_of_notice : Notice → Option Id
 id_of_notice (notice.Request call_id id method local_tag remote_tag body) = Some id
 id_of_notice (notice.Response call_id id status local_tag remote_tag body) = Some id
@@ -64,7 +64,7 @@ abbrev pub rseq_of_notice : Notice → ℕ
 rseq_of_notice (notice.Prack call_id id rseq body) = rseq
 rseq_of_notice told = 0
 
--- the command that was refused, by its place
+-- the place of the command that was refused
 abbrev pub command_of_notice : Notice → ℕ
 command_of_notice (notice.Refused call_id place why) = place
 command_of_notice told = 0
@@ -73,7 +73,7 @@ abbrev pub refusal_of_notice : Notice → ℕ
 refusal_of_notice (notice.Refused call_id place why) = refusal.number_of why
 refusal_of_notice told = 0
 
--- the number of a header, in the order of the names
+-- the number of a header, in the order of the header names
 abbrev pub number_of_header : HeaderName → ℕ
 number_of_header name.Via = 1
 number_of_header name.From = 2
@@ -143,16 +143,16 @@ body_of (notice.Ack call_id id body) = body
 body_of (notice.Prack call_id id rseq body) = body
 body_of told = []
 
--- the texts of a notice one behind the other; of a send its datagram
+-- the texts of a notice, one after another; for a send, its datagram
 abbrev pub texts_of : Output → List ℕ
 texts_of (Send key to bytes) = bytes
 texts_of (Dropped place reason) = []
 texts_of (Noticed told) = call_of_notice told ++ local_tag_of told ++ remote_tag_of told
     ++ method_of told ++ body_of told
 
--- ---- what C is told
+-- ---- what C gets
 
--- zeros
+-- all zeros
 abbrev pub nothing_typed : TypedOutput
 nothing_typed = record {
   kind = 0;
@@ -173,7 +173,7 @@ nothing_typed = record {
   body_len = 0;
 }
 
--- the fields that an output of its own kind has, beside zeros
+-- the fields that an output of its kind has; all others are zero
 abbrev pub fields_of : Output → TypedOutput
 fields_of (Send key to bytes) = record nothing_typed { body_len = length bytes }
 fields_of (Dropped place reason) = record nothing_typed {
@@ -193,7 +193,7 @@ fields_of (Noticed told) = record nothing_typed {
   body_len = length (body_of told);
 }
 
--- the output of this index
+-- the output with this index
 abbrev pub typed_of : ℕ → PlacedOutput → TypedOutput
 typed_of index placed = record (fields_of placed.output) {
   kind = kind_of_output placed.output;
@@ -202,13 +202,13 @@ typed_of index placed = record (fields_of placed.output) {
   index = index;
 }
 
--- an output is taken where the buffer has room for its texts
+-- an output is taken if its texts fit into the buffer
 abbrev pub after_typed : Host → Output → ℕ → Host
 after_typed host output room = if nat_lt room (length (texts_of output)) then host
     else after_one host
 
--- the next output is told, or that there is none; where its texts have no room it is left, and for
--- want of memory nothing is told
+-- the next output is told, or that there is none; it is left if its texts don't fit, and if memory
+-- runs out nothing is told
 abbrev pub GivesTyped : Option PlacedOutput → Host → Host → ℕ → TypedOutput → List ℕ → List ℕ
     → Type 0
 GivesTyped None old new number told before after =
@@ -219,7 +219,7 @@ GivesTyped (Some placed) old new number told before after =
     × (new ≡ after_typed old placed.output (length before)))
     ⊎ ((number ≡ 10) × (told ≡ nothing_typed) × (new ≡ old) × (after ≡ before))
 
--- the same through a handle, which may hold no agent
+-- the same with a handle, which may hold no agent
 abbrev pub GivesNextTyped : Option Host → Option Host → ℕ → TypedOutput → List ℕ → List ℕ → Type 0
 GivesNextTyped None new number told before after =
     (number ≡ 1) × (new ≡ None) × (told ≡ nothing_typed) × (after ≡ before)

@@ -1,5 +1,5 @@
-//! The functions by which C asks for commands by their fields. Each takes the headers that were
-//! given before it by `sip_ua_raw_header`.
+//! The functions by which C asks for commands, by their fields. Each takes the headers that were
+//! given before it with `sip_ua_raw_header`.
 
 ghost use Rattle.std.specs.Prelude.{◌≡◌};
 ghost use Rattle.sip_host.specs.Asking.{TakesCommand, TakesHeader, ack_of, cancel_of, invite_of, plain_of, prack_of, request_of, respond_of};
@@ -158,7 +158,7 @@ pub extern "C" fn sip_ua_raw_request(
     tell(answer, asked)
 }
 
-/// Answers a request, by its id.
+/// Sends a response to a request, by the request's id.
 #[unsafe(no_mangle)]
 pub extern "C" fn sip_ua_raw_respond(
     alloc: Global,
@@ -267,7 +267,7 @@ pub extern "C" fn sip_ua_raw_prack(
     tell(answer, asked)
 }
 
-/// Cancels an INVITE that was sent, by its id.
+/// Cancels an INVITE that was sent, by the INVITE's id.
 #[unsafe(no_mangle)]
 pub extern "C" fn sip_ua_raw_cancel(
     alloc: Global,
@@ -296,7 +296,7 @@ pub extern "C" fn sip_ua_raw_cancel(
     tell(answer, asked)
 }
 
-// Tells the answer of a command, and gives its number.
+// Tells the answer to a command, and gives its number.
 fn tell(answer: Result<Id, HostFault>, asked: &mut Asked) -> u32
     ensures number { result ≡ spec.number_of_answer answer }
     ensures told { asked.new ≡ asked_of answer }

@@ -1,5 +1,5 @@
-//! The functions by which C begins, feeds, runs and ends an agent, and takes what it gives. Each
-//! takes the agent out of its handle, calls it, and puts it back; so do those of `questions`.
+//! The functions by which C begins, feeds, runs and ends an agent, and takes its outputs. Each
+//! takes the agent out of its handle, calls it, and puts it back. Those of `questions` do the same.
 
 ghost use Rattle.std.specs.Prelude.{◌≡◌, ℕ, IfOk, IfSome, IsSome, List, None, OnErr, Option, is_some, if◌then◌else◌};
 ghost use Rattle.std.specs.List.{slice_get};
@@ -20,10 +20,10 @@ use sip_host::{Host, put};
 use sip_round::MAX_MOMENT;
 use std::alloc::{AllocError, Global};
 
-/// The greatest number of shards.
+/// The maximum number of shards.
 const MAX_SHARDS: usize = 256;
 
-/// Begins an agent of so many shards in a handle that holds none.
+/// Begins an agent with `shards` shards, in a handle that holds none.
 #[unsafe(no_mangle)]
 pub extern "C" fn sip_ua_raw_new(
     alloc: Global,
@@ -53,7 +53,7 @@ pub extern "C" fn sip_ua_raw_new(
     OK
 }
 
-// Whether an agent of so many shards can be started with this.
+// Whether an agent with this configuration and this number of shards can begin.
 fn can_begin(configuration: &Configuration, shards: usize) -> bool
     ensures { result ≡ can_begin (config_of configuration.now) shards }
 {
@@ -79,7 +79,7 @@ pub extern "C" fn sip_ua_raw_datagram(
     number_of_answer(answer)
 }
 
-/// A line of an event file that says an event, without its end.
+/// A line of an event file that says an event, without its line end.
 #[unsafe(no_mangle)]
 pub extern "C" fn sip_ua_raw_event_line(alloc: Global, handle: &mut Handle, line: &[u8]) -> u32
     ensures { Calls handle.old.owned.host handle.new.owned.host result (TakesLine line.now) }
@@ -92,7 +92,7 @@ pub extern "C" fn sip_ua_raw_event_line(alloc: Global, handle: &mut Handle, line
     number_of_answer(answer)
 }
 
-/// The lines of an event as a session file has them, the last one without its end.
+/// The lines of an event as a session file has them. The last one stands without its end.
 #[unsafe(no_mangle)]
 pub extern "C" fn sip_ua_raw_event_lines(alloc: Global, handle: &mut Handle, lines: &[u8]) -> u32
     ensures { Calls handle.old.owned.host handle.new.owned.host result (TakesLines lines.now) }
@@ -105,7 +105,7 @@ pub extern "C" fn sip_ua_raw_event_lines(alloc: Global, handle: &mut Handle, lin
     number_of_answer(answer)
 }
 
-/// The send of this index among the outputs of the last round could not be sent.
+/// The output with this index in the last round is a send that failed.
 #[unsafe(no_mangle)]
 pub extern "C" fn sip_ua_raw_failed(alloc: Global, handle: &mut Handle, output: usize) -> u32
     ensures { Calls handle.old.owned.host handle.new.owned.host result (TakesFailure output) }
@@ -118,7 +118,7 @@ pub extern "C" fn sip_ua_raw_failed(alloc: Global, handle: &mut Handle, output: 
     number_of_answer(answer)
 }
 
-/// Deals with the events at a moment in ms.
+/// Runs a round with the events, at a moment in ms.
 #[unsafe(no_mangle)]
 pub extern "C" fn sip_ua_raw_run(alloc: Global, handle: &mut Handle, moment: u64) -> u32
     ensures { Calls handle.old.owned.host handle.new.owned.host result (RunsRound moment) }
@@ -157,7 +157,7 @@ pub extern "C" fn sip_ua_raw_next_output(
     }
 }
 
-/// The next output of the last round by its fields, if one is left.
+/// The next output of the last round, by its fields, if one is left.
 #[unsafe(no_mangle)]
 pub extern "C" fn sip_ua_raw_next(
     alloc: Global,
@@ -183,7 +183,7 @@ pub extern "C" fn sip_ua_raw_next(
     }
 }
 
-// The next output, which is taken where the buffer has room for its texts.
+// The next output. It is taken if its texts fit into the buffer.
 fn give(alloc: Global, host: &mut Host, buffer: &mut [u8]) -> Result<TypedOutput, AllocError>
     ensures given { IfOk result (λ told. GivesTyped (slice_get host.old.outputs.items
         host.old.taken) host.old host.new 0 told buffer.old buffer.new) }
@@ -203,7 +203,7 @@ fn give(alloc: Global, host: &mut Host, buffer: &mut [u8]) -> Result<TypedOutput
     Ok(typed)
 }
 
-/// The first moment at which something is due, if there is one.
+/// The first moment at which a held transaction or call is due, if there is one.
 #[unsafe(no_mangle)]
 pub extern "C" fn sip_ua_raw_next_due(alloc: Global, handle: &mut Handle, due: &mut Due) -> u32
     ensures same { handle.new.owned.host ≡ handle.old.owned.host }
@@ -222,7 +222,7 @@ pub extern "C" fn sip_ua_raw_next_due(alloc: Global, handle: &mut Handle, due: &
     OK
 }
 
-/// Ends the agent of a handle, which holds none then.
+/// Ends the agent of a handle, which holds none after that.
 #[unsafe(no_mangle)]
 pub extern "C" fn sip_ua_raw_free(alloc: Global, handle: &mut Handle) -> u32
     ensures none { handle.new.owned.host ≡ None }

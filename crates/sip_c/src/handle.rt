@@ -8,7 +8,7 @@ use sip_host::Host;
 use std::alloc::Global;
 use std::mem;
 
-/// A handle: whether it holds an agent, and where. With all bytes 0 it holds none.
+/// A handle: whether it holds an agent, and where. If all its bytes are 0, it holds none.
 #[repr(C)]
 #[derive(Drop)]
 pub struct Handle {

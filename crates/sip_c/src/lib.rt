@@ -1,4 +1,4 @@
-//! The agent of a host as a static library for C. `include/sip_ua.h` says how it is called.
+//! A host's agent, as a static library for C. `include/sip_ua.h` says how to call it.
 #![tactic(auto)]
 
 mod commands;

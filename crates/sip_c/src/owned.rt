@@ -1,4 +1,4 @@
-//! A boxed value behind a pointer, or none.
+//! A boxed value behind a pointer, or no value.
 
 ghost use Rattle.std.specs.Prelude.{◌≡◌, Option, IsSome, Some, None};
 ghost use Rattle.sip_host.specs.declared.host.Host.{Host};
@@ -9,8 +9,8 @@ use std::alloc::Global;
 use std::marker::Model;
 use std::ptr;
 
-/// The owner of a boxed host, or of none, as C can hold it. To drop it frees nothing: `into_box`
-/// gives the box back.
+/// The owner of a boxed host, or of none, in a form that C can hold. Dropping it frees nothing;
+/// `into_box` gives the box back.
 #[repr(C)]
 #[derive(Drop)]
 pub struct Owned {
@@ -24,7 +24,7 @@ impl Model for Owned {
 }
 
 impl Owned {
-    /// The owner of none.
+    /// An owner that has no host.
     pub fn empty(alloc: Global) -> Owned
         ensures { result.host ≡ None }
     {

@@ -1,5 +1,5 @@
-//! The functions by which C asks for the id of an event, for what is held, and for
-//! what a datagram says.
+//! The functions by which C asks for the id of an event, for what an agent holds, and for what a
+//! datagram says.
 
 ghost use Rattle.std.specs.Prelude.{◌≡◌, ◌≤◌, IfSome, None, Some, length};
 ghost use Rattle.sip_host.specs.Hosting.{HoldsSo, last_id_of};
@@ -28,7 +28,7 @@ pub extern "C" fn sip_ua_raw_last_id(alloc: Global, handle: &mut Handle, id: &mu
     OK
 }
 
-/// What is held, and what waits.
+/// What the agent holds, and what waits in it.
 #[unsafe(no_mangle)]
 pub extern "C" fn sip_ua_raw_stats(alloc: Global, handle: &mut Handle, stats: &mut Stats) -> u32
     ensures same { handle.new.owned.host ≡ handle.old.owned.host }
@@ -69,7 +69,7 @@ pub extern "C" fn sip_ua_raw_datagram_at(
     OK
 }
 
-/// What the start line says of the datagram that came in at a place of the last round.
+/// What the start line of the datagram that came in at a place of the last round says.
 #[unsafe(no_mangle)]
 pub extern "C" fn sip_ua_raw_start_line(
     alloc: Global,
@@ -100,7 +100,7 @@ pub extern "C" fn sip_ua_raw_start_line(
     }
 }
 
-/// The value of a header by its number, from 0, in the datagram that came in at a place of the last
+/// The value of a header, by its number from 0, in the datagram that came in at a place of the last
 /// round.
 #[unsafe(no_mangle)]
 pub extern "C" fn sip_ua_raw_header_value(

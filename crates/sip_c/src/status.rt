@@ -1,4 +1,4 @@
-//! What calls answer.
+//! The numbers that calls answer.
 
 ghost use Rattle.std.specs.Prelude.{◌≡◌};
 ghost use Rattle.sip_c.specs.Status as spec;
@@ -16,7 +16,7 @@ pub(crate) const HELD: u32 = 2;
 
 pub(crate) const NO_MEMORY: u32 = 10;
 
-/// The number of shards or of the first round is none.
+/// The number of shards or of the first round is out of range.
 pub(crate) const BAD_CONFIGURATION: u32 = 12;
 
 /// The number of a fault.

@@ -1,4 +1,4 @@
-//! An output as fields: numbers, and texts one behind the other.
+//! An output as fields: numbers, and texts one after another.
 
 ghost use Rattle.std.specs.Prelude.{◌≡◌, IfOk};
 ghost use Rattle.sip_common.specs.OwnCall.{call_of_notice};
@@ -11,8 +11,9 @@ use sip_served::Notice;
 use sip_transactions::DropReason;
 use std::alloc::{AllocError, Global};
 
-/// An output: what `Told` says, and the fields that an output of its kind has, beside zeros. The
-/// lengths are those of its texts in bytes, in the order in which they stand one behind the other.
+/// An output: what `Told` says, and the fields that an output of its kind has; all others are zero.
+/// The lengths are those of its texts in bytes, in the order in which the texts stand, one after
+/// another.
 #[repr(C)]
 #[derive(Clone, Copy)]
 pub struct TypedOutput {
@@ -58,7 +59,7 @@ pub(crate) fn nothing_typed() -> TypedOutput
     }
 }
 
-/// The output of this index.
+/// The output with this index.
 pub(crate) fn typed_of(index: usize, placed: &PlacedOutput) -> TypedOutput
     ensures { result ≡ spec.typed_of index placed.now }
 {
@@ -73,7 +74,7 @@ pub(crate) fn typed_of(index: usize, placed: &PlacedOutput) -> TypedOutput
     typed
 }
 
-/// Its texts one behind the other.
+/// Its texts, one after another.
 pub(crate) fn texts_of(alloc: Global, output: &Output) -> Result<Vec<u8>, AllocError>
     ensures { IfOk result (λ texts. texts.items ≡ spec.texts_of output.now) }
 {

@@ -1,4 +1,4 @@
-//! What crosses to C.
+//! The values that pass between C and this library.
 
 ghost use Rattle.std.specs.Prelude.{◌≡◌};
 ghost use Rattle.sip_c.specs.Called as spec;
@@ -26,7 +26,7 @@ impl Address {
     }
 }
 
-/// What an agent is started with.
+/// The values with which an agent is started.
 #[repr(C)]
 #[derive(Clone, Copy)]
 pub struct Configuration {
@@ -47,8 +47,8 @@ impl Configuration {
     }
 }
 
-/// An output: its kind, where it goes if it is a send, the place of the event that it comes of, its
-/// index among those of the last round, and the length of its text in bytes.
+/// An output: its kind, where it goes if it is a send, the place of the event that it belongs to,
+/// its index in the last round, and the length of its text in bytes.
 #[repr(C)]
 #[derive(Clone, Copy)]
 pub struct Told {
@@ -67,7 +67,7 @@ pub struct Due {
     pub moment: u64,
 }
 
-/// The address of a send, and zeros for another output.
+/// The address of a send; zeros for another output.
 pub(crate) fn address_of(to: Option<Addr>) -> Address
     ensures { result ≡ spec.address_of to }
 {
@@ -84,7 +84,7 @@ pub(crate) fn address_of(to: Option<Addr>) -> Address
     }
 }
 
-/// The next output, or that there is none.
+/// The next output, or zeros if there is none.
 pub(crate) fn told_of(next: Option<NextOutput>) -> Told
     ensures { result ≡ spec.told_of next }
 {
@@ -113,7 +113,7 @@ pub(crate) fn told_of(next: Option<NextOutput>) -> Told
     }
 }
 
-/// The moment, or that there is none.
+/// The moment, or zeros if there is none.
 pub(crate) fn due_of(moment: Option<u64>) -> Due
     ensures { result ≡ spec.due_of moment }
 {
@@ -138,7 +138,7 @@ pub struct EventId {
     pub round: u64,
 }
 
-/// The id, or that there is none.
+/// The id, or zeros if there is none.
 pub(crate) fn id_of(id: Option<Id>) -> EventId
     ensures { result ≡ spec.id_of id }
 {
@@ -156,7 +156,7 @@ pub(crate) fn id_of(id: Option<Id>) -> EventId
     }
 }
 
-/// What is told of a command: the id of its event, or the number of the part that is bad, or 0.
+/// The answer to a command: the id of its event, or the number of the bad part, or 0.
 #[repr(C)]
 #[derive(Clone, Copy)]
 pub struct Asked {
@@ -174,7 +174,7 @@ pub(crate) fn nothing_asked() -> Asked
     }
 }
 
-/// What is told of a command's answer.
+/// The answer to a command, as C gets it.
 pub(crate) fn asked_of(answer: Result<Id, HostFault>) -> Asked
     ensures { result ≡ spec.asked_of answer }
 {
@@ -213,8 +213,8 @@ pub(crate) fn reliability_of(is_reliable: bool) -> Reliability
     }
 }
 
-/// What is held: transactions and calls that have begun and not ended. What waits: events of the
-/// next round, which has this number, and outputs of the last one.
+/// What is held: transactions and calls that have begun and haven't ended. What waits: events of
+/// the next round, which has this number, and outputs of the last round.
 #[repr(C)]
 #[derive(Clone, Copy)]
 pub struct Stats {
@@ -225,7 +225,7 @@ pub struct Stats {
     pub outputs: usize,
 }
 
-/// What is held and what waits, or zeros.
+/// What is held and what waits, or zeros if there is no agent.
 pub(crate) fn stats_of(holds: Option<Holdings>) -> Stats
     ensures { result ≡ spec.stats_of holds }
 {
@@ -247,7 +247,7 @@ pub(crate) fn stats_of(holds: Option<Holdings>) -> Stats
     }
 }
 
-// The greatest number stands for all above it.
+// The highest number stands for all above it.
 fn shown(number: u128) -> u64
     ensures { result ≡ spec.shown number }
 {
@@ -267,7 +267,7 @@ pub struct Datagram {
     pub len: usize,
 }
 
-/// The datagram, or that there is none.
+/// The datagram, or zeros if there is none.
 pub(crate) fn datagram_of(came: Option<(Addr, usize)>) -> Datagram
     ensures { result ≡ spec.datagram_of came }
 {
@@ -293,7 +293,7 @@ pub struct TextLength {
     pub len: usize,
 }
 
-/// The length of a text, or that there is none.
+/// The length of a text, or zeros if there is none.
 pub(crate) fn length_of(length: Option<usize>) -> TextLength
     ensures { result ≡ spec.length_of length }
 {
@@ -309,8 +309,8 @@ pub(crate) fn length_of(length: Option<usize>) -> TextLength
     }
 }
 
-/// A start line, if there is one: its kind, the status of a response, the length of the method of a
-/// request, and that of its Request-URI or of a response's reason, in bytes.
+/// A start line, if there is one: its kind, the status of a response, the length of a request's
+/// method, and that of its Request-URI or of a response's reason, in bytes.
 #[repr(C)]
 #[derive(Clone, Copy)]
 pub struct StartLine {
@@ -320,7 +320,7 @@ pub struct StartLine {
     pub len: usize,
 }
 
-/// The start line, or that there is none.
+/// The start line, or zeros if there is none.
 pub(crate) fn start_line_of(start: Option<StartLength>) -> StartLine
     ensures { result ≡ spec.start_line_of start }
 {

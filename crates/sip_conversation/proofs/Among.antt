@@ -1,4 +1,4 @@
--- What is among the elements of lists that are put together.
+-- The elements of lists that are put together.
 use Rattle.std.proofs.Common.{◌≡◌, ◌⊎◌, inl, inr, ⊎_elim, Bool, true, false, cond, List, [], ◌∷◌, map, refl, sym, subst, ap, ◌∙◌, arith}
 use Rattle.std.specs.Prelude.{Contains, filter}
 use Rattle.std.specs.List.{AllByRecursion, flat_map}
@@ -9,7 +9,7 @@ module _ {X : Type 0} where
   pub none_among : (x : X) → Contains [] x → ⊥
   none_among x among = let within = among.1 in absurd (omega arith)
 
-  -- it is the first, or among the others
+  -- an element is the first one, or among the others
   pub first_or_later : (y : X) (ys : List X) (x : X) → Contains (y ∷ ys) x
       → (y ≡ x) ⊎ Contains ys x
   first_or_later y ys x among =
@@ -23,7 +23,7 @@ module _ {X : Type 0} where
   pub among_later : (y : X) (xs : List X) (x : X) → Contains xs x → Contains (y ∷ xs) x
   among_later y xs x among = Contains-append_right (y ∷ []) xs x among
 
-  -- what holds of all holds of each, and the other way round
+  -- what is true of all elements is true of each, and the other way round
   pub each_of : (P : X → Type 0) (xs : List X) (x : X) → AllByRecursion P xs → Contains xs x → P x
   each_of P [] x all among = absurd (none_among x among)
   each_of P (y ∷ ys) x all among =
@@ -47,7 +47,7 @@ module _ {X : Type 0} where
   all_both goes (x ∷ xs) one other =
       (goes x one.0 other.0, all_both goes xs one.1 other.1)
 
-  -- what a test keeps
+  -- one step of filtering by a test
   kept_step : (test : X → Bool) (y x : X) (ys kept : List X) (b : Bool) → test y ≡ b
       → (Contains kept x → Contains ys x × (test x ≡ true))
       → Contains (cond b (y ∷ kept) kept) x → Contains (y ∷ ys) x × (test x ≡ true)
@@ -101,7 +101,7 @@ module _ {X Y : Type 0} where
       (λ later. among_later (f y) (map f ys) (f x) (mapped_among f ys x later))
       (first_or_later y ys x among)
 
-  -- what one of several lists has
+  -- an element of one of several lists is one of all of them joined
   pub in_one_of : (f : X → List Y) (xs : List X) (y : Y) → Contains (flat_map f xs) y
       → (x : X) × Contains xs x × Contains (f x) y
   in_one_of f [] y among = absurd (none_among y among)

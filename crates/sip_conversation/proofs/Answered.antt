@@ -1,4 +1,4 @@
--- A response that an agent says is an answer of its user, or of its own, to a request that came.
+-- A response that an agent says is its user's answer, or its own, to a request that came.
 use Rattle.std.proofs.Common.{◌≡◌, ℕ, Bool, true, false, List, [], ◌∷◌, ◌++◌, refl, sym, ap, ◌∙◌, subst, arith, slice_index}
 use Rattle.std.specs.Prelude.{Contains, IfSome, Option, None, Some, codes}
 use Rattle.std.specs.Result.{result_ok}
@@ -59,7 +59,7 @@ answer_body : (local : Addr) (held : HeldRequest) (r : Respond)
 unfolding with_content_of
 answer_body local held r = refl
 
--- ---- what an answer copies
+-- ---- an answer copies parts of its request
 
 made_copies : (request : Message) (status : ℕ) (reason tag : List ℕ)
     → IsResponseTo request (response_of request status reason tag)
@@ -83,7 +83,7 @@ answer_copies local held r =
     by_case false true = record { vias = refl; from = refl; call_id = refl; cseq = refl }
     by_case false false = record { vias = refl; from = refl; call_id = refl; cseq = refl }
 
--- ---- the text of a response is that of no ACK
+-- ---- the text of a response isn't that of an ACK
 
 abbrev Begins : ℕ → List ℕ → Type 0
 Begins byte text = (rest : List ℕ) × (text ≡ byte ∷ rest)
@@ -146,7 +146,7 @@ module _ (config : Config) (rounds : List Round) (Came : Message → Type 0) whe
   abbrev pub CameToAnswer : Message → Type 0
   CameToAnswer message = Came message × (is_request_message message ≡ true)
 
-  -- an answer of the user or of the agent itself, to a request that came
+  -- an answer of the user or of the agent itself to a request that came
   pub record IsAnswer (message : Message) (status : ℕ) : Type 0 where
     pub answered : IsAnswered config rounds status message.body
     pub request : AnswersARequest Came message
@@ -240,7 +240,7 @@ module _ (config : Config) (rounds : List Round) (Came : Message → Type 0) whe
   input_gives call_id now (Some (event, User command)) among came =
       command_gives call_id now event command among
 
-  -- each request that came to a call, or to a transaction, is such
+  -- each request that came to a call or a transaction is such a request
   pub record AllCame : Type 0 where
     pub calls : (call_id : List ℕ)
         → AllByRecursion (TimedCame (UpCame Came)) (call_inputs_of config rounds call_id)
@@ -249,7 +249,7 @@ module _ (config : Config) (rounds : List Round) (Came : Message → Type 0) whe
 
   module _ (alone : EachKeyAlone call_cmp (call_machine (calls_of config)) tick_at)
       (came : AllCame) where
-    -- ---- what is said
+    -- ---- what an agent says
 
     out_says : (out : CallOut) → CallSays config rounds out → OutSays Answers out
     out_says out says =

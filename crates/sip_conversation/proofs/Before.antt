@@ -1,4 +1,4 @@
--- What comes in a turn, the other side said in the turns before.
+-- The other side said what comes in a turn in the turns before it.
 use Rattle.std.proofs.Common.{◌≡◌, Bool, true, List, [], ◌∷◌, ◌++◌, refl, subst}
 use Rattle.std.specs.Prelude.{Contains, IfSome, Option, None, Some}
 use Rattle.std.proofs.lemmas.List.Elements.{Contains-push}
@@ -39,7 +39,7 @@ own_side : (s : Side) → is_side s s ≡ true
 own_side side.One = refl
 own_side side.Other = refl
 
--- the last turn is one of its side
+-- the last turn belongs to its own side
 last_round : (before : List Turn) (turn : Turn)
     → Contains (rounds_of turn.side (before ++ turn ∷ [])) turn.round
 last_round before turn =

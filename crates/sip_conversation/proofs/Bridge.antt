@@ -1,5 +1,5 @@
--- What is written for a message that keeps the rules arrives as that message, stamped with its
--- source where it is a request.
+-- What is written for a message that keeps the rules arrives as that message; a request has the
+-- stamp of its source.
 use Rattle.std.proofs.Common.{◌≡◌, ◌⊎◌, inl, inr, ℕ, Bool, true, false, List, length, sym, ap, subst, ◌<◌, ◌≤◌}
 use Rattle.std.specs.Prelude.{nat_lt, Result, Ok, Err, Some, None, if◌then◌else◌}
 use Rattle.std.proofs.lemmas.Bool.{ltb-false, ltb-true}
@@ -30,7 +30,7 @@ use Rattle.sip_round.specs.Arrivals.{arrival_for, arrival_of, datagram_arrival, 
 use Rattle.sip_conversation.specs.Messages.{come_from}
 use Rattle.sip_conversation.proofs.Rounds.{ArrivalFits}
 
--- a text that isn't too long is read as the message
+-- a text that isn't too long is read as its message
 read_again : (message : Message) → IsMessage message → length (written message) ≤ 65535
     → message_at (written message) ≡ Ok message
 read_again message rules short =
@@ -66,7 +66,7 @@ module _ (config : Config) (Fits : Key → Input → Type 0) (id : Id) (from : A
   stray_or_not true message reply_to fits = tt
   stray_or_not false message reply_to fits = fits
 
-  -- all that is received of a message fits
+  -- whatever is received for a message fits
   by_request : (request : Bool) (message : Message)
       → ((reply_to : Addr) → ReceiptFits (if request then stamped message from else message)
       reply_to)
@@ -91,8 +91,8 @@ module _ (config : Config) (Fits : Key → Input → Type 0) (id : Id) (from : A
   long_or_read message read fits (inr long) =
       subst (λ r. ArrivalFits config Fits (datagram_arrival config.local id from r)) (sym long) tt
 
-  -- what comes of the text of a message that keeps the rules fits, where that message does as it
-  -- comes from there; a text that is too long is dropped
+  -- what arrives with the text of a message that keeps the rules fits, if the message as it comes
+  -- from there does; a text that is too long is dropped
   pub text_fits : (message : Message) (bytes : List ℕ) → bytes ≡ written message
       → IsMessage message
       → ((reply_to : Addr) → ReceiptFits (come_from from message) reply_to)
@@ -103,7 +103,7 @@ module _ (config : Config) (Fits : Key → Input → Type 0) (id : Id) (from : A
       (datagram_arrival config.local id from (message_at text))) (sym is)
       (long_or_read message (message_at (written message)) fits (what_comes message rules))
 
--- what holds of all that may be received, and of each failed send, holds of what arrives
+-- what is true of all that may be received, and of each failed send, is true of what arrives
 pub any_arrival : (config : Config) (Fits : Key → Input → Type 0)
     → ((id : Id) (message : Message) (reply_to : Addr)
     → Fits (key_of_message message) (Receive id message reply_to))

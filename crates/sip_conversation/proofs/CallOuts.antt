@@ -1,5 +1,5 @@
--- What a call tells: of a response only where one comes up, under its Call-ID and with its status,
--- its tags and its body.
+-- A call tells its user of a response only if one comes up, with its Call-ID, status, tags and
+-- body.
 use Rattle.sip_calls.specs.Call.{CallItem, Taken, call_machine, call_step, event_of, made_tag, new_call}
 use Rattle.sip_calls.specs.Sides.{by_server, side_of}
 use Rattle.sip_calls.specs.declared.call.Call.{Call}
@@ -38,7 +38,7 @@ use Rattle.sip_common.specs.declared.item.CallOut.TheVariants as out
 use Rattle.sip_common.specs.declared.notice.Notice.TheVariants as notice
 use Rattle.sip_transactions.specs.declared.output.Kind.TheVariants as kind
 
--- of requests and of answers nothing is asked here
+-- nothing is required of requests and answers here
 abbrev pub Any : Message → Type 0
 Any message = Unit {0}
 
@@ -60,7 +60,7 @@ any_kind kind.Timeout = tt
 any_kind kind.Failed = tt
 
 module _ (Tells : List ℕ → ℕ → List ℕ → List ℕ → List ℕ → Type 0) where
-  -- of Call-ID, status, tags and body of each response that the user is told of, this is said
+  -- this is true of the Call-ID, status, tags and body of each response that the user is told of
   abbrev pub NoticeTells : Notice → Type 0
   NoticeTells (notice.Response call_id id status local_tag remote_tag body) =
       Tells call_id status local_tag remote_tag body
@@ -136,12 +136,12 @@ module _ (Tells : List ℕ → ℕ → List ℕ → List ℕ → List ℕ → Ty
 
   -- ---- a call
 
-  -- what a response that comes up under a Call-ID says, where it has a status
+  -- this is true of a response that comes up under a Call-ID, if it has a status
   abbrev pub ResponseTells : List ℕ → Message → Type 0
   ResponseTells call_id response = (status : ℕ) → status_of response.start ≡ Some status
       → Tells call_id status (tag_of response.from) (tag_of response.to) response.body
 
-  -- of a response that comes up this is said
+  -- this is true of a response that comes up
   abbrev pub KindTells : List ℕ → Kind → Type 0
   KindTells call_id (kind.Request request reply_to) = Unit {0}
   KindTells call_id (kind.Ack ack) = Unit {0}

@@ -1,4 +1,4 @@
--- What a call says: requests that it starts, answers of its user or of its own, and texts of ACKs.
+-- What a call says: requests that it starts, answers of its user or its own, and texts of ACKs.
 use Rattle.std.proofs.Common.{ℕ, Bool, true, false, cond, List, [], ◌∷◌, subst, sym}
 use Rattle.std.specs.Prelude.{Option, None, Some, IfSome}
 use Rattle.std.specs.List.{AllByRecursion}
@@ -28,7 +28,7 @@ module _ (Came Given : Message → Type 0) (own : OwnAnswers Came Given) where
   pub allows : AllowsServed (OutSays Given) Given
   allows = record { told = λ one other. tt; answer = λ id key {message} here. here }
 
-  -- the answers that it holds are such, and the requests that it sent
+  -- the answers that it holds, and the requests that it sent, are such messages
   pub record CallIs (call : Call) : Type 0 where
     pub served : StateGiven (OutSays Given) Came Given allows call.served
     pub clients : AskAll call.clients
@@ -39,7 +39,7 @@ module _ (Came Given : Message → Type 0) (own : OwnAnswers Came Given) where
   abbrev CallSays : Call × List CallOut → Type 0
   CallSays taken = CallIs taken.0 × Say taken.1
 
-  -- each answer to a command is one
+  -- each answer that a command gives is one
   abbrev pub UserGives : UserCommand → Type 0
   UserGives (user.Invite invite) = Unit {0}
   UserGives (user.Plain plain) = Unit {0}

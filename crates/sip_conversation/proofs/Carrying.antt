@@ -14,7 +14,7 @@ use Rattle.sip_conversation.specs.Conversation as side
 use Rattle.sip_conversation.proofs.Among.{all_go}
 use Rattle.sip_conversation.proofs.Longer.{given_longer, rounds_of-append}
 
--- each event, at its side
+-- this is true of each event, at its side
 abbrev pub TurnHolds : (Side → Event → Type 0) → Turn → Type 0
 TurnHolds Holds turn = AllByRecursion (Holds turn.side) (turn.round).events
 
@@ -46,7 +46,7 @@ module _ (Holds : Side → Event → Type 0) (s : Side) where
   )
   one_round false turn kept is here rest = rest
 
-  -- what holds in each turn of each event, holds in each round of a side
+  -- what is true of each event in each turn is true of each event in each round of a side
   pub in_rounds : (turns : List Turn) → AllByRecursion (TurnHolds Holds) turns
       → AllByRecursion RoundHolds (rounds_of s turns)
   in_rounds [] all = tt
@@ -54,7 +54,7 @@ module _ (Holds : Side → Event → Type 0) (s : Side) where
       one_round (is_side s turn.side) turn (filter (λ t. is_side s t.side) turns) refl all.0
       (in_rounds turns all.1)
 
--- ---- carried
+-- ---- what is carried
 
 module _ (configs : Side → Config) where
   carried_longer : (before more : List Turn) (s : Side) (e : Event) → IsCarried configs before s e

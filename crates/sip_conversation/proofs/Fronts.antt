@@ -18,7 +18,7 @@ module _ (configs : Side → Config) where
       → Carried configs front
   front_carried front more carried = carried_front [] front more carried
 
-  -- in a front of the turns calls keep the rules too
+  -- in a front of the turns calls also keep the rules
   pub front_keeps : (front more : List Turn) → CallsKeepRules configs (front ++ more)
       → CallsKeepRules configs front
   front_keeps front more keep s out says =
@@ -57,7 +57,7 @@ module _ (configs : Side → Config) where
   keeps_before turns before after turn same keep =
       front_keeps before (turn ∷ after) (subst (CallsKeepRules configs) same keep)
 
--- ---- a turn is none of the other side
+-- ---- a turn of one side isn't one of the other side
 
 other_side : (s : Side) → is_side (peer s) s ≡ false
 other_side side.One = refl

@@ -1,4 +1,4 @@
--- What is given and said in rounds, is so in those and more.
+-- What is given and said in rounds is also given and said in those and more rounds.
 use Rattle.std.proofs.Common.{◌≡◌, ℕ, ◌+◌, Bool, List, [], ◌∷◌, ◌++◌, map, length, sym, ap, ◌∙◌, subst, ⊎_elim}
 use Rattle.std.specs.Prelude.{Contains, filter}
 use Rattle.std.specs.declared.cmp.Ordering.{Ordering}

@@ -1,5 +1,5 @@
--- What a transaction sends is the text of a message that it was given or made, and what it hands up
--- is a message that came to it.
+-- What a transaction sends is the text of a message that it was given or made. What it hands up is
+-- a message that came to it.
 use Rattle.std.proofs.Common.{◌≡◌, ℕ, Bool, true, false, cond, ◌&&◌, List, [], ◌∷◌, refl, sym, ap, ◌∙◌, codes, subst}
 use Rattle.std.specs.Prelude.{Contains, IfSome, Option, None, Some, not, option_map, option_to_list}
 use Rattle.std.specs.List.{AllByRecursion}
@@ -45,8 +45,8 @@ use Rattle.sip_transactions.proofs.RowFacts.{and-left, and-right, row_passes, ta
 use Rattle.sip_common.proofs.Each.{both}
 use Rattle.sip_conversation.proofs.Among.{all_of}
 
--- ---- the rows: what is given is sent at a command alone, and what is made of a message that came
--- at no command
+-- ---- the rows: only at a command is a given message sent, and only otherwise one made from a
+-- message that came
 
 abbrev is_order : Trigger → Bool
 is_order on.Start = true
@@ -65,7 +65,7 @@ made_fits order send.Latest = true
 made_fits order send.Trying = not order
 made_fits order send.Ack = not order
 
--- a 100 is made of a request alone
+-- a 100 is made only for a request
 abbrev trying_fits : Trigger → Sent → Bool
 trying_fits trigger send.Nothing = true
 trying_fits trigger send.Given = true
@@ -102,15 +102,15 @@ request_arrives : (line : StartLine) (method : List ℕ)
 request_arrives (start.Request uri) method is = refl
 request_arrives (start.Response status reason) method is = absurd (false≢true is)
 
--- ---- what is said of each output, and of each input
+-- ---- what is true of each output and of each input
 
 module _ (Says : Message → Type 0) where
-  -- the text of a message of which this is said
+  -- it is the text of a message of which this is true
   abbrev pub IsTextOf : List ℕ → Type 0
   IsTextOf bytes = (message : Message) × (bytes ≡ written message) × Says message
 
 module _ (Came : Message → Type 0) where
-  -- a message that came, if any, is one of which this is said
+  -- this is true of the message that came, if any
   abbrev pub KindCame : Kind → Type 0
   KindCame (kind.Request message reply_to) = Came message × (is_request_message message ≡ true)
   KindCame (kind.Ack message) = Came message
@@ -125,7 +125,8 @@ module _ (Says Came : Message → Type 0) where
   IsFaithful (out.Dropped place why) = Unit {0}
 
 module _ (all : List (Timed Input)) (Says Came : Message → Type 0) where
-  -- of each message that these inputs give to be sent, and that is made of one that came
+  -- this is true of each message that these inputs give to be sent, or that is made from one that
+  -- came
   pub record AreSaid : Type 0 where
     pub started : (now : ℕ) (id : Id) (call_id : List ℕ) (message : Message) (to : Addr)
         → Contains all (given_at now (Start id call_id message to)) → Says message

@@ -1,4 +1,4 @@
--- A reliable provisional response that a user is told of, the other side said.
+-- The other side said each reliable provisional response that a user is told of.
 use Rattle.std.proofs.Common.{◌≡◌, ◌≢◌, ℕ, Bool, true, false, cond, List, [], ◌∷◌, ◌++◌, map, refl, sym, ap, ◌∙◌, subst}
 use Rattle.std.specs.Prelude.{AllPairs, IfSome, Option, None, Some, filter}
 use Rattle.std.specs.List.{AllByRecursion}
@@ -73,7 +73,7 @@ rseqs_shown calls invite life call (timed ∷ inputs) =
 
 -- ---- who gives them
 
--- a status that the agent gives by itself is that of no reliable provisional response
+-- a status that the agent gives by itself isn't that of a reliable provisional response
 module _ (response : Message) (rseq : ℕ) where
   abbrev IsNone : ℕ → Type 0
   IsNone status = provisional_number (Some status) response ≡ Some rseq → ⊥
@@ -156,7 +156,7 @@ module _ (configs : Side → Config) (fair : IsFair configs) (before : List Turn
         kind_number up.kind up.id held came rseq is up.call_id
     input_number (Some (event, User command)) held came rseq is = tt
 
-    -- ---- those that are told
+    -- ---- those that the user is told of
 
     abbrev Tell : List (ℕ × CallOut) → Type 0
     Tell told = AllByRecursion

@@ -1,4 +1,4 @@
--- A response that a user is told of, the other side said.
+-- The other side said each response that a user is told of.
 use Rattle.std.proofs.Common.{◌≡◌, ℕ, List, [], ◌∷◌, ◌++◌, sym, ap, ◌∙◌, subst}
 use Rattle.std.specs.Prelude.{Contains, IfSome, Option, None, Some}
 use Rattle.std.specs.List.{AllByRecursion, flat_map}
@@ -106,7 +106,7 @@ module _ (configs : Side → Config) (fair : IsFair configs) (before : List Turn
   abbrev other : Side
   other = peer turn.side
 
-  -- before it, what came to the other side this one had said
+  -- before it, this side had said whatever came to the other side
   other_came : AllCame (configs other) (rounds_of other before)
       (ComesUnchanged configs before other)
   other_came = record {
@@ -115,7 +115,7 @@ module _ (configs : Side → Config) (fair : IsFair configs) (before : List Turn
         keep other;
   }
 
-  -- what is said of a response that comes, the message itself
+  -- the other side said the response that comes, exactly as it is
   pub record IsSaidSo (response : Message) (status : ℕ) : Type 0 where
     pub said : SaidResponse configs before turn.side status (tag_of response.from)
         (tag_of response.to) response.body
@@ -156,7 +156,7 @@ module _ (configs : Side → Config) (fair : IsFair configs) (before : List Turn
   Said call_id status local_tag remote_tag body =
       ToldResponse configs before turn call_id status local_tag remote_tag body
 
-  -- what comes up is such a message, under a Call-ID under which it was started for
+  -- what comes up is such a message, under a Call-ID under which its transaction was started
   abbrev Comes : AnUp → Type 0
   Comes up = UpCame Came up
       × UpStarted (configs turn.side) (rounds_of turn.side (before ++ turn ∷ [])) up

@@ -39,7 +39,7 @@ use Rattle.sip_round.proofs.GivenNotices.{calls_are, calls_from}
 use Rattle.sip_conversation.specs.Messages.{CallSays}
 use Rattle.sip_conversation.proofs.Among.{among_kept, in_all_of, in_one_of, none_among}
 
--- ---- what is said in a phase some key says
+-- ---- whatever is said in a phase, some key says
 
 module _ {K S I O : Type 0} (cmp : K → K → Ordering) (total : IsTotalOrder cmp)
     (machine : Machine K S I O) (tick : ℕ → I) where
@@ -72,7 +72,7 @@ module _ (config : Config) where
   abbrev machine : Machine (List ℕ) Call (Timed CallItem) CallOut
   machine = call_machine (calls_of config)
 
-  -- those of the transactions, in rounds of which the first has this number, after a past
+  -- those of the transactions, in rounds numbered upwards from this number, after a past
   abbrev pub transactions_from : ℕ → Past → List Round → List (Phase Key (Timed Input))
   transactions_from number past [] = []
   transactions_from number past (round ∷ rounds) =
@@ -93,7 +93,7 @@ module _ (config : Config) where
       ∙ append_assoc (past.transactions ++ one ∷ []) (two ∷ []) rest
       ∙ append_assoc past.transactions (one ∷ []) (two ∷ rest)
 
-  -- what the calls say in them
+  -- what the calls say in these rounds
   abbrev pub calls_give : ℕ → Past → List Round → List CallOut
   calls_give number past [] = []
   calls_give number past (round ∷ rounds) = given_second config number past round
@@ -123,7 +123,7 @@ module _ (config : Config) where
       (Contains-append_cases (given_second config number past round)
       (calls_give (suc number) next rounds) o among)
 
-  -- what is said by all calls, a call says
+  -- whatever all calls say, one call says
   pub call_says : (rounds : List Round) (o : CallOut)
       → Contains (calls_give config.first no_past rounds) o → CallSays config rounds o
   unfolding past_of
@@ -154,13 +154,13 @@ module _ (config : Config) (Fits : Key → Input → Type 0) where
   RoundFits round = AllByRecursion (λ e. (id : Id) → ArrivalFits (arrival_of config.local id e))
       round.events
 
-  -- what a call asks of a transaction
+  -- what a call asks of a transaction fits
   abbrev pub OutFits : CallOut → Type 0
   OutFits (call_out.Notice notice) = Unit {0}
   OutFits (call_out.Command id command) = Fits (command_key command) (asked_by id command)
   OutFits (call_out.Direct to bytes) = Unit {0}
 
-  -- an input of a transaction
+  -- an input of a transaction fits
   abbrev pub TimedFits : Key → Timed Input → Type 0
   TimedFits key timed = IfSome timed.input (Fits key)
 
@@ -273,7 +273,7 @@ module _ (config : Config) (Fits : Key → Input → Type 0) where
         (phase_fits two (third_fits number past round parts.0))
         (inputs_from_fit (suc number) next rounds fit.1 parts.1))
 
-    -- each input of a transaction fits, where what arrives does and what calls ask
+    -- each input of a transaction fits, if what arrives fits and what calls ask does
     pub inputs_fit : (rounds : List Round) → AllByRecursion RoundFits rounds
         → AllByRecursion OutFits (calls_give config config.first no_past rounds)
         → AllByRecursion (TimedFits key) (inputs_of_rounds config rounds key)

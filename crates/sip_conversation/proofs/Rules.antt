@@ -1,5 +1,5 @@
--- What is made of messages that keep the rules keeps them: a 100, an ACK, and a request with the
--- stamp of its source.
+-- What is made from messages that keep the rules keeps them too: a 100, an ACK, and a request with
+-- the stamp of its source.
 use Rattle.std.proofs.Common.{ℕ, Bool, true, false, cond, List, [], ◌∷◌, refl, ap, ◌∙◌, codes, decimal, arith, take}
 use Rattle.std.specs.Prelude.{IsTrue, Some}
 use Rattle.std.specs.List.{AllByRecursion}

@@ -1,4 +1,4 @@
--- What is sent in rounds: by transactions with their keys, and by calls directly.
+-- What is sent in rounds: by transactions, with their keys, and by calls, directly.
 use Rattle.std.proofs.Common.{ℕ, suc, List, [], ◌∷◌, ◌++◌, sym, subst}
 use Rattle.std.specs.Prelude.{Contains, None, Some}
 use Rattle.std.specs.List.{AllByRecursion, flat_map}
@@ -46,7 +46,7 @@ module _ (config : Config) (rounds : List Round) (Fits : List ℕ → Type 0) wh
   sends_fit (out.Send key to bytes ∷ outs) fit = (fit.0, sends_fit outs fit.1)
   sends_fit (out.Dropped place why ∷ outs) fit = sends_fit outs fit.1
 
-  -- what transactions send fits, where all that each says to send does
+  -- what transactions send fits, if all that each of them says to send does
   pub own_sends_fit : ((key : Key) → AllByRecursion SendFits (said_of config rounds key))
       → (key : Key) (to : Addr) (bytes : List ℕ)
       → Contains (all_given (answers config rounds)) (output.Send (Some key) to bytes)
@@ -116,7 +116,7 @@ module _ (Fits : CallOut → Type 0) where
         (answer_fits number past round parts.0)
         (given_fits (suc number) next rounds parts.1)
 
-    -- what is sent without a key, a call sends directly
+    -- what is sent without a key is sent directly by a call
     pub direct_sends_fit : (rounds : List Round)
         → AllByRecursion Fits (calls_give config config.first no_past rounds)
         → (to : Addr) (bytes : List ℕ)

@@ -1,4 +1,4 @@
--- What holds of both sides.
+-- What is true of both sides.
 use Rattle.sip_conversation.specs.Conversation.{Side, of_sides}
 use Rattle.sip_conversation.specs.Conversation as side
 

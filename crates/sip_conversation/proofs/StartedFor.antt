@@ -1,5 +1,5 @@
--- A response that comes up to a call, comes up under a Call-ID under which a transaction with its
--- branch and its method was started.
+-- A response that comes up to a call comes up under a Call-ID under which a transaction with its
+-- branch and method was started.
 use Rattle.std.proofs.Common.{◌≡◌, ℕ, List, [], refl, sym, subst, ap, ◌∙◌, arith}
 use Rattle.std.specs.Prelude.{None, Some}
 use Rattle.std.specs.List.{AllByRecursion}
@@ -42,7 +42,7 @@ use Rattle.sip_conversation.proofs.Rounds.{ArrivalFits, OutFits, RoundFits, Time
 use Rattle.sip_conversation.proofs.StartedUps.{UpIsStarted, WasStarted, ups_started}
 use Rattle.sip_conversation.proofs.Ups.{OutCame}
 
--- the key of a response is one of a client
+-- the key of a response is a client's
 client_side : (line : StartLine) (branch host : List ℕ) (port : ℕ) (method : List ℕ) (status : ℕ)
     → status_of line ≡ Some status → side_of (key_at line branch host port method) ≡ 0
 client_side (start.Request uri) branch host port method status is = absurd cc

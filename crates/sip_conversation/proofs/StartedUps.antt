@@ -1,5 +1,5 @@
--- What comes up from a transaction of a client, comes up under the Call-ID under which it was
--- started.
+-- What comes up from a client transaction comes up under the Call-ID under which the transaction
+-- was started.
 use Rattle.std.proofs.Common.{◌≡◌, ℕ, Bool, true, false, cond, ◌&&◌, ◌||◌, List, [], ◌∷◌, refl, sym, ap, ◌∙◌, codes, subst}
 use Rattle.std.specs.Prelude.{Contains, IfSome, Option, None, Some, not, is_none, option_map, option_to_list, unwrap_or}
 use Rattle.std.specs.List.{AllByRecursion}
@@ -41,7 +41,7 @@ use Rattle.sip_transactions.proofs.RowFacts.{and-left, and-right, row_passes, ta
 use Rattle.sip_common.proofs.Each.{both}
 use Rattle.sip_conversation.proofs.Among.{all_of}
 
--- ---- the rows: where nothing is held, a start alone begins a life, and nothing else is handed up
+-- ---- the rows: if nothing is held, only a start begins a life; any other row hands nothing up
 
 abbrev is_start : Trigger → Bool
 is_start on.Start = true

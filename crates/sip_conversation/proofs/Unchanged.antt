@@ -63,21 +63,21 @@ come_keeps source address message rules = by (is_request_message message)
     by false = rules
 
 module _ (alone : EachKeyAlone key_cmp transaction_machine tick_at) where
-  -- ---- one agent, to which only messages come that keep the rules
+  -- ---- one agent, to which only messages that keep the rules come
 
   module _ (config : Config) (rounds : List Round) where
     -- it said the message, which keeps the rules
     abbrev pub Says : Message → Type 0
     Says message = IsMessage message × IsSaid config rounds message
 
-    -- what it is asked to send it said, and what comes keeps the rules
+    -- it said what it is asked to send, and what comes keeps the rules
     abbrev pub IsSoundInput : Key → Input → Type 0
     IsSoundInput key (input.Receive id message reply_to) = IsMessage message
     IsSoundInput key (input.Start id call_id message to) = Says message
     IsSoundInput key (input.Answer id message) = Says message
     IsSoundInput key (input.Failed id) = Unit {0}
 
-    -- what its calls say, and by the rules
+    -- its calls say this, and by the rules
     abbrev IsSoundOut : CallOut → Type 0
     IsSoundOut out = CallSays config rounds out × KeepsRules out
 
@@ -144,7 +144,7 @@ module _ (alone : EachKeyAlone key_cmp transaction_machine tick_at) where
       text_of (out.Send key to bytes) faithful = faithful
       text_of (out.Dropped place why) faithful = tt
 
-      -- each Send is the text of a message that it said, and that keeps the rules
+      -- each Send is the text of a message that it said and that keeps the rules
       pub text_sent : (key : Option Key) (to : Addr) (bytes : List ℕ)
           → Contains (all_given (answers config rounds)) (Send key to bytes)
           → IsTextOf Says bytes
@@ -178,7 +178,7 @@ module _ (alone : EachKeyAlone key_cmp transaction_machine tick_at) where
     abbrev AreFine : List Turn → Type 0
     AreFine turns = AllByRecursion (TurnHolds IsFine) turns
 
-    -- what arrives by it is sound
+    -- what arrives with it is sound
     abbrev ArrivesSound : List Turn → Side → Event → Type 0
     ArrivesSound turns s e = (id : Id) → ArrivalFits (configs s)
         (IsSoundInput (configs s) (rounds_of s turns)) (arrival_of (configs s).local id e)

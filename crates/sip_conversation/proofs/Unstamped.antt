@@ -1,4 +1,4 @@
--- A response comes as it was said.
+-- A response comes exactly as it was said.
 use Rattle.std.proofs.Common.{◌≡◌, ℕ, Bool, true, refl, sym, ap, ◌∙◌}
 use Rattle.std.specs.Prelude.{Some, if◌then◌else◌}
 use Rattle.std.proofs.lemmas.Bool.{false≢true}

@@ -1,4 +1,4 @@
--- What comes up to calls came to transactions.
+-- What comes up to calls came to transactions before.
 use Rattle.std.proofs.Common.{ℕ, suc, Bool, true, false, cond, List, [], ◌∷◌, ◌++◌, map, sym, subst}
 use Rattle.std.specs.Prelude.{IfSome, filter}
 use Rattle.std.specs.BTreeMap.{is_at}
@@ -35,12 +35,12 @@ use Rattle.sip_conversation.proofs.Among.{all_of, each_of}
 use Rattle.sip_conversation.proofs.OneTransaction.{KindCame}
 use Rattle.sip_conversation.proofs.Rounds.{all_of_parts, some_key, transactions_are, transactions_from}
 
--- a message that comes up, if any, is one of which this is said
+-- this is true of the message that comes up, if any
 abbrev pub UpCame : (Message → Type 0) → AnUp → Type 0
 UpCame Came up = KindCame Came up.kind
 
 module _ (Comes : AnUp → Type 0) where
-  -- what comes up is such a thing
+  -- an output that hands something up hands up such a thing
   abbrev pub OutCame : Out → Type 0
   OutCame (out.Up up) = Comes up
   OutCame (out.Send key to bytes) = Unit {0}
@@ -188,7 +188,7 @@ module _ (Comes : AnUp → Type 0) where
         (λ key. (all_of_parts OutCame (of_two key) (of_rest key)
         (all_of_parts OutCame (of_one key) (of_two key ++ of_rest key) (all key)).1).1) call_id)
 
-    -- what a call is given came to a transaction, where all that transactions hand up did
+    -- what a call is given came to a transaction, if all that transactions hand up did
     pub inputs_came : (rounds : List Round)
         → ((key : Key) → AllByRecursion OutCame (said_of config rounds key))
         → (call_id : List ℕ) → AllByRecursion TimedCame (call_inputs_of config rounds call_id)

@@ -1,4 +1,4 @@
--- How a request of the peer is answered: by the user, or by the agent itself.
+-- How a request of the peer is answered: by the user or by the agent itself.
 use Rattle.std.specs.Prelude.{◌≡◌, ℕ, true, List, [], ◌∷◌, Contains}
 use Rattle.sip_message.specs.declared.id.Id.{Id}
 use Rattle.sip_message.specs.declared.message.Message.{Message}
@@ -11,8 +11,8 @@ use Rattle.sip_round.specs.declared.config.Config.{Config}
 use Rattle.sip_round.specs.declared.round.Round.{Round}
 use Rattle.sip_round.specs.Laws.{call_inputs_of}
 
--- what an agent answers by itself (RFC 3261, sections 8.2.2.2, 8.2.2.3, 9.2, 12.2.2 and 17.2.1; RFC
--- 3262, section 3)
+-- the statuses with which an agent answers by itself (RFC 3261, sections 8.2.2.2, 8.2.2.3, 9.2,
+-- 12.2.2 and 17.2.1; RFC 3262, section 3)
 abbrev pub own_statuses : List ℕ
 own_statuses = 100 ∷ 200 ∷ 420 ∷ 481 ∷ 482 ∷ 487 ∷ 500 ∷ []
 
@@ -23,15 +23,15 @@ module _ (config : Config) (rounds : List Round) where
       × Contains (call_inputs_of config rounds call_id)
       (given_at now (event, User (user.Respond respond)))
 
-  -- in these rounds the user gave one of this status and this body
+  -- in these rounds the user gave such a command, with this status and this body
   pub record RespondsSo (status : ℕ) (body : List ℕ) : Type 0 where
     pub respond : Respond
     pub gave : Responds respond
     pub status_is : respond.status ≡ status
     pub body_is : respond.content.body ≡ body
 
-  -- This status and this body are those of an answer: of a command by which the user responded in
-  -- these rounds, or, without a body, of the agent itself.
+  -- This status and this body are those of an answer: the user gave a command to respond with them
+  -- in these rounds, or the agent itself answered, without a body.
   pub data IsAnswered (status : ℕ) (body : List ℕ) : Type 0 where
     ByUser : RespondsSo status body → IsAnswered status body
     ByAgent : Contains own_statuses status → body ≡ [] → IsAnswered status body
@@ -43,7 +43,7 @@ pub record IsResponseTo (request response : Message) : Type 0 where
   pub call_id : response.call_id ≡ request.call_id
   pub cseq : response.cseq ≡ request.cseq
 
--- it does so of a request of which this is said
+-- it copies them from a request of which this is true
 pub record AnswersARequest (Came : Message → Type 0) (response : Message) : Type 0 where
   pub request : Message
   pub is_request : is_request_message request ≡ true

@@ -1,5 +1,5 @@
--- A conversation of two agents, over a network that loses, doubles, delays, reorders and misdirects
--- datagrams.
+-- A conversation of two agents, over a network that loses, duplicates, delays, reorders and
+-- misdirects datagrams.
 use Rattle.std.specs.Prelude.{◌≡◌, ℕ, Bool, true, false, List, [], ◌∷◌, ◌++◌, Contains, Option, filter, map}
 use Rattle.std.specs.List.{AllByRecursion}
 use Rattle.sip_message.specs.declared.addr.Addr.{Addr}
@@ -55,23 +55,23 @@ module _ (configs : Side → Config) where
   WasSent turns side bytes = (key : Option Key) × (to : Addr)
       × Contains (given_by turns (peer side)) (Send key to bytes)
 
-  -- A datagram comes from the other side's address, and in these turns was sent from there. Of a
-  -- send that failed, and of a command, nothing is asked.
+  -- A datagram comes from the other side's address, and was sent from there in these turns. For a
+  -- failed send and a command nothing is required.
   abbrev pub IsCarried : List Turn → Side → Event → Type 0
   IsCarried turns side (Datagram from bytes) =
       (from ≡ (configs (peer side)).local) × WasSent turns side bytes
   IsCarried turns side (Failed key) = Unit {0}
   IsCarried turns side (Command command) = Unit {0}
 
-  -- each datagram of these turns was sent in a turn before its own: in one of those before all of
-  -- these, or in one of these
+  -- each datagram of these turns was sent in a turn before its own, which is one of these or one of
+  -- those before them
   abbrev pub CarriedAfter : List Turn → List Turn → Type 0
   CarriedAfter before [] = Unit {0}
   CarriedAfter before (turn ∷ turns) =
       AllByRecursion (IsCarried before turn.side) (turn.round).events
       × CarriedAfter (before ++ turn ∷ []) turns
 
-  -- Each datagram of each turn was sent in an earlier one. What was sent may never come, may come
-  -- again, late, and in another order.
+  -- Each datagram of each turn was sent in an earlier one. A datagram that was sent may be lost,
+  -- duplicated, late, or out of order.
   abbrev pub Carried : List Turn → Type 0
   Carried turns = CarriedAfter [] turns

@@ -9,8 +9,8 @@ use Rattle.sip_round.specs.declared.round.Event.TheVariants.{Datagram}
 use Rattle.sip_conversation.specs.Conversation.{Side, Turn, peer, rounds_of}
 use Rattle.sip_conversation.specs.Messages.{IsSaid}
 
--- the bytes are the text of a message that the other side said in these turns, and are read as that
--- message, unless they are too many for one
+-- the bytes are the text of a message that the other side said in these turns; they are read as
+-- that message, unless they are too long
 pub record IsTextSaid (configs : Side → Config) (turns : List Turn) (side : Side)
     (bytes : List ℕ) : Type 0 where
   pub original : Message
@@ -18,7 +18,7 @@ pub record IsTextSaid (configs : Side → Config) (turns : List Turn) (side : Si
   pub text : bytes ≡ written original
   pub read : (message_at bytes ≡ Ok original) ⊎ (65535 < length bytes)
 
--- so is, in the turns before a turn, each datagram that comes in it
+-- so is each datagram that comes in a turn, by the turns before it
 abbrev pub DatagramsAreTextsSaid : (Side → Config) → List Turn → Type 0
 DatagramsAreTextsSaid configs turns =
     (before after : List Turn) (turn : Turn) → turns ≡ before ++ turn ∷ after

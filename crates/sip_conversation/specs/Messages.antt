@@ -32,7 +32,7 @@ message_of (Start key call_id message to) = message
 message_of (Answer key message) = message
 
 module _ (config : Config) (rounds : List Round) where
-  -- in these rounds a transaction was given this
+  -- in these rounds a transaction was given this input
   abbrev pub IsGiven : Key → Input → Type 0
   IsGiven key input =
       (now : ℕ) × Contains (inputs_of config rounds key) (given_at now input)
@@ -42,8 +42,8 @@ module _ (config : Config) (rounds : List Round) where
   CallSays out = (call_id : List ℕ) × Contains (said_of_call config rounds call_id) out
 
   -- In these rounds an agent said this message. A call asked a transaction to send it, or sent its
-  -- text outside of any transaction. Or a transaction made it: the 100 of a request that came to it
-  -- (RFC 3261, section 17.2.1), or the ACK of a request that it was to start and of a message that
+  -- text outside of any transaction. Or a transaction made it: the 100 for a request that came to
+  -- it (RFC 3261, section 17.2.1), or the ACK for a request that it was to start and a message that
   -- came to it (17.1.1.3).
   pub data IsSaid (message : Message) : Type 0 where
     Asked : (id : Id) (command : Command) → CallSays (call_out.Command id command)
@@ -57,25 +57,25 @@ module _ (config : Config) (rounds : List Round) where
         → IsGiven key (input.Receive answered response reply_to)
         → message ≡ ack_of invite response → IsSaid message
 
--- what calls ask to send keeps the rules of messages, or is the text of a message that does
+-- a message that a call asks to send keeps the rules of messages; a text is that of such a message
 abbrev pub KeepsRules : CallOut → Type 0
 KeepsRules (call_out.Notice notice) = Unit {0}
 KeepsRules (call_out.Command id command) = IsMessage (message_of command)
 KeepsRules (call_out.Direct to bytes) =
     (message : Message) × (bytes ≡ written message) × IsMessage message
 
--- so on both sides, in all turns
+-- all calls of both sides do so, in all turns
 abbrev pub CallsKeepRules : (Side → Config) → List Turn → Type 0
 CallsKeepRules configs turns = (side : Side) (out : CallOut)
     → CallSays (configs side) (rounds_of side turns) out → KeepsRules out
 
--- a message as it comes from an address: a request is stamped with that (RFC 3261, section 18.2.1)
+-- a message as it comes from an address: a request gets its stamp (RFC 3261, section 18.2.1)
 abbrev pub come_from : Addr → Message → Message
 come_from source message =
     if is_request_message message then stamped message source else message
 
--- the message is one that the other side said in these turns and that keeps the rules, but for the
--- stamp
+-- the message is one that the other side said in these turns and that keeps the rules, except for
+-- the stamp
 pub record ComesUnchanged (configs : Side → Config) (turns : List Turn) (side : Side)
     (message : Message) : Type 0 where
   pub original : Message
@@ -83,7 +83,7 @@ pub record ComesUnchanged (configs : Side → Config) (turns : List Turn) (side 
   pub rules : IsMessage original
   pub same : message ≡ come_from (configs (peer side)).local original
 
--- so is, in the turns before a turn, each message that came to a transaction of its side by its end
+-- so is each message that came to a side's transaction up to a turn, by the turns before it
 abbrev pub MessagesComeUnchanged : (Side → Config) → List Turn → Type 0
 MessagesComeUnchanged configs turns =
     (before after : List Turn) (turn : Turn) → turns ≡ before ++ turn ∷ after
@@ -94,7 +94,7 @@ MessagesComeUnchanged configs turns =
 
 -- ---- what comes up to calls
 
--- the message that comes up from a transaction, where one does
+-- the message that comes up from a transaction, if one does
 abbrev pub message_up : Kind → Option Message
 message_up (kind.Request message reply_to) = Some message
 message_up (kind.Ack message) = Some message

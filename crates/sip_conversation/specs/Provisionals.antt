@@ -1,5 +1,5 @@
--- The reliable provisional responses that a user is told of: their RSeqs are consecutive, each is
--- told once, and each is one that the other side said before (RFC 3262, section 4).
+-- The reliable provisional responses that a user is told of have consecutive RSeqs, each is told
+-- once, and the other side said each of them before (RFC 3262, section 4).
 use Rattle.std.specs.Prelude.{◌≡◌, ◌≢◌, ℕ, List, [], ◌∷◌, ◌++◌, AllPairs, Option, None, Some, filter, map}
 use Rattle.std.specs.List.{AllByRecursion}
 use Rattle.sip_model.specs.Machine.{Timed}
@@ -21,12 +21,12 @@ use Rattle.sip_conversation.specs.Replies.{SaidResponse}
 
 -- ---- what a user is told of them
 
--- the notices of a response, each with the RSeq of the response
+-- the notices of a response, each with the response's RSeq
 abbrev pub told_with : Option ℕ → List CallOut → List (ℕ × CallOut)
 told_with None outs = []
 told_with (Some rseq) outs = map (λ out. (rseq, out)) (filter is_response outs)
 
--- those of the reliable provisional responses to an INVITE in a life of a dialog, in order
+-- those about the reliable provisional responses to an INVITE in one life of a dialog, in order
 abbrev pub told_from : Calls → AnInvite → DialogReference → Option Call → List (Timed CallItem)
     → List (ℕ × CallOut)
 told_from calls invite life call [] = []
@@ -36,26 +36,26 @@ told_from calls invite life call (input ∷ inputs) =
 
 -- ---- what the other side said
 
--- the other side said in these turns such a response, with this RSeq, as a reliable provisional one
--- with a tag in To, as its user responded
+-- in these turns the other side said such a response as a reliable provisional one, with this RSeq
+-- and a tag in To, because its user responded that way
 pub record SaidReliably (configs : Side → Config) (turns : List Turn) (side : Side)
     (rseq status : ℕ) (local_tag remote_tag body : List ℕ) : Type 0 where
   pub response : SaidResponse configs turns side status local_tag remote_tag body
   pub number : provisional_number (Some status) response.original ≡ Some rseq
   pub by_user : RespondsSo (configs (peer side)) (rounds_of (peer side) turns) status body
 
--- the response of a notice is such a one, and there is no other notice
+-- it is the notice of a response, and the other side said that response
 abbrev pub IsSaidReliably : (Side → Config) → List Turn → Side → ℕ → CallOut → Type 0
 IsSaidReliably configs turns side rseq
     (Notice (Response call_id id status local_tag remote_tag body)) =
     SaidReliably configs turns side rseq status local_tag remote_tag body
 IsSaidReliably configs turns side rseq _ = ⊥
 
--- ---- of a turn after others
+-- ---- a turn after others
 
 module _ (configs : Side → Config) (before : List Turn) (turn : Turn) where
-  -- what its user is told by its end of those to an INVITE in a life of a dialog, each with its
-  -- RSeq
+  -- what the turn's user is told up to its end about those to an INVITE in one life of a dialog,
+  -- each with its RSeq
   abbrev pub told_reliably : List ℕ → AnInvite → DialogReference → List (ℕ × CallOut)
   told_reliably call_id invite life = told_from (calls_of (configs turn.side)) invite life None
       (call_inputs_of (configs turn.side) (rounds_of turn.side (before ++ turn ∷ [])) call_id)
@@ -70,7 +70,7 @@ module _ (configs : Side → Config) (before : List Turn) (turn : Turn) where
     pub said : AllByRecursion (λ told. IsSaidReliably configs before turn.side told.0 told.1)
         (told_reliably call_id invite life)
 
--- of every turn, call, INVITE and life of a dialog
+-- for every turn, call, INVITE and life of a dialog
 abbrev pub ProvisionalsToldAsSaid : (Side → Config) → List Turn → Type 0
 ProvisionalsToldAsSaid configs turns =
     (before after : List Turn) (turn : Turn) → turns ≡ before ++ turn ∷ after

@@ -1,5 +1,5 @@
--- A response that a user is told of: one that the other side said before, to a request that came to
--- it.
+-- A response that a user is told of is one that the other side said before, to a request that came
+-- to it.
 use Rattle.std.specs.Prelude.{◌≡◌, ℕ, List, [], ◌∷◌, ◌++◌, Contains, Some}
 use Rattle.sip_message.specs.declared.addr.Addr.{Addr}
 use Rattle.sip_message.specs.declared.id.Id.{Id}
@@ -17,9 +17,9 @@ use Rattle.sip_conversation.specs.Answers.{AnswersARequest, IsAnswered}
 use Rattle.sip_conversation.specs.Conversation.{Side, Turn, given_by, peer, rounds_of}
 use Rattle.sip_conversation.specs.Messages.{ComesUnchanged, IsGiven, IsSaid}
 
--- The other side said in these turns a response of this status, these tags in From and To, and this
--- body. It is an answer of its user or of the agent itself, to a request that came to it: one that
--- this side said, but for the stamp.
+-- In these turns the other side said a response with this status, these tags in From and To, and
+-- this body. It is an answer of its user or of the agent itself, to a request that came to it. This
+-- side said that request, except for the stamp.
 pub record SaidResponse (configs : Side → Config) (turns : List Turn) (side : Side) (status : ℕ)
     (local_tag remote_tag body : List ℕ) : Type 0 where
   pub original : Message
@@ -41,15 +41,15 @@ pub record IsStartedFor (config : Config) (rounds : List Round) (call_id : List 
   pub to : Addr
   pub given : IsGiven config rounds (key_of_message response) (Start id call_id request to)
 
--- the other side said such a response before a turn, and by its end this side started a transaction
--- for it under the Call-ID of the notice
+-- the other side said such a response before a turn, and up to its end this side started a
+-- transaction for it, under the Call-ID of the notice
 pub record ToldResponse (configs : Side → Config) (before : List Turn) (turn : Turn)
     (call_id : List ℕ) (status : ℕ) (local_tag remote_tag body : List ℕ) : Type 0 where
   pub response : SaidResponse configs before turn.side status local_tag remote_tag body
   pub started : IsStartedFor (configs turn.side) (rounds_of turn.side (before ++ turn ∷ []))
       call_id response.original
 
--- so is each response that the user of a turn's side is told of by its end
+-- so is each response that the user of a turn's side is told of, up to the turn's end
 abbrev pub ResponsesToldWereSaid : (Side → Config) → List Turn → Type 0
 ResponsesToldWereSaid configs turns =
     (before after : List Turn) (turn : Turn) → turns ≡ before ++ turn ∷ after

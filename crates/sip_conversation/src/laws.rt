@@ -15,10 +15,10 @@ use sip_round::{Config, provisionals_in_each_life};
 use sip_transactions::Transactions;
 
 /// In a carried conversation, each message that comes to a transaction of one side in a turn is one
-/// that the other side said in the turns before: that a call of it asked to send, or that a
-/// transaction of it made of what it was given. It comes unchanged, but for the stamp of its source
-/// in a request (RFC 3261, section 18.2.1). It takes that all that calls of both sides ask to send
-/// keeps the rules of messages.
+/// that the other side said in the turns before. One of its calls asked to send the message, or one
+/// of its transactions made it from what it was given. The message comes unchanged, except for the
+/// stamp of its source in a request (RFC 3261, section 18.2.1). The law requires that all that
+/// calls of both sides ask to send keeps the rules of messages.
 pub fn messages_come_unchanged(one: Config, other: Config)
     ensures { (turns : List Turn) → Carried (of_sides one other) turns
         → CallsKeepRules (of_sides one other) turns
@@ -42,8 +42,8 @@ pub fn datagrams_are_texts_said(one: Config, other: Config)
     laws_of_phases(&Transactions);
 }
 
-/// In such a conversation each message that comes up to a call in a turn is one that the other side
-/// said in the turns before, too, but for the stamp.
+/// In such a conversation each message that comes up to a call in a turn is also one that the other
+/// side said in the turns before, except for the stamp.
 pub fn calls_hear_unchanged(one: Config, other: Config)
     ensures { (turns : List Turn) → Carried (of_sides one other) turns
         → CallsKeepRules (of_sides one other) turns
@@ -54,12 +54,12 @@ pub fn calls_hear_unchanged(one: Config, other: Config)
     laws_of_phases(&Transactions);
 }
 
-/// In such a conversation a user is told of reliable provisional responses to an INVITE, in one
-/// life of a dialog, with consecutive RSeqs, of each once (RFC 3262, section 4). In the turns
-/// before the one in which it is told, the other side said a reliable provisional response of this
-/// RSeq, with the status, the tags and the body that are told, as its user gave the command to
-/// respond with that status and that body. The law doesn't say that it was to this INVITE, nor that
-/// the first of these RSeqs is 1.
+/// In such a conversation, the reliable provisional responses to an INVITE that a user is told of,
+/// in one life of a dialog, have consecutive RSeqs, and the user is told of each once (RFC 3262,
+/// section 4). In the turns before the one in which the user is told, the other side said a
+/// reliable provisional response with this RSeq and with the status, the tags and the body that are
+/// told. Its user gave the command to respond with that status and body. The law doesn't say that
+/// the response was to this INVITE, or that the first of these RSeqs is 1.
 pub fn provisionals_told_were_said(one: Config, other: Config)
     ensures { (turns : List Turn) → Carried (of_sides one other) turns
         → CallsKeepRules (of_sides one other) turns
@@ -78,13 +78,13 @@ pub fn provisionals_told_were_said(one: Config, other: Config)
     provisionals_in_each_life(&other);
 }
 
-/// In such a conversation, of each response that a user is told of in a turn the other side said
-/// one of that status, with those tags in From and To, and with that body, in the turns before.
-/// Its user gave the command to respond with that status and that body, or the agent itself
-/// answered with 100, 200, 420, 481, 482, 487 or 500 and no body. It copies Via, From, Call-ID and
-/// CSeq of a request that came to the other side, one that this side said before, but for the stamp
-/// (RFC 3261, section 8.2.6.2). A transaction with its branch and its method was started under the
-/// Call-ID with which it is told. The law doesn't say that this is the Call-ID of the response.
+/// In such a conversation, for each response that a user is told of in a turn, the other side said
+/// one with that status, those tags in From and To, and that body, in the turns before. Its user
+/// gave the command to respond with that status and body, or the agent itself answered with 100,
+/// 200, 420, 481, 482, 487 or 500 and no body. The response copies Via, From, Call-ID and CSeq from
+/// a request that came to the other side, and that this side said before, except for the stamp (RFC
+/// 3261, section 8.2.6.2). A transaction with its branch and method was started under the Call-ID
+/// that the user is told. The law doesn't say that this is the Call-ID of the response.
 pub fn responses_told_were_said(one: Config, other: Config)
     ensures { (turns : List Turn) → Carried (of_sides one other) turns
         → CallsKeepRules (of_sides one other) turns

@@ -1,4 +1,4 @@
--- Lemmas on merges: of marked events that are joined or cut.
+-- Lemmas on merges, when marked events are joined or cut.
 use Rattle.std.proofs.Common.{◌≡◌, ℕ, ◌+◌, ◌<◌, ◌≤◌, inl, inr, List, [], ◌∷◌, ◌++◌, map, refl, sym, ap, subst, ◌∙◌, append_assoc, arith, length}
 use Rattle.std.specs.Prelude.{filter, ◌==◌}
 use Rattle.std.specs.List.{flat_map}
@@ -83,7 +83,7 @@ module _ {E : Type 0} where
     pops,
   )
 
-  -- ---- what a loop gathers
+  -- ---- the events that a loop gathers
 
   pub gathers_nothing : (desk : Desk E) (events : List E) → Gathers desk desk events events
   gathers_nothing desk events = (
@@ -128,7 +128,7 @@ module _ {E : Type 0} where
 
   -- ---- a merge that is cut
 
-  -- marked events that are cut in two
+  -- marked events, cut in two
   split : (front back : List E) (marked : List (ℕ × E)) → unmarked marked ≡ front ++ back
       → (first : List (ℕ × E)) × (second : List (ℕ × E)) × (first ++ second ≡ marked)
       × (unmarked first ≡ front) × (unmarked second ≡ back)
@@ -147,7 +147,7 @@ module _ {E : Type 0} where
         back_is,
       )
 
-  -- marked events that are cut into rounds
+  -- marked events, cut into rounds
   cut : (rounds : List (List E)) (marked : List (ℕ × E))
       → unmarked marked ≡ flat_map (λ round. round) rounds
       → (cuts : List (List (ℕ × E))) × (map unmarked cuts ≡ rounds)
@@ -189,7 +189,7 @@ module _ {E : Type 0} where
             ∙ sym ((collected.2 line).0 ∙ ap (λ xs. xs ++ collected.0 line) (untaken line)),
       )
 
--- what was gathered from nothing was collected
+-- what was gathered, from nothing, was collected
 pub collected_all : {E : Type 0} (old new : Desk E) (events : List E) → Gathers old new [] events
     → Collects old new events
 collected_all old new events gathered = subst (Collects old new) (sym gathered.1) gathered.2
@@ -213,7 +213,7 @@ dry_all desk lines all before = λ j.
       | inr past ↦ map_or_past known_items desk.lines.items j (omega arith)
     ]
 
--- what was left, seen and then collected isn't left again
+-- what was left and seen, and was then collected, isn't left again
 pub not_left_again : {E : Type 0} (refused dry : Desk E) (ended : Ended E) (events : List E)
     → all_posted ended ≡ taken refused ended.line ++ seen refused ended.line
     → Collects refused dry events → IsDry dry → Because dry ended.line ended NotDrained → ⊥

@@ -1,4 +1,4 @@
--- Lemmas on the lines of a desk as a list: what one line's change leaves of the others.
+-- Lemmas on the list of a desk's lines: a change of one line leaves the others as they are.
 use Rattle.std.proofs.Common.{◌≡◌, ℕ, zero, suc, ◌+◌, ◌<◌, ◌≤◌, true, false, List, [], ◌∷◌, ◌++◌, ◌⊎◌, inl, inr, Some, None, refl, sym, ap, subst, ◌∙◌, arith, length, get_or, set, IfSome, IfOk, OnErr}
 use Rattle.std.specs.Prelude.{◌==◌, IfNone, IsSomeAnd, slice_get, Result, Ok, Err, IsOk}
 use Rattle.std.specs.Option.{option_map_or}
@@ -21,7 +21,7 @@ use Rattle.sip_desk.specs.Lines.{posted, capacity_of, IsPosterOf, KeepsLines, Is
 none_some : {X : Type 0} (x : X) → None ≡ Some x → ⊥
 none_some x same = cc
 
--- ---- a result as an option
+-- ---- an option made from a result
 
 pub ok_part : {T F : Type 0} {P Q : T → Type 0} → ((x : T) → P x → Q x) → (r : Result T F)
     → IfOk r P → IfSome (result_ok r) Q
@@ -41,7 +41,7 @@ err_both f (Err e) holds also = f holds also
 pub prefix_of_none : {X : Type 0} (xs ys : List X) → xs ≡ [] → IsPrefix xs ys
 prefix_of_none xs ys none = (ys, ap (λ front. front ++ ys) none)
 
--- ---- one element of a list is written
+-- ---- writing one element of a list
 
 pub map_or_set : {X Y : Type 0} (f : X → Y) (d : Y) (xs : List X) (i : ℕ) (y : X) → i < length xs
     → option_map_or f (slice_get (set xs i y) i) d ≡ f y
@@ -90,7 +90,7 @@ module _ {X E : Type 0} (f : X → List E) (xs : List X) (i : ℕ) (old new : X)
         | inr apart ↦ map_or_set_other f [] xs i other new apart
       ]
 
--- ---- what a step leaves of the lines: `f` is what was taken, `h` what was seen
+-- ---- what a step changes in the lines: `f` is what was taken, `h` what was seen
 
 module _ {X E : Type 0} (f h : X → List E) (xs : List X) (i : ℕ) (old new : X)
     (below : i < length xs) (is : old ≡ get_or xs i old) where
@@ -152,7 +152,7 @@ module _ {X E : Type 0} (f h : X → List E) (xs : List X) (i : ℕ) (old new : 
             )
       ]
 
--- an end that may not be empty-handed where it has seen an item had seen none
+-- where an end that has seen an item may not come back with none, one without an item had seen none
 pub none_seen : {T F X : Type 0} (items : List X) (r : Result T F) → (0 < length items → IsOk r)
     → OnErr r (items ≡ [])
 none_seen items (Ok x) sure = tt
@@ -277,7 +277,7 @@ within P [] i holds = absurd holds
 within P (x ∷ xs) zero holds = omega arith
 within P (x ∷ xs) (suc i) holds = let below : i < length xs = within P xs i holds in omega arith
 
--- what is behind nothing is all
+-- if nothing stands in front, what follows is all
 pub nothing_left : {X : Type 0} (front back whole : List X) (count : ℕ) → front ++ back ≡ whole
     → count ≡ length back → count ≤ 0 → front ≡ whole
 nothing_left front back whole count is counted none =

@@ -1,4 +1,4 @@
--- What was collected, and why a line isn't settled.
+-- The events that were collected, and why a line isn't settled.
 use Rattle.std.specs.Prelude.{◌≡◌, ◌≢◌, ℕ, ◌<◌, List, [], ◌++◌, length}
 use Rattle.sip_desk.specs.declared.ended.Ended.{Ended}
 use Rattle.sip_desk.specs.declared.desk.Desk.{Desk}
@@ -13,17 +13,17 @@ module _ {E : Type 0} where
   Collects old new events =
       (parts : ℕ → List E) × IsMerge parts events × ((line : ℕ) → Gives old new line (parts line))
 
-  -- nothing that was seen is left
+  -- nothing is left that was seen
   abbrev pub IsDry : Desk E → Type 0
   IsDry desk = (line : ℕ) → seen desk line ≡ []
 
-  -- what was gathered has what was collected behind it
+  -- the events collected were put behind those gathered before
   abbrev pub Gathers : Desk E → Desk E → List E → List E → Type 0
   Gathers old new before after =
       (events : List E) × (after ≡ before ++ events) × Collects old new events
 
-  -- why the line of this number isn't settled by the end: it is another's, or events are left on
-  -- the line
+  -- why the end doesn't settle the line with this number: it belongs to another line, or events are
+  -- left on the line
   abbrev pub Because : Desk E → ℕ → Ended E → SettleFault → Type 0
   Because desk line ended WrongLine = ended.line ≢ line
   Because desk line ended NotDrained =

@@ -26,42 +26,42 @@ module _ {E : Type 0} where
   abbrev pub line_count : Desk E → ℕ
   line_count desk = length desk.lines.items
 
-  -- the events that were collected from the line of this number, in order
+  -- the events that were collected from the line with this number, in order
   abbrev pub taken : Desk E → ℕ → List E
   taken desk line = option_map_or received (slice_get desk.lines.items line) []
 
-  -- the events that the desk has seen on the line of this number and not collected yet
+  -- the events that the desk has seen on the line with this number and hasn't collected yet
   abbrev pub seen : Desk E → ℕ → List E
   seen desk line = option_map_or known_items (slice_get desk.lines.items line) []
 
-  -- ---- which ends are of one line
+  -- ---- which ends belong to one line
 
-  -- the poster is that of a line of the desk
+  -- the poster belongs to a line of the desk
   abbrev pub IsPosterOf : Desk E → Poster E → Type 0
   IsPosterOf desk poster =
       IsSomeAnd (slice_get desk.lines.items poster.line) (λ line. IsPair poster.ring line)
 
-  -- the end is that of a line of the desk
+  -- the end belongs to a line of the desk
   abbrev pub IsEndOf : Desk E → Ended E → Type 0
   IsEndOf desk ended =
       IsSomeAnd (slice_get desk.lines.items ended.line) (λ line. IsFinishedOf ended.ring line)
 
-  -- the poster is still that of its line
+  -- the poster still belongs to its line
   pub record SameLine (old new : Poster E) : Type 0 where
     pub number : new.line ≡ old.line
     pub capacity : capacity_of new ≡ capacity_of old
     pub of_desk : (desk : Desk E) → IsPosterOf desk old → IsPosterOf desk new
 
-  -- the end is that of the poster's line
+  -- the end belongs to the poster's line
   pub record IsEndOfLine (poster : Poster E) (ended : Ended E) : Type 0 where
     pub number : ended.line ≡ poster.line
     pub of_desk : (desk : Desk E) → IsPosterOf desk poster → IsEndOf desk ended
 
-  -- the end is still that of its line, with what was posted on it
+  -- the end still belongs to its line, and what was posted on the line is the same
   abbrev pub SameEnd : Ended E → Ended E → Type 0
   SameEnd old new = (new.line ≡ old.line) × (all_posted new ≡ all_posted old)
 
-  -- the desk has the same lines, so what was an end of one of them is it still
+  -- the desk has the same lines, so posters and ends of its lines still belong to them
   pub record KeepsLines (old new : Desk E) : Type 0 where
     pub count : line_count new ≡ line_count old
     pub posters : (poster : Poster E) → IsPosterOf old poster → IsPosterOf new poster
@@ -80,16 +80,16 @@ module _ {E : Type 0} where
         → (poster.line ≡ line) × IsPosterOf desk poster × (posted poster ≡ [])
         × (capacity_of poster ≡ capacity)
 
-  -- the event is the next that was posted
+  -- the event is the next one posted
   abbrev pub Pushes : Poster E → Poster E → E → Type 0
   Pushes old new event = posted new ≡ posted old ++ event ∷ []
 
-  -- the line gives this part: what was seen on it comes first
+  -- the line gives this part; what was seen on it comes first
   abbrev pub Gives : Desk E → Desk E → ℕ → List E → Type 0
   Gives old new line part =
       (taken new line ≡ taken old line ++ part) × IsPrefix (seen old line) (part ++ seen new line)
 
-  -- the event is the next that was taken from the line, and no other line gives one
+  -- the event is the next one taken from the line, and no other line gives one
   abbrev pub Pops : Desk E → Desk E → ℕ → E → Type 0
   Pops old new line event = (other : ℕ) → Gives old new other (part_of other ((line, event) ∷ []))
 
@@ -98,6 +98,6 @@ module _ {E : Type 0} where
   TakesNothing old new =
       (line : ℕ) → (taken new line ≡ taken old line) × IsPrefix (seen old line) (seen new line)
 
-  -- what was posted is final
+  -- the end shows exactly what the poster had posted
   abbrev pub IsFinal : Poster E → Ended E → Type 0
   IsFinal poster ended = all_posted ended ≡ posted poster

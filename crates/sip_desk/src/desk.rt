@@ -1,4 +1,4 @@
-//! The desk: it opens lines, collects what was posted on them, and settles those that have ended.
+//! The desk: it opens lines, collects the events posted on them, and settles lines that have ended.
 
 ghost use Rattle.std.specs.Prelude.{◌≡◌, ◌≢◌, ℕ, ◌<◌, ◌≤◌, [], ◌++◌, length, IsTrue, IsFalse, IfOk, OnOk, OnErr, IfErr, IfSome, IfNone};
 ghost use Rattle.std.specs.Vec.{vec_len, vec_capacity};
@@ -13,11 +13,11 @@ use std::alloc::Global;
 #[derive(Drop)]
 pub struct Desk<E> {
     alloc: Global,
-    // By their numbers.
+    // In the order of their numbers.
     lines: Vec<Consumer<E>>,
 }
 
-/// A desk, and a poster for each of its lines, in the order of their numbers from 0 on. Each line
+/// A desk, and a poster for each of its lines, in the order of their numbers, from 0 on. Each line
 /// has room for `capacity` events.
 ///
 /// # Errors
@@ -44,12 +44,12 @@ pub fn open<E: Drop>(
 }
 
 impl<E: Drop> Desk<E> {
-    /// Takes one event of each line, in the order of the lines, again and again, until there are
-    /// `max` or none is found. It doesn't wait.
+    /// Takes one event from each line, in the order of the lines, again and again, until it has
+    /// `max` events or finds none. It doesn't wait.
     ///
     /// # Errors
     ///
-    /// `NoMemory`, and then nothing was taken.
+    /// `NoMemory`; then nothing was taken.
     pub fn collect(&mut self, max: usize) -> Result<Vec<E>, NoMemory>
         ensures merge { IfOk result (λ events. Collects self.old self.new events.items) }
         ensures most { IfOk result (λ events. length events.items ≤ max) }
@@ -62,7 +62,7 @@ impl<E: Drop> Desk<E> {
         Ok(events)
     }
 
-    // Takes one event of each line while there is room, and says whether it took one.
+    // Takes one event from each line while there is room, and says whether it took any.
     fn pass(&mut self, events: &mut Vec<E>, max: usize) -> bool
         requires room { vec_capacity events.old ≡ max }
         requires most { vec_len events.old ≤ max }
@@ -85,7 +85,7 @@ impl<E: Drop> Desk<E> {
         events.len() > before
     }
 
-    // Takes the oldest event of a line, if one is found.
+    // Takes the oldest event of a line, if it finds one.
     fn take_one(&mut self, line: usize) -> Option<E>
         requires { line < line_count self.old }
         ensures some { IfSome result (λ event. Pops self.old self.new line event) }
@@ -101,9 +101,9 @@ impl<E: Drop> Desk<E> {
     ///
     /// # Errors
     ///
-    /// The end comes back and all is as it was, the first that fits: `WrongLine`, where it isn't
-    /// the end of the line of this number, also where there is no such line; `NotDrained`, where an
-    /// event that was posted on the line wasn't collected.
+    /// The first that fits; the end comes back, and all is as it was. `WrongLine`: the end isn't
+    /// that of the line with this number, or there is no such line. `NotDrained`: an event that was
+    /// posted on the line wasn't collected.
     pub fn settle(
         &mut self,
         line: usize,
@@ -128,7 +128,7 @@ impl<E: Drop> Desk<E> {
         Ok(())
     }
 
-    // How many events are left on the line of an end.
+    // How many events are left on the line that has this end.
     fn count_left(&mut self, ended: &mut Ended<E>) -> usize
         requires { IsEndOf self.old ended.old }
         ensures count { result ≡ length (seen self.new ended.old.line) }

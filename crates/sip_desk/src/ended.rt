@@ -1,4 +1,4 @@
-//! What is left of the posting end of a line, or that nothing is.
+//! What is left of a poster, if anything.
 
 use rtrb::Finished;
 use std::error::Error;

@@ -1,4 +1,4 @@
-//! Laws on what was collected and settled.
+//! Laws about what was collected and settled.
 
 ghost use Rattle.std.specs.Prelude.{◌≡◌, ℕ, List, [], ◌++◌};
 ghost use Rattle.std.specs.List.{flat_map};
@@ -9,11 +9,10 @@ ghost use Rattle.sip_desk.specs.Merge.{IsMerge, HoldsParts};
 ghost use Rattle.sip_desk.specs.Lines.{TakesNothing, taken, seen, all_posted};
 ghost use Rattle.sip_desk.specs.Collected.{Collects, IsDry, Because};
 
-/// Laws: a merge of parts that is cut into rounds holds each part whole and in order; what is
-/// collected twice in turn is collected at once; a call that takes nothing, as `settle`, collects
-/// nothing, so it may stand between two that collect; and where nothing was taken before, the
-/// rounds into which all that was collected is cut hold what was taken from each line, in order and
-/// each event once.
+/// Laws. A merge that is cut into rounds holds each part whole and in order. Two collections, one
+/// after the other, are one. A call that takes nothing, such as `settle`, collects nothing, so it
+/// may stand between two that collect. If nothing was taken before, and all that was collected is
+/// cut into rounds, the rounds hold the events taken from each line, in order and each once.
 pub fn merges_in_rounds<E>()
     ensures cut { (parts : ℕ → List E) (rounds : List (List E))
         → IsMerge parts (flat_map (λ round. round) rounds) → HoldsParts parts rounds }
@@ -26,8 +25,8 @@ pub fn merges_in_rounds<E>()
         → Collects first last (flat_map (λ round. round) rounds) → HoldsParts (taken last) rounds }
 {}
 
-/// Law: where an end wasn't settled since events were left, and then so much is collected that
-/// nothing which was seen is left, it isn't refused for events that are left again.
+/// Law: if an end wasn't settled because events were left, and if collecting then leaves nothing
+/// that was seen, the end isn't refused again because events are left.
 pub fn drained_line_settles<E>()
     ensures { (refused dry : Desk E) (ended : Ended E) (events : List E)
         → all_posted ended ≡ taken refused ended.line ++ seen refused ended.line

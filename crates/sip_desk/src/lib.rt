@@ -1,4 +1,4 @@
-//! Lines that bring events from other threads to one desk, without waiting.
+//! Lines that bring events from other threads to one desk. No thread waits for another.
 #![tactic(auto)]
 
 mod desk;

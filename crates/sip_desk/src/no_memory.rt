@@ -1,10 +1,10 @@
-//! The one error of calls that only need memory.
+//! The only error of a call that just needs memory.
 
 use std::alloc::{AllocError, AllocFailed};
 use std::error::Error;
 use std::fmt;
 
-/// A call needed memory and was refused it.
+/// A call needed memory and didn't get it.
 #[derive(Clone, Copy, Debug, PartialEq, Eq)]
 pub struct NoMemory;
 

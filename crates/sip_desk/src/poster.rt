@@ -11,7 +11,7 @@ use rtrb::{Producer, PushError};
 pub struct Poster<E> {
     pub(crate) line: usize,
     pub(crate) ring: Producer<E>,
-    // Each slot that is not known to be free was filled.
+    // Each slot that isn't known to be free was filled.
     ghost room: { producer_capacity ring ≤ known_free ring + length (sent ring) },
 }
 
@@ -19,12 +19,12 @@ impl<E: Drop> Poster<E> {
     ghost use Rattle.std.specs.Prelude.{IsOk, OnOk, OnErr, IfOk, IfErr};
     ghost use Rattle.sip_desk.specs.Lines.{posted, capacity_of, Pushes, SameLine, IsFinal, IsEndOfLine};
 
-    /// Puts an event on the line, behind those that are there, or gives it back where the line is
-    /// full. It takes no memory and doesn't wait.
+    /// Puts an event on the line, behind those that are there, or gives it back if the line is
+    /// full. Takes no memory and doesn't wait.
     ///
     /// # Errors
     ///
-    /// The event, and then the line is as it was.
+    /// The event; then the line is as it was.
     pub fn post(&mut self, event: E) -> Result<(), E>
         ensures ok { OnOk result (Pushes self.old self.new event) }
         ensures full { IfErr result (λ back. back ≡ event) }
@@ -42,7 +42,7 @@ impl<E: Drop> Poster<E> {
     ///
     /// # Errors
     ///
-    /// `Unfinished`, where the desk is gone.
+    /// `Unfinished` if the desk is gone.
     pub fn finish(self) -> Result<Ended<E>, Unfinished>
         ensures kept { IfOk result (λ ended. IsFinal self ended) }
         ensures end { IfOk result (λ ended. IsEndOfLine self ended) }

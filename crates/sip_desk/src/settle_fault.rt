@@ -6,7 +6,7 @@ use std::fmt;
 /// Why a line wasn't settled.
 #[derive(Clone, Copy, Debug, PartialEq, Eq)]
 pub enum SettleFault {
-    /// The end is that of another line.
+    /// The end belongs to another line.
     WrongLine,
     /// An event that was posted on the line wasn't collected yet.
     NotDrained,

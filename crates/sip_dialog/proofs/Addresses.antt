@@ -1,4 +1,4 @@
--- Addresses: what is read is spelled so, and what is spelled so is read.
+-- Addresses: what is read is spelled that way, and what is spelled that way is read.
 use Rattle.std.proofs.Common.{◌≡◌, ℕ, inl, inr, List, ◌∷◌, ◌++◌, Option, Some, None, refl, sym, ap, subst, ◌∙◌, append_assoc, arith, codes, decimal}
 use Rattle.sip_text.specs.Cut.{cut_at}
 use Rattle.sip_text.specs.Number.{number_at}

@@ -1,4 +1,4 @@
--- What one happening more does to the dialog that is read from its opening and all that happened.
+-- What one more happening does to the dialog that is read from its opening and all that happened.
 use Rattle.std.proofs.Common.{◌≡◌, ℕ, ◌+◌, nat_le, max, ◌||◌, Bool, true, false, cond, List, [], ◌∷◌, ◌++◌, Option, Some, None, Result, Ok, Err, OnOk, refl, sym, ap, ◌∙◌, arith, add-zero, append-nil}
 use Rattle.std.specs.Prelude.{count_by, fold}
 use Rattle.std.specs.List.{list_any, filter_map, cons_option}
@@ -153,7 +153,7 @@ module _ (start : Opening) (life : List Happening) where
         any_more is_confirming life (Confirms response) refl,
       ) refl
 
-  -- the routes and the target that a response gives, by the side
+  -- the routes and the target that a response gives, on each side
   confirmed_with : (side : Side) → side ≡ (opened start).side → (response : Message)
       → dialog_with (opened start) Confirmed
       (target_by (opened start).side before.target (Confirms response))
@@ -170,7 +170,7 @@ module _ (start : Opening) (life : List Happening) where
       (local_kept (Confirms response) refl) (remote_kept (Confirms response) refl)
       ∙ confirmed_with (opened start).side refl response
 
--- ---- over all that happened, where the old dialog stands for it
+-- ---- over all that happened, if the old dialog stands for it
 
 none_of_ok : (fault : Option DialogFault) (u : Unit {0}) → Ok u ≡ ok_unless fault → fault ≡ None
 none_of_ok None u e = refl

@@ -1,4 +1,4 @@
--- The texts of one's own address in a made request keep the rules of their places.
+-- The texts of the agent's own address in a request keep the rules of their places.
 use Rattle.std.proofs.Common.{◌≡◌, ℕ, ◌<◌, Bool, true, false, not, List, [], ◌∷◌, ◌++◌, length, refl, sym, ap, ◌∙◌, IsTrue, codes, decimal, slice_index, arith, eqb}
 use Rattle.std.specs.List.{list_all}
 use Rattle.std.specs.Char.{is_ascii_digit}

@@ -1,4 +1,4 @@
--- What follows the last `@` of a URI, by the place of that `@`.
+-- What follows the last `@` of a URI, found by the place of that `@`.
 use Rattle.std.proofs.Common.{◌≡◌, ℕ, suc, ◌+◌, ◌-◌, ◌<◌, Bool, true, false, not, List, [], ◌∷◌, length, get_or, take, drop, Some, refl, sym, ap, ◌∙◌, arith, length-drop}
 use Rattle.std.specs.List.{list_any, after_last, suffix_len}
 use Rattle.std.proofs.lemmas.Bool.{false_from_ne_true}

@@ -1,4 +1,4 @@
--- What is asked of a dialog (RFC 3261, section 12).
+-- The state of a dialog, as a test (RFC 3261, section 12).
 use Rattle.std.specs.Prelude.{Bool, true, false}
 use Rattle.sip_dialog.specs.declared.dialog.DialogState.{DialogState}
 use Rattle.sip_dialog.specs.declared.dialog.DialogState.TheVariants.{Early, Confirmed, Ended}

@@ -4,7 +4,7 @@ use Rattle.sip_message.specs.declared.party.Party.{Party}
 use Rattle.sip_message.specs.Party.{tag_of}
 use Rattle.sip_dialog.specs.declared.endpoint.Endpoint.{Endpoint}
 
--- a text that isn't empty
+-- the text, if it isn't empty
 abbrev pub some_unless_empty : List ℕ → Option (List ℕ)
 some_unless_empty [] = None
 some_unless_empty (b ∷ bs) = Some (b ∷ bs)
@@ -13,6 +13,6 @@ some_unless_empty (b ∷ bs) = Some (b ∷ bs)
 abbrev pub tag_option : Party → Option (List ℕ)
 tag_option party = some_unless_empty (tag_of party)
 
--- an end of this URI, with the tag of the party
+-- an end with this URI and the tag of the party
 abbrev pub endpoint_of : List ℕ → Party → Endpoint
 endpoint_of uri party = record { uri = uri; tag = tag_option party }

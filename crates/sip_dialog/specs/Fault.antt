@@ -1,4 +1,4 @@
--- Why a function of a dialog refuses: the first reason that fits, in this order. Want of memory
+-- Why a function of a dialog refuses: the first reason that fits, in this order. Lack of memory
 -- comes last.
 use Rattle.std.specs.Prelude.{ℕ, Bool, false, ◌&&◌, nat_le, List, Option, Some, None, Result, Ok, Err, unwrap_or, if◌then◌else◌}
 use Rattle.std.specs.Option.{option_map_or}
@@ -9,7 +9,7 @@ use Rattle.sip_dialog.specs.Dialog.{is_ended, is_early}
 use Rattle.sip_dialog.specs.Request.{is_invite_method}
 use Rattle.sip_dialog.specs.Route.{is_strict}
 
--- of a request of this method: an INVITE wants a confirmed dialog, and the last CSeq is 2^31 - 1
+-- why no request with this method: an INVITE needs a confirmed dialog; no CSeq is above 2^31 - 1
 abbrev pub request_fault : Dialog → List ℕ → Option DialogFault
 request_fault dialog method =
     if is_ended dialog.state then Some Ended
@@ -26,22 +26,22 @@ ack_fault dialog =
     else if is_strict dialog.route_set then Some StrictRoute
     else None
 
--- why an ended dialog changes nothing
+-- why an ended dialog refuses a change
 abbrev pub ended_fault : Dialog → Option DialogFault
 ended_fault dialog = if is_ended dialog.state then Some Ended else None
 
--- the number isn't above the remote CSeq, where there is one
+-- the number isn't above the remote CSeq, if there is one
 abbrev pub is_out_of_order : Option ℕ → ℕ → Bool
 is_out_of_order remote number = option_map_or (nat_le number) remote false
 
--- of a number that the peer sent
+-- why a number that the peer sent is refused
 abbrev pub accept_fault : Dialog → ℕ → Option DialogFault
 accept_fault dialog number =
     if is_ended dialog.state then Some Ended
     else if is_out_of_order dialog.remote_cseq number then Some OutOfOrder
     else None
 
--- want of memory is told where no reason fits
+-- lack of memory, if no reason fits
 abbrev pub or_no_memory : Option DialogFault → DialogFault
 or_no_memory fault = unwrap_or fault NoMemory
 

@@ -12,9 +12,9 @@ use Rattle.sip_dialog.specs.Opening.{Opening, opened, contact_uri}
 
 -- what happens in a dialog
 pub data Happening : Type 0 where
-  -- a request of this method is made in the dialog, other than an ACK
+  -- a request with this method is made in the dialog; it isn't an ACK
   Requests : List ℕ → Happening
-  -- an ACK is made, for the INVITE of this number
+  -- an ACK is made, for the INVITE with this number
   Acknowledges : ℕ → Happening
   -- a request of the peer with this number is accepted
   Accepts : ℕ → Happening
@@ -25,7 +25,7 @@ pub data Happening : Type 0 where
   -- it ends
   Ends : Happening
 
--- a request takes a number, and an ACK has that of its INVITE
+-- whether it takes a number: a request does, but an ACK has that of its INVITE
 abbrev pub takes_number : Happening → Bool
 takes_number (Requests method) = true
 takes_number (Acknowledges number) = false
@@ -43,7 +43,7 @@ accepted_number (Refreshes uri) = None
 accepted_number (Confirms response) = None
 accepted_number Ends = None
 
--- a response confirms the dialog
+-- whether a response confirms the dialog
 abbrev pub is_confirming : Happening → Bool
 is_confirming (Requests method) = false
 is_confirming (Acknowledges number) = false
@@ -52,7 +52,7 @@ is_confirming (Refreshes uri) = false
 is_confirming (Confirms response) = true
 is_confirming Ends = false
 
--- the dialog ends
+-- whether the dialog ends
 abbrev pub is_ending : Happening → Bool
 is_ending (Requests method) = false
 is_ending (Acknowledges number) = false
@@ -61,12 +61,12 @@ is_ending (Refreshes uri) = false
 is_ending (Confirms response) = false
 is_ending Ends = true
 
--- the greater of two numbers, of which the first may not be there
+-- the greater of two numbers, the first of which may be missing
 abbrev pub greater : Option ℕ → ℕ → Option ℕ
 greater None number = Some number
 greater (Some other) number = Some (max other number)
 
--- the routes: those of the last response that confirmed it, at the caller
+-- the routes: at the caller, those of the last response that confirmed the dialog
 abbrev pub routes_by : Side → List NameAddr → Happening → List NameAddr
 routes_by side routes (Requests method) = routes
 routes_by side routes (Acknowledges number) = routes
@@ -77,7 +77,7 @@ routes_by Callee routes (Confirms response) = routes
 routes_by side routes Ends = routes
 
 -- the target: the last URI that was given, or at the caller the last Contact of a response that
--- confirmed it
+-- confirmed the dialog
 abbrev pub target_by : Side → List ℕ → Happening → List ℕ
 target_by side target (Requests method) = target
 target_by side target (Acknowledges number) = target
@@ -87,14 +87,14 @@ target_by Caller target (Confirms response) = unwrap_or (contact_uri response) t
 target_by Callee target (Confirms response) = target
 target_by side target Ends = target
 
--- it ends for good
+-- a dialog that has ended stays so
 abbrev pub state_after : DialogState → List Happening → DialogState
 state_after state life =
     if list_any is_ending life then Ended
     else if list_any is_confirming life then Confirmed else state
 
--- The dialog of an opening after all that happened. The local CSeq is that of the opening and the
--- count of requests that took a number; the remote CSeq is the greatest accepted.
+-- The dialog of an opening after all that happened. The local CSeq is that of the opening, and one
+-- more for each request that took a number. The remote CSeq is the greatest accepted.
 abbrev pub dialog_after : Opening → List Happening → Dialog
 dialog_after opening life = record (opened opening) {
   state = state_after (opened opening).state life;

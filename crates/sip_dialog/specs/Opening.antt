@@ -1,5 +1,5 @@
--- How a dialog begins (RFC 3261, sections 12.1.1 and 12.1.2): at the callee by an INVITE that it
--- answers, at the caller by an answer to its INVITE.
+-- How a dialog begins (RFC 3261, sections 12.1.1 and 12.1.2): at the callee, with an INVITE that it
+-- answers; at the caller, with an answer to its INVITE.
 use Rattle.std.specs.Prelude.{ℕ, nat_lt, List, Option, Some, None, reverse, unwrap_or, if◌then◌else◌}
 use Rattle.std.specs.List.{slice_get}
 use Rattle.std.specs.Option.{option_map}
@@ -15,7 +15,7 @@ use Rattle.sip_dialog.specs.Endpoint.{endpoint_of}
 
 -- the message that a dialog begins with
 pub data Opening : Type 0 where
-  -- at the callee, by a request, the tag that its answers carry in To, and the status of the answer
+  -- at the callee, by a request, the tag that its answers have in To, and the status of the answer
   ByRequest : Message → List ℕ → ℕ → Opening
   -- at the caller, by its request and the response
   ByResponse : Message → Message → Opening
@@ -33,16 +33,16 @@ first_state (Response status reason) = state_by status
 abbrev pub contact_uri : Message → Option (List ℕ)
 contact_uri message = option_map (λ contact. contact.uri) (slice_get message.contacts 0)
 
--- the URI of a request line, or this one in a message that has none
+-- the URI of a request line; this one, if the message has no request line
 abbrev pub request_uri_or : List ℕ → StartLine → List ℕ
 request_uri_or otherwise (Request uri) = uri
 request_uri_or otherwise (Response status reason) = otherwise
 
--- all memory comes of one allocator: a dialog keeps it, and nothing that it says depends on it
+-- all memory comes from one allocator, which a dialog keeps; nothing else in it depends on that
 abbrev pub the_allocator : Global
 the_allocator = record { memory = record { seal = tt } }
 
--- at the callee: the routes in order, no request sent yet, and the number of the request taken
+-- at the callee: the routes in order, no request sent yet, and the number of the INVITE taken
 abbrev pub opened_by_request : Message → List ℕ → ℕ → Dialog
 opened_by_request request tag status = record {
   alloc = the_allocator;
@@ -57,8 +57,8 @@ opened_by_request request tag status = record {
   remote_cseq = Some request.cseq.number;
 }
 
--- at the caller: the routes reversed, the number of its request sent, and none of the peer taken
--- yet
+-- at the caller: the routes in reverse order, the number of its request sent, and no number of the
+-- peer taken yet
 abbrev pub opened_by_response : Message → Message → Dialog
 opened_by_response request response = record {
   alloc = the_allocator;

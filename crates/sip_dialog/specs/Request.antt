@@ -1,4 +1,4 @@
--- The requests that are made in a dialog (RFC 3261, sections 8.1.1 and 12.2.1.1).
+-- The requests that the agent makes in a dialog (RFC 3261, sections 8.1.1 and 12.2.1.1).
 use Rattle.std.specs.Prelude.{ℕ, Bool, List, [], ◌∷◌, ◌++◌, Some, None, codes, if◌then◌else◌}
 use Rattle.std.specs.Str.{bytes_eq}
 use Rattle.sip_parts.specs.declared.parameter.Parameter.{Parameter}
@@ -39,11 +39,11 @@ contact_of local = record { display = []; uri = codes "sip:" ++ addr_text local;
 abbrev pub is_invite_method : List ℕ → Bool
 is_invite_method method = bytes_eq method (codes "INVITE")
 
--- an INVITE has a Contact: this agent's address
+-- an INVITE has a Contact with the agent's address; other requests have none
 unfoldable pub contacts_of : List ℕ → Addr → List NameAddr
 contacts_of method local = if is_invite_method method then contact_of local ∷ [] else []
 
--- the request of this method and number, without its content
+-- the request with this method and number, without its content
 abbrev pub bare_request_in : Dialog → List ℕ → ℕ → List ℕ → Addr → Message
 bare_request_in dialog method number branch local =
     let from = party_of dialog.local.uri dialog.local.tag in
@@ -61,7 +61,7 @@ abbrev pub request_in : Dialog → List ℕ → ℕ → Content → List ℕ →
 request_in dialog method number content branch local =
     with_content_of (bare_request_in dialog method number branch local) content
 
--- the ACK of the INVITE of this number
+-- the ACK of the INVITE with this number
 abbrev pub ack_in : Dialog → ℕ → Content → List ℕ → Addr → Message
 ack_in dialog number content branch local =
     request_in dialog (codes "ACK") number content branch local

@@ -9,20 +9,20 @@ use Rattle.sip_dialog.specs.UriText.{semicolon, before, host_part, is_loose}
 use Rattle.sip_text.specs.Options.{◌>>=◌}
 use Rattle.sip_dialog.specs.Address.{address_at}
 
--- the first route is a strict router
+-- whether the first route is a strict router
 abbrev pub is_strict : List NameAddr → Bool
 is_strict route_set =
     option_map_or (λ route. not (is_loose route.uri)) (slice_get route_set 0) false
 
--- the URI of the first route, or else the target
+-- the URI of the first route; without routes, the target
 abbrev pub next_hop : Dialog → List ℕ
 next_hop dialog = option_map_or (λ route. route.uri) (slice_get dialog.route_set 0) dialog.target
 
--- the address that a URI names by its host and port, where the host is an IPv4 address in dotted
+-- the address that a URI names by its host and port, if the host is an IPv4 address in dotted
 -- decimal numbers
 unfoldable pub address_of : List ℕ → Option Addr
 address_of uri = host_part uri >>= λ part. address_at (before semicolon part)
 
--- the address of the next hop, or this one where its URI names none
+-- the address of the next hop, or this one if the URI of the next hop names none
 abbrev pub hop_of : Dialog → Addr → Addr
 hop_of dialog otherwise = unwrap_or (address_of (next_hop dialog)) otherwise

@@ -7,31 +7,31 @@ use Rattle.sip_dialog.specs.declared.dialog.Side.{Side}
 use Rattle.sip_dialog.specs.declared.dialog.Side.TheVariants.{Caller, Callee}
 use Rattle.sip_dialog.specs.Opening.{contact_uri}
 
--- a request takes the next number
+-- a request takes the next local CSeq
 abbrev pub with_next_number : Dialog → Dialog
 with_next_number dialog = record dialog { local_cseq = dialog.local_cseq + 1 }
 
--- with the remote CSeq of a request that was taken
+-- the remote CSeq is that of a request that was taken
 abbrev pub with_accepted : Dialog → ℕ → Dialog
 with_accepted dialog number = record dialog { remote_cseq = Some number }
 
--- with another remote target
+-- the remote target is another one
 abbrev pub with_target : Dialog → List ℕ → Dialog
 with_target dialog uri = record dialog { target = uri }
 
--- the routes of a response to one's own request, and its target where it has a Contact
+-- the routes of a response to the agent's request, and its Contact as the target, if it has one
 abbrev pub routed_by : Dialog → Message → Dialog
 routed_by dialog response = record dialog {
   route_set = reverse response.record_routes;
   target = unwrap_or (contact_uri response) dialog.target;
 }
 
--- a response confirms the dialog, and at the caller it gives the routes anew
+-- a response confirms the dialog; at the caller it also gives the routes anew
 abbrev pub confirmed_at : Side → Dialog → Message → Dialog
 confirmed_at Callee dialog response = record dialog { state = Confirmed }
 confirmed_at Caller dialog response = record (routed_by dialog response) { state = Confirmed }
 
--- the dialog that a response to the INVITE confirms
+-- the dialog after a response to the INVITE confirmed it
 abbrev pub confirmed_by : Dialog → Message → Dialog
 confirmed_by dialog response = confirmed_at dialog.side dialog response
 

@@ -30,7 +30,7 @@ is_at_sign b = b == 64
 abbrev pub is_semicolon : ℕ → Bool
 is_semicolon b = b == semicolon
 
--- the text up to the first such byte, or all of it where there is none
+-- the text before the first such byte, or all of it if there is none
 abbrev pub before : ℕ → List ℕ → List ℕ
 before byte text = option_map_or (λ p. p.0) (cut_at byte text) text
 
@@ -38,22 +38,22 @@ before byte text = option_map_or (λ p. p.0) (cut_at byte text) text
 abbrev pub after_scheme : List ℕ → Option (List ℕ)
 after_scheme uri = option_map (λ p. p.1) (cut_at colon uri)
 
--- What begins with the host: it follows the last `@` of the URI, or where there is none the `:` of
--- the scheme. A URI with neither has no host.
+-- What begins with the host. It follows the last `@` of the URI, or the `:` of the scheme if there
+-- is no `@`. A URI with neither has no host.
 unfoldable pub after_userinfo : List ℕ → Option (List ℕ)
 after_userinfo uri =
     if list_any is_at_sign uri then Some (after_last is_at_sign uri)
     else after_scheme uri
 
--- host, port and parameters, if the URI has a host: a `?` ends them
+-- the host, port and parameters, if the URI has a host; a `?` ends them
 unfoldable pub host_part : List ℕ → Option (List ℕ)
 host_part uri = option_map (before question_mark) (after_userinfo uri)
 
--- the parameters, which follow the first `;` behind the host and stand between further ones
+-- the parameters: the first follows the first `;` behind the host, and a `;` separates them
 abbrev pub uri_parameters : List ℕ → List (List ℕ)
 uri_parameters part = option_map_or (λ p. slice_split is_semicolon p.1) (cut_at semicolon part) []
 
--- the parameter `lr`, in any case of the letters, with or without a value
+-- whether it is the parameter `lr`, in any case of the letters, with or without a value
 unfoldable pub is_lr : List ℕ → Bool
 is_lr parameter = str_eq_ignore_ascii_case (before equals_sign parameter) (codes "lr")
 
@@ -61,6 +61,6 @@ is_lr parameter = str_eq_ignore_ascii_case (before equals_sign parameter) (codes
 abbrev pub has_lr : List ℕ → Bool
 has_lr part = list_any is_lr (uri_parameters part)
 
--- the URI of a loose router: it has a host, and the parameter `lr`
+-- whether it is the URI of a loose router: it has a host, and the parameter `lr`
 unfoldable pub is_loose : List ℕ → Bool
 is_loose uri = option_map_or has_lr (host_part uri) false

@@ -5,10 +5,10 @@ ghost use Rattle.sip_dialog.specs.Address as address;
 use sip_message::{Addr, ip_in};
 use sip_text::{cut, number_up_to};
 
-/// The port of a SIP URI that names none (RFC 3261, section 19.1.2).
+/// The port of a SIP URI without a port (RFC 3261, section 19.1.2).
 const DEFAULT_PORT: u16 = 5060;
 
-/// The address `a.b.c.d` or `a.b.c.d:port`, or None where the text is neither. Takes no memory.
+/// The address `a.b.c.d` or `a.b.c.d:port`, or None if the text is neither. Takes no memory.
 #[tactic(auto, unfolding(crate::specs::Address::address_at))]
 pub(crate) fn read_address(text: &[u8]) -> Option<Addr>
     ensures { result ≡ address.address_at text.now }

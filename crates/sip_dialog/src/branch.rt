@@ -1,4 +1,4 @@
-//! The branch of a request that is made (RFC 3261, section 8.1.1.7).
+//! The branch of a request that the agent makes (RFC 3261, section 8.1.1.7).
 ghost use Rattle.std.specs.Prelude.{◌≡◌, IsTrue};
 ghost use Rattle.std.specs.Option.{SomeIff};
 ghost use Rattle.sip_message.specs.Via as via;
@@ -8,7 +8,7 @@ use sip_parts::{ParameterValue, Token};
 use sip_text::token_eq;
 use std::marker::Model;
 
-/// How long the part is that each branch begins with, in bytes.
+/// The length in bytes of the text with which each branch begins.
 const COOKIE_LENGTH: usize = 7;
 
 /// A token that begins with `z9hG4bK`, in any case of the letters.
@@ -28,7 +28,7 @@ impl Model for Branch {
 }
 
 impl Branch {
-    /// The branch that the token is, or None where it doesn't begin so.
+    /// The branch that the token is, or None if it doesn't begin that way.
     pub fn new(token: Token) -> Option<Branch>
         ensures { SomeIff result (IsTrue (via.has_cookie token)) token }
     {

@@ -14,7 +14,7 @@ use sip_parts::{CallId, RequestUri, Uri};
 use sip_text::Series;
 use std::alloc::{AllocError, Global};
 
-/// Which side of the dialog is one's own.
+/// The agent's own side in the dialog.
 #[derive(Clone, Copy, PartialEq, Eq)]
 pub enum Side {
     /// It sent the INVITE.
@@ -32,10 +32,10 @@ pub enum DialogState {
     Ended,
 }
 
-/// A dialog: a relationship of two user agents that lasts for some time, in which requests are
+/// A dialog: a relationship of two user agents that lasts for some time, and in which requests are
 /// numbered and routed (RFC 3261, section 12).
 ///
-/// Contracts read it from its opening and the list of what happened in it.
+/// A contract sees it as its opening and the list of what happened in it.
 pub struct Dialog {
     pub(crate) alloc: Global,
     pub(crate) side: Side,
@@ -55,8 +55,8 @@ impl Dialog {
     ///
     /// # Errors
     ///
-    /// `Ended`, or `OutOfOrder` where the number isn't above the remote CSeq. The dialog stays as
-    /// it was then.
+    /// `Ended`, or `OutOfOrder` if the number isn't above the remote CSeq. Then the dialog is
+    /// unchanged.
     pub fn accept(&mut self, cseq: u32) -> Result<(), DialogFault>
         ensures answer { result ≡ ok_unless (accept_fault self.old cseq) }
         ensures ok { OnOk result (self.new ≡ step.with_accepted self.old cseq) }
@@ -81,7 +81,7 @@ impl Dialog {
         Ok(())
     }
 
-    // An ended dialog is refused.
+    // Refuses an ended dialog.
     fn check_open(&self) -> Result<(), DialogFault>
         ensures { result ≡ ok_unless (ended_fault self.now) }
     {
@@ -91,12 +91,12 @@ impl Dialog {
         }
     }
 
-    /// Makes this URI the target, as a re-INVITE with a Contact and its 2xx do (RFC 3261, section
-    /// 12.2). Takes no memory.
+    /// Makes this URI the target, as a re-INVITE with a Contact does, and its 2xx (RFC 3261,
+    /// section 12.2). Takes no memory.
     ///
     /// # Errors
     ///
-    /// `Ended`. The dialog stays as it was then.
+    /// `Ended`. Then the dialog is unchanged.
     pub fn refresh(&mut self, uri: Uri) -> Result<(), DialogFault>
         ensures answer { result ≡ ok_unless (ended_fault self.old) }
         ensures ok { OnOk result (self.new ≡ step.with_target self.old uri) }
@@ -119,13 +119,12 @@ impl Dialog {
     }
 
     /// Confirms the dialog by a 2xx response (RFC 3261, sections 12.1 and 13.2.2.4). At the callee
-    /// the state alone changes; at the caller the routes are read anew from the response, and the
-    /// target where it has a Contact. The numbers go on.
+    /// only the state changes. At the caller the route set is read anew from the response, and the
+    /// target too if it has a Contact. The sequence numbers stay.
     ///
     /// # Errors
     ///
-    /// `Ended` and, at the caller alone, `NoMemory`, in this order. The dialog stays as it was
-    /// then.
+    /// `Ended` and, only at the caller, `NoMemory`, in this order. Then the dialog is unchanged.
     pub fn confirm(&mut self, response: &Message) -> Result<(), DialogFault>
         ensures open { OnOk result (ended_fault self.old ≡ None) }
         ensures fault { IfErr result (λ fault. fault ≡ or_no_memory (ended_fault self.old)) }
@@ -157,7 +156,7 @@ impl Dialog {
         Ok(())
     }
 
-    // Reads the routes from the response, and the target where it has a Contact.
+    // Reads the route set from the response, and the target if it has a Contact.
     fn route_by(&mut self, response: &Message) -> Result<(), AllocError>
         ensures ok { OnOk result (self.new ≡ step.routed_by self.old response.now) }
         ensures err { OnErr result (self.new ≡ self.old) }
@@ -186,7 +185,7 @@ impl Dialog {
         self.state = DialogState::Ended;
     }
 
-    /// Which side is one's own.
+    /// The agent's own side.
     pub fn side(&self) -> Side
         ensures { result ≡ self.now.side }
     {
@@ -206,7 +205,7 @@ impl Dialog {
         &self.call_id
     }
 
-    /// One's own URI, and one's own tag as it was spelled when the dialog was made.
+    /// The agent's own URI, and its tag as it was spelled when the dialog was made.
     pub fn local(&self) -> &Endpoint
         ensures { result.now ≡ self.now.local }
     {
@@ -227,15 +226,15 @@ impl Dialog {
         &self.target
     }
 
-    /// The routes of requests in the dialog, the first hop first.
+    /// The route set of requests in the dialog, the first hop first.
     pub fn route_set(&self) -> &[NameAddr]
         ensures { result.now ≡ self.now.route_set }
     {
         self.route_set.as_slice()
     }
 
-    /// The CSeq of the last request that was made in it, or of the one that it began with at the
-    /// caller; 0 where there was none.
+    /// The CSeq of the last request that was made in the dialog. At the caller that is at first the
+    /// request with which it began; without one it is 0.
     pub fn local_cseq(&self) -> u32
         ensures { result ≡ self.now.local_cseq }
     {

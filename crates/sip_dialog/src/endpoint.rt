@@ -7,8 +7,8 @@ use sip_message::Party;
 use sip_parts::{Token, Uri};
 use std::alloc::{AllocError, Global};
 
-/// One end of a dialog: its URI, and its tag as it was spelled when the dialog was made, if it had
-/// one.
+/// One end of a dialog: its URI, and its tag, if it had one, as it was spelled when the dialog was
+/// made.
 pub struct Endpoint {
     pub uri: Uri,
     pub tag: Option<Token>,
@@ -17,7 +17,7 @@ pub struct Endpoint {
 impl Endpoint {
     ghost use Rattle.sip_dialog.specs.Endpoint.{endpoint_of};
 
-    /// The end that a From or a To names, by this URI and the tag of the party.
+    /// The end named by a From or To, with this URI and the tag of the party.
     pub(crate) fn new(alloc: Global, uri: &Uri, party: &Party) -> Result<Endpoint, AllocError>
         ensures { IfOk result (λ made. made ≡ endpoint_of uri.now party.now) }
     {
@@ -26,7 +26,7 @@ impl Endpoint {
         Ok(Endpoint { uri, tag })
     }
 
-    /// A From or a To that names this end, without a display text.
+    /// A From or To that names this end, without a display text.
     pub(crate) fn to_party(&self, alloc: Global) -> Result<Party, AllocError>
         ensures { IfOk result (λ party. party ≡ party_of self.now.uri self.now.tag) }
     {

@@ -6,10 +6,10 @@ ghost use Rattle.std.specs.Prelude.{◌≡◌};
 use std::alloc::AllocError;
 use thiserror::Error;
 
-/// Why a dialog refused a call. It stays as it was then.
+/// Why a dialog refused a call. Then it is unchanged.
 #[derive(Clone, Copy, Debug, PartialEq, Eq, Error)]
 pub enum DialogFault {
-    /// The local CSeq is 2^31 - 1 or above, and a CSeq is to be below 2^31 (RFC 3261, section
+    /// The local CSeq is 2^31 - 1 or more, and the next one has to be below 2^31 (RFC 3261, section
     /// 8.1.1.5).
     #[error("the sequence numbers are used up")]
     SequenceUsedUp,
@@ -26,7 +26,7 @@ pub enum DialogFault {
     /// The number isn't above the remote CSeq.
     #[error("the sequence number is out of order")]
     OutOfOrder,
-    /// A growth was refused.
+    /// Memory ran out.
     #[error("no memory")]
     NoMemory,
 }

@@ -1,5 +1,5 @@
-//! Dialogs (RFC 3261, section 12): how one begins, what changes it, and the requests that are sent
-//! in it.
+//! Dialogs (RFC 3261, section 12): how a dialog begins, what changes it, and the requests that are
+//! sent in it.
 #![tactic(auto)]
 
 mod address;

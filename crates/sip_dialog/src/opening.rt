@@ -13,9 +13,8 @@ use sip_text::Series;
 use std::alloc::{AllocError, Global};
 
 impl Dialog {
-    /// The dialog that an answer of this status to the request makes at the callee; `tag` is the
-    /// tag that the answer has in To (RFC 3261, section 12.1.1). A provisional status makes an
-    /// early dialog.
+    /// The dialog that an answer with this status makes at the callee. `tag` is the tag that the
+    /// answer has in To (RFC 3261, section 12.1.1). A provisional status makes an early dialog.
     pub fn from_request(
         alloc: Global,
         request: &Message,
@@ -30,7 +29,7 @@ impl Dialog {
         opened_by_request(alloc, request, tag, status)
     }
 
-    /// The dialog that the response to the request makes at the caller (RFC 3261, section 12.1.2).
+    /// The dialog that a response to the request makes at the caller (RFC 3261, section 12.1.2).
     pub fn from_response(
         alloc: Global,
         request: &Message,
@@ -107,7 +106,7 @@ fn opened_by_response(
     })
 }
 
-/// The state of a dialog that an answer of this status makes.
+/// The state of a dialog that an answer with this status makes.
 fn state_by(status: StatusCode) -> DialogState
     ensures { result ≡ opening.state_by status }
 {
@@ -128,7 +127,7 @@ fn state_of(response: &Message) -> DialogState
     }
 }
 
-/// The URI of the first Contact, or None where there is none.
+/// The URI of the first Contact, or None if there is none.
 pub(crate) fn contact_uri(message: &Message) -> Option<&Uri>
     ensures { option_copied result ≡ opening.contact_uri message.now }
 {
@@ -142,7 +141,7 @@ pub(crate) fn target_of(uri: &Uri) -> Result<RequestUri, AllocError>
     Ok(RequestUri::from_uri(uri.clone()?))
 }
 
-/// The URI of the request line, or that of To in a message that has none.
+/// The URI of the request line, or that of To if the message has no request line.
 fn request_uri(request: &Message) -> Result<RequestUri, AllocError>
     ensures { IfOk result (λ uri. uri
         ≡ opening.request_uri_or request.now.to.uri request.now.start) }
@@ -153,7 +152,7 @@ fn request_uri(request: &Message) -> Result<RequestUri, AllocError>
     }
 }
 
-/// The routes in the other order.
+/// The routes in reverse order.
 pub(crate) fn reversed(routes: &Series<NameAddr>) -> Result<Series<NameAddr>, AllocError>
     ensures { IfOk result (λ made. made ≡ reverse routes.now) }
 {

@@ -1,5 +1,5 @@
-//! The headers of a made request that have one's own address (RFC 3261, sections 8.1.1.7 and
-//! 8.1.1.8).
+//! The headers of a request that the agent makes in which its own address stands (RFC 3261,
+//! sections 8.1.1.7 and 8.1.1.8).
 ghost use Rattle.std.specs.Prelude.{◌≡◌, ◌∷◌, ◌++◌, [], IfOk, OnOk, IsTrue, codes};
 ghost use Rattle.sip_message.specs.Addr.{addr_text};
 ghost use Rattle.sip_message.specs.Ip.{ip_text};
@@ -19,7 +19,7 @@ pub(crate) fn is_invite(method: &Token) -> bool
     method.as_slice() == b"INVITE".as_slice()
 }
 
-/// The Via of a made request, which asks for `rport` (RFC 3581, section 3).
+/// The Via of a request that the agent makes. It asks for `rport` (RFC 3581, section 3).
 #[tactic(auto, unfolding(sip_text::specs::Token::is_token, sip_text::specs::Token::is_token_byte))]
 pub fn own_via(alloc: Global, local: Addr, branch: Branch) -> Result<Vias, AllocError>
     ensures { IfOk result (λ vias. vias ≡ request.agent_via local branch ∷ []) }
@@ -37,7 +37,7 @@ pub fn own_via(alloc: Global, local: Addr, branch: Branch) -> Result<Vias, Alloc
     Ok(Vias::from_series(Series::from_vec(vias)))
 }
 
-/// The Contact of a made INVITE, and none in any other request.
+/// The Contact of an INVITE that the agent makes; no other request has one.
 #[tactic(auto, unfolding(crate::specs::Request::contacts_of))]
 pub(crate) fn contacts_of(
     alloc: Global,
@@ -87,7 +87,7 @@ fn via_parameters(alloc: Global, branch: Branch) -> Result<Series<Parameter>, Al
     Ok(Series::from_vec(parameters))
 }
 
-/// `<sip:local>`, the Contact of one's own messages.
+/// `<sip:local>`, the Contact of the agent's own messages.
 pub fn own_contact(alloc: Global, local: Addr) -> Result<NameAddr, AllocError>
     ensures { IfOk result (λ contact. contact ≡ request.contact_of local) }
 {

@@ -1,4 +1,4 @@
-//! The requests that are made in a dialog (RFC 3261, sections 8.1.1 and 12.2.1.1).
+//! The requests that the agent makes in a dialog (RFC 3261, sections 8.1.1 and 12.2.1.1).
 ghost use Rattle.std.specs.Prelude.{◌≡◌, ◌+◌, ◌++◌, ◌∷◌, [], List, IfErr, IfOk, OnErr, OnOk, None};
 ghost use Rattle.sip_dialog.specs.Fault.{request_fault, ack_fault, or_no_memory};
 ghost use Rattle.sip_dialog.specs.Life.{Happening, Requests, Acknowledges, dialog_after};
@@ -14,17 +14,18 @@ use sip_message::{Addr, CSeq, Content, MAX_FORWARDS, Message, StartLine};
 use sip_parts::Token;
 use std::alloc::AllocError;
 
-/// The greatest CSeq of a made request: it is below 2^31 (RFC 3261, section 8.1.1.5).
+/// The highest CSeq of a request that the agent makes: it is below 2^31 (RFC 3261, section
+/// 8.1.1.5).
 const LAST_CSEQ: u32 = 2_147_483_647;
 
 impl Dialog {
-    /// The next request of this method, with this content: it takes the next local CSeq. It is
-    /// sent from the address `local` (RFC 3261, section 12.2.1.1).
+    /// The next request with this method and content. It takes the next local CSeq, and is sent
+    /// from the address `local` (RFC 3261, section 12.2.1.1).
     ///
     /// # Errors
     ///
-    /// `Ended`, `NotConfirmed` for an INVITE in an early dialog, `StrictRoute`, `SequenceUsedUp`
-    /// and `NoMemory`, the first of them that fits. The dialog stays as it was then.
+    /// The first that fits: `Ended`, `NotConfirmed` for an INVITE in an early dialog,
+    /// `StrictRoute`, `SequenceUsedUp` or `NoMemory`. Then the dialog is unchanged.
     pub fn next_request(
         &mut self,
         method: Token,
@@ -70,7 +71,7 @@ impl Dialog {
         Ok(message)
     }
 
-    // Why no request of this method can be made.
+    // Why no request with this method can be made.
     fn request_fault(&self, method: &Token) -> Option<DialogFault>
         ensures { result ≡ request_fault self.now method.now }
     {
@@ -87,12 +88,12 @@ impl Dialog {
         }
     }
 
-    /// The ACK of the INVITE of this CSeq number, with this content; it takes no number of its own
-    /// (RFC 3261, section 13.2.2.4). It is sent from the address `local`.
+    /// The ACK of the INVITE with this CSeq number, with this content. It takes no number of its
+    /// own (RFC 3261, section 13.2.2.4), and is sent from the address `local`.
     ///
     /// # Errors
     ///
-    /// `Ended`, `NotConfirmed`, `StrictRoute` and `NoMemory`, the first of them that fits.
+    /// The first that fits: `Ended`, `NotConfirmed`, `StrictRoute` or `NoMemory`.
     pub fn ack(
         &self,
         cseq: u32,
@@ -142,7 +143,7 @@ impl Dialog {
         }
     }
 
-    // The request of this method and number, with this content.
+    // The request with this method, number and content.
     fn request(
         &self,
         method: Token,

@@ -8,9 +8,9 @@ use crate::uri_text::{before, host_part, is_loose};
 use sip_message::Addr;
 
 impl Dialog {
-    /// The address that its requests are sent to: that of the first route's URI, or else of the
-    /// target. Where that URI names no IPv4 address in dotted decimal numbers it is `otherwise`.
-    /// Takes no memory.
+    /// The address to which its requests are sent: that of the first route's URI, or without routes
+    /// that of the target. It is `otherwise` if that URI names no IPv4 address in dotted decimal
+    /// numbers. Takes no memory.
     pub fn hop(&self, otherwise: Addr) -> Addr
         ensures { result ≡ route.hop_of self.now otherwise }
     {

@@ -19,7 +19,7 @@ pub(crate) fn is_loose(uri: &[u8]) -> bool
     }
 }
 
-/// The host, the port and the parameters of the URI, or None where it has no host.
+/// The host, the port and the parameters of the URI, or None if it has no host.
 #[tactic(auto, unfolding(crate::specs::UriText::host_part))]
 pub(crate) fn host_part(uri: &[u8]) -> Option<&[u8]>
     ensures { option_copied result ≡ uri_text.host_part uri.now }
@@ -27,7 +27,7 @@ pub(crate) fn host_part(uri: &[u8]) -> Option<&[u8]>
     Some(before(b'?', after_userinfo(uri)?))
 }
 
-/// The text up to the first such byte, or all of it where there is none.
+/// The text before the first such byte, or all of it if there is none.
 pub(crate) fn before(byte: u8, text: &[u8]) -> &[u8]
     ensures { result.now ≡ uri_text.before byte text.now }
 {

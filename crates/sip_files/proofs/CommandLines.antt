@@ -1,4 +1,4 @@
--- The lines of the user's commands: what is read is spelled so, and what is spelled so is read.
+-- The lines of the user's commands: what is read is spelled that way, and that spelling is read.
 use Rattle.std.proofs.Common.{◌≡◌, ℕ, true, IsTrue, cond, List, ◌∷◌, ◌++◌, Option, Some, None, refl, sym, ap, subst, ◌∙◌, append_assoc, inl, inr, codes, decimal}
 use Rattle.std.specs.Option.{option_map}
 use Rattle.std.specs.Str.{bytes_eq}
@@ -283,7 +283,7 @@ pub cancel_text : (c : Cancel) → command_text (command.Cancel c) ≡ codes "ca
 unfolding word_field id_field
 cancel_text c = sym (two_fields (codes "cancel") (spelled_word c.call_id) (id_text c.id))
 
--- a command is read, or another keyword's
+-- the command of a keyword is read, or there is another keyword
 module _ (version : Version) (keyword fields : List ℕ) (c : UserCommand) where
   abbrev IsSaid : Type 0
   IsSaid = IsCommandLine version c × (keyword ++ 32 ∷ fields ≡ command_text c)

@@ -1,4 +1,4 @@
--- Parts at the front of a text, each with a space behind it.
+-- Parts at the front of a text, each followed by a space.
 use Rattle.std.proofs.Common.{◌≡◌, ℕ, true, List, ◌∷◌, ◌++◌, append_assoc, Option, Some, None, refl, sym, ap, subst, ◌∙◌}
 use Rattle.std.specs.Option.{option_map}
 use Rattle.sip_text.proofs.Cuts.{has_no, Reads, field_took, field_again}
@@ -7,7 +7,7 @@ use Rattle.sip_text.specs.Options.{◌>>=◌}
 use Rattle.sip_text.specs.Cut.{field_at}
 use Rattle.sip_files.specs.Steps.Reading.{both_at, ended_by}
 
--- A reader of what stands before a space: what it reads is spelled so and fits, and what fits is
+-- A reader of the part before a space: what it reads is spelled that way and fits, and what fits is
 -- read from its spelling.
 pub record ReadsFront {A : Type 0} (Fits : A → Type 0) (spell : A → List ℕ)
     (read : List ℕ → Option (A × List ℕ)) : Type 0 where
@@ -63,7 +63,7 @@ module _ {A B : Type 0} {P : A → Type 0} {s : A → List ℕ} {a : List ℕ �
         ∙ ap (λ o. o >>= λ y. Some (x.0, y)) (last.again x.1 fits.1);
   }
 
--- the same, as a value of another type
+-- the same, for a value of another type
 module _ {A B : Type 0} (make : A → B) (parts : B → A) (whole : (y : B) → make (parts y) ≡ y)
     (same : (x : A) → parts (make x) ≡ x) where
   pub made_front : {P : A → Type 0} {s : A → List ℕ} {a : List ℕ → Option (A × List ℕ)}
@@ -85,7 +85,7 @@ module _ {A B : Type 0} (make : A → B) (parts : B → A) (whole : (y : B) → 
         ∙ ap (λ (z : B). Some (z, rest)) (whole y);
   }
 
--- the same of a whole text, where what fits is made of its parts
+-- the same for a whole text, if what fits is made of its parts
 module _ {A B : Type 0} (make : A → B) (parts : B → A) (same : (x : A) → parts (make x) ≡ x) where
   pub made_reads : {P : A → Type 0} {Q : B → Type 0} {s : A → List ℕ} {a : List ℕ → Option A}
       → ((y : B) → Q y → make (parts y) ≡ y) → ((x : A) → P x → Q (make x))

@@ -1,4 +1,4 @@
--- The lines that are taken into a draft are those of a file, by the stage that it has reached.
+-- The lines taken into a draft are those of a file, as far as the draft's stage says.
 use Rattle.std.proofs.Common.{◌≡◌, ℕ, List, [], ◌∷◌, ◌++◌, map, Option, Some, None, refl, sym, ap, subst, ◌∙◌, append_assoc}
 use Rattle.std.specs.List.{flat_map}
 use Rattle.std.specs.Option.{option_map}
@@ -22,7 +22,7 @@ use Rattle.sip_files.proofs.Drafts.{one_more, Begun, draft_of}
 abbrev zeros : List ℕ
 zeros = replicate 32 0
 
--- what the lines before a draft are, by its stage
+-- the lines before a draft, by its stage
 abbrev Reached : Config → Stage → List Round → List EventLine → Type 0
 Reached config stage.Local rounds lines =
     (config ≡ nothing_read.config) × (rounds ≡ []) × (lines ≡ [])
@@ -74,7 +74,7 @@ seed_step config stage.Seed rounds lines seed next r e =
 seed_step config stage.First rounds lines seed next r e = absurd (no_draft next e)
 seed_step config stage.Rounds rounds lines seed next r e = absurd (no_draft next e)
 
--- the lines of a head alone
+-- the lines of a head without rounds
 no_rounds : (head : Head) (rounds : List Round) (lines : List EventLine) → rounds ≡ []
     → lines ≡ head_lines head → lines ≡ file_lines head rounds
 no_rounds head rounds lines none e =
@@ -106,7 +106,7 @@ first_step config stage.First rounds lines number next r e =
     )
 first_step config stage.Rounds rounds lines number next r e = absurd (no_draft next e)
 
--- a round without events after the lines of a file
+-- a round without events, after the lines of a file
 round_added : (head : Head) (rounds : List Round) (lines : List EventLine) (moment : ℕ)
     → lines ≡ file_lines head rounds
     → lines ++ line.Round moment ∷ []
@@ -137,7 +137,7 @@ round_step config stage.Rounds rounds lines moment next r e =
     (same_some (begun_round (draft_of config stage.Rounds rounds) moment) next e)
     (r.0, r.1, round_added r.0 rounds lines moment r.2)
 
--- an event goes into the last round
+-- an event is put into the last round
 map_push : (events : List Event) (event : Event)
     → map line.Event (events ++ event ∷ []) ≡ map line.Event events ++ line.Event event ∷ []
 map_push [] event = refl
@@ -241,7 +241,7 @@ reached : (lines : List EventLine) (end : Draft) → drafted nothing_read lines 
     → ReachedBy end lines
 reached lines end e = all_steps nothing_read [] lines end (refl, refl, refl) e
 
--- the lines of a draft that is begun are those of a file
+-- the lines of a draft that has begun are those of a file
 pub record IsFile (config : Config) (rounds : List Round) (lines : List EventLine) : Type 0 where
   pub head : Head
   pub configured : config_of head ≡ config

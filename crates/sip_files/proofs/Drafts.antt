@@ -1,4 +1,4 @@
--- Drafts of event files: the lines of a file are taken one after the other.
+-- Drafts of event files: the lines of a file are taken one after another.
 use Rattle.std.proofs.Common.{◌≡◌, ℕ, List, [], ◌∷◌, ◌++◌, map, Option, Some, None, refl, sym, ap, ◌∙◌, append_assoc}
 use Rattle.std.specs.List.{flat_map}
 use Rattle.std.specs.Option.{option_map}
@@ -26,7 +26,7 @@ with_event-last (first ∷ []) round event = refl
 with_event-last (first ∷ next ∷ rounds) round event =
     ap (option_map (λ rs. first ∷ rs)) (with_event-last (next ∷ rounds) round event)
 
--- ---- one step after the other
+-- ---- one step after another
 
 module _ {S I : Type 0} (step : S → I → Option S) where
   pub gone-append : (start : S) (items more : List I)
@@ -60,7 +60,7 @@ module _ {S I : Type 0} (step : S → I → Option S) where
       ∙ ap (λ o. o >>= λ s. all_gone step s (last ∷ [])) e
       ∙ gone-one next last
 
-  -- what goes on made its next step
+  -- a run that goes on made its next step
   pub next_gone : (start next end : S) (items more : List I) (item : I)
       → all_gone step start items ≡ Some next
       → all_gone step start (items ++ item ∷ more) ≡ Some end

@@ -1,4 +1,4 @@
--- The bytes of a field, one after the other: what is read is spelled so, and what is spelled so is
+-- The bytes of a field, one after another: what is read is spelled that way, and that spelling is
 -- read.
 use Rattle.std.proofs.Common.{◌≡◌, ℕ, zero, suc, ◌<◌, ◌≤◌, Bool, true, false, cond, eqb, ◌||◌, List, [], ◌∷◌, ◌++◌, length, Option, Some, None, refl, sym, ap, subst, ◌∙◌, append_assoc, arith, inl, inr}
 use Rattle.std.specs.Option.{option_map, is_some}
@@ -14,7 +14,7 @@ use Rattle.sip_files.specs.Word.{is_plain, is_plain_or_space, letter_of, hex_pai
 use Rattle.sip_files.specs.Steps.Reading.{byte_of_letter, hex_byte, hex_at, letter_at, escape_at, byte_at, bytes_from, bytes_at}
 use Rattle.sip_files.proofs.Hex.{letter_again, letter_takes, letter_not_x, letter_small, pair_takes, pair_again}
 
--- a backslash never stands for itself, and what does is a byte
+-- a backslash never stands for itself; only a byte does
 pub record IsSound (is_itself : ℕ → Bool) : Type 0 where
   pub backslash : is_itself 92 ≡ false
   pub small : (b : ℕ) → is_itself b ≡ true → b < 256
@@ -43,7 +43,7 @@ unfolding spelled_byte
 spelled_hex t b h g =
     ap (λ r. cond r (b ∷ []) (escape_with b (letter_of b))) h ∙ ap (escape_with b) g
 
--- ---- one byte that is read is spelled so
+-- ---- a byte that is read is spelled that way
 
 -- what was taken from the front of a text
 pub record Took (t : ℕ → Bool) (text : List ℕ) (b : ℕ) (rest : List ℕ) : Type 0 where
@@ -113,7 +113,7 @@ byte_took t (c ∷ after) b rest sound e =
           subst P g.1 (record { parts = whole; small = sound.small c g.0 }))
     ]
 
--- ---- one byte that is spelled is read
+-- ---- a byte that is spelled is read
 
 abbrev read : ℕ → List ℕ → Option (ℕ × List ℕ)
 read b rest = Some (b, rest)
@@ -195,7 +195,7 @@ byte_shorter t text p sound e =
     longer text (spelled_byte t p.0) p.1 (byte_took t text p.0 p.1 sound e).parts
     (spelled_longer t p.0)
 
--- more turns than are needed change nothing
+-- more turns than needed change nothing
 enough_step : (t : ℕ → Bool) (n m : ℕ) (o : Option (ℕ × List ℕ))
     → ((p : ℕ × List ℕ) → o ≡ Some p → bytes_from t n p.1 ≡ bytes_from t m p.1)
     → (o >>= λ p. bytes_from t n p.1 >>= λ more. Some (p.0 ∷ more))
@@ -216,7 +216,7 @@ enough t (suc n) (suc m) (b ∷ bs) sound ln lm =
     (λ p e. enough t n m p.1 sound (omega (arith, byte_shorter t (b ∷ bs) p sound e))
     (omega (arith, byte_shorter t (b ∷ bs) p sound e)))
 
--- what was read before, and what is still read
+-- what was read so far, in front of what is still read
 abbrev pub onto : List ℕ → Option (List ℕ) → Option (List ℕ)
 onto front read = option_map (λ more. front ++ more) read
 
@@ -239,7 +239,7 @@ step_at t b bs (Some p) e sound =
     mapped c None = refl
     mapped c (Some more) = refl
 
--- a text that isn't empty is its first byte and the bytes after it
+-- a text that isn't empty is its first byte, and the bytes after it
 pub bytes_at-step : (t : ℕ → Bool) (text : List ℕ) → IsSound t → 0 < length text
     → bytes_at t text ≡ after_byte t (byte_at t text)
 unfolding bytes_at

@@ -1,4 +1,4 @@
--- The lines of failed sends: what is read is spelled so, and what is spelled so is read.
+-- The lines of failed sends: what is read is spelled that way, and that spelling is read.
 use Rattle.std.proofs.Common.{◌≡◌, ℕ, ◌≤◌, true, cond, List, ◌∷◌, ◌++◌, ◌⊎◌, Option, Some, None, sym, ap, subst, ◌∙◌, inl, inr, codes, decimal}
 use Rattle.std.specs.Str.{bytes_eq}
 use Rattle.sip_text.proofs.Cuts.{Reads, cut_took}

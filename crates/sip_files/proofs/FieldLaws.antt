@@ -1,4 +1,4 @@
--- The fields of an event file's lines: what is read is spelled so, and what is spelled so is read.
+-- The fields of an event file's lines: what is read is spelled that way, and that spelling is read.
 use Rattle.std.proofs.Common.{◌≡◌, ℕ, ◌≤◌, Bool, true, false, cond, eqb, List, [], ◌∷◌, ◌++◌, length, Option, Some, None, refl, ap, subst, ◌∙◌, arith, inl, inr, codes, decimal}
 use Rattle.std.specs.Prelude.{unwrap_or}
 use Rattle.std.specs.Str.{bytes_eq}
@@ -116,7 +116,7 @@ method_took field text e =
     let P : List ℕ → Type 0 = λ y. IsMethod y × (field ≡ y) in
     subst P g.1 (g.0, refl)
 
--- a byte that no token has doesn't stand in a method
+-- a byte that no token has doesn't occur in a method
 pub no_method : (at : ℕ) (text : List ℕ) → is_token_byte at ≡ false → IsMethod text
     → has_no at text ≡ true
 unfolding is_token
@@ -127,7 +127,7 @@ method_again : (text : List ℕ) → IsMethod text → method_at text ≡ Some t
 unfolding method_at
 method_again text fits = ap (λ r. cond r (Some text) None) fits
 
--- a tag as a text
+-- a tag, given as a text
 abbrev pub tag_text : Option (List ℕ) → List ℕ
 tag_text tag = unwrap_or tag []
 

@@ -1,5 +1,5 @@
--- What a reader of a file finds: a draft, or the line with which no file begins, and the fault that
--- says so.
+-- What a reader of a file finds: a draft, or the line with which no file goes on, and the fault
+-- that says so.
 use Rattle.std.proofs.Common.{◌≡◌, ℕ, ◌≤◌, ◌^◌, true, IsTrue, cond, List, [], ◌∷◌, ◌++◌, length, map, Option, Some, None, refl, sym, ap, subst, ◌∙◌, append_assoc, append-nil, arith, inl, inr, codes}
 use Rattle.std.specs.List.{flat_map, AllZip}
 use Rattle.std.specs.Option.{option_map}
@@ -56,7 +56,7 @@ begun_of stage.Seed e = tt
 begun_of stage.First e = tt
 begun_of stage.Rounds e = tt
 
--- lines that give a draft, and after which no header line waits, are those of a file
+-- lines that give a draft, with no header line left over, are those of a file
 spelled_by : (kind : FileKind) (version : Version) (lines : List (List ℕ)) (said : List EventLine)
     (draft : Draft) (text : List ℕ) → IsTrue (is_of_kind kind version)
     → gone no_lines said ≡ Some (waiting draft []) → Begun draft.stage
@@ -107,7 +107,7 @@ least_says : (version : Version)
     → SayAll version least_lines (flat_map headed_lines least_headed)
 least_says version = ((((refl, refl), omega arith), refl), tt)
 
--- a file that has its first two lines alone
+-- a file with only its first two lines
 least_spelled : (kind : FileKind) (version : Version) (text : List ℕ)
     → IsTrue (is_of_kind kind version) → text ≡ file_text version least_lines
     → SpellsFile kind (config_of least_head) [] text
@@ -173,7 +173,7 @@ some_event (round ∷ next ∷ rounds) event some =
     let more = some_event (next ∷ rounds) event (λ e. cc) in
     (round ∷ more.0, ap (option_map (λ rs. round ∷ rs)) more.1)
 
--- the first of its lines was taken, since header lines stand in rounds
+-- its first line was taken, since header lines stand in rounds
 in_rounds : (progress : Progress) (said : List EventLine) → Headed progress said
     → (progress.headers ≡ [] → ⊥) → progress.draft.stage ≡ stage.Local → ⊥
 unfolding all_gone
@@ -188,7 +188,7 @@ ended_lines : (version : Version) (lines : List (List ℕ)) (next : List ℕ)
 ended_lines version lines next =
     sym (flat_map-append (λ text. text ++ 10 ∷ []) (version_line version ∷ lines) (next ∷ []))
 
--- after header lines a file goes on with such a command
+-- after header lines a file can go on with such a command
 goes_on : (kind : FileKind) (version : Version) (lines : List (List ℕ)) (said : List EventLine)
     (draft : Draft) (header : GivenHeader) (headers : List GivenHeader)
     → IsTrue (is_of_kind kind version)
@@ -262,7 +262,7 @@ begun_with kind version lines said draft [] fits e says =
 begun_with kind version lines said draft (header ∷ headers) fits e says =
     goes_on kind version lines said draft header headers fits e says
 
--- lines that give a progress are how some file begins
+-- lines that give a progress are the beginning of some file
 pub begun_by : (kind : FileKind) (version : Version) (lines : List (List ℕ))
     (said : List EventLine) (progress : Progress) → IsTrue (is_of_kind kind version)
     → gone no_lines said ≡ Some progress → SayAll version lines said
@@ -270,7 +270,7 @@ pub begun_by : (kind : FileKind) (version : Version) (lines : List (List ℕ))
 begun_by kind version lines said progress fits e says =
     begun_with kind version lines said progress.draft progress.headers fits e says
 
--- ---- a line with which none does
+-- ---- a line with which no file begins
 
 stuck_by : (version : Version) (number : ℕ) (after : List ℕ) (k : Stuck version number after)
     (next rest rest' : List ℕ) (config : Config) (rounds : List Round) (text : List ℕ)
@@ -291,7 +291,7 @@ stuck_by version number after k next rest rest' config rounds text s (line ∷ o
     next_gone went no_lines k.progress (waiting g.draft []) k.said further item k.gives
     (sym (ap (gone no_lines) whole) ∙ goes version config rounds text s) stop
 
--- with the line that stands next no file begins
+-- with the next line, no file begins
 not_begun : (kind : FileKind) (version : Version) (number : ℕ) (after : List ℕ)
     (k : Stuck version number after) (next rest : List ℕ) → k.left ≡ next ++ 10 ∷ rest
     → has_no 10 next ≡ true → IsBegun kind (file_text version (k.before ++ next ∷ [])) → ⊥
@@ -349,7 +349,7 @@ no_end kind version text fits e = record {
 
 -- ---- faults
 
--- what names a version is its line
+-- a line that names a version is the line of that version
 version_named : (line : List ℕ) (version : Version) → version_at line ≡ Some version
     → line ≡ version_line version
 version_named line version e =
@@ -467,7 +467,7 @@ line_tells kind version (BadLine number) text after small fits follows tells = (
 )
 line_tells kind version NoMemory text after small fits follows tells = tt
 
--- no fault fits a file of the kind but want of memory
+-- for a file of the kind no fault fits but lack of memory
 pub never_bad : (kind : FileKind) (fault : EventsFault) (text : List ℕ) → TellsFault kind fault text
     → IsFile kind text → fault ≡ NoMemory
 never_bad kind TooLong text tells file = absurd (omega (arith, file.3, tells))

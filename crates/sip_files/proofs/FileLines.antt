@@ -1,4 +1,4 @@
--- A text is cut into its lines in one way, and these say one thing, in one version.
+-- A text is cut into its lines in one way only. The lines say one thing, in one version.
 use Rattle.std.proofs.Common.{◌≡◌, ℕ, true, List, [], ◌∷◌, ◌++◌, Option, Some, None, refl, sym, ap, subst, ◌∙◌, append_assoc}
 use Rattle.std.specs.List.{AllByRecursion, AllZip}
 use Rattle.std.proofs.lemmas.List.{append-nil}
@@ -22,7 +22,7 @@ use Rattle.sip_files.proofs.LineLaws.{one_meaning}
 abbrev pub SayAll : Version → List (List ℕ) → List EventLine → Type 0
 SayAll version lines said = AllZip (SpellsLine version) lines said
 
--- ---- a text is cut into its lines in one way
+-- ---- a text is cut into its lines in one way only
 
 abbrev pub AllOne : List (List ℕ) → Type 0
 AllOne lines = AllByRecursion IsOneLine lines
@@ -44,7 +44,7 @@ pub with_end : (text rest left : List ℕ)
 with_end text rest left =
     append_assoc (text ++ 10 ∷ []) rest left ∙ append_assoc text (10 ∷ []) (rest ++ left)
 
--- lines that begin a text of lines are the first of them
+-- the lines with which a text of lines begins are the first of them
 pub record Front (lines all : List (List ℕ)) (left : List ℕ) : Type 0 where
   pub others : List (List ℕ)
   pub whole : all ≡ lines ++ others
@@ -75,7 +75,7 @@ all_after : (lines others : List (List ℕ)) → AllOne (lines ++ others) → Al
 all_after [] others one = one
 all_after (x ∷ xs) others one = all_after xs others one.1
 
--- the same lines, where nothing is left
+-- the same lines, if nothing is left
 pub same_lines : (lines all : List (List ℕ)) → AllOne lines → AllOne all
     → with_ends lines ≡ with_ends all → all ≡ lines
 same_lines lines all one all_one e =
@@ -137,7 +137,7 @@ module _ (version : Version) where
   no_text (line ∷ lines) said says none =
       elim (subst (λ (xs : List EventLine). SayAll version (line ∷ lines) xs) none says) [ ]
 
-  -- lines say one list
+  -- lines say one list of things
   pub one_list : (lines : List (List ℕ)) (said other : List EventLine) → SayAll version lines said
       → SayAll version lines other → other ≡ said
   one_list lines said other says others =
@@ -169,7 +169,7 @@ pub first_line : (version : Version) (lines : List (List ℕ))
     → FollowsVersion version (file_text version lines) (with_ends lines)
 first_line version lines = append_assoc (version_line version) (10 ∷ []) (with_ends lines)
 
--- a text that begins with the line of the version spells what it spells in this version
+-- a text that begins with the line of a version spells the same as in this version
 pub in_version : (kind : FileKind) (version : Version) (config : Config) (rounds : List Round)
     (text after : List ℕ) → FollowsVersion version text after → SpellsFile kind config rounds text
     → SpellsIn version config rounds text

@@ -1,4 +1,4 @@
--- Header lines gathered one after the other.
+-- Header lines, gathered one after another.
 use Rattle.std.proofs.Common.{◌≡◌, ℕ, false, eqb, length, Option, Some, Result, Ok, Err, IfOk, List, [], ◌∷◌, ◌++◌, sym, ap, ◌∙◌, append_assoc, append-nil}
 use Rattle.std.specs.Prelude.{fold}
 use Rattle.std.specs.List.{flat_map}
@@ -57,7 +57,7 @@ pub all_gathered : (headers : List GivenHeader)
     → fold with_one (gathered []) headers ≡ gathered headers
 all_gathered headers = folded (gathered []) headers
 
--- a command with some header before it
+-- a command with at least one header before it
 pub headed_command : (headers : List GivenHeader) (item : EventLine) (c made : UserCommand)
     → eqb (length headers) 0 ≡ false → item ≡ line.Event (Command c)
     → with_given headers c ≡ Some made
@@ -66,7 +66,7 @@ headed_command [] item c made some is e = absurd cc
 headed_command (header ∷ headers) item c made some is e =
     ap (with_headers (header ∷ headers)) is ∙ ap (option_map (λ d. line.Event (Command d))) e
 
--- the same of any answer
+-- the same for any result
 pub given_by : {E : Type 0} (result : Result (Option UserCommand) E) (headers : List GivenHeader)
     (all : GivenHeaders) (c : UserCommand) → eqb (length headers) 0 ≡ false
     → all ≡ gathered headers → IfOk result (λ made. made ≡ command_with all c)

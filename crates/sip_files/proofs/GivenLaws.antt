@@ -1,4 +1,4 @@
--- Header lines: what is read of one is what it says.
+-- Header lines: what is read from one is what it says.
 use Rattle.std.proofs.Common.{◌≡◌, ◌⊎◌, inl, inr, ℕ, Bool, true, false, cond, List, [], ◌∷◌, ◌++◌, Option, Some, None, refl, sym, ap, subst, ◌∙◌, MatchOption, IsSomeAnd}
 use Rattle.std.specs.Option.{option_map, option_to_list}
 use Rattle.sip_text.proofs.Options.{same_some}
@@ -96,9 +96,9 @@ pub given_took : (text : List ℕ) (header : GivenHeader) → given_at text ≡ 
     → IsGiven header text
 given_took text header e = parts_took text (line_from text) header refl e
 
--- ---- what is said
+-- ---- what a line says
 
--- the line is cut as it is, and its name is looked up
+-- the line is cut in the same way, and its name is looked up
 cut_as : (text : List ℕ) (parts : List ℕ × List ℕ) (named : Option HeaderName)
     → IsHeaderLine parts text → header_named parts.0 ≡ named
     → given_at text ≡ class_given (class_by_name parts.0 parts.1 named)
@@ -140,7 +140,7 @@ given_again text (given.Other header) l =
 
 -- ---- the other header of a line, taken out of a draft
 
--- one line adds one such header to a draft at most
+-- one line adds at most one such header to a draft
 abbrev Few : List Header → Type 0
 Few others = (others ≡ []) ⊎ ((header : Header) × (others ≡ header ∷ []))
 
@@ -189,7 +189,7 @@ same_last [] x y e = cc
 same_last (z ∷ []) x y e = absurd cc
 same_last (z ∷ w ∷ left) x y e = absurd cc
 
--- the last of so few is the first
+-- of so few, the last is also the first
 last_by : (others left : List Header) (last : Option Header) → Few others
     → others ≡ left ++ option_to_list last → (last ≡ None → others ≡ [])
     → option_map given.Other last ≡ other_given (Some others)
@@ -201,7 +201,7 @@ last_by others left (Some x) (inr one) parts none =
     ap (λ h. Some (given.Other h)) (sym (same_last left x one.0 (sym one.1 ∙ parts)))
     ∙ ap (λ (hs : List Header). other_given (Some hs)) (sym one.1)
 
--- what is made of the last of the other headers, where a draft has any after one line
+-- what the last other header of a draft gives, if it has one after one line
 pub last_given : (text : List ℕ) (others left : List Header) (last : Option Header)
     (made : Option GivenHeader) → (with_line no_draft text).others ≡ Some others
     → others ≡ left ++ option_to_list last → (last ≡ None → others ≡ [])

@@ -1,5 +1,5 @@
--- Lines with the header lines before them: they go on as what they say together is taken, and what
--- goes on is such lines.
+-- Lines with the header lines before them. They can be read on as what they say together is taken,
+-- and whatever can be read on is such lines.
 use Rattle.std.proofs.Common.{◌≡◌, List, [], ◌∷◌, ◌++◌, map, Option, Some, None, refl, sym, ap, subst, ◌∙◌, append_assoc, append-nil}
 use Rattle.std.specs.List.{flat_map, AllZip}
 use Rattle.std.specs.Option.{option_map}
@@ -30,13 +30,13 @@ zip_push P [] (b ∷ ys) x y all last = elim all [ ]
 zip_push P (a ∷ xs) [] x y all last = elim all [ ]
 zip_push P (a ∷ xs) (b ∷ ys) x y all last = (all.0, zip_push P xs ys x y all.1 last)
 
--- a draft, and header lines that wait for their command
+-- a draft, with header lines that wait for their command
 abbrev pub waiting : Draft → List GivenHeader → Progress
 waiting draft headers = record { draft = draft; headers = headers }
 
--- ---- what is taken goes
+-- ---- what is taken can be read on
 
--- header lines stand before an event, and an event in a round
+-- header lines stand before an event, and an event stands in a round
 event_in : (draft next : Draft) (event : Event) (item : EventLine) → line.Event event ≡ item
     → taken draft item ≡ Some next → draft.rounds ≡ [] → ⊥
 event_in draft next event item is e none =
@@ -135,9 +135,9 @@ headed_gone draft end (h ∷ headed) (x ∷ items) all e =
     (one_goes draft one.0 h x all.0 one.1)
     ∙ headed_gone one.0 end headed items all.1 one.2
 
--- ---- what goes is headed
+-- ---- what can be read on are lines with their headers
 
--- the lines said so far: those that were taken with their headers, and the header lines that wait
+-- the lines so far: those taken with their headers, and the header lines that wait
 pub record Headed (progress : Progress) (said : List EventLine) : Type 0 where
   pub headed : List HeadedLine
   pub items : List EventLine

@@ -1,4 +1,4 @@
--- Hexadecimal digits and the letters of escapes, forth and back.
+-- Hexadecimal digits and the letters of escapes, back and forth.
 use Rattle.std.proofs.Common.{◌≡◌, ℕ, ◌+◌, ◌*◌, ◌/◌, ◌%◌, ◌<◌, false, eqb, [], ◌∷◌, Some, ap, ◌∙◌, arith}
 use Rattle.std.proofs.lemmas.Bool.Decides.{nat_tests}
 use Rattle.sip_text.proofs.Options.{bind_some, same_some}

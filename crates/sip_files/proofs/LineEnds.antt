@@ -1,4 +1,4 @@
--- No line's end stands in a line of an event file.
+-- No line of an event file has a line end in it.
 use Rattle.std.proofs.Common.{◌≡◌, ℕ, ◌≤◌, true, List, ◌∷◌, ◌++◌, refl, ap, ◌∙◌, arith, inl, inr, codes, decimal}
 use Rattle.std.specs.List.{flat_map}
 use Rattle.sip_text.proofs.Numerals.{number_has_no}
@@ -41,7 +41,7 @@ space = refl
 record NoEnd (text : List ℕ) : Type 0 where
   none : has_no 10 text ≡ true
 
--- a field behind others
+-- a field behind other fields
 behind : {x y : List ℕ} → NoEnd x → NoEnd y → NoEnd (x ++ 32 ∷ y)
 behind {x} {y} p q = record { none = fields_no 10 x (32 ∷ y) p.none q.none }
 
@@ -69,7 +69,7 @@ no_body c = behind (no_dialog (record
     { call_id = c.call_id; local_tag = c.local_tag; remote_tag = c.remote_tag }))
     (no_word c.content.body)
 
--- a keyword and the fields behind it
+-- a keyword, and the fields behind it
 line_none : (text k fields : List ℕ) → text ≡ k ++ 32 ∷ fields → has_no 10 k ≡ true → NoEnd fields
     → has_no 10 text ≡ true
 line_none text k fields is none rest =

@@ -1,4 +1,4 @@
--- The lines of an event file: what is read is spelled so, and what is spelled so is read.
+-- The lines of an event file: what is read is spelled that way, and that spelling is read.
 use Rattle.std.proofs.Common.{◌≡◌, ℕ, true, cond, eqb, List, ◌∷◌, ◌++◌, length, Option, Some, refl, sym, ap, subst, ◌∙◌, arith, inl, inr, codes, decimal}
 use Rattle.std.specs.List.{flat_map}
 use Rattle.std.specs.Option.{option_map}
@@ -173,7 +173,7 @@ parts_took version keyword fields item e =
       | inr a ↦ keyword_took version keyword fields item a.1
     ]
 
--- what is read is said by the text
+-- the text says what is read
 pub line_took : (version : Version) (text : List ℕ) (item : EventLine)
     → line_at version text ≡ Some item → SpellsLine version text item
 unfolding line_at
@@ -206,7 +206,7 @@ command_again version (command.Cancel c) fits =
     ap (line_at version) (cancel_text c)
     ∙ ap (as_line command.Cancel) ((cancel_reads_in version).again c fits)
 
--- what another text says is read from it
+-- what an equal text says is read from it
 read_from : (version : Version) (text other : List ℕ) (item : EventLine) → text ≡ other
     → line_at version other ≡ Some item → line_at version text ≡ Some item
 read_from version text other item is read = ap (line_at version) is ∙ read
@@ -287,7 +287,7 @@ header_in_session One text header s = elim s [ ]
 header_in_session Two text header s = elim s [ ]
 header_in_session SessionOne text header s = s
 
--- a session has every line
+-- a session may have every line
 pub in_session : (version : Version) (text : List ℕ) (item : EventLine)
     → SpellsLine version text item → SpellsLine SessionOne text item
 in_session version text (line.Local address) s = s

@@ -1,5 +1,5 @@
--- Words in lower case are the words of texts in lower case. So the texts of one line are the same
--- but for the case of letters.
+-- Words in lower case are the words of texts in lower case. So the texts of one line differ only in
+-- the case of letters.
 use Rattle.std.proofs.Common.{◌≡◌, ℕ, ◌/◌, ◌%◌, Bool, true, false, eqb, List, [], ◌∷◌, ◌++◌, length, Option, Some, None, refl, sym, ap, subst, ◌∙◌, arith, inl, inr, codes, decimal}
 use Rattle.std.specs.Char.{to_ascii_lowercase}
 use Rattle.std.specs.Str.{bytes_eq, str_to_ascii_lowercase}
@@ -28,7 +28,7 @@ lower = str_to_ascii_lowercase
 plain_lower : (b : ℕ) → is_plain (to_ascii_lowercase b) ≡ is_plain b
 plain_lower b = grind (arith, nat_tests)
 
--- what doesn't stand for itself is no letter
+-- a byte that doesn't stand for itself isn't a letter
 no_letter : (b : ℕ) → is_plain b ≡ false → to_ascii_lowercase b ≡ b
 no_letter b h = grind (arith, nat_tests)
 

@@ -1,4 +1,4 @@
--- Ids, addresses and the seed: what is read is spelled so, and what is spelled so is read.
+-- Ids, addresses and the seed: what is read is spelled that way, and that spelling is read.
 use Rattle.std.proofs.Common.{◌≡◌, ℕ, ◌≤◌, true, false, eqb, List, ◌∷◌, ◌++◌, Some, refl, sym, ap, subst, ◌∙◌, append_assoc, arith, codes, decimal}
 use Rattle.std.specs.Char.{is_ascii_digit}
 use Rattle.std.proofs.lemmas.Bool.{and_from, not_from_false}
@@ -95,7 +95,7 @@ address_again address fits =
 pub address_reads : Reads IsAddr addr_text address_at
 address_reads = record { took = address_took; again = address_again }
 
--- an address has neither a space nor a line's end
+-- an address has neither a space nor a line end
 pub address_no : (at : ℕ) (address : Addr) → is_ascii_digit at ≡ false → eqb 46 at ≡ false
     → eqb 58 at ≡ false → IsAddr address → has_no at (addr_text address) ≡ true
 address_no at address no_digit no_dot no_colon fits =

@@ -1,4 +1,4 @@
--- The lines of one event, by the session that is read of them.
+-- The lines of one event, by the session that is read from them.
 use Rattle.std.proofs.Common.{◌≡◌, ◌≢◌, ℕ, ◌≤◌, ◌^◌, List, [], ◌∷◌, length, sym, subst}
 use Rattle.std.specs.Prelude.{Option, None, Some, IfNone, IfOk, IfSome, Result, Ok, Err}
 use Rattle.sip_files.specs.EventFile.{SpellsSession}

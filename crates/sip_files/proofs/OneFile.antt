@@ -1,4 +1,4 @@
--- A file has one meaning: what its lines say is what was read of it.
+-- A file has one meaning: what its lines say is what was read from it.
 use Rattle.std.proofs.Common.{◌≡◌, ℕ, true, false, ◌&&◌, List, [], ◌∷◌, ◌++◌, Option, Some, None, refl, sym, ap, subst, ◌∙◌, append_assoc, append-nil, inr}
 use Rattle.std.specs.List.{flat_map}
 use Rattle.std.proofs.lemmas.List.{append_cancel_left}
@@ -21,7 +21,7 @@ use Rattle.sip_files.proofs.Drafts.{next_gone, Begun, Gives, file_gives}
 use Rattle.sip_files.proofs.HeadedLines.{waiting, headed_gone}
 use Rattle.sip_files.proofs.FileLines.{SayAll, AllOne, same_front, same_lines, each_one, Says, says_on, one_list, version_no, first_line, in_version}
 
--- ---- what the spelling of a file says of what was read
+-- ---- what the spelling of a file says about what was read
 
 -- the lines of a file that is spelled
 pub after_version : (version : Version) (config : Config) (rounds : List Round)
@@ -32,7 +32,7 @@ after_version version config rounds text after s follows =
     append_cancel_left (version_line version ++ 10 ∷ []) after (with_ends s.lines)
     (append_assoc (version_line version) (10 ∷ []) after ∙ sym follows ∙ s.spelled)
 
--- what they say, header lines too
+-- what they say, including header lines
 abbrev pub said_by : {version : Version} {config : Config} {rounds : List Round} {text : List ℕ}
     → SpellsIn version config rounds text → List EventLine
 said_by s = flat_map headed_lines s.headed
@@ -46,7 +46,7 @@ pub gives : (version : Version) (config : Config) (rounds : List Round) (text : 
     → Gives (config_of s.head) rounds (file_lines s.head rounds)
 gives version config rounds text s = file_gives s.head.local s.head.seed s.head.first rounds
 
--- all lines go, and none waits
+-- all lines can be read on, and no header line waits
 pub goes : (version : Version) (config : Config) (rounds : List Round) (text : List ℕ)
     (s : SpellsIn version config rounds text)
     → gone no_lines (said_by s) ≡ Some (waiting (gives version config rounds text s).draft [])
@@ -87,7 +87,7 @@ whole_at stage.Seed begun = refl
 whole_at stage.First begun = refl
 whole_at stage.Rounds begun = refl
 
--- a progress that is that of a whole file is whole
+-- the progress after a whole file is whole
 not_part : (progress : Progress) (draft : Draft) → Begun draft.stage
     → progress ≡ waiting draft [] → is_whole progress ≡ false → ⊥
 not_part progress draft begun same part =
@@ -118,7 +118,7 @@ not_stuck_by version config rounds text after number s k (line ∷ others) (next
     next_gone went no_lines k.progress (waiting g.draft []) k.said further next k.gives
     (sym (ap (gone no_lines) whole) ∙ goes version config rounds text s) none
 
--- what the lines of a file say after the first of them
+-- what the lines of a file after its first one say
 pub further_of : (version : Version) (config : Config) (rounds : List Round) (text : List ℕ)
     (s : SpellsIn version config rounds text) (before others : List (List ℕ))
     (said : List EventLine) → SayAll version before said → s.lines ≡ before ++ others
@@ -152,14 +152,14 @@ version_alone version another text after e f =
     ∙ cut_again 10 (version_line another) after (version_no another) in
     absurd cc
 
--- a line alone is no file
+-- a single line isn't a file
 pub not_alone : (kind : FileKind) (version : Version) (config : Config) (rounds : List Round)
     (text : List ℕ) → text ≡ version_line version → SpellsFile kind config rounds text → ⊥
 not_alone kind version config rounds text e s =
     version_alone version s.0 text (with_ends (s.2).lines) e
     ((s.2).spelled ∙ first_line s.0 (s.2).lines)
 
--- ---- one file a text
+-- ---- one file for each text
 
 pub one_file : (kind : FileKind) (text : List ℕ) (config other : Config)
     (rounds others : List Round) → SpellsFile kind config rounds text

@@ -1,4 +1,4 @@
--- The bytes of a seed, one after the other: what is read is spelled so, and what is spelled so is
+-- The bytes of a seed, one after another: what is read is spelled that way, and that spelling is
 -- read.
 use Rattle.std.proofs.Common.{◌≡◌, ℕ, zero, suc, ◌+◌, ◌-◌, ◌<◌, ◌≤◌, Bool, true, cond, eqb, List, [], ◌∷◌, ◌++◌, length, take, set, Option, Some, None, refl, sym, ap, subst, ◌∙◌, append_assoc, arith}
 use Rattle.std.specs.List.{flat_map}
@@ -60,7 +60,7 @@ seed_ends n i seed left total r le len is so_far =
     sym (ap (λ f. onto f (pairs_at (n - i) left)) all ∙ ap (λ m. onto seed (pairs_at m left)) k
     ∙ at_end seed left ∙ ap (λ r. cond r (Some seed) None) is) ∙ so_far
 
--- ---- what is read is spelled so, and what is spelled so is read
+-- ---- what is read is spelled that way, and that spelling is read
 
 -- the one spelling of bytes by their hexadecimal digits
 abbrev pub spelled_pairs : List ℕ → List ℕ

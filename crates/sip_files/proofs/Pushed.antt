@@ -14,7 +14,7 @@ pub taken : {X : Type 0} (xs : List X) (i : ℕ) (x : X) → i < length xs → x
     → take (i + 1) xs ≡ take i xs ++ x ∷ []
 taken xs i x lt is = take_more xs i x lt ∙ ap (λ y. take i xs ++ y ∷ []) (sym is)
 
--- two texts, two at once, and one more are pushed
+-- two texts are pushed, then two at once, and then one more
 pub after_two : {A E : Type 0} (r : Result A E) (old first second third new a b c d e : List ℕ)
     → first ≡ old ++ a → second ≡ first ++ b → third ≡ second ++ (c ++ d)
     → OnOk r (new ≡ third ++ e) → OnOk r (new ≡ old ++ ((((a ++ b) ++ c) ++ d) ++ e))

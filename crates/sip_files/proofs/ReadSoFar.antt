@@ -1,4 +1,4 @@
--- What a reader that takes the lines of an event file one after the other has shown so far.
+-- What a reader that takes the lines of an event file one after another has shown so far.
 use Rattle.std.proofs.Common.{◌≡◌, ℕ, ◌+◌, true, false, eqb, List, [], ◌∷◌, ◌++◌, length, Option, Some, None, refl, sym, ap, ◌∙◌, append-nil, arith}
 use Rattle.std.proofs.lemmas.Bool.{and_parts, eqb-true}
 use Rattle.std.specs.List.{AllZip}
@@ -36,7 +36,7 @@ unfolding all_gone
 nothing_yet version text =
     record { lines = []; said = []; says = tt; parts = refl; gives = refl; counted = refl }
 
--- the line that is cut off is the one that stands next
+-- the line that is cut off is the next one
 same_cut : (version : Version) (left line after other rest : List ℕ) (next : EventLine)
     → Some (line, after) ≡ cut_at 10 left → SpellsLine version other next
     → left ≡ other ++ 10 ∷ rest → line_at version line ≡ Some next
@@ -101,7 +101,7 @@ module _ (version : Version) (progress : Progress) (number : ℕ) (text left : L
       (is ∙ same_cut version left line after other rest next cut says e) in
       sym (stop ∙ ap (went progress) same)))
 
-  -- the lines end before a file does
+  -- the lines end before a file may end
   pub ends_early : left ≡ [] → is_whole progress ≡ false → Stuck version number text
   ends_early none part =
       stuck_here (λ same. part) (λ line after next says e.

@@ -1,4 +1,4 @@
--- Lines that are plain header lines are lines of a session and of an event file of version 2.
+-- Lines without header lines are the lines of a session exactly if they are those of an event file.
 use Rattle.std.proofs.Common.{◌≡◌, ℕ, true, false, not, IsTrue, List, [], ◌∷◌, codes, refl, sym, ap, subst, ◌∙◌}
 use Rattle.std.specs.Prelude.{◌↔◌, nat_eq}
 use Rattle.std.specs.List.{AllByRecursion, starts_with}
@@ -74,7 +74,7 @@ all_in_session version (l ∷ lines) [] says = elim says [ ]
 all_in_session version (l ∷ lines) (x ∷ said) says =
     (in_session version l x says.0, all_in_session version lines said says.1)
 
--- the lines of a file are those of its spelling
+-- the lines of a file are those in its spelling
 says_of : (version : Version) (config : Config) (rounds : List Round) (lines : List (List ℕ))
     → AllOne lines → (s : SpellsIn version config rounds (file_text version lines))
     → SayAll version lines (said_by s)

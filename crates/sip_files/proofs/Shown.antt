@@ -1,5 +1,5 @@
--- Which bytes stand in a field: no space and no line's end in a word or a number, and no line's end
--- in a rest.
+-- Which bytes stand in a field: no space or line end in a word or a number, and no line end in a
+-- rest.
 use Rattle.std.proofs.Common.{◌≡◌, ℕ, ◌/◌, ◌%◌, ◌≤◌, Bool, true, false, cond, not, eqb, List, [], ◌∷◌, Option, Some, None, refl, ap, ◌∙◌, arith, codes, length}
 use Rattle.std.specs.List.{flat_map}
 use Rattle.std.specs.Str.{bytes_eq}
@@ -13,7 +13,7 @@ use Rattle.sip_files.proofs.WordLaws.{word_is}
 
 -- ---- words and rests
 
--- what is not written in an escape, nor stands for itself
+-- a byte that isn't written in an escape and doesn't stand for itself
 record Hidden (t : ℕ → Bool) (at : ℕ) : Type 0 where
   itself : t at ≡ false
   low : at ≤ 32

@@ -1,4 +1,4 @@
--- A replay in the middle of its reading, of its pairs of moments and answers, and of its writing.
+-- A replay in the middle of its reading, of joining moments and answers, and of its writing.
 use Rattle.std.proofs.Common.{◌≡◌, ℕ, zero, suc, ◌+◌, ◌-◌, ◌<◌, ◌≤◌, ◌^◌, List, [], ◌∷◌, ◌++◌, map, length, take, drop, refl, sym, ap, ◌∙◌, append_assoc, append-nil, take-append-drop, arith, Result, Ok, Err, IfErr, IfSome, subst}
 use Rattle.std.proofs.lemmas.List.{take_rest}
 use Rattle.std.proofs.KnownBytes.{Appends-trans}
@@ -21,8 +21,8 @@ use Rattle.sip_files.specs.declared.file_replay.ReplayFault.{ReplayFault}
 use Rattle.sip_files.specs.declared.file_replay.ReplayFault.TheVariants as replay_fault
 use Rattle.sip_files.proofs.FileFaults.{never_bad}
 
--- the reader gave this text, in one read for each turn, at least a byte at each, and no more than
--- an event file has
+-- the reader gave this text, in one read for each turn, with at least a byte at each, and not more
+-- than an event file may have
 pub record ReadSoFar (before now : Option (List ℕ)) (reads_before reads_now : Option ℕ)
     (failures_before failures_now : Option ℕ) (text : List ℕ) (turns : ℕ) : Type 0 where
   pub consumed : Consumes before now text
@@ -59,13 +59,13 @@ took_some before now result zero is some counts = absurd (omega arith)
 took_some before now result (suc count) is some counts =
     subst (λ r. Counts before now (failures_of_write r)) is counts
 
--- with one read more
+-- with one more read
 pub counts_within : (before now after : Option ℕ) (turns most : ℕ) → turns < most
     → Counts before now turns → Counts now after 1 → CountsAtMost before after most
 counts_within before now after turns most few so_far one =
     (turns + 1, omega arith, counts_more before now after turns so_far one)
 
--- the writer took the front of these bytes, and this is left
+-- the writer took the front of these bytes, and this much is left
 pub record WrittenSoFar (before now : Option (List ℕ)) (failures_before failures_now : Option ℕ)
     (bytes left : List ℕ) : Type 0 where
   pub failed : Counts failures_before failures_now 0
@@ -92,7 +92,7 @@ written_more before now next failures now_failed next_failed bytes left count so
     }
 
 module _ {R V A B : Type 0} (moment : R → A) (items : V → B) where
-  -- what was made is the front of the moments beside the answers
+  -- the pairs made so far are the first moments with their answers
   pub record BesideSoFar (rounds left_rounds : List R) (answers left_answers : List V)
       (made : List (A × V)) : Type 0 where
     pub whole : map (λ m. (m.0, items m.1)) made
@@ -111,7 +111,7 @@ module _ {R V A B : Type 0} (moment : R → A) (items : V → B) where
       (sym (nothing_beside (map moment left_rounds) (map items left) (ap (map items) none)))
       ∙ so_far.whole
 
--- what was read, run, put beside its moments and written is what the input spells
+-- what was read, run, joined with its moments and written is what the input spells
 pub replays_read : (kind : FileKind) (input : List ℕ) (config : Config) (rounds slice : List Round)
     (answered : List (Vec Output)) (made : List (ℕ × Vec Output)) (file : List ℕ) → slice ≡ rounds
     → SpellsFile kind config rounds input → length input ≤ 2 ^ 26 → refused config slice ≡ None
@@ -132,7 +132,7 @@ replays_read kind input config rounds slice answered made file same spelled size
           ∙ ap (λ rs. outputs_text (zip (map (λ round. round.moment) rs) (answers config rs))) same;
     }
 
--- of a file of the kind no fault of the events is told but want of memory
+-- for a file of the kind no fault of events fits but lack of memory
 only_memory : {T : Type 0} (kind : FileKind) (result : Result T ReplayFault) (input : List ℕ)
     (fault : EventsFault) → IfErr result (λ told. TellsReplay kind told input) → IsFile kind input
     → result ≡ Err (replay_fault.Events fault) → fault ≡ events_fault.NoMemory

@@ -1,4 +1,4 @@
--- Words and rests: what is read is spelled so, and what is spelled so is read.
+-- Words and rests: what is read is spelled that way, and that spelling is read.
 use Rattle.std.proofs.Common.{◌≡◌, ℕ, zero, suc, ◌<◌, Bool, true, false, cond, eqb, List, [], ◌∷◌, ◌++◌, length, Option, Some, None, refl, sym, ap, subst, ◌∙◌, arith, inl, inr, codes}
 use Rattle.std.specs.Str.{bytes_eq}
 use Rattle.std.proofs.lemmas.Bool.{eqb-true, ne_eqb, and_parts, and_from, ltb-true, lt-ltb, cases_Bool, false≢true, false_from_ne_true}
@@ -170,7 +170,7 @@ word_took field text e =
           ]
     ]
 
--- what is read of a spelling tells it from another field
+-- what is read from a spelling tells it from another field
 differs : (text field : List ℕ) (r : Option (List ℕ))
     → bytes_at is_plain (spelled_bytes is_plain text) ≡ Some text → bytes_at is_plain field ≡ r
     → (Some text ≡ r → ⊥) → bytes_eq (spelled_bytes is_plain text) field ≡ false
@@ -209,7 +209,7 @@ word_again text fits =
       ]
     ]
 
--- the words of two different texts differ
+-- two different texts have different words
 pub one_word : (text other : List ℕ) → are_bytes text ≡ true → are_bytes other ≡ true
     → spelled_word text ≡ spelled_word other → text ≡ other
 one_word text other fits others_fit same =

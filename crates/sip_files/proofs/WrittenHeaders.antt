@@ -1,4 +1,4 @@
--- The header lines that are written are spelled, and give the content of their command again.
+-- The header lines that are written spell the headers, and give the command its content again.
 use Rattle.std.proofs.Common.{◌≡◌, ℕ, true, false, cond, not, ◌||◌, is_some, List, [], ◌∷◌, ◌++◌, map, codes, Option, Some, None, refl, sym, ap, subst, ◌∙◌, append_assoc, append-nil}
 use Rattle.std.specs.Prelude.{option_and_then}
 use Rattle.std.specs.List.{flat_map, AllByRecursion}
@@ -213,7 +213,7 @@ require_of t = given.Require (t ∷ [])
 abbrev supported_of : List ℕ → GivenHeader
 supported_of t = given.Supported (t ∷ [])
 
--- the headers that are written of routes and a content
+-- the headers that are written for routes and a content
 abbrev pub headers_with : List NameAddr → Content → List GivenHeader
 headers_with routes content =
     (((map contact_of content.contacts ++ map route_of routes)
@@ -291,7 +291,7 @@ headers_written routes content =
 
 -- ---- the content that they give
 
--- the values of one kind of header, in lines of one value
+-- the values of one kind of header, in lines with one value each
 own : {A : Type 0} (f : GivenHeader → List A) (make : A → GivenHeader)
     → ((x : A) → f (make x) ≡ x ∷ []) → (xs : List A) → flat_map f (map make xs) ≡ xs
 own f make one [] = refl
@@ -375,7 +375,7 @@ module _ (routes : List NameAddr) (content : Content) where
       (foreign others_in supported_of (λ x. refl) content.supported)
       (own others_in given.Other (λ x. refl) content.others)
 
-  -- what the lines say together is what they were written of
+  -- what the lines say together is what they were written for
   pub gathered_again : gathered (headers_with routes content) ≡ record {
     contacts = content.contacts;
     routes = routes;

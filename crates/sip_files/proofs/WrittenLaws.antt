@@ -1,5 +1,5 @@
--- What is written of a configuration and rounds is their event file; and a line that says an event,
--- a header or a command is read as it.
+-- What is written for a configuration and rounds is their event file. A line that says an event, a
+-- header or a command is read as that.
 use Rattle.std.proofs.Common.{◌≡◌, ℕ, List, [], ◌∷◌, ◌++◌, Option, Some, None, map, refl, sym, ap, subst, ◌∙◌, append_assoc, append-nil, inl, inr}
 use Rattle.std.specs.Prelude.{IfNone, IfSome}
 use Rattle.std.specs.List.{flat_map, AllByRecursion, AllZip}
@@ -61,7 +61,7 @@ event_spelled (Command command) fits = (fits, refl)
 
 -- ---- the lines of a file
 
--- each line has the text that is written of it
+-- each line has the text that is written for it
 abbrev pub Spelled : Version → List EventLine → Type 0
 Spelled version items = AllZip (SpellsLine version) (map line_text items) items
 
@@ -223,7 +223,7 @@ says_nothing text e given s =
     let no : None ≡ Some (line.Event given) = e ∙ line_again Two text (line.Event given) s in
     absurd cc
 
--- the same of a header
+-- the same for a header
 
 header_in_line : (text : List ℕ) (item : EventLine) → SpellsLine SessionOne text item
     → IfSome (header_of_line item) (SpellsHeader text)

@@ -1,4 +1,4 @@
--- What is written of a session is the session.
+-- What is written for a session is that session.
 use Rattle.std.proofs.Common.{◌≡◌, ℕ, List, [], ◌∷◌, ◌++◌, map, Some, refl, sym, ap, subst, ◌∙◌, append_assoc, append-nil}
 use Rattle.std.specs.List.{flat_map, AllByRecursion, AllZip}
 use Rattle.std.specs.Option.{option_map}
@@ -33,7 +33,7 @@ headers_of (command.Ack c) = headers_with [] c.content
 headers_of (command.Prack c) = headers_with [] c.content
 headers_of (command.Cancel c) = []
 
--- no header at all leaves the command as its line says it
+-- without headers, a command stays as its line says it
 bare_with_none : (c : UserCommand) (other : UserCommand)
     → command_with (gathered []) (bare c) ≡ Some other → bare c ≡ other
 bare_with_none (command.Invite c) other e = same_some (bare (command.Invite c)) other e
@@ -51,7 +51,7 @@ headed_by [] c e =
     ap (λ (d : UserCommand). Some (line.Event (Command d))) (bare_with_none c c e)
 headed_by (header ∷ headers) c e = ap (option_map (λ d. line.Event (Command d))) e
 
--- the headers that are written of a command give it its content again
+-- the headers that are written for a command give it its content again
 given_again : (headers : List GivenHeader) (all : GivenHeaders) (c : UserCommand)
     → gathered headers ≡ all → command_with all (bare c) ≡ Some c
     → with_headers headers (line.Event (Command (bare c))) ≡ Some (line.Event (Command c))
@@ -98,7 +98,7 @@ command_headers_written (command.Ack c) = headers_written [] c.content
 command_headers_written (command.Prack c) = headers_written [] c.content
 command_headers_written (command.Cancel c) = refl
 
--- the line of a command says nothing of its headers
+-- the line of a command says nothing about its headers
 bare_text : (c : UserCommand)
     → line_text (line.Event (Command (bare c))) ≡ line_text (line.Event (Command c))
 bare_text (command.Invite c) = refl

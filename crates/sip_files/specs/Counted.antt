@@ -1,7 +1,7 @@
--- How often a reader was read, and how often a stream failed, where it tells.
+-- How often a reader was read, and how often a stream failed, if it tells.
 use Rattle.std.specs.Prelude.{◌≡◌, ℕ, zero, suc, ◌+◌, ◌≤◌, Option, Some, None, Result, Ok, Err}
 
--- so many more; who tells afterwards told it before, too
+-- so many more; a stream that tells afterwards told before, too
 abbrev pub Counts : Option ℕ → Option ℕ → ℕ → Type 0
 Counts old None more = Unit
 Counts None (Some after) more = ⊥

@@ -1,5 +1,5 @@
--- The event file and the session file: the text of a configuration and rounds, and when a text is
--- none.
+-- The event file and the session file: the text of a configuration and rounds, and when a text
+-- isn't one.
 use Rattle.std.specs.Prelude.{◌≡◌, ℕ, ◌+◌, ◌≤◌, ◌<◌, ◌^◌, List, [], ◌∷◌, ◌++◌, length, map, Option, Some, None, Result, Bool, true, false, IsTrue, MatchResult, codes, unwrap_or, replicate, not, ◌==◌, ◌⊎◌}
 use Rattle.std.specs.List.{flat_map, list_all, AllByRecursion, AllZip}
 use Rattle.sip_message.specs.declared.addr.Addr.{Addr}
@@ -19,13 +19,13 @@ use Rattle.sip_files.specs.Given.{with_headers}
 
 -- ---- the lines of a file
 
--- what the lines before the rounds say; the seed and the first number may be left out
+-- what the lines before the rounds say; the seed and the first number may be missing
 pub record Head : Type 0 where
   pub local : Addr
   pub seed : Option (List ℕ)
   pub first : Option ℕ
 
--- a seed that is left out is all zeros, and a first number that is left out is 0
+-- a missing seed is all zeros, and a missing first number is 0
 abbrev pub config_of : Head → Config
 config_of head = record {
   local = head.local;
@@ -47,11 +47,11 @@ head_lines head = line.Local head.local ∷ (seed_lines head.seed ++ first_lines
 abbrev pub round_lines : Round → List EventLine
 round_lines round = line.Round round.moment ∷ map line.Event round.events
 
--- what the lines after that of the version say, each with its headers
+-- what the lines after the version's say, each with its headers
 abbrev pub file_lines : Head → List Round → List EventLine
 file_lines head rounds = head_lines head ++ flat_map round_lines rounds
 
--- what a line says, and the header lines before it
+-- what a line says, with the header lines before it
 pub record HeadedLine : Type 0 where
   pub headers : List GivenHeader
   pub item : EventLine
@@ -59,7 +59,7 @@ pub record HeadedLine : Type 0 where
 abbrev pub headed_lines : HeadedLine → List EventLine
 headed_lines headed = map line.Header headed.headers ++ headed.item ∷ []
 
--- with its headers the line says this
+-- together with its headers, the line says this
 abbrev pub SaysHeaded : HeadedLine → EventLine → Type 0
 SaysHeaded headed item = with_headers headed.headers headed.item ≡ Some item
 
@@ -77,9 +77,9 @@ version_line SessionOne = codes "sip-session 1"
 abbrev pub file_text : Version → List (List ℕ) → List ℕ
 file_text version lines = with_ends (version_line version ∷ lines)
 
--- In this version the text is that of the configuration and the rounds, for some choice of the
--- optional lines, of the case of letters in the branches and hosts of failed lines, and of the
--- header lines, which give the commands of the rounds the headers of their contents.
+-- In this version the text is one of this configuration and these rounds. The optional lines may be
+-- there or not; the case of letters in branches and hosts of failed lines is free; and so are the
+-- header lines, as long as they give the commands the headers of their contents.
 pub record SpellsIn (version : Version) (config : Config) (rounds : List Round) (text : List ℕ) :
     Type 0 where
   pub head : Head
@@ -97,16 +97,16 @@ is_of_kind kind Two = true
 is_of_kind file_kind.Events SessionOne = false
 is_of_kind file_kind.Session SessionOne = true
 
--- in some version of the kind the text is that of the configuration and the rounds
+-- in some version of the kind, the text spells the configuration and the rounds
 abbrev pub SpellsFile : FileKind → Config → List Round → List ℕ → Type 0
 SpellsFile kind config rounds text =
     (version : Version) × IsTrue (is_of_kind kind version) × SpellsIn version config rounds text
 
--- in some version the event file of the configuration and the rounds is the text
+-- in some version, the text is an event file of the configuration and the rounds
 abbrev pub SpellsEvents : Config → List Round → List ℕ → Type 0
 SpellsEvents config rounds text = SpellsFile file_kind.Events config rounds text
 
--- the same of a session
+-- the same for a session
 abbrev pub SpellsSession : Config → List Round → List ℕ → Type 0
 SpellsSession config rounds text = SpellsFile file_kind.Session config rounds text
 
@@ -117,7 +117,7 @@ IsFile kind text = (config : Config) × (rounds : List Round)
 
 -- ---- the faults
 
--- the text is how some file of the kind begins
+-- some file of the kind begins with the text
 abbrev pub IsBegun : FileKind → List ℕ → Type 0
 IsBegun kind text = (rest : List ℕ) × (config : Config) × (rounds : List Round)
     × SpellsFile kind config rounds (text ++ rest)
@@ -125,9 +125,9 @@ IsBegun kind text = (rest : List ℕ) × (config : Config) × (rounds : List Rou
 abbrev pub IsOneLine : List ℕ → Type 0
 IsOneLine text = IsTrue (list_all (λ b. not (b == 10)) text)
 
--- The text is no file of the kind, and this is the line that it breaks off at: the lines before are
--- how some such file begins. With the line of this number they are not; or there is no such line,
--- since the text ends there or the line has no end.
+-- The text isn't a file of the kind, and this is its first bad line. Some such file begins with the
+-- lines before it, but none with those and the line of this number. Or there is no such line,
+-- because the text ends there or the line has no end.
 pub record IsBadLine (kind : FileKind) (number : ℕ) (text : List ℕ) : Type 0 where
   pub none : ¬ (IsFile kind text)
   pub before : List (List ℕ)
@@ -139,13 +139,13 @@ pub record IsBadLine (kind : FileKind) (number : ℕ) (text : List ℕ) : Type 0
   pub stuck : (next after : List ℕ) → left ≡ next ++ 10 ∷ after → IsOneLine next
       → ¬ (IsBegun kind (with_ends (before ++ next ∷ [])))
 
--- the first line is that of a version of the kind
+-- the first line names a version of the kind
 abbrev pub HasVersion : FileKind → List ℕ → Type 0
 HasVersion kind text = (version : Version) × IsTrue (is_of_kind kind version)
     × ((text ≡ version_line version)
     ⊎ ((after : List ℕ) × (text ≡ version_line version ++ 10 ∷ after)))
 
--- which fault it is: the first that fits; for want of memory nothing is said
+-- which fault it is: the first that fits; if memory ran out, nothing is said
 abbrev pub TellsFault : FileKind → EventsFault → List ℕ → Type 0
 TellsFault kind TooLong text = 2 ^ 26 < length text
 TellsFault kind BadVersion text = (length text ≤ 2 ^ 26) × ¬ (HasVersion kind text)
@@ -153,7 +153,7 @@ TellsFault kind (BadLine number) text =
     (length text ≤ 2 ^ 26) × HasVersion kind text × IsBadLine kind number text
 TellsFault kind NoMemory text = Unit {0}
 
--- the fault of a text that is no event file
+-- the fault of a text that isn't an event file
 abbrev pub TellsFileFault : EventsFault → List ℕ → Type 0
 TellsFileFault fault text = TellsFault file_kind.Events fault text
 

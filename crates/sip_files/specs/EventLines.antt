@@ -14,7 +14,7 @@ session_with lines =
 abbrev pub round_of : Event → Round
 round_of event = record { moment = 0; events = event ∷ [] }
 
--- the lines are those of this event
+-- the lines are one event's, namely this one's
 pub record SpellsLines (lines : List ℕ) (event : Event) : Type 0 where
   pub config : Config
   pub spelled : SpellsSession config (round_of event ∷ []) (session_with lines)

@@ -1,4 +1,4 @@
--- The lines of an event file or of a session file, by its version, and what may stand in them.
+-- The lines of an event file or a session file, by its version, and what may stand in them.
 use Rattle.std.specs.Prelude.{◌≡◌, ℕ, ◌≤◌, ◌^◌, ◌-◌, Bool, true, false, List, [], ◌++◌, length, Option, Some, None, IsTrue, codes, unwrap_or, ◌⊎◌}
 use Rattle.std.specs.List.{flat_map}
 use Rattle.std.specs.Str.{str_to_ascii_lowercase}
@@ -59,7 +59,7 @@ abbrev pub IsTag : Option (List ℕ) → Type 0
 IsTag None = Unit
 IsTag (Some text) = IsTrue (are_bytes text) × IsTrue (is_token text)
 
--- a line says of a content its body alone
+-- a line says only the body of a content
 pub record IsBodyAlone (content : Content) : Type 0 where
   pub alone : content ≡ content_of_body content.body
   pub bytes : IsTrue (are_bytes content.body)
@@ -107,7 +107,7 @@ pub record IsCancel (cancel : Cancel) : Type 0 where
   pub call_id : IsCallIdWord cancel.call_id
   pub id : IsId cancel.id
 
--- version 1 doesn't have the line `cancel`
+-- only version 1 doesn't have the line `cancel`
 abbrev pub has_cancel : Version → Bool
 has_cancel One = false
 has_cancel Two = true
@@ -162,8 +162,8 @@ command_text (command.Prack c) =
     ++ word_field c.content.body
 command_text (command.Cancel c) = codes "cancel" ++ word_field c.call_id ++ id_field c.id
 
--- The line of a failed send spells the branch and the host of its key in any case of letters; the
--- key has them in lower case.
+-- The line of a failed send spells the branch and the host of its key in any case of letters; in
+-- the key they are in lower case.
 
 pub record SpellsClient (text : List ℕ) (key : Key) : Type 0 where
   pub branch : List ℕ
@@ -194,20 +194,20 @@ SpellsEvent version text (Failed key) = SpellsClient text key ⊎ SpellsServer t
 SpellsEvent version text (Command command) =
     IsCommandLine version command × (text ≡ command_text command)
 
--- the text is a space and, as a rest, the header line of a message that says this
+-- the text is a space, and then, as a rest, the header line of a message that says this
 pub record SpellsHeader (text : List ℕ) (header : GivenHeader) : Type 0 where
   pub header_line : List ℕ
   pub bytes : IsTrue (are_bytes header_line)
   pub given : IsGiven header header_line
   pub spelled : text ≡ rest_field header_line
 
--- sessions alone have header lines
+-- only sessions have header lines
 abbrev pub SpellsHeaderIn : Version → List ℕ → GivenHeader → Type 0
 SpellsHeaderIn One text header = ⊥
 SpellsHeaderIn Two text header = ⊥
 SpellsHeaderIn SessionOne text header = SpellsHeader text header
 
--- in a file of the version the text is a line that says this
+-- the text is a line that says this, in a file of the version
 abbrev pub SpellsLine : Version → List ℕ → EventLine → Type 0
 SpellsLine version text (line.Local address) =
     IsAddr address × (text ≡ codes "local" ++ address_field address)
@@ -220,8 +220,8 @@ SpellsLine version text (line.Round moment) =
 SpellsLine version text (line.Event event) = SpellsEvent version text event
 SpellsLine version text (line.Header header) = SpellsHeaderIn version text header
 
--- Texts that are the same, or for a failed send the same up to the case of letters. A header has
--- several texts, and of these nothing is said (RFC 3261, section 7.3.1).
+-- The texts are the same; for a failed send the case of letters may differ. A header has several
+-- texts, and about these nothing is said (RFC 3261, section 7.3.1).
 abbrev pub AreAlike : EventLine → List ℕ → List ℕ → Type 0
 AreAlike (line.Event (Failed key)) text other =
     str_to_ascii_lowercase text ≡ str_to_ascii_lowercase other

@@ -1,4 +1,4 @@
--- Fields of a line: a space stands before each.
+-- The fields of a line. A space stands before each.
 use Rattle.std.specs.Prelude.{ℕ, List, ◌++◌, codes, decimal}
 use Rattle.sip_message.specs.declared.id.Id.{Id}
 use Rattle.sip_message.specs.declared.addr.Addr.{Addr}

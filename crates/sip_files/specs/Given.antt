@@ -1,5 +1,5 @@
--- The header lines of a session file, and the content that they give the command that follows them
--- (RFC 3261, section 7.3.1).
+-- The header lines of a session file, and the content that they give to the command after them (RFC
+-- 3261, section 7.3.1).
 use Rattle.std.specs.Prelude.{◌≡◌, ℕ, List, [], ◌∷◌, ◌++◌, Option, Some, None}
 use Rattle.std.specs.List.{flat_map}
 use Rattle.std.specs.Option.{option_map}
@@ -30,7 +30,7 @@ use Rattle.sip_files.specs.declared.event_line.EventLine.TheVariants as line
 
 -- ---- one line
 
--- a header line of this header, and a value in this form
+-- a header line for this header, with a value in this form
 pub record IsLineOf {X : Type 0} (header : HeaderName) (Form : X → List ℕ → Type 0) (x : X)
     (text : List ℕ) : Type 0 where
   pub parts : List ℕ × List ℕ
@@ -38,7 +38,7 @@ pub record IsLineOf {X : Type 0} (header : HeaderName) (Form : X → List ℕ �
   pub named : header_named parts.0 ≡ Some header
   pub form : Form x parts.1
 
--- a header line of a header that stays as it stands
+-- a header line for a header that stays as it stands
 pub record IsOtherLine (header : Header) (text : List ℕ) : Type 0 where
   pub parts : List ℕ × List ℕ
   pub is_line : IsHeaderLine parts text
@@ -62,7 +62,7 @@ value_given name.Supported value = option_map given.Supported (tokens_from value
 value_given name.Require value = option_map given.Require (tokens_from value)
 value_given header value = None
 
--- of a list of one
+-- the header, if the list has just one
 abbrev pub other_given : Option (List Header) → Option GivenHeader
 other_given (Some (header ∷ [])) = Some (given.Other header)
 other_given headers = None
@@ -97,7 +97,7 @@ abbrev pub others_in : GivenHeader → List Header
 others_in (given.Other header) = header ∷ []
 others_in header = []
 
--- of each header all values, in the order of the lines
+-- for each header all values, in the order of the lines
 abbrev pub gathered : List GivenHeader → GivenHeaders
 gathered headers = record {
   contacts = flat_map contacts_in headers;
@@ -115,7 +115,7 @@ with_one all (given.Supported tokens) = record all { supported = all.supported +
 with_one all (given.Require tokens) = record all { require = all.require ++ tokens }
 with_one all (given.Other header) = record all { others = all.others ++ header ∷ [] }
 
--- the content of these headers and a body
+-- a content with these headers and a body
 abbrev pub content_with : GivenHeaders → List ℕ → Content
 content_with headers body = record {
   contacts = headers.contacts;
@@ -125,7 +125,7 @@ content_with headers body = record {
   body = body;
 }
 
--- ---- the commands: a line says of the content its body alone
+-- ---- the commands, in whose line stands only the body of the content
 
 abbrev pub invite_with : GivenHeaders → Invite → Invite
 invite_with headers c = record c {
@@ -139,8 +139,8 @@ plain_with headers c = record c {
   content = content_with headers c.content.body;
 }
 
--- What is asked, where there is no route. A request in a dialog takes the route of the dialog
--- (RFC 3261, section 12.2.1.1), and a response the way of its request (section 18.2.2).
+-- The command, if there is no route. A request in a dialog takes the route of the dialog (RFC 3261,
+-- section 12.2.1.1), and a response goes the way of its request (section 18.2.2).
 abbrev pub unrouted : {A : Type 0} → List NameAddr → A → Option A
 unrouted [] asked = Some asked
 unrouted (route ∷ routes) asked = None
@@ -167,12 +167,12 @@ command_with headers (command.Ack c) = option_map command.Ack (body_with headers
 command_with headers (command.Prack c) = option_map command.Prack (body_with headers c)
 command_with headers (command.Cancel c) = None
 
--- with the headers that are given before it
+-- the command with the headers that were given before it
 abbrev pub with_given : List GivenHeader → UserCommand → Option UserCommand
 with_given [] c = Some c
 with_given (header ∷ headers) c = command_with (gathered (header ∷ headers)) c
 
--- what a line says with the header lines before it, which stand before the line of a command alone
+-- what a line says with the header lines before it; these may stand only before a command
 abbrev pub with_headers : List GivenHeader → EventLine → Option EventLine
 with_headers [] item = Some item
 with_headers (header ∷ headers) (line.Event (Command c)) =

@@ -1,4 +1,4 @@
--- The output file, version 1: the one text of the outputs of rounds.
+-- The output file, version 1: the outputs of rounds have exactly one text.
 use Rattle.std.specs.Prelude.{ℕ, List, ◌++◌, codes, map}
 use Rattle.std.specs.Global.{Vec}
 use Rattle.std.specs.List.{flat_map}
@@ -22,7 +22,7 @@ reason_text (Unreadable fault) = plain_field (fault_text fault)
 unfoldable pub form_text : List ℕ → List ℕ → List ℕ
 form_text call_id form = codes "notice" ++ word_field call_id ++ plain_field form
 
--- the same and an id
+-- the same, followed by an id
 unfoldable pub form_with_id : List ℕ → List ℕ → Id → List ℕ
 form_with_id call_id form id = form_text call_id form ++ id_field id
 
@@ -66,6 +66,6 @@ rounds_text rounds = flat_map (λ round. round_outputs_text round.0 round.1) rou
 unfoldable pub outputs_text : List (ℕ × List Output) → List ℕ
 outputs_text rounds = codes "sip-outputs 1\n" ++ rounds_text rounds
 
--- each round's moment beside the list of its outputs
+-- the moment of each round, and the list of its outputs
 abbrev pub told : List (ℕ × Vec Output) → List (ℕ × List Output)
 told rounds = map (λ round. (round.0, round.1.items)) rounds

@@ -14,13 +14,13 @@ use Rattle.sip_files.specs.declared.file_replay.ReplayFault.{ReplayFault}
 use Rattle.sip_files.specs.declared.file_replay.ReplayFault.TheVariants.{Input, Events, Round, Output, NoMemory}
 use Rattle.sip_round.specs.Answers.{answers, refused, EndsWithoutMemory}
 
--- the output file of the rounds: the moment of each beside its answer
+-- the output file of the rounds: the moment of each with its answer
 unfoldable pub answer_file : Config → List round.Round → List ℕ
 answer_file config rounds =
     outputs_text (zip (map (λ round. round.moment) rounds) (answers config rounds))
 
--- the input is a file of the kind, no round of it is refused, and this is the output file of its
--- rounds
+-- the input is a file of the kind, none of its rounds is refused, and this is the output file of
+-- its rounds
 pub record Replays (kind : FileKind) (input output : List ℕ) : Type 0 where
   pub config : Config
   pub rounds : List round.Round
@@ -29,8 +29,8 @@ pub record Replays (kind : FileKind) (input output : List ℕ) : Type 0 where
   pub unrefused : refused config rounds ≡ None
   pub answered : output ≡ answer_file config rounds
 
--- the input is a file of the kind, and the first round of it that is refused is the one of this
--- index, for this fault
+-- the input is a file of the kind, and the first of its rounds that is refused has this index and
+-- this fault
 pub record RefusesRound (kind : FileKind) (index : ℕ) (fault : RoundFault) (input : List ℕ) :
     Type 0 where
   pub config : Config
@@ -39,7 +39,7 @@ pub record RefusesRound (kind : FileKind) (index : ℕ) (fault : RoundFault) (in
   pub size : length input ≤ 2 ^ 26
   pub refuses : refused config rounds ≡ Some (index, fault)
 
--- the input is a file of the kind, and a run of its rounds may end at this index for want of memory
+-- the input is a file of the kind, and memory may run out in its rounds, at this index
 pub record RunsOutOfMemory (kind : FileKind) (index : ℕ) (broken : Bool) (input : List ℕ) :
     Type 0 where
   pub config : Config
@@ -48,7 +48,7 @@ pub record RunsOutOfMemory (kind : FileKind) (index : ℕ) (broken : Bool) (inpu
   pub size : length input ≤ 2 ^ 26
   pub ends : EndsWithoutMemory config rounds index broken
 
--- what a fault tells of the input; of a stream that failed and of want of memory it tells nothing
+-- what a fault says about the input; a failed stream and lack of memory say nothing
 abbrev pub TellsReplay : FileKind → ReplayFault → List ℕ → Type 0
 TellsReplay kind Input input = Unit {0}
 TellsReplay kind (Events fault) input = TellsFault kind fault input
@@ -77,7 +77,7 @@ input_failures (Err (Round index fault)) = 0
 input_failures (Err Output) = 0
 input_failures (Err NoMemory) = 0
 
--- the same of writes and flushes
+-- the same for writes and flushes
 abbrev pub output_failures : {T : Type 0} → Result T ReplayFault → ℕ
 output_failures (Ok value) = 0
 output_failures (Err Input) = 0
@@ -91,7 +91,7 @@ abbrev pub WritesAll : FileKind → Option (List ℕ) → Option (List ℕ) → 
 WritesAll kind old new input =
     (output : List ℕ) × Replays kind input output × Appends old new output
 
--- the writer took the front of the output file of the input
+-- the writer took a front of the output file of the input
 abbrev pub WritesFront : FileKind → Option (List ℕ) → Option (List ℕ) → List ℕ → Type 0
 WritesFront kind old new input =
     (front rest : List ℕ) × Replays kind input (front ++ rest) × Appends old new front

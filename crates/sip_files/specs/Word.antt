@@ -1,6 +1,5 @@
 -- How a field spells a text of any bytes: as a word, or as a rest, which is always the last field
--- of its line. A byte stands for itself or is escaped, and each text has one spelling of either
--- form.
+-- of its line. A byte stands for itself or is escaped. Each text has one spelling in each form.
 use Rattle.std.specs.Prelude.{ℕ, Bool, not, ◌&&◌, ◌||◌, ◌==◌, ◌/◌, ◌%◌, nat_le, nat_lt, List, [], ◌∷◌, length, Option, Some, None, codes, if◌then◌else◌}
 use Rattle.sip_text.specs.Number.{hex_digit}
 use Rattle.std.specs.List.{flat_map, list_all}
@@ -31,7 +30,7 @@ abbrev pub escape_with : ℕ → Option ℕ → List ℕ
 escape_with b (Some letter) = 92 ∷ letter ∷ []
 escape_with b None = 92 ∷ 120 ∷ hex_pair b
 
--- a byte, where `is_itself` tells which bytes stand for themselves
+-- a byte; `is_itself` says which bytes stand for themselves
 unfoldable pub spelled_byte : (ℕ → Bool) → ℕ → List ℕ
 spelled_byte is_itself b = if is_itself b then b ∷ [] else escape_with b (letter_of b)
 
@@ -45,10 +44,10 @@ spelled_word text =
     else if bytes_eq text (codes "-") then codes "\\x2d"
     else spelled_bytes is_plain text
 
--- the rest of a text, where a space stands for itself too
+-- the rest of a text, in which a space stands for itself too
 unfoldable pub spelled_rest : List ℕ → List ℕ
 spelled_rest text = spelled_bytes is_plain_or_space text
 
--- what has a spelling: numbers that are bytes
+-- a text that has a spelling: its numbers are bytes
 abbrev pub are_bytes : List ℕ → Bool
 are_bytes text = list_all (λ b. nat_lt b 256) text

@@ -1,5 +1,5 @@
--- The event file and the session file that are written: of each configuration and list of rounds
--- one text of either. The event file is of version 2; neither leaves a line of the head out.
+-- The event file and the session file as they are written: each configuration and list of rounds
+-- has one text of either. The event file is of version 2. Both have all lines of the head.
 use Rattle.std.specs.Prelude.{◌≡◌, ℕ, ◌≤◌, ◌^◌, ◌-◌, List, [], ◌∷◌, ◌++◌, map, Option, Some, None, IsTrue, codes}
 use Rattle.std.specs.List.{flat_map, AllByRecursion}
 use Rattle.std.specs.Str.{str_to_ascii_lowercase}
@@ -33,7 +33,7 @@ use Rattle.sip_files.specs.Events.{IsSeed, IsMethod, IsCommandLine, SpellsLine, 
 
 -- ---- the lines
 
--- the branch and the host stand as the key has them, in lower case
+-- the branch and the host stand as in the key, in lower case
 abbrev pub failed_text : Key → List ℕ
 failed_text (Client branch method) =
     codes "failed client" ++ word_field branch ++ plain_field method
@@ -115,7 +115,7 @@ event_headers (Datagram from bytes) = []
 event_headers (Failed key) = []
 event_headers (Command c) = command_headers c
 
--- the lines of an event, in a file of the kind: a session has the headers of a command
+-- the lines of an event in a file of the kind: in a session with the headers of a command
 abbrev pub event_lines : FileKind → Event → List ℕ
 event_lines file_kind.Events event = ended_text (line.Event event)
 event_lines file_kind.Session event = event_headers event ++ ended_text (line.Event event)
@@ -128,7 +128,7 @@ head_in version config =
     version_line version ++ codes "\n" ++ ended_text (line.Local config.local)
     ++ ended_text (line.Seed config.seed) ++ ended_text (line.First config.first)
 
--- the version of the files of a kind that are written
+-- the version in which files of the kind are written
 abbrev pub written_version : FileKind → Version
 written_version file_kind.Events = Two
 written_version file_kind.Session = SessionOne
@@ -169,7 +169,7 @@ IsKey (Server branch sent_by method) =
     × (str_to_ascii_lowercase sent_by.host ≡ sent_by.host) × IsTrue (are_bytes sent_by.host)
     × (sent_by.port ≤ 65535)
 
--- an event that has a line, where this holds of a command
+-- an event that has a line, if commands keep this rule
 abbrev pub IsEventOf : (UserCommand → Type 0) → Event → Type 0
 IsEventOf P (Datagram from bytes) = IsAddr from × IsTrue (are_bytes bytes)
 IsEventOf P (Failed key) = IsKey key
@@ -190,7 +190,7 @@ pub record IsRoundOf (P : UserCommand → Type 0) (round : Round) : Type 0 where
 abbrev pub IsRound : Round → Type 0
 IsRound round = IsRoundOf (IsCommandLine Two) round
 
--- ---- what can be written of a session
+-- ---- what can be written in a session
 
 abbrev pub IsAddressValue : NameAddr → Type 0
 IsAddressValue address = IsNameAddr address × IsTrue (are_bytes (address_value address))
@@ -231,7 +231,7 @@ bare (command.Ack c) = command.Ack (record c { content = content_of_body c.conte
 bare (command.Prack c) = command.Prack (record c { content = content_of_body c.content.body })
 bare (command.Cancel c) = command.Cancel c
 
--- its line can be written, and its headers before it
+-- its line can be written, and so can the headers before it
 abbrev pub IsSessionCommand : UserCommand → Type 0
 IsSessionCommand c = IsCommandLine SessionOne (bare c) × HaveHeaders c
 

@@ -15,7 +15,7 @@ use sip_served::{Cancel, DialogBody, DialogRequest, Invite, Plain, Respond, User
 use sip_text::Series;
 use std::alloc::{AllocError, Global};
 
-/// What the line of a command says, where a file of this version may have it, by its first word.
+/// What the line of a command says, by its first word, if a file of this version may have it.
 pub(crate) fn read_command(
     alloc: Global,
     version: Version,
@@ -187,7 +187,7 @@ fn read_respond(alloc: Global, fields: &[u8]) -> Result<Option<Respond>, AllocEr
     }))
 }
 
-// Version 1 alone doesn't have the line.
+// Only version 1 doesn't have the line.
 fn cancel_in(alloc: Global, version: Version, fields: &[u8]) -> Result<Option<Cancel>, AllocError>
     ensures { IfOk result (λ cancel. cancel ≡ reading.cancel_in version fields.now) }
 {

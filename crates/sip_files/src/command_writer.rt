@@ -15,7 +15,7 @@ use sip_served::{
 };
 use std::alloc::AllocError;
 
-/// The line of a command, without its end.
+/// The line of a command, without its line end.
 pub(crate) fn push_command(file: &mut Vec<u8>, command: &UserCommand) -> Result<(), AllocError>
     ensures { OnOk result (file.new.items ≡ file.old.items ++ written.command_text command.now) }
 {
@@ -123,7 +123,7 @@ fn push_uris(file: &mut Vec<u8>, request_uri: &Uri, from: &Uri, to: &Uri) -> Res
     push_text(file, to.as_slice())
 }
 
-// What names a dialog.
+// The fields that name a dialog.
 fn push_dialog(
     file: &mut Vec<u8>,
     call_id: &CallId,

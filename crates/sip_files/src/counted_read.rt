@@ -7,22 +7,22 @@ ghost use Rattle.sip_files.specs.Counted.{Counts, failures_of};
 
 use std::io::{self, Read};
 
-/// A reader that may count its reads, and those that failed.
+/// A reader that may count its reads and those that failed.
 pub trait CountedRead {
-    // The bytes that are left, where they are known.
+    // The bytes that are left, if they are known.
     ghost remaining: { Self → Option (List ℕ) };
 
-    // How often it was read, where it tells.
+    // How often it was read, if it tells.
     ghost reads: { Self → Option ℕ };
 
-    // How many reads of it failed, where it tells.
+    // How many of its reads failed, if it tells.
     ghost failures: { Self → Option ℕ };
 
-    /// One read, as `Read::read` does it.
+    /// One read, as by `Read::read`.
     ///
     /// # Errors
     ///
-    /// What the reader has against it.
+    /// The reader's own error.
     fn read_once(&mut self, buf: &mut [u8]) -> io::Result<usize>
         ensures bound { ReadsAtMost result buf.new }
         ensures bytes { ReadConsumes (remaining self.old) (remaining self.new) result buf.new }
@@ -30,7 +30,7 @@ pub trait CountedRead {
         ensures failed { Counts (failures self.old) (failures self.new) (failures_of result) };
 }
 
-/// A reader of `std` tells neither how often it was read, nor how often that failed.
+/// A reader of `std` tells neither how often it was read nor how often that failed.
 impl<R: Read> CountedRead for R {
     ghost remaining = { R.remaining };
 

@@ -9,31 +9,31 @@ use std::io::{self, Write};
 
 /// A writer that may count its writes and flushes that failed.
 pub trait CountedWrite {
-    // All bytes that it took, where they are known.
+    // All bytes that it took, if they are known.
     ghost contents: { Self → Option (List ℕ) };
 
-    // How many writes of it failed or took nothing, and how many flushes failed, where it tells.
+    // How many of its writes failed or took nothing, and how many flushes failed, if it tells.
     ghost failures: { Self → Option ℕ };
 
-    // Whether all that it took is flushed, where it tells.
+    // Whether all that it took is flushed, if it tells.
     ghost flushed: { Self → Option Bool };
 
-    /// One write, as `Write::write` does it.
+    /// One write, as by `Write::write`.
     ///
     /// # Errors
     ///
-    /// What the writer has against it.
+    /// The writer's own error.
     fn write_once(&mut self, bytes: &[u8]) -> io::Result<usize>
         ensures bound { WritesAtMost result bytes.now }
         ensures bytes { WriteAppends (contents self.old) (contents self.new) result bytes.now }
         ensures failed { Counts (failures self.old) (failures self.new)
             (failures_of_write result) };
 
-    /// One flush, as `Write::flush` does it.
+    /// One flush, as by `Write::flush`.
     ///
     /// # Errors
     ///
-    /// What the writer has against it.
+    /// The writer's own error.
     fn flush_once(&mut self) -> io::Result<()>
         ensures bytes { Keeps (contents self.old) (contents self.new) }
         ensures failed { Counts (failures self.old) (failures self.new) (failures_of result) }

@@ -1,4 +1,4 @@
-//! What the lines of an event file say, read one after the other.
+//! What the lines of an event file say, read one after another.
 
 ghost use Rattle.std.specs.Prelude.{◌≡◌, IfOk};
 ghost use Rattle.sip_files.specs.Steps.Drafting as drafting;
@@ -9,10 +9,10 @@ use sip_round::{Config, Event, Round};
 use sip_text::Series;
 use std::alloc::{AllocError, Global};
 
-/// Which line of the head may come next; after the last of them only rounds and events do.
+/// Which line of the head may come next. After the last of them only rounds and events may.
 #[derive(Clone, Copy)]
 pub(crate) enum Stage {
-    /// The first line, which has to be there.
+    /// The first line. It has to be there.
     Local,
     Seed,
     First,
@@ -31,7 +31,7 @@ impl Stage {
     }
 }
 
-/// What the lines read so far say. The configuration counts once its first line was taken.
+/// What the lines read so far say. The configuration counts only after its first line was taken.
 #[derive(Drop)]
 pub(crate) struct Draft {
     pub config: Config,
@@ -59,7 +59,7 @@ impl Draft {
     }
 }
 
-/// The draft with the next line, where that may stand there. A header line is none by itself.
+/// The draft with the next line, if that may stand there. A header line may not, by itself.
 pub(crate) fn with_line(draft: Draft, line: EventLine) -> Result<Option<Draft>, AllocError>
     ensures { IfOk result (λ next. next ≡ drafting.taken draft line) }
 {
@@ -160,7 +160,7 @@ fn with_event(draft: Draft, event: Event) -> Result<Option<Draft>, AllocError>
     }))
 }
 
-// The rounds with the event in the last one, where there is one.
+// The rounds, with the event in the last of them, if there is one.
 fn in_last(rounds: Series<Round>, event: Event) -> Result<Option<Series<Round>>, AllocError>
     ensures { IfOk result (λ next. next ≡ drafting.with_event rounds event) }
 {

@@ -21,27 +21,27 @@ use sip_served::UserCommand;
 use sip_text::{cut, number_up_to};
 use std::alloc::{AllocError, Global};
 
-/// The greatest number of a first round.
+/// The highest number of a first round.
 const MAX_FIRST: u64 = 1 << 62;
 
-/// What a line of a file says, after the line of the version.
+/// What a line of a file says. The line of the version isn't among them.
 #[derive(Drop)]
 pub enum EventLine {
     /// The address of the agent.
     Local(Addr),
-    /// The key of the words that made names end in.
+    /// The key of the words in which made names end.
     Seed([u8; 32]),
     /// The number of the first round.
     First(u64),
     /// A round begins, at this moment.
     Round(u64),
-    /// An event of the round. The content of a command has its body alone.
+    /// An event of the round. The content of a command has only its body.
     Event(Event),
     /// A header of the command that follows.
     Header(GivenHeader),
 }
 
-/// What a line says, where a file of this version may have it.
+/// What a line says, if a file of this version may have it.
 #[tactic(auto, unfolding(crate::specs::Steps::ReadLine::line_at))]
 pub(crate) fn read_line(
     alloc: Global,
@@ -59,11 +59,11 @@ pub(crate) fn read_line(
     read_keyword(alloc, version, keyword, fields)
 }
 
-/// The event that a line says, without its end, where it is the line of an event.
+/// The event that a line says, if it is the line of an event. The line stands without its end.
 ///
 /// # Errors
 ///
-/// Want of memory.
+/// Memory ran out.
 pub fn read_event_line(alloc: Global, line: &[u8]) -> Result<Option<Event>, AllocError>
     ensures some { IfOk result (λ found. IfSome found (SpellsEventLine line.now)) }
     ensures none { IfOk result (λ found. IfNone found
@@ -75,11 +75,11 @@ pub fn read_event_line(alloc: Global, line: &[u8]) -> Result<Option<Event>, Allo
     }
 }
 
-/// The command that a line says, without its end, where it is the line of a command.
+/// The command that a line says, if it is the line of a command. The line stands without its end.
 ///
 /// # Errors
 ///
-/// Want of memory.
+/// Memory ran out.
 pub fn read_command_line(alloc: Global, line: &[u8]) -> Result<Option<UserCommand>, AllocError>
     ensures some { IfOk result (λ found. IfSome found (SpellsCommand line.now)) }
     ensures none { IfOk result (λ found. IfNone found
@@ -91,11 +91,11 @@ pub fn read_command_line(alloc: Global, line: &[u8]) -> Result<Option<UserComman
     }
 }
 
-/// The header that a line says, without its end, where it is a header line.
+/// The header that a line says, if it is a header line. The line stands without its end.
 ///
 /// # Errors
 ///
-/// Want of memory.
+/// Memory ran out.
 pub fn read_header_line(alloc: Global, line: &[u8]) -> Result<Option<GivenHeader>, AllocError>
     ensures some { IfOk result (λ found. IfSome found (SpellsHeader line.now)) }
     ensures none { IfOk result (λ found. IfNone found

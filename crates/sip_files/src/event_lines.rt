@@ -13,15 +13,15 @@ use sip_round::{Event, Round};
 use sip_text::Series;
 use std::alloc::{AllocError, Global};
 
-/// What may stand before the lines of an event in a session file.
+/// A text that may stand before the lines of an event in a session file.
 const BEFORE: &[u8] = b"sip-session 1\nlocal 127.0.0.1:5060\nround 0\n";
 
-/// The event that these lines say, where they are those of one event in a session file: its line,
-/// and before that of a command its header lines. The last line stands without its end.
+/// The event that these lines say, if they are those of one event in a session file. These are its
+/// line and, for a command, its header lines before that. The last line stands without its end.
 ///
 /// # Errors
 ///
-/// Want of memory.
+/// Memory ran out.
 pub fn read_event_lines(alloc: Global, lines: &[u8]) -> Result<Option<Event>, AllocError>
     ensures some { IfOk result (λ found. IfSome found (SpellsLines lines.now)) }
     ensures none { IfOk result (λ found. IfNone found
@@ -45,7 +45,7 @@ fn session_with(alloc: Global, lines: &[u8]) -> Result<Vec<u8>, AllocError>
     Ok(text)
 }
 
-// What comes of a fault: no event, but for want of memory.
+// A fault means that there is no event, unless memory ran out.
 fn unread(fault: EventsFault) -> Result<Option<Event>, AllocError>
     ensures { IfOk result (λ found. (found ≡ None) × (fault ≢ events_fault.NoMemory)) }
 {
@@ -55,7 +55,7 @@ fn unread(fault: EventsFault) -> Result<Option<Event>, AllocError>
     }
 }
 
-// The event of the rounds, where it is the only one.
+// The event of the rounds, if it is the only one.
 fn only_event(rounds: Series<Round>) -> Option<Event>
     ensures some { IfSome result (λ event. rounds ≡ round_of event ∷ []) }
     ensures none { IfNone result ((given : event.Event) → ¬ (rounds ≡ round_of given ∷ [])) }

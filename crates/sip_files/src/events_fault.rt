@@ -1,17 +1,17 @@
-//! Why a text is no event file.
+//! Why a text isn't an event file.
 
 ghost use Rattle.std.specs.Prelude.{◌≡◌};
 
 use std::alloc::AllocError;
 use thiserror::Error;
 
-/// Why a text is no event file: the first that fits.
+/// Why a text isn't an event file: the first reason that fits.
 #[derive(Clone, Copy, Debug, PartialEq, Eq, Error)]
 pub enum EventsFault {
     /// Over 2^26 bytes.
     #[error("event file too long")]
     TooLong,
-    /// The first line names no version that is read.
+    /// The first line doesn't name a version that can be read.
     #[error("event file version")]
     BadVersion,
     /// The first line that breaks a rule, numbered from 1.

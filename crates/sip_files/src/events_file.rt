@@ -2,8 +2,8 @@
 //!
 //! Lines end in LF. After `sip-events 1` or `sip-events 2` comes `local ADDR`, then optionally
 //! `seed` and optionally `first N`, in this order, and then the rounds: `round MOMENT`, each
-//! followed by the lines of its events. After `sip-session 1` the same comes, and header lines may
-//! stand before the line of a command: the headers of its content.
+//! followed by the lines of its events. The same comes after `sip-session 1`; there, header lines
+//! may stand before the line of a command. They are the headers of its content.
 
 ghost use Rattle.std.specs.Prelude.{◌≡◌, ℕ, List, ◌≤◌, ◌^◌, IfErr, IfOk, MatchResult, length};
 ghost use Rattle.sip_round.specs.declared.config.Config as config;
@@ -20,14 +20,14 @@ use sip_round::{Config, Round};
 use sip_text::{Series, cut};
 use std::alloc::Global;
 
-/// The greatest length of an event file or a session file, in bytes.
+/// The maximum length of an event file or a session file, in bytes.
 pub const MAX_EVENTS: usize = 1 << 26;
 
 /// The configuration and the rounds that an event file spells.
 ///
 /// # Errors
 ///
-/// The first fault that fits; `NoMemory` may stand in place of any answer.
+/// The first fault that fits; `NoMemory` may come in place of any answer.
 pub fn read_events(alloc: Global, text: &[u8]) -> Result<(Config, Series<Round>), EventsFault>
     ensures found { IfOk result (λ read. spelling.SpellsEvents read.0 read.1 text.now) }
     ensures size { IfOk result (λ read. length text.now ≤ 2 ^ 26) }
@@ -43,7 +43,7 @@ pub fn read_events(alloc: Global, text: &[u8]) -> Result<(Config, Series<Round>)
 ///
 /// # Errors
 ///
-/// The first fault that fits; `NoMemory` may stand in place of any answer.
+/// The first fault that fits; `NoMemory` may come in place of any answer.
 pub fn read_file(
     alloc: Global,
     kind: FileKind,

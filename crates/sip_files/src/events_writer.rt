@@ -1,5 +1,5 @@
-//! Writes event files and session files: the head, and then one round after the other, as a run
-//! goes on.
+//! Writes event files and session files: the head, and then one round after another, as a run goes
+//! on.
 
 ghost use Rattle.std.specs.Prelude.{◌≡◌, ◌++◌, IfOk, OnOk, codes};
 ghost use Rattle.std.specs.List.{flat_map};
@@ -19,14 +19,14 @@ use sip_parts::LowerText;
 use sip_round::{Config, Event, Round};
 use std::alloc::{AllocError, Global};
 
-/// The head of the event file of an agent with this configuration: version 2, and its three lines.
+/// The head of an event file for an agent with this configuration: version 2, and its three lines.
 pub fn write_head(alloc: Global, config: &Config) -> Result<Vec<u8>, AllocError>
     ensures { IfOk result (λ text. text.items ≡ written.head_text config.now) }
 {
     write_file_head(alloc, FileKind::Events, config)
 }
 
-/// The head of the file of this kind of an agent with this configuration: its version, and its
+/// The head of a file of this kind, for an agent with this configuration: its version, and its
 /// three lines.
 pub fn write_file_head(
     alloc: Global,
@@ -45,7 +45,8 @@ pub fn write_round(alloc: Global, round: &Round) -> Result<Vec<u8>, AllocError>
     write_file_round(alloc, FileKind::Events, round)
 }
 
-/// The lines of a round in a file of this kind: in a session file with the headers of its commands.
+/// The lines of a round in a file of this kind. In a session file they include the headers of
+/// commands.
 #[tactic(auto, unfolding(crate::specs::Written::round_in))]
 pub fn write_file_round(alloc: Global, kind: FileKind, round: &Round) -> Result<Vec<u8>, AllocError>
     ensures { IfOk result (λ text. text.items ≡ written.round_in kind round.now) }
@@ -56,7 +57,7 @@ pub fn write_file_round(alloc: Global, kind: FileKind, round: &Round) -> Result<
     Ok(file)
 }
 
-/// The line of an event file that one event has, with its end.
+/// The line of one event in an event file, with its end.
 pub fn write_event(alloc: Global, event: &Event) -> Result<Vec<u8>, AllocError>
     ensures { IfOk result (λ text. text.items ≡ written.ended_text (line.Event event.now)) }
 {

@@ -8,8 +8,8 @@ use sip_message::Key;
 use sip_text::cut;
 use std::alloc::{AllocError, Global};
 
-/// The key of the transaction whose send failed, where the line names one: a client's or a
-/// server's, by its second word.
+/// The key of the transaction whose send failed, if the line names one. Its second word says
+/// whether it is a client's or a server's.
 #[tactic(auto, unfolding(crate::specs::Steps::ReadLine::failed_at))]
 pub(crate) fn read_failed(alloc: Global, fields: &[u8]) -> Result<Option<Key>, AllocError>
     ensures { IfOk result (λ key. key ≡ reading.failed_at fields.now) }

@@ -1,4 +1,4 @@
-//! Writes the fields of a line: each with the space before it.
+//! Writes the fields of a line, each with the space before it.
 
 ghost use Rattle.std.specs.Prelude.{◌≡◌, ◌++◌, OnOk, decimal};
 ghost use Rattle.sip_files.specs.Field as field;

@@ -1,4 +1,5 @@
-//! The fields of the lines of an event file: each is read, and gives the fields after it.
+//! The fields of the lines of an event file. Reading a field also gives the text of the fields
+//! after it.
 
 ghost use Rattle.std.specs.Prelude.{◌≡◌, IfOk};
 ghost use Rattle.sip_text.specs.Number.{number_at};
@@ -13,7 +14,7 @@ use sip_served::{ProvisionalSupport, Reliability};
 use sip_text::{Text, cut, number_up_to};
 use std::alloc::{AllocError, Global};
 
-/// The greatest status of a line.
+/// The highest status of a line.
 const MAX_STATUS: u64 = 999;
 
 /// The URIs of a request outside of dialogs.
@@ -23,7 +24,7 @@ pub struct Uris {
     pub to: Uri,
 }
 
-/// What names a dialog. An absent tag is the empty tag.
+/// The parts that name a dialog. An absent tag is the empty tag.
 pub struct Dialog {
     pub call_id: CallId,
     pub local_tag: Option<Token>,

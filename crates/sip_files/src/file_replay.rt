@@ -33,11 +33,11 @@ const CHUNK: usize = 4096;
 pub enum ReplayFault {
     /// A read failed.
     Input,
-    /// What was read is no file of its kind.
+    /// What was read isn't a file of its kind.
     Events(EventsFault),
-    /// The round of this index, from 0, was refused.
+    /// The round with this index, from 0, was refused.
     Round(usize, RoundFault),
-    /// A write failed; a prefix of the output file may be written.
+    /// A write failed. The beginning of the output file may have been written.
     Output,
     NoMemory,
 }
@@ -65,15 +65,15 @@ impl fmt::Display for ReplayFault {
 
 impl Error for ReplayFault {}
 
-/// Reads a file of this kind, runs its rounds in so many shards, among which names are cut so, on
-/// up to so many workers, and writes the output file: all is read before the first round runs, and
-/// all rounds have run before the first byte is written. The reader is read at most 2^26 + 2 times.
+/// Reads a file of this kind, runs its rounds in `shards` shards, cut by `cut`, on up to `workers`
+/// workers, and writes the output file. It reads all before the first round runs, and runs all
+/// rounds before it writes the first byte. It reads the reader at most 2^26 + 2 times.
 ///
 /// # Errors
 ///
-/// `Input` at the first read that fails, and `Output` at the first write that fails or takes
-/// nothing, or a flush that fails; neither device is asked again. With every fault but `Output`
-/// nothing was written; with `Output` the front of the output file may have been.
+/// `Input` at the first read that fails. `Output` at the first write that fails or takes nothing,
+/// or at a flush that fails. Neither device is asked again. With every fault but `Output` nothing
+/// was written; with `Output` the front of the output file may have been.
 pub fn replay<T: Threads + Sync, R: CountedRead, W: CountedWrite, C: Cut + Drop, G: Gate>(
     rt: &T,
     alloc: Global,
@@ -112,12 +112,12 @@ pub fn replay<T: Threads + Sync, R: CountedRead, W: CountedWrite, C: Cut + Drop,
     write_whole(writer, file.as_slice())
 }
 
-/// All bytes of the reader, up to the limit of a file. Each read gives at least one byte,
-/// the end or an error.
+/// All bytes of the reader, up to the limit of a file. Each read gives at least one byte, the end
+/// or an error.
 ///
 /// # Errors
 ///
-/// A read that failed, a text that is too long, and want of memory.
+/// A read failed, the text is too long, or memory ran out.
 pub fn read_all<R: CountedRead>(alloc: Global, reader: &mut R) -> Result<Vec<u8>, ReplayFault>
     ensures all { IfOk result (λ text.
         IfSome (R.remaining reader.old) (λ input. text.items ≡ input)) }
@@ -143,7 +143,7 @@ pub fn read_all<R: CountedRead>(alloc: Global, reader: &mut R) -> Result<Vec<u8>
     Err(ReplayFault::Events(EventsFault::TooLong))
 }
 
-// The output file of a file of this kind.
+// The output file that belongs to a file of this kind.
 fn replayed<T: Threads + Sync, C: Cut + Drop, G: Gate>(
     rt: &T,
     alloc: Global,
@@ -177,7 +177,7 @@ fn replayed<T: Threads + Sync, C: Cut + Drop, G: Gate>(
     Ok(file)
 }
 
-// Each answer beside the moment of its round.
+// Each answer with the moment of its round.
 fn with_moments(
     alloc: Global,
     rounds: &[Round],
@@ -199,11 +199,11 @@ fn with_moments(
     Ok(made)
 }
 
-/// Writes all of this, and flushes. Each write takes at least one byte, or the writer has failed.
+/// Writes all bytes, and flushes. A write that doesn't take at least one byte counts as failed.
 ///
 /// # Errors
 ///
-/// `Output`; a front of it may be written.
+/// `Output`; the front of the bytes may have been written.
 pub fn write_whole<W: CountedWrite>(writer: &mut W, bytes: &[u8]) -> Result<(), ReplayFault>
     ensures all { OnOk result (Appends (W.contents writer.old) (W.contents writer.new) bytes.now) }
     ensures front { OnErr result ((front rest : List ℕ) × (bytes.now ≡ front ++ rest)

@@ -1,5 +1,5 @@
-//! The header lines of a session file: each says a header of the command that follows it
-//! (RFC 3261, section 7.3.1).
+//! The header lines of a session file. Each says a header of the command that follows it (RFC 3261,
+//! section 7.3.1).
 
 ghost use Rattle.std.specs.Prelude.{◌≡◌, IfOk};
 ghost use Rattle.sip_files.specs.Given as given;
@@ -14,7 +14,8 @@ use sip_text::Series;
 use sip_values::{AddressListRow, Row, TokenListRow};
 use std::alloc::{AllocError, Global};
 
-/// What a header line says. Of the headers that the profile reads only these four are the user's.
+/// What a header line says. Of the headers that the profile reads, the user may give only these
+/// four.
 #[derive(Drop)]
 pub enum GivenHeader {
     Contact(Series<NameAddr>),
@@ -25,8 +26,8 @@ pub enum GivenHeader {
     Other(Header),
 }
 
-/// What the fields of a header line say, where a file of this version may have one: a session file
-/// alone has them.
+/// What the fields of a header line say, if a file of this version may have one: only a session
+/// file may.
 pub(crate) fn header_in(
     alloc: Global,
     version: Version,
@@ -51,12 +52,13 @@ fn read_header(alloc: Global, fields: &[u8]) -> Result<Option<GivenHeader>, Allo
     read_given(alloc, line.as_slice())
 }
 
-/// What a header line of a message says, without its line end: none where it is none, where its
-/// header is not the user's, or where the value is not in its form.
+/// What a header line of a message says. The line stands without its end. None if the text isn't a
+/// header line, if the user may not give its header, or if the value doesn't have the header's
+/// form.
 ///
 /// # Errors
 ///
-/// Want of memory.
+/// Memory ran out.
 pub fn read_given(alloc: Global, line: &[u8]) -> Result<Option<GivenHeader>, AllocError>
     ensures { IfOk result (λ header. header ≡ given.given_at line.now) }
 {
@@ -67,7 +69,7 @@ pub fn read_given(alloc: Global, line: &[u8]) -> Result<Option<GivenHeader>, All
     }
 }
 
-// The value of a header of the profile, where the header is the user's.
+// The value of a header of the profile, if the user may give that header.
 fn read_value(
     alloc: Global,
     header: HeaderName,
@@ -84,7 +86,7 @@ fn read_value(
     }
 }
 
-// A header of its own name. The draft of a message puts it under its long name.
+// Another header, with its own name. The draft of a message puts it under its long name.
 fn read_other(alloc: Global, line: &[u8]) -> Result<Option<GivenHeader>, AllocError>
     ensures { IfOk result (λ made. made ≡ given.other_given (with_line no_draft line.now).others) }
 {

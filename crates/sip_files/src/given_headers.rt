@@ -11,7 +11,7 @@ use sip_served::{DialogBody, DialogRequest, Invite, Plain, Respond, UserCommand}
 use sip_text::Series;
 use std::alloc::{AllocError, Global};
 
-/// What header lines say, by header: of each all values, in the order of the lines.
+/// What header lines say, by header: for each, all values in the order of the lines.
 #[derive(Drop)]
 pub struct GivenHeaders {
     pub contacts: Series<NameAddr>,
@@ -34,7 +34,7 @@ impl GivenHeaders {
         }
     }
 
-    // With what one more line says.
+    // Adds what one more line says.
     fn add(&mut self, header: GivenHeader) -> Result<(), AllocError>
         ensures { OnOk result (self.new ≡ given.with_one self.old header) }
     {
@@ -47,7 +47,8 @@ impl GivenHeaders {
         }
     }
 
-    // Puts them into a content which has none, and gives the routes, which are no part of it.
+    // Puts them into a content without headers, and gives the routes, which aren't part of a
+    // content.
     fn put_into(self, alloc: Global, content: &mut Content) -> Result<Series<NameAddr>, AllocError>
         ensures content { OnOk result (content.new ≡ given.content_with self content.old.body) }
         ensures routes { IfOk result (λ routes. routes ≡ self.routes) }
@@ -70,7 +71,7 @@ impl GivenHeaders {
     }
 }
 
-/// What a line says with the header lines before it, where they may stand there.
+/// What a line says, together with the header lines before it, if they may stand there.
 pub(crate) fn with_headers(
     alloc: Global,
     headers: Series<GivenHeader>,
@@ -92,12 +93,12 @@ pub(crate) fn with_headers(
     }
 }
 
-/// A command whose content has its body alone, with the headers that are given before its line, in
-/// order, where it takes them: `cancel` takes none, and only `invite` and `plain` take a route.
+/// A command whose content has only a body, with the headers that stood before its line, in order,
+/// if it takes them: `cancel` takes none, and only `invite` and `plain` take a route.
 ///
 /// # Errors
 ///
-/// Want of memory.
+/// Memory ran out.
 pub fn with_given(
     alloc: Global,
     headers: Series<GivenHeader>,
@@ -202,7 +203,7 @@ fn body_with(
     Ok(unrouted(routes, body))
 }
 
-// What is asked, where there is no route.
+// The command, if there is no route.
 fn unrouted<T: Drop>(routes: Series<NameAddr>, asked: T) -> Option<T>
     ensures { result ≡ given.unrouted routes asked }
 {

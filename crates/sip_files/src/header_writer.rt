@@ -11,11 +11,11 @@ use sip_round::Event;
 use sip_served::UserCommand;
 use std::alloc::{AllocError, Global};
 
-/// The header line of a session file that has this name and this value, with its end.
+/// The header line of a session file with this name and this value, with its end.
 ///
 /// # Errors
 ///
-/// Want of memory.
+/// Memory ran out.
 pub fn write_header_line(alloc: Global, name: &[u8], value: &[u8]) -> Result<Vec<u8>, AllocError>
     ensures { IfOk result (λ line. line.items ≡ written.header_line name.now value.now) }
 {
@@ -24,7 +24,7 @@ pub fn write_header_line(alloc: Global, name: &[u8], value: &[u8]) -> Result<Vec
     Ok(line)
 }
 
-/// The headers of an event, where it is a command.
+/// The headers of an event, if it is a command.
 pub(crate) fn push_headers(file: &mut Vec<u8>, event: &Event) -> Result<(), AllocError>
     ensures { OnOk result (file.new.items ≡ file.old.items ++ written.event_headers event.now) }
 {
@@ -51,7 +51,7 @@ fn push_command_headers(file: &mut Vec<u8>, command: &UserCommand) -> Result<(),
     }
 }
 
-// In the order in which a message has them.
+// The lines stand in the order in which a message has the headers.
 #[tactic(auto, unfolding(crate::specs::Written::content_lines))]
 fn push_content(
     file: &mut Vec<u8>,
@@ -128,7 +128,7 @@ fn header_text(alloc: Global, name: &[u8], value: &[u8]) -> Result<Vec<u8>, Allo
     Ok(text)
 }
 
-// What a message has of an address.
+// An address as a message has it.
 #[tactic(auto, unfolding(sip_message::specs::Written::address_text))]
 fn address_value(alloc: Global, address: &NameAddr) -> Result<Vec<u8>, AllocError>
     ensures { IfOk result (λ text. text.items ≡ written.address_value address.now) }

@@ -1,5 +1,4 @@
-//! Laws of the files' spellings. Each is proved by its contract alone, and calling one does
-//! nothing.
+//! Laws of the files' spellings. The contract of each is the law, and a call does nothing.
 
 ghost use Rattle.std.specs.Prelude.{◌≡◌, ◌↔◌, ℕ, List, IsTrue, codes, nat_eq, not};
 ghost use Rattle.sip_files.specs.declared.event_line.EventLine.{EventLine};
@@ -13,49 +12,49 @@ ghost use Rattle.sip_files.specs.Events.{AreAlike, SpellsLine};
 ghost use Rattle.sip_files.specs.Written.{IsConfig, IsRound, IsSessionRound, events_text, session_text};
 ghost use Rattle.std.specs.List.{AllByRecursion, starts_with};
 
-/// The words of two different texts differ.
+/// Two different texts have different words.
 pub fn one_text_of_a_word()
     ensures { (text other : List ℕ) → IsTrue (are_bytes text) → IsTrue (are_bytes other)
         → spelled_word text ≡ spelled_word other → text ≡ other }
 {}
 
-/// The rests of two different texts differ.
+/// Two different texts have different rests.
 pub fn one_text_of_a_rest()
     ensures { (text other : List ℕ) → IsTrue (are_bytes text) → IsTrue (are_bytes other)
         → spelled_rest text ≡ spelled_rest other → text ≡ other }
 {}
 
-/// A line of an event file or of a session says one thing, in all versions the same.
+/// A line of an event file or a session says one thing, the same in all versions.
 pub fn one_meaning_of_a_line()
     ensures { (version another : Version) (text : List ℕ) (line other : EventLine)
         → SpellsLine version text line → SpellsLine another text other → line ≡ other }
 {}
 
-/// A line of an event file has one text, in all versions the same; that of a failed send has one
-/// up to the case of letters. Of the texts of a header line nothing is said.
+/// A line of an event file has one text, the same in all versions; for a failed send this is true
+/// up to the case of letters. For a header line nothing is said about its texts.
 pub fn one_text_of_a_line()
     ensures { (version another : Version) (line : EventLine) (text other : List ℕ)
         → SpellsLine version text line → SpellsLine another other line
         → AreAlike line text other }
 {}
 
-/// A text is an event file of one configuration and one list of rounds.
+/// A text is an event file for at most one configuration and list of rounds.
 pub fn one_meaning_of_an_event_file()
     ensures { (text : List ℕ) (config other : Config) (rounds others : List Round)
         → SpellsEvents config rounds text → SpellsEvents other others text
         → (config ≡ other) × (rounds ≡ others) }
 {}
 
-/// A text is a session of one configuration and one list of rounds.
+/// A text is a session for at most one configuration and list of rounds.
 pub fn one_meaning_of_a_session()
     ensures { (text : List ℕ) (config other : Config) (rounds others : List Round)
         → SpellsSession config rounds text → SpellsSession other others text
         → (config ≡ other) × (rounds ≡ others) }
 {}
 
-/// Every event file is a session of the same configuration and rounds. And lines of which none
-/// begins with a space, so that none is a header line, are a session where they are an event file
-/// of version 2, but for the line of the version.
+/// Every event file is a session of the same configuration and rounds. Lines none of which begins
+/// with a space, so that none is a header line, are a session exactly if they are an event file of
+/// version 2; only the line of the version differs.
 pub fn an_event_file_is_a_session()
     ensures session { (config : Config) (rounds : List Round) (text : List ℕ)
         → SpellsEvents config rounds text → SpellsSession config rounds text }
@@ -66,15 +65,15 @@ pub fn an_event_file_is_a_session()
         ↔ SpellsIn Two config rounds (file_text Two lines)) }
 {}
 
-/// What is written of a configuration and rounds is their event file, where each of their lines is
-/// one that an event file may have.
+/// What is written for a configuration and rounds is their event file, if an event file may have
+/// each of their lines.
 pub fn what_is_written_is_an_event_file()
     ensures { (config : Config) (rounds : List Round) → IsConfig config
         → AllByRecursion IsRound rounds → SpellsEvents config rounds (events_text config rounds) }
 {}
 
-/// What is written of a session is the session, where each of its lines is one that a session may
-/// have; the contents of its commands may have headers.
+/// What is written for a session is that session, if a session may have each of its lines. The
+/// contents of its commands may have headers.
 pub fn what_is_written_is_a_session()
     ensures { (config : Config) (rounds : List Round) → IsConfig config
         → AllByRecursion IsSessionRound rounds

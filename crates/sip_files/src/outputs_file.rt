@@ -17,7 +17,7 @@ use sip_text::Text;
 use sip_transactions::DropReason;
 use std::alloc::{AllocError, Global};
 
-/// The output file of the outputs of rounds, each with the round's moment.
+/// The output file for the outputs of rounds, each with its round's moment.
 #[tactic(auto, unfolding(crate::specs::Outputs::outputs_text))]
 pub fn write_outputs(alloc: Global, rounds: &[(u64, Vec<Output>)]) -> Result<Vec<u8>, AllocError>
     ensures { IfOk result (λ file. file.items ≡ written.outputs_text (written.told rounds.now)) }
@@ -28,7 +28,7 @@ pub fn write_outputs(alloc: Global, rounds: &[(u64, Vec<Output>)]) -> Result<Vec
     Ok(file)
 }
 
-/// The line of an output file that one output has, with its end.
+/// The line of one output in an output file, with its end.
 pub fn write_output(alloc: Global, output: &Output) -> Result<Vec<u8>, AllocError>
     ensures { IfOk result (λ line. line.items ≡ written.output_line output.now) }
 {
@@ -106,7 +106,7 @@ fn push_reason(file: &mut Vec<u8>, reason: DropReason) -> Result<(), AllocError>
     }
 }
 
-// The fault's name, and after two of them the header's.
+// The name of the fault. For two faults the name of the header follows.
 #[tactic(auto, unfolding(crate::specs::Field::plain_field))]
 fn push_fault(file: &mut Vec<u8>, fault: ReadFault) -> Result<(), AllocError>
     ensures { OnOk result (file.new.items ≡ file.old.items
@@ -275,7 +275,7 @@ fn push_form(file: &mut Vec<u8>, call_id: &CallId, form: &[u8]) -> Result<(), Al
     push_plain(file, form)
 }
 
-// The same and an id.
+// The same, followed by an id.
 #[tactic(auto, unfolding(crate::specs::Outputs::form_with_id))]
 fn push_head(file: &mut Vec<u8>, call_id: &CallId, form: &[u8], id: Id) -> Result<(), AllocError>
     ensures { OnOk result (file.new.items ≡ file.old.items

@@ -15,7 +15,7 @@ use std::alloc::{AllocError, Global};
 #[derive(Drop)]
 pub(crate) struct Progress {
     pub draft: Draft,
-    /// What the header lines say after which no other line came yet.
+    /// What the header lines say that wait for the next other line.
     pub headers: Series<GivenHeader>,
 }
 
@@ -38,7 +38,7 @@ impl Progress {
     }
 }
 
-/// The progress with the next line, where that may stand there.
+/// The progress with the next line, if that may stand there.
 pub(crate) fn with_next(
     alloc: Global,
     progress: Progress,
@@ -52,7 +52,7 @@ pub(crate) fn with_next(
     }
 }
 
-// Header lines stand in rounds.
+// Header lines may stand only in rounds.
 fn with_header(mut progress: Progress, header: GivenHeader) -> Result<Option<Progress>, AllocError>
     ensures { IfOk result (λ next. next ≡ drafting.header_went progress header) }
 {

@@ -26,7 +26,7 @@ pub enum FileKind {
 }
 
 impl FileKind {
-    /// The version of the files of this kind that are written.
+    /// The version in which files of this kind are written.
     pub(crate) fn written(self) -> Version
         ensures { result ≡ written_version self }
     {

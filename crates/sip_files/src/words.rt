@@ -1,10 +1,10 @@
 //! Words and rests: how a file spells a text of any bytes.
 //!
-//! In both a byte from `!` to `~` other than `\` stands for itself, and every other byte is
-//! escaped: `\s` a space, `\r`, `\n`, `\t`, `\\`, and `\xhh` in lower case for all others. In a
-//! rest, which is always the last field of its line, a space stands for itself. The empty text is
-//! the word `-` and the empty rest, and the text of one hyphen is the word `\x2d`. Each text has
-//! one spelling of either form, and the readers take no other.
+//! In both, a byte from `!` to `~` other than `\` stands for itself, and every other byte is
+//! escaped: `\s` is a space; the others are `\r`, `\n`, `\t`, `\\`, and `\xhh` in lower case for
+//! all that are left. In a rest, which is always the last field of its line, a space stands for
+//! itself. The empty text is the word `-` and the empty rest. The text of one hyphen is the word
+//! `\x2d`. Each text has one spelling in each form, and the readers accept no other.
 
 ghost use Rattle.std.specs.Prelude.{◌≡◌, ◌<◌, ◌++◌, length, IfOk, IfSome, OnOk};
 ghost use Rattle.sip_files.specs.Word as word;
@@ -92,7 +92,7 @@ fn is_plain(byte: u8) -> bool
     b'!' <= byte && byte <= b'~' && byte != b'\\'
 }
 
-// The letter of a byte's escape, where it has one.
+// The letter of a byte's escape, if it has one.
 fn letter_of(byte: u8) -> Option<u8>
     ensures { result ≡ word.letter_of byte }
 {
@@ -189,7 +189,7 @@ fn read_escaped(alloc: Global, field: &[u8], form: Form) -> Result<Option<Text>,
     Ok(Some(Text::from_vec(bytes)))
 }
 
-// The first byte that a text in this form spells, and what follows it.
+// The first byte that a text in this form spells, and what follows that byte.
 #[tactic(auto, unfolding(crate::specs::Steps::Reading::byte_at))]
 fn read_byte(text: &[u8], form: Form) -> Option<(u8, &[u8])>
     ensures read { reading.read_now result ≡ reading.byte_at (itself_in form) text.now }
@@ -208,7 +208,7 @@ fn read_byte(text: &[u8], form: Form) -> Option<(u8, &[u8])>
     }
 }
 
-// The byte of what follows a backslash.
+// The byte that the text after a backslash spells.
 #[tactic(auto, unfolding(crate::specs::Steps::Reading::escape_at))]
 fn read_escape(text: &[u8], form: Form) -> Option<(u8, &[u8])>
     ensures read { reading.read_now result ≡ reading.escape_at (itself_in form) text.now }
@@ -221,7 +221,7 @@ fn read_escape(text: &[u8], form: Form) -> Option<(u8, &[u8])>
     }
 }
 
-// The byte of two hexadecimal digits, where it has no shorter spelling.
+// The byte of two hexadecimal digits, if it has no shorter spelling.
 #[tactic(auto, unfolding(crate::specs::Steps::Reading::hex_at))]
 fn read_hex(text: &[u8], form: Form) -> Option<(u8, &[u8])>
     ensures read { reading.read_now result ≡ reading.hex_at (itself_in form) text.now }
@@ -239,7 +239,7 @@ fn read_hex(text: &[u8], form: Form) -> Option<(u8, &[u8])>
     }
 }
 
-// The byte of an escape's letter, where it doesn't stand for itself.
+// The byte of an escape's letter, if it doesn't stand for itself.
 #[tactic(auto, unfolding(crate::specs::Steps::Reading::letter_at))]
 fn read_letter(letter: u8, after: &[u8], form: Form) -> Option<(u8, &[u8])>
     ensures read { reading.read_now result ≡ reading.letter_at (itself_in form) letter after.now }

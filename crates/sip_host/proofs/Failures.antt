@@ -1,4 +1,4 @@
--- A send that failed is reported.
+-- A send that failed is reported to the agent.
 use Rattle.std.proofs.Common.{◌≡◌, ◌<◌, ℕ, zero, suc, length, arith, List, [], ◌∷◌, ◌++◌, Some, None, sym, ap, ◌∙◌, subst, append-nil}
 use Rattle.std.specs.Prelude.{Option, IsSomeAnd}
 use Rattle.std.specs.Option.{option_to_list}

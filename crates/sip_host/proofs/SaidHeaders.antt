@@ -1,4 +1,4 @@
--- A header by its name and value is the one that its line says.
+-- A header given by its name and value is the one that its line says.
 use Rattle.std.proofs.Common.{◌≡◌, ℕ, List, Some, None, ap, sym, ◌∙◌}
 use Rattle.std.specs.Prelude.{Option, Result, Ok, Err, IfNone, IfOk, IfSome, IsTrue}
 use Rattle.sip_text.specs.Token.{is_token}

@@ -1,4 +1,4 @@
--- Commands that a host is asked for by their fields, and the headers that are given before one.
+-- Commands that a host makes of fields, and the headers that are given before one.
 use Rattle.std.specs.Prelude.{◌≡◌, ◌⊎◌, ◌<◌, ◌≤◌, ℕ, ◌+◌, Bool, ◌&&◌, true, List, [], ◌∷◌, ◌++◌, length, Option, None, Some, IfOk, IfSome, IsSome, IsSomeAnd, IsTrue, OnErr, OnOk, Result, Err, nat_le, if◌then◌else◌}
 use Rattle.sip_text.specs.Token.{is_token}
 use Rattle.sip_parts.specs.Reason.{is_reason}
@@ -95,12 +95,12 @@ cancel_of fields = command.Cancel (record { call_id = fields.call_id.now; id = f
 
 -- ---- the rules of the fields
 
--- an absent tag keeps the rule of a tag (RFC 3261, section 19.3)
+-- an absent tag also keeps the rule of a tag (RFC 3261, section 19.3)
 abbrev pub is_tag : Option (List ℕ) → Bool
 is_tag None = true
 is_tag (Some text) = is_token text
 
--- a status that a user can answer with: 100 is the agent's own (RFC 3261, section 8.2.6.1)
+-- a status with which a user can answer; 100 is the agent's own (RFC 3261, section 8.2.6.1)
 abbrev pub is_status : ℕ → Bool
 is_status status = nat_le 101 status && nat_le status 699
 
@@ -133,7 +133,7 @@ abbrev pub first_bad : List (Field × Bool) → Option Field
 first_bad [] = None
 first_bad ((name, is_kept) ∷ fields) = if is_kept then first_bad fields else Some name
 
--- the command is made where each field keeps its rule
+-- the command is made if each field keeps its rule
 pub record Makes (wanted : UserCommand) (answer : Result UserCommand HostFault) : Type 0 where
   pub made : IfOk answer (λ made. made ≡ wanted)
   pub bad : IfSome (first_bad (rules_of wanted))
@@ -142,20 +142,20 @@ pub record Makes (wanted : UserCommand) (answer : Result UserCommand HostFault) 
 
 -- ---- what a host does
 
--- its next command has no header yet
+-- its next command has no headers yet
 abbrev pub without_headers : Host → Host
 without_headers host = record host { headers = [] }
 
--- its next command has one header more
+-- its next command has one more header
 abbrev pub with_header : Host → GivenHeader → Host
 with_header host header = record host { headers = host.headers ++ header ∷ [] }
 
--- the line `name: value` says this header, and the name is one (RFC 3261, section 7.3.1)
+-- the line `name: value` says this header, and the name is a token (RFC 3261, section 7.3.1)
 pub record SaysHeader (name value : List ℕ) (header : GivenHeader) : Type 0 where
   pub token : IsTrue (is_token name)
   pub given : IsGiven header (header_text name value)
 
--- a header is kept for the next command; a fault lets all of them go
+-- a header is kept for the next command; a fault discards all of them
 pub record TakesHeader (name value : List ℕ) (old new : Host) (answer : Answer) : Type 0 where
   pub kept : OnOk answer ((header : GivenHeader) × SaysHeader name value header
       × (new ≡ with_header old header))
@@ -166,7 +166,7 @@ pub record TakesHeader (name value : List ℕ) (old new : Host) (answer : Answer
       → (header : GivenHeader) → ¬ (SaysHeader name value header)
 
 -- The command, with the headers that are kept for it, is an event of the next round, and has an id.
--- It takes the headers in any case: after a fault nothing else has changed.
+-- It takes the headers in any case; after a fault nothing else has changed.
 pub record TakesCommand (wanted : UserCommand) (old new : Host) (answer : Result Id HostFault) :
     Type 0 where
   pub added : OnOk answer (IsSomeAnd (with_given old.headers wanted)

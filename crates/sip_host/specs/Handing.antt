@@ -1,4 +1,4 @@
--- What a host is given of an output.
+-- What a host is given for an output.
 use Rattle.std.specs.Prelude.{ℕ, List, [], ◌∷◌, ◌++◌, Option, None, Some, length, drop, nat_lt, if◌then◌else◌}
 use Rattle.sip_message.specs.declared.addr.Addr.{Addr}
 use Rattle.sip_message.specs.declared.key.Key.{Key}
@@ -26,7 +26,7 @@ target_of (Send key to bytes) = Some to
 target_of (Dropped place reason) = None
 target_of (Notice notice) = None
 
--- what is said of the output of this index
+-- what is told of the output with this index
 abbrev pub head_of : ℕ → PlacedOutput → NextOutput
 head_of index placed = record {
   index = index;
@@ -35,34 +35,34 @@ head_of index placed = record {
   len = length (text_of placed.output);
 }
 
--- the buffer with the text at its head, where there is room
+-- the buffer with the text at its beginning, if it fits
 abbrev pub put_in : List ℕ → List ℕ → List ℕ
 put_in text buffer = if nat_lt (length buffer) (length text) then buffer
     else text ++ drop (length text) buffer
 
--- the same of a text, if there is one
+-- the same for a text, if there is one
 abbrev pub put_if : Option (List ℕ) → List ℕ → List ℕ
 put_if None buffer = buffer
 put_if (Some text) buffer = put_in text buffer
 
--- the source and the bytes of a datagram, if the event is that one came in
+-- the source and the bytes of a datagram, if the event is one that came in
 abbrev pub datagram_in : Option Event → Option (Addr × List ℕ)
 datagram_in None = None
 datagram_in (Some (Datagram from bytes)) = Some (from, bytes)
 datagram_in (Some (Failed key)) = None
 datagram_in (Some (Command command)) = None
 
--- the text of a start line: a request's method and URI one behind the other, a response's reason
+-- the text of a start line: a request's method and then its URI, or a response's reason
 abbrev pub start_text : FirstLine (List ℕ) → List ℕ
 start_text (first.Request method uri) = method ++ uri
 start_text (first.Response status reason) = reason
 
--- what is said of it beside its text
+-- what is told besides its text
 abbrev pub start_of : FirstLine (List ℕ) → StartLength
 start_of (first.Request method uri) = start.Request (length method) (length uri)
 start_of (first.Response status reason) = start.Response status (length reason)
 
--- the key of a send, if the output is one, which it may lack
+-- the key of a send, if the output is one; a send may have none
 abbrev pub sent_key : Option Output → Option (Option Key)
 sent_key None = None
 sent_key (Some (Send key to bytes)) = Some key

@@ -1,4 +1,4 @@
--- What a host's calls do to it.
+-- What the calls of a host do to it.
 use Rattle.std.specs.Prelude.{◌≡◌, ◌⊎◌, ◌<◌, ◌≤◌, ℕ, ◌+◌, ◌-◌, ◌==◌, false, true, IfSome, IsSomeAnd, List, [], ◌∷◌, ◌++◌, OnErr, OnOk, Option, None, Some, Result, Err, length, map, nat_lt, if◌then◌else◌}
 use Rattle.std.specs.List.{slice_get}
 use Rattle.std.specs.Option.{option_map}
@@ -34,7 +34,7 @@ shard_of cut name shards = spread_shard name shards
 abbrev pub round_at : ℕ → Host → Round
 round_at moment host = record { moment = moment; events = host.events }
 
--- the output of this index among those of a host's last round
+-- the output with this index in a host's last round
 abbrev pub output_at : Host → ℕ → Option Output
 output_at host index = option_map (λ placed. placed.output) (slice_get host.outputs.items index)
 
@@ -47,25 +47,25 @@ last_id_of host = if length host.events == 0 then None
 abbrev pub with_events : Host → List Event → Host
 with_events host more = record host { events = host.events ++ more }
 
--- the output is taken, where the buffer has room for its text
+-- the output is taken if its text fits into the buffer
 abbrev pub after_taking : Host → Output → ℕ → Host
 after_taking host output room = if nat_lt room (length (text_of output)) then host
     else record host { taken = host.taken + 1 }
 
--- the next output is taken, where one is left
+-- the next output is taken, if one is left
 abbrev pub after_one : Host → Host
 after_one host = if nat_lt host.taken (length host.outputs.items) then
     record host { taken = host.taken + 1 } else host
 
--- the output of this index is a send, and the agent is told that it failed
+-- the output with this index is a send, and the agent is told that it failed
 abbrev pub Reports : ℕ → Host → Host → Type 0
 Reports output old new = IsSomeAnd (sent_key (output_at old output))
     (λ key. new ≡ with_events old (told_failure key))
 
--- whatever rounds the agent stood for, it stands for these and the one of the host's events at this
--- moment, and the outputs are those with which that one is answered after them, each with its
--- place; its events are kept, no event is left, no output is taken, and its next command has the
--- same headers
+-- Whatever rounds the agent stood for, it now stands for one more: that of the host's events at
+-- this moment. The outputs are the answer to that round after them, each with its place. The
+-- round's events are kept, none is left, no output is taken, and the next command has the same
+-- headers.
 pub record IsAnswered (moment : ℕ) (old new : Host) : Type 0 where
   pub stands : (config : Config) (rounds : List Round)
       → StandsFor shard_of old.agent config rounds
@@ -83,13 +83,13 @@ pub record IsAnswered (moment : ℕ) (old new : Host) : Type 0 where
   pub none_taken : new.taken ≡ 0
   pub headers : new.headers ≡ old.headers
 
--- ---- all that a call says, by its answer
+-- ---- what each call does, by its answer
 
--- how a call that gives nothing but its success ends
+-- the answer of a call that gives nothing but its success
 abbrev pub Answer : Type 0
 Answer = Result (Unit {0}) HostFault
 
--- a host before its first round, whose agent has so many shards
+-- a host before its first round, whose agent has this number of shards
 pub record Begins (config : Config) (shards : ℕ) (host : Host) : Type 0 where
   pub stands : StandsFor shard_of host.agent config []
   pub count : shard_count host.agent ≡ shards
@@ -107,7 +107,7 @@ pub record TakesDatagram (from : Addr) (bytes : List ℕ) (old new : Host) (answ
   pub full : 65536 ≤ length old.events → answer ≡ Err host_fault.TooManyEvents
   pub fault : length old.events < 65536 → OnErr answer (answer ≡ Err host_fault.NoMemory)
 
--- so is an event that is said as text; a text that says none is bad
+-- an event said as a text is one too; a text that says no event is bad
 pub record TakesSaid (Says : Event → Type 0) (old new : Host) (answer : Answer) : Type 0 where
   pub added : OnOk answer ((event : Event) × Says event × (new ≡ with_events old (event ∷ [])))
   pub same : OnErr answer (new ≡ old)
@@ -116,15 +116,15 @@ pub record TakesSaid (Says : Event → Type 0) (old new : Host) (answer : Answer
       → OnErr answer ((answer ≡ Err host_fault.BadLine) ⊎ (answer ≡ Err host_fault.NoMemory))
   pub bad : answer ≡ Err host_fault.BadLine → (event : Event) → ¬ (Says event)
 
--- by a line of an event file
+-- the text is a line of an event file
 abbrev pub TakesLine : List ℕ → Host → Host → Answer → Type 0
 TakesLine line old new answer = TakesSaid (SpellsEventLine line) old new answer
 
--- by lines of a session file
+-- the text is lines of a session file
 abbrev pub TakesLines : List ℕ → Host → Host → Answer → Type 0
 TakesLines lines old new answer = TakesSaid (SpellsLines lines) old new answer
 
--- so is the failure of the send of this index, where a transaction stands behind the send
+-- so is the failure of the send with this index, if the send belongs to a transaction
 pub record TakesFailure (output : ℕ) (old new : Host) (answer : Answer) : Type 0 where
   pub no_send :
       sent_key (output_at old output) ≡ None → answer ≡ Err host_fault.NoSend
@@ -134,8 +134,8 @@ pub record TakesFailure (output : ℕ) (old new : Host) (answer : Answer) : Type
       (λ key. OnErr answer ((answer ≡ Err host_fault.NoMemory)
       ⊎ ((answer ≡ Err host_fault.TooManyEvents) × (65536 ≤ length old.events))))
 
--- the events are dealt with at a moment, which is one round; a fault changes nothing, but that an
--- agent to which memory was refused in the midst of its round holds nothing from then on
+-- One round is run with the events, at a moment. A fault changes nothing; but if memory ran out in
+-- the middle of its round, the agent holds nothing from then on.
 pub record RunsRound (moment : ℕ) (old new : Host) (answer : Answer) : Type 0 where
   pub left : old.taken < length old.outputs.items
       → (answer ≡ Err host_fault.OutputsLeft) × (new ≡ old)
@@ -153,12 +153,12 @@ pub record RunsRound (moment : ℕ) (old new : Host) (answer : Answer) : Type 0 
 
 -- ---- what a host holds
 
--- transactions, and calls
+-- how many transactions, and how many calls
 abbrev pub live_in : Holdings → ℕ × ℕ
 live_in holds = (holds.transactions, holds.calls)
 
--- what it holds of its rounds is what has begun in them and not ended (RFC 3261, sections 12 and
--- 17); what waits are the events of the next round
+-- it holds what has begun in its rounds and hasn't ended (RFC 3261, sections 12 and 17); the events
+-- of the next round wait
 pub record HoldsSo (host : Host) (holds : Holdings) : Type 0 where
   pub broken : host.agent.shards ≡ None → live_in holds ≡ (0, 0)
   pub live : (config : Config) (rounds : List Round) → StandsFor shard_of host.agent config rounds
@@ -167,9 +167,9 @@ pub record HoldsSo (host : Host) (holds : Holdings) : Type 0 where
   pub events : holds.events ≡ length host.events
   pub outputs : holds.outputs ≡ length host.outputs.items - host.taken
 
--- ---- what the datagram of a place says
+-- ---- what the datagram at a place says
 
--- what its start line says; none where none came in there
+-- what its start line says; none if no datagram came in there
 pub record BeginsAt (host : Host) (place : ℕ) (says : Option (FirstLine (List ℕ))) : Type 0 where
   pub of_datagram : IfSome (datagram_at host.last_events place) (BeginsWith says)
   pub none : datagram_at host.last_events place ≡ None → says ≡ None

@@ -1,4 +1,4 @@
-//! Commands of fields: each rule is tested before any memory is taken.
+//! Commands made of fields. Each rule is tested before any memory is taken.
 
 ghost use Rattle.std.specs.Prelude.{◌≡◌, Err, IfOk, IsTrue, Ok, if◌then◌else◌};
 ghost use Rattle.sip_parts.specs.Word.{is_word};
@@ -17,7 +17,7 @@ use sip_served::{Cancel, DialogBody, DialogRequest, Invite, Plain, Respond, User
 use sip_text::{Series, Text, is_token};
 use std::alloc::{AllocError, Global};
 
-/// The least and the greatest status of a response of the user.
+/// The lowest and the highest status of a response that the user can send.
 const MIN_STATUS: u16 = 101;
 
 const MAX_STATUS: u16 = 699;
@@ -26,7 +26,7 @@ const MAX_STATUS: u16 = 699;
 ///
 /// # Errors
 ///
-/// `BadField` of the first field that doesn't keep its rule, or `NoMemory`.
+/// `BadField` for the first field that doesn't keep its rule, or `NoMemory`.
 pub(crate) fn invite_command(
     alloc: Global,
     fields: &InviteFields<'_>,
@@ -53,7 +53,7 @@ pub(crate) fn invite_command(
 ///
 /// # Errors
 ///
-/// Those of [`invite_command`].
+/// As for [`invite_command`].
 pub(crate) fn plain_command(
     alloc: Global,
     fields: &PlainFields<'_>,
@@ -81,7 +81,7 @@ pub(crate) fn plain_command(
 ///
 /// # Errors
 ///
-/// Those of [`invite_command`].
+/// As for [`invite_command`].
 pub(crate) fn request_command(
     alloc: Global,
     fields: &RequestFields<'_>,
@@ -101,11 +101,11 @@ pub(crate) fn request_command(
     }))
 }
 
-/// An answer to a request, without headers.
+/// A response to a request, without headers.
 ///
 /// # Errors
 ///
-/// Those of [`invite_command`].
+/// As for [`invite_command`].
 pub(crate) fn respond_command(
     alloc: Global,
     fields: &RespondFields<'_>,
@@ -125,11 +125,11 @@ pub(crate) fn respond_command(
     }))
 }
 
-/// What an ACK or a PRACK is to carry, without headers.
+/// An ACK, without headers.
 ///
 /// # Errors
 ///
-/// Those of [`invite_command`].
+/// As for [`invite_command`].
 pub(crate) fn ack_command(alloc: Global, fields: &BodyFields<'_>) -> Result<UserCommand, HostFault>
     ensures { asking.Makes (asking.ack_of fields.now) result }
 {
@@ -139,11 +139,11 @@ pub(crate) fn ack_command(alloc: Global, fields: &BodyFields<'_>) -> Result<User
     Ok(UserCommand::Ack(dialog_body(alloc, fields)?))
 }
 
-/// The same of a PRACK.
+/// A PRACK, without headers.
 ///
 /// # Errors
 ///
-/// Those of [`invite_command`].
+/// As for [`invite_command`].
 pub(crate) fn prack_command(
     alloc: Global,
     fields: &BodyFields<'_>,
@@ -160,7 +160,7 @@ pub(crate) fn prack_command(
 ///
 /// # Errors
 ///
-/// Those of [`invite_command`].
+/// As for [`invite_command`].
 pub(crate) fn cancel_command(
     alloc: Global,
     fields: &CancelFields<'_>,
@@ -174,7 +174,7 @@ pub(crate) fn cancel_command(
     }))
 }
 
-// Nothing, where the field keeps its rule.
+// Nothing if the field keeps its rule, otherwise the fault.
 fn keep(field: Field, is_kept: bool) -> Result<(), HostFault>
     ensures { result ≡ (if is_kept then Ok tt else Err (fault.BadField field)) }
 {
@@ -200,7 +200,7 @@ fn is_tag(text: &[u8]) -> bool
     }
 }
 
-// The tag, which keeps its rule.
+// The tag. It keeps its rule.
 fn tag(alloc: Global, text: &[u8]) -> Result<Option<Token>, AllocError>
     requires { IsTrue (asking.is_tag (asking.tag_of text.now)) }
     ensures { IfOk result (λ tag. tag ≡ asking.tag_of text.now) }
@@ -217,7 +217,7 @@ fn content(alloc: Global, body: &[u8]) -> Result<Content, AllocError>
     Ok(Content::of_body(Text::copy_of(alloc, body)?))
 }
 
-// The fields of a body in a dialog, each of which keeps its rule.
+// The fields of a body in a dialog. Each keeps its rule.
 fn dialog_body(alloc: Global, fields: &BodyFields<'_>) -> Result<DialogBody, AllocError>
     requires call_id { IsTrue (is_word fields.now.call_id.now) }
     requires local_tag { IsTrue (asking.is_tag (asking.tag_of fields.now.local_tag.now)) }

@@ -1,13 +1,13 @@
 //! The parts of a command that can be bad.
 
-/// A part of a command, as it is told where it doesn't keep its rule.
+/// A part of a command, named in the fault if it doesn't keep its rule.
 #[derive(Clone, Copy, Debug, PartialEq, Eq)]
 pub enum Field {
     /// Not one or more bytes without spaces, tabs and line ends (RFC 3261, section 20.8).
     CallId,
-    /// No token (RFC 3261, section 7.1).
+    /// Not a token (RFC 3261, section 7.1).
     Method,
-    /// Empty, or with a space, a tab, a line end, `<`, `>` or `"`; so are From and To.
+    /// Empty, or with a space, a tab, a line end, `<`, `>` or `"`. The same for From and To.
     RequestUri,
     From,
     To,
@@ -18,7 +18,7 @@ pub enum Field {
     Status,
     /// With a line end (RFC 3261, section 7.2).
     Reason,
-    /// A header that isn't the user's, or whose value isn't in its form; a `Route` where the
+    /// A header that the user may not give, or whose value doesn't have its form; a `Route` if the
     /// command takes none; any header for a CANCEL.
     Headers,
 }

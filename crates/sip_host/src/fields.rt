@@ -1,9 +1,9 @@
-//! The fields of commands, as texts that a host has not checked.
+//! The fields of commands, as texts that a host hasn't checked.
 
 use sip_message::{Addr, Id};
 use sip_served::{ProvisionalSupport, Reliability};
 
-/// Those of a first INVITE to an address.
+/// The fields of a first INVITE, which goes to an address.
 #[derive(Clone, Copy)]
 pub struct InviteFields<'a> {
     pub call_id: &'a [u8],
@@ -15,7 +15,7 @@ pub struct InviteFields<'a> {
     pub body: &'a [u8],
 }
 
-/// Those of a request outside of any dialog.
+/// The fields of a request outside of any dialog.
 #[derive(Clone, Copy)]
 pub struct PlainFields<'a> {
     pub call_id: &'a [u8],
@@ -27,7 +27,7 @@ pub struct PlainFields<'a> {
     pub body: &'a [u8],
 }
 
-/// Those of a request in a dialog. An absent tag is empty.
+/// The fields of a request in a dialog. An absent tag is empty.
 #[derive(Clone, Copy)]
 pub struct RequestFields<'a> {
     pub call_id: &'a [u8],
@@ -37,7 +37,7 @@ pub struct RequestFields<'a> {
     pub body: &'a [u8],
 }
 
-/// Those of the answer to a request.
+/// The fields of a response to a request.
 #[derive(Clone, Copy)]
 pub struct RespondFields<'a> {
     pub call_id: &'a [u8],
@@ -49,7 +49,7 @@ pub struct RespondFields<'a> {
     pub body: &'a [u8],
 }
 
-/// Those of the ACK or of a PRACK in a dialog. An absent tag is empty.
+/// The fields of an ACK or a PRACK in a dialog. An absent tag is empty.
 #[derive(Clone, Copy)]
 pub struct BodyFields<'a> {
     pub call_id: &'a [u8],
@@ -58,10 +58,10 @@ pub struct BodyFields<'a> {
     pub body: &'a [u8],
 }
 
-/// Those of a CANCEL.
+/// The fields of a CANCEL.
 #[derive(Clone, Copy)]
 pub struct CancelFields<'a> {
     pub call_id: &'a [u8],
-    /// The INVITE.
+    /// The INVITE that is cancelled.
     pub id: Id,
 }

@@ -1,4 +1,4 @@
-//! Headers that a user gives a command by name and value.
+//! Headers that a user gives for a command, by name and value.
 
 ghost use Rattle.std.specs.Prelude.{◌≡◌, IfNone, IfOk, IfSome};
 ghost use Rattle.sip_files.specs.Written.{header_text};
@@ -9,12 +9,12 @@ use sip_files::{GivenHeader, read_given};
 use sip_text::is_token;
 use std::alloc::{AllocError, Global};
 
-/// The header of this name, the long or the compact one in any case, and this value, where it is
-/// the user's and the value is in its form.
+/// The header with this name, the long or the compact one in any case, and this value, if the user
+/// may give the header and the value has its form.
 ///
 /// # Errors
 ///
-/// Want of memory.
+/// Memory ran out.
 pub(crate) fn header_of(
     alloc: Global,
     name: &[u8],

@@ -1,4 +1,4 @@
-//! What a host does with an output: its text goes into a buffer, and a send may fail.
+//! How an output is handed to a host: its text goes into a buffer. A send may fail.
 
 ghost use Rattle.std.specs.Prelude.{◌≡◌, Err, IfOk, IfSome, IsSomeAnd, None, OnErr, OnOk, Some, length};
 ghost use Rattle.std.specs.Option.{option_to_list};
@@ -14,7 +14,7 @@ use sip_reader::FirstLine;
 use sip_round::{Event, Output, PlacedOutput};
 use std::alloc::{AllocError, Global};
 
-/// What the output of this index is, and its text at the head of the buffer, where there is room.
+/// What the output with this index is. Its text goes to the beginning of the buffer, if it fits.
 pub(crate) fn put_output(
     alloc: Global,
     index: usize,
@@ -36,8 +36,8 @@ pub(crate) fn put_output(
     })
 }
 
-// The text of the output at the head of the buffer, where there is room: where a send goes, and how
-// long the text is.
+// Puts the text of the output at the beginning of the buffer, if it fits. Gives where a send goes,
+// and how long the text is.
 fn put_text(
     alloc: Global,
     output: &Output,
@@ -62,12 +62,11 @@ fn put_text(
     }
 }
 
-/// What the agent is told of an output that could not be sent; nothing, where no transaction stands
-/// behind the send.
+/// What the agent is told of a send that failed: nothing if the send belongs to no transaction.
 ///
 /// # Errors
 ///
-/// `NoSend` where the output is none, or `NoMemory`.
+/// `NoSend` if the output isn't a send, or `NoMemory`.
 pub(crate) fn failure_of(output: &Output) -> Result<Option<Event>, HostFault>
     ensures no_send { handing.sent_key (Some output.now) ≡ None → result ≡ Err fault.NoSend }
     ensures told { IfOk result (λ told. IsSomeAnd (handing.sent_key (Some output.now))
@@ -82,7 +81,7 @@ pub(crate) fn failure_of(output: &Output) -> Result<Option<Event>, HostFault>
     }
 }
 
-/// The text at the head of the buffer, where there is room.
+/// Puts the text at the beginning of the buffer, if it fits.
 pub fn put(text: &[u8], buffer: &mut [u8])
     ensures { buffer.new ≡ handing.put_in text.now buffer.old }
 {
@@ -93,8 +92,8 @@ pub fn put(text: &[u8], buffer: &mut [u8])
     front.copy_from_slice(text);
 }
 
-/// The texts of a start line at the head of the buffer, where there is room for all, and how long
-/// each is.
+/// Puts the texts of a start line at the beginning of the buffer, if all of them fit. Gives how
+/// long each is.
 pub(crate) fn put_start(
     alloc: Global,
     first: &FirstLine<Token>,

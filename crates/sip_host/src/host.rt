@@ -1,4 +1,4 @@
-//! A host's agent: events in, rounds, outputs out.
+//! A host's agent: events go in, rounds run, outputs come out.
 
 ghost use Rattle.std.specs.Prelude.{◌≡◌, ◌⊎◌, Option, ◌<◌, ◌≤◌, ◌+◌, ◌++◌, ◌∷◌, [], ℕ, List, IfOk, IfSome, Err, None, Ok, OnErr, OnOk, Some, length, false, nat_lt, if◌then◌else◌};
 ghost use Rattle.std.specs.List.{slice_get};
@@ -46,12 +46,12 @@ use std::alloc::{AllocError, Global};
 use std::mem;
 
 /// One user agent, the headers of its next command, the events of its next round, and the events
-/// and the outputs of its last one.
+/// and outputs of its last round.
 #[derive(Drop)]
 pub struct Host {
     alloc: Global,
     agent: Agent<Spread>,
-    // Those of the next command of fields.
+    // The headers of the next command that is made of fields.
     headers: Series<GivenHeader>,
     events: Series<Event>,
     last_events: Series<Event>,
@@ -60,7 +60,7 @@ pub struct Host {
 }
 
 impl Host {
-    /// A host before its first round, whose agent has so many shards.
+    /// A host before its first round. Its agent has `shards` shards.
     ///
     /// # Errors
     ///
@@ -81,11 +81,11 @@ impl Host {
         })
     }
 
-    /// A datagram came in: an event of the next round.
+    /// A datagram came in. It is an event of the next round.
     ///
     /// # Errors
     ///
-    /// `TooManyEvents`, and else `NoMemory`. Nothing has changed then.
+    /// `TooManyEvents`, otherwise `NoMemory`. Then nothing has changed.
     pub fn datagram(&mut self, from: Addr, bytes: &[u8]) -> Result<(), HostFault>
         ensures { TakesDatagram from bytes.now self.old self.new result }
     {
@@ -95,13 +95,13 @@ impl Host {
         Ok(())
     }
 
-    /// A line of an event file that says an event, as a command, without its end: an event of the
-    /// next round.
+    /// A line of an event file that says an event, such as a command, without its line end. The
+    /// event is one of the next round.
     ///
     /// # Errors
     ///
-    /// `TooManyEvents`, and else `BadLine` where the line says no event, or `NoMemory`. Nothing has
-    /// changed then.
+    /// `TooManyEvents`; otherwise `BadLine` if the line says no event, or `NoMemory`. Then nothing
+    /// has changed.
     pub fn event_line(&mut self, line: &[u8]) -> Result<(), HostFault>
         ensures { TakesLine line.now self.old self.new result }
     {
@@ -113,12 +113,12 @@ impl Host {
         Ok(())
     }
 
-    /// The lines of an event as they stand in a session file, the last one without its end: those
-    /// of a command may be headed by its header lines. An event of the next round.
+    /// The lines of an event as they stand in a session file, the last one without its end. The
+    /// header lines of a command may stand before its line. The event is one of the next round.
     ///
     /// # Errors
     ///
-    /// Those of [`Host::event_line`].
+    /// As for [`Host::event_line`].
     pub fn event_lines(&mut self, lines: &[u8]) -> Result<(), HostFault>
         ensures { TakesLines lines.now self.old self.new result }
     {
@@ -130,13 +130,13 @@ impl Host {
         Ok(())
     }
 
-    /// A header of the next command that is asked for by its fields: its name, the long or the
-    /// compact one in any case, and its value. It is kept until that command takes it.
+    /// A header of the next command that is made of fields: its name, the long or the compact one
+    /// in any case, and its value. It is kept until that command takes it.
     ///
     /// # Errors
     ///
-    /// `BadField` of the headers where the header isn't the user's or the value isn't in its form,
-    /// or `NoMemory`. All headers are let go then, and nothing else has changed.
+    /// `BadField` of the headers if the user may not give the header or the value doesn't have its
+    /// form; or `NoMemory`. Then all headers are discarded, and nothing else has changed.
     pub fn header(&mut self, name: &[u8], value: &[u8]) -> Result<(), HostFault>
         ensures { TakesHeader name.now value.now self.old self.new result }
     {
@@ -149,14 +149,14 @@ impl Host {
         Ok(())
     }
 
-    /// Starts a call: a first INVITE to an address. An event of the next round, with the headers
-    /// that are kept for it, and its id.
+    /// Starts a call: a first INVITE to an address. It is an event of the next round, and takes the
+    /// headers that are kept for it. Gives the id of the event.
     ///
     /// # Errors
     ///
-    /// `TooManyEvents`; `BadField` of the first field that doesn't keep its rule, or of the headers
-    /// where the command doesn't take them; or `NoMemory`. The headers are let go then, and nothing
-    /// else has changed.
+    /// `TooManyEvents`; `BadField` for the first field that doesn't keep its rule, or of the
+    /// headers if the command doesn't take them; or `NoMemory`. Then the headers are discarded, and
+    /// nothing else has changed.
     pub fn invite(&mut self, fields: &InviteFields<'_>) -> Result<Id, HostFault>
         ensures { TakesCommand (invite_of fields.now) self.old self.new result }
     {
@@ -164,11 +164,11 @@ impl Host {
         self.ask(made)
     }
 
-    /// Sends a request outside of any dialog, as [`Host::invite`] does an INVITE.
+    /// Sends a request outside of any dialog, in the same way as [`Host::invite`].
     ///
     /// # Errors
     ///
-    /// Those of [`Host::invite`].
+    /// As for [`Host::invite`].
     pub fn plain(&mut self, fields: &PlainFields<'_>) -> Result<Id, HostFault>
         ensures { TakesCommand (plain_of fields.now) self.old self.new result }
     {
@@ -176,11 +176,11 @@ impl Host {
         self.ask(made)
     }
 
-    /// Sends a request in a dialog, as [`Host::invite`] does an INVITE.
+    /// Sends a request in a dialog, in the same way as [`Host::invite`].
     ///
     /// # Errors
     ///
-    /// Those of [`Host::invite`].
+    /// As for [`Host::invite`].
     pub fn request(&mut self, fields: &RequestFields<'_>) -> Result<Id, HostFault>
         ensures { TakesCommand (request_of fields.now) self.old self.new result }
     {
@@ -188,11 +188,11 @@ impl Host {
         self.ask(made)
     }
 
-    /// Answers a request, as [`Host::invite`] asks for an INVITE.
+    /// Sends a response to a request, in the same way as [`Host::invite`].
     ///
     /// # Errors
     ///
-    /// Those of [`Host::invite`].
+    /// As for [`Host::invite`].
     pub fn respond(&mut self, fields: &RespondFields<'_>) -> Result<Id, HostFault>
         ensures { TakesCommand (respond_of fields.now) self.old self.new result }
     {
@@ -200,12 +200,12 @@ impl Host {
         self.ask(made)
     }
 
-    /// Sends the ACK of the oldest 2xx of a dialog that is owed one, as [`Host::invite`] does an
-    /// INVITE.
+    /// Sends the ACK of the oldest 2xx of a dialog that is owed one, in the same way as
+    /// [`Host::invite`].
     ///
     /// # Errors
     ///
-    /// Those of [`Host::invite`].
+    /// As for [`Host::invite`].
     pub fn ack(&mut self, fields: &BodyFields<'_>) -> Result<Id, HostFault>
         ensures { TakesCommand (ack_of fields.now) self.old self.new result }
     {
@@ -213,12 +213,12 @@ impl Host {
         self.ask(made)
     }
 
-    /// Sends the PRACK of the oldest provisional response of a dialog that is owed one, as
-    /// [`Host::invite`] does an INVITE.
+    /// Sends the PRACK of the oldest provisional response of a dialog that is owed one, in the same
+    /// way as [`Host::invite`].
     ///
     /// # Errors
     ///
-    /// Those of [`Host::invite`].
+    /// As for [`Host::invite`].
     pub fn prack(&mut self, fields: &BodyFields<'_>) -> Result<Id, HostFault>
         ensures { TakesCommand (prack_of fields.now) self.old self.new result }
     {
@@ -226,11 +226,11 @@ impl Host {
         self.ask(made)
     }
 
-    /// Cancels an INVITE that was sent. It takes no header.
+    /// Cancels an INVITE that was sent. A CANCEL takes no headers.
     ///
     /// # Errors
     ///
-    /// Those of [`Host::invite`].
+    /// As for [`Host::invite`].
     pub fn cancel(&mut self, fields: &CancelFields<'_>) -> Result<Id, HostFault>
         ensures { TakesCommand (cancel_of fields.now) self.old self.new result }
     {
@@ -238,13 +238,13 @@ impl Host {
         self.ask(made)
     }
 
-    /// The send of this index, from 0, among the outputs of the last round could not be sent: an
-    /// event of the next round, where a transaction stands behind the send.
+    /// The output with this index, from 0, of the last round is a send that failed. That is an
+    /// event of the next round if the send belongs to a transaction.
     ///
     /// # Errors
     ///
-    /// `NoSend` where that output is no send, and else `TooManyEvents` or `NoMemory`. Nothing has
-    /// changed then.
+    /// `NoSend` if that output isn't a send; otherwise `TooManyEvents` or `NoMemory`. Then nothing
+    /// has changed.
     pub fn failed(&mut self, output: usize) -> Result<(), HostFault>
         ensures { TakesFailure output self.old self.new result }
     {
@@ -258,13 +258,13 @@ impl Host {
         Ok(())
     }
 
-    /// Deals with the events at a moment in ms, which is one round. The outputs of the round before
-    /// must have been taken.
+    /// Runs one round with the events, at a moment in ms. The outputs of the round before must have
+    /// been taken.
     ///
     /// # Errors
     ///
-    /// `OutputsLeft`, and else what the agent's round is refused for. All faults but
-    /// `Round(NoMemory)` with `broken` leave the host as it is, and its events with it.
+    /// `OutputsLeft`; otherwise the reason why the agent refuses the round. All faults but
+    /// `Round(NoMemory)` with `broken` leave the host and its events as they are.
     pub fn run(&mut self, moment: u64) -> Result<(), HostFault>
         ensures { RunsRound moment self.old self.new result }
     {
@@ -287,12 +287,13 @@ impl Host {
         }
     }
 
-    /// The next output of the last round, if one is left. Its text goes to the head of the buffer,
-    /// and it is taken; where the buffer is too short, nothing is written, and it is left.
+    /// The next output of the last round, if one is left. If its text fits into the buffer, it goes
+    /// to the beginning of the buffer, and the output is taken. Otherwise nothing is written, and
+    /// the output is left.
     ///
     /// # Errors
     ///
-    /// `NoMemory`, and nothing has changed then.
+    /// `NoMemory`; then nothing has changed.
     pub fn next_output(&mut self, buffer: &mut [u8]) -> Result<Option<NextOutput>, HostFault>
         ensures end { output_at self.old self.old.taken ≡ None
             → (result ≡ Ok None) × (self.new ≡ self.old) × (buffer.new ≡ buffer.old) }
@@ -314,21 +315,22 @@ impl Host {
         Ok(Some(head))
     }
 
-    /// The next output of the last round, if one is left: [`Host::take`] takes it. Takes no memory.
+    /// The next output of the last round, if one is left. [`Host::take`] takes it. Takes no memory.
     pub fn peek(&self) -> Option<&PlacedOutput>
         ensures { option_copied result ≡ slice_get self.now.outputs.items self.now.taken }
     {
         self.outputs.get(self.taken)
     }
 
-    /// How many outputs of the last round were taken: the index of the next one. Takes no memory.
+    /// How many outputs of the last round were taken, which is the index of the next. Takes no
+    /// memory.
     pub fn taken(&self) -> usize
         ensures { result ≡ self.now.taken }
     {
         self.taken
     }
 
-    /// Takes the next output of the last round, where one is left. Takes no memory.
+    /// Takes the next output of the last round, if one is left. Takes no memory.
     pub fn take(&mut self)
         ensures { self.new ≡ after_one self.old }
     {
@@ -338,7 +340,7 @@ impl Host {
         self.taken += 1;
     }
 
-    /// What is held, and what waits. Takes no memory.
+    /// What the host holds, and what waits in it. Takes no memory.
     pub fn holdings(&self) -> Holdings
         ensures { HoldsSo self.now result }
     {
@@ -352,8 +354,8 @@ impl Host {
         }
     }
 
-    /// The event of this place in the last round, as an output of that round names it; there is
-    /// none of place 0. A notice of a place tells of the datagram that came in there. Takes no
+    /// The event at this place of the last round; the outputs of that round name such places. There
+    /// is none at place 0. A notice with a place is about the datagram that came in there. Takes no
     /// memory.
     pub fn event(&self, place: u32) -> Option<&Event>
         ensures { option_copied result ≡ event_at self.now.last_events place }
@@ -361,12 +363,13 @@ impl Host {
         event_at(self.last_events.as_slice(), place)
     }
 
-    /// What the start line of the datagram says that came in at this place of the last round, also
-    /// of one that was dropped. None where none came in there, or its first line is no start line.
+    /// What the start line of the datagram says that came in at this place of the last round, even
+    /// if it was dropped. None if no datagram came in there, or if its first line isn't a start
+    /// line.
     ///
     /// # Errors
     ///
-    /// Memory was refused.
+    /// Memory ran out.
     pub fn start_line(&self, place: u32) -> Result<Option<FirstLine<Token>>, AllocError>
         ensures { IfOk result (BeginsAt self.now place) }
     {
@@ -376,13 +379,13 @@ impl Host {
         }
     }
 
-    /// The values of a header of the datagram that came in at this place of the last round, also of
-    /// one that was dropped: of each header line of this name, the long or the compact one, in any
-    /// case of the letters, in order (RFC 3261, section 7.3.1). None where none came in there.
+    /// The values of a header in the datagram that came in at this place of the last round, even if
+    /// it was dropped: one for each header line with this name, the long or the compact one, in any
+    /// case of the letters, in order (RFC 3261, section 7.3.1). None if no datagram came in there.
     ///
     /// # Errors
     ///
-    /// Memory was refused.
+    /// Memory ran out.
     pub fn header_values(&self, place: u32, name: &[u8]) -> Result<Series<Text>, AllocError>
         ensures { IfOk result (HasValuesAt self.now place name.now) }
     {
@@ -392,13 +395,13 @@ impl Host {
         }
     }
 
-    /// All header lines of the datagram that came in at this place of the last round, also of one
-    /// that was dropped, in order: each name as it is written, each value without its folds. None
-    /// where none came in there.
+    /// All header lines of the datagram that came in at this place of the last round, even if it
+    /// was dropped, in order: each name as it is written, and each value without its folds. None if
+    /// no datagram came in there.
     ///
     /// # Errors
     ///
-    /// Memory was refused.
+    /// Memory ran out.
     pub fn header_lines(&self, place: u32) -> Result<Series<HeaderLine>, AllocError>
         ensures headers { IfOk result (λ headers. IfSome (datagram_at self.now.last_events place)
             (HasHeaderLines headers)) }
@@ -412,7 +415,7 @@ impl Host {
     }
 
     /// The source and the length of the datagram that came in at this place of the last round, if
-    /// one did. Its bytes go to the head of the buffer, where there is room. Takes no memory.
+    /// one did. Its bytes go to the beginning of the buffer, if they fit. Takes no memory.
     pub fn datagram_at(&self, place: u32, buffer: &mut [u8]) -> Option<(Addr, usize)>
         ensures told { result ≡ option_map (λ came. (came.0, length came.1))
             (datagram_in (event_at self.now.last_events place)) }
@@ -428,12 +431,12 @@ impl Host {
         }
     }
 
-    /// What [`Host::start_line`] gives, as lengths. The texts go to the head of the buffer, the
-    /// method of a request before its Request-URI, where there is room for all.
+    /// What [`Host::start_line`] gives, as lengths. The texts go to the beginning of the buffer, if
+    /// all of them fit: the method of a request, and then its Request-URI.
     ///
     /// # Errors
     ///
-    /// Memory was refused, and nothing has been written then.
+    /// Memory ran out; then nothing was written.
     pub fn start_text(
         &self,
         place: u32,
@@ -450,12 +453,12 @@ impl Host {
         Ok(Some(put_start(self.alloc, &first, buffer)?))
     }
 
-    /// The length of the value of this number, from 0, among those that [`Host::header_values`]
-    /// gives, if there is one. Its text goes to the head of the buffer, where there is room.
+    /// The length of one of the values that [`Host::header_values`] gives, by its number from 0, if
+    /// there is such a value. Its text goes to the beginning of the buffer, if it fits.
     ///
     /// # Errors
     ///
-    /// Memory was refused, and nothing has been written then.
+    /// Memory ran out; then nothing was written.
     pub fn header_value(
         &self,
         place: u32,
@@ -477,8 +480,8 @@ impl Host {
         Ok(Some(value.len()))
     }
 
-    /// The id of the event that was given last, if the next round has one: a command's request goes
-    /// by it in the notices that tell of it. Takes no memory.
+    /// The id of the event that was given last, if the next round has one. Notices about a
+    /// command's request carry this id. Takes no memory.
     pub fn last_id(&self) -> Option<Id>
         ensures { length self.now.events ≤ 65536 → result ≡ last_id_of self.now }
     {
@@ -490,7 +493,7 @@ impl Host {
         Some(Id { round, place })
     }
 
-    /// The first moment, in ms, at which something is due of what is held, if there is one: until
+    /// The first moment, in ms, at which a held transaction or call is due, if there is one. Until
     /// then a host without events may sleep. Takes no memory.
     pub fn next_due(&self) -> Option<u64>
         ensures broken { self.now.agent.shards ≡ None → result ≡ None }
@@ -503,7 +506,7 @@ impl Host {
         self.agent.next_due()
     }
 
-    // Asks for a command that was made of fields, if it was.
+    // Asks for a command that was made of fields, unless that failed.
     fn ask(&mut self, made: Result<UserCommand, HostFault>) -> Result<Id, HostFault>
         ensures { (wanted : AUserCommand) → Makes wanted made
             → TakesCommand wanted self.old self.new result }
@@ -519,7 +522,7 @@ impl Host {
         Ok(Id { round, place })
     }
 
-    // The headers of the next command, which has none then.
+    // Takes the headers of the next command, which has none after that.
     fn take_headers(&mut self) -> Series<GivenHeader>
         ensures taken { result ≡ self.old.headers }
         ensures left { self.new ≡ without_headers self.old }
@@ -527,7 +530,7 @@ impl Host {
         mem::replace(&mut self.headers, Series::new(self.alloc))
     }
 
-    // Adds an event to those of the next round.
+    // Adds an event to the next round.
     fn add(&mut self, event: Event) -> Result<(), HostFault>
         ensures added { OnOk result (self.new ≡ with_events self.old (event ∷ [])) }
         ensures same { OnErr result (self.new ≡ self.old) }
@@ -539,7 +542,7 @@ impl Host {
         Ok(())
     }
 
-    // Whether the next round can have one more event.
+    // Whether the next round has room for one more event.
     fn has_room(&self) -> Result<(), HostFault>
         ensures { result ≡ (if nat_lt (length self.now.events) 65536 then Ok tt
             else Err fault.TooManyEvents) }

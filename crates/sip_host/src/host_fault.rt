@@ -10,7 +10,7 @@ use thiserror::Error;
 /// Why a call was refused.
 #[derive(Clone, Copy, Debug, PartialEq, Eq, Error)]
 pub enum HostFault {
-    /// The line is not that of an event.
+    /// The line isn't that of an event.
     #[error("BadLine")]
     BadLine,
     /// A part of a command doesn't keep its rule.
@@ -19,16 +19,16 @@ pub enum HostFault {
     /// The next round has 65,536 events already.
     #[error("TooManyEvents")]
     TooManyEvents,
-    /// The last round has no send of this index.
+    /// The last round has no send with this index.
     #[error("NoSend")]
     NoSend,
-    /// Outputs of the last round were not taken yet.
+    /// Outputs of the last round weren't taken yet.
     #[error("OutputsLeft")]
     OutputsLeft,
-    /// The agent refused the round, or met want of memory in it.
+    /// The agent refused the round, or ran out of memory in it.
     #[error("{0}")]
     Round(RoundFault),
-    /// A growth was refused.
+    /// Memory ran out.
     #[error("NoMemory")]
     NoMemory,
 }

@@ -1,5 +1,5 @@
-//! An agent for a host that has the socket, the clock and the user: it takes datagrams,
-//! commands and moments as values, and gives its outputs one after the other. It starts no thread.
+//! An agent for a host that has the socket, the clock and the user. It takes datagrams, commands
+//! and moments as values, and gives its outputs one after another. It starts no thread.
 #![tactic(auto)]
 
 mod asking;

@@ -1,4 +1,4 @@
--- The columns of lines, line by line.
+-- The columns that lines need, line by line.
 use Rattle.std.proofs.Common.{◌≡◌, ℕ, ◌+◌, ◌<◌, ◌/◌, min, max, List, [], ◌∷◌, ◌++◌, length, get_or, take, map, ap, sym, ◌∙◌, arith, append-nil}
 use Rattle.std.specs.Prelude.{Some, None}
 use Rattle.std.specs.List.{cons_option, filter_map}
@@ -10,7 +10,7 @@ use Rattle.sip_ladder.specs.declared.columns.Columns.{Columns}
 use Rattle.sip_ladder.specs.declared.line.Line.{Line}
 use Rattle.sip_ladder.specs.declared.line.Way.{Way}
 
--- the peers of all arrows, each as often as it comes
+-- the peers of all arrows, each as often as it has an arrow
 abbrev pub arrows : List Line → List Addr
 arrows lines = filter_map peer_of (map (λ line. line.way) lines)
 
@@ -22,7 +22,7 @@ arrows_more lines i line lt is =
     ∙ ap (filter_map peer_of) (map-append (λ l. l.way) (take i lines) (line ∷ []))
     ∙ filter_map-append peer_of (map (λ l. l.way) (take i lines)) (line.way ∷ [])
 
--- a line with an arrow
+-- one more line with an arrow
 pub with_arrow : (lines : List Line) (i : ℕ) (line : Line) (peer : Addr) (before now : List Addr)
     → i < length lines → line ≡ get_or lines i line → Some peer ≡ peer_of line.way
     → before ≡ take 12 (distinct (arrows (take i lines)))

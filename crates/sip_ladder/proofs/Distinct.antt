@@ -1,4 +1,4 @@
--- The distinct peers of a list, where one more peer stands at its end.
+-- The distinct peers of a list, when one more peer is put at its end.
 use Rattle.std.proofs.Common.{◌≡◌, ℕ, suc, ◌+◌, ◌<◌, ◌≤◌, Bool, true, false, not, ◌&&◌, ◌||◌, cond, eqb, List, [], ◌∷◌, ◌++◌, length, take, ap, sym, ◌∙◌, refl, arith, append-nil, ◌⊎◌, inl, inr, min, drop}
 use Rattle.std.specs.Prelude.{filter}
 use Rattle.std.specs.List.{list_any}
@@ -12,11 +12,11 @@ use Rattle.sip_message.specs.declared.addr.Addr.{Addr}
 use Rattle.sip_ladder.specs.Columns.{distinct}
 use Rattle.sip_ladder.specs.Row.{is_same_address, place_of}
 
--- one of these has the address
+-- one of these peers has the address
 abbrev is_known : List Addr → Addr → Bool
 is_known peers address = list_any (λ peer. is_same_address peer address) peers
 
--- those of another address
+-- the peers with another address
 abbrev others : Addr → List Addr → List Addr
 others peer peers = filter (λ other. not (is_same_address peer other)) peers
 
@@ -29,7 +29,7 @@ same_for_all one other third same =
     ap (λ p. eqb p third.port && bytes_eq one.ip third.ip) port
     ∙ ap (λ i. eqb other.port third.port && bytes_eq i third.ip) ip
 
--- ---- a peer among those of another address
+-- ---- a peer among those with another address
 
 one_before : (peer address first : Addr) (peers : List Addr) (same : Bool)
     → is_same_address peer address ≡ false → is_same_address peer first ≡ same
@@ -50,9 +50,9 @@ known_among_others peer address (first ∷ peers) differs =
     one_before peer address first peers (is_same_address peer first) differs refl
     (known_among_others peer address peers differs)
 
--- ---- one more at the end
+-- ---- one more peer at the end
 
--- one of another address is left, one of the same is not
+-- a peer with another address is left, one with the same address isn't
 others_more : (peer address : Addr) (peers : List Addr) (same : Bool)
     → is_same_address peer address ≡ same
     → others peer (peers ++ address ∷ []) ≡ others peer peers ++ cond (not same) (address ∷ []) []
@@ -128,7 +128,7 @@ place_unknown (peer ∷ peers) address unknown =
 
 -- ---- the first twelve
 
--- a peer that has a place among the first is no new one
+-- a peer that has a place among the first isn't a new one
 known_of_front : (n : ℕ) (peers : List Addr) (address : Addr)
     → is_known (take n peers) address ≡ true → is_known peers address ≡ true
 known_of_front n peers address known =
@@ -157,7 +157,7 @@ unchanged n peers kept address false is front (inr full) =
     let long : length kept ≡ min n (length peers) = ap length front ∙ length-take n peers in
     front ∙ sym (take-append-le n peers (address ∷ []) (omega arith))
 
--- a peer that is known, or for which there is no room
+-- a peer that is known, or for which there is no room, changes nothing
 pub kept_as_is : (n : ℕ) (all kept : List Addr) (address : Addr) → kept ≡ take n (distinct all)
     → (place_of kept address < length kept) ⊎ (n ≤ length kept)
     → kept ≡ take n (distinct (all ++ address ∷ []))

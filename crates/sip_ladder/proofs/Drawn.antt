@@ -1,4 +1,4 @@
--- The ladder of a file that was read and run.
+-- The ladder of a file that was read and whose rounds were run.
 use Rattle.std.proofs.Common.{◌≡◌, ◌≢◌, ℕ, ◌≤◌, ◌^◌, List, ◌++◌, length, map, refl, ap, sym, ◌∙◌, subst, Result, Ok, Err, IfErr}
 use Rattle.std.specs.Prelude.{Option, None, Some, IfSome, OnErr}
 use Rattle.std.specs.Io.KnownBytes.{Appends}
@@ -47,12 +47,12 @@ draws_front kind (Some input) text picture before after is drawn written = (
   written.3,
 )
 
--- what holds of a fault
+-- what a result promises if it is a fault, once it is one
 pub of_fault : {T E X : Type 0} (result : Result T E) (fault : E) → result ≡ Err fault
     → OnErr result X → X
 of_fault {X = X} result fault is holds = subst (λ r. OnErr r X) is holds
 
--- a writer that nobody touched is as it was
+-- a writer that nobody used is as it was
 pub untouched : {T W : Type 0} (result : Result T ReplayFault) (writer : W)
     → IfErr result (λ fault. fault ≢ replay_fault.Output → writer ≡ writer)
 untouched (Ok value) writer = tt

@@ -1,4 +1,4 @@
--- The label of a line is that of its first field and of what follows its end.
+-- The label of a line is that of its first field, and then that of what follows.
 use Rattle.std.proofs.Common.{◌≡◌, ℕ, ◌==◌, Bool, true, false, cond, List, [], ◌∷◌, ◌++◌, codes, refl, ap, sym, subst, ◌∙◌, append_assoc, append-nil}
 use Rattle.std.specs.Prelude.{Option, Some, None}
 use Rattle.std.specs.Option.{option_map}
@@ -6,7 +6,7 @@ use Rattle.sip_text.specs.Cut.{cut_at}
 use Rattle.sip_ladder.specs.Label.{fields_from, fields_label, word}
 use Rattle.sip_ladder.proofs.Printable.{AreShown, both, either, word_is}
 
--- what follows of the fields of a text by where its first space stands
+-- what follows the first field of a text, by the place of the first space
 abbrev Follows : List ℕ → List ℕ → Option (List ℕ × List ℕ) → List ℕ → Type 0
 Follows field text None label = label ≡ word (field ++ text)
 Follows field text (Some parts) label =
@@ -63,7 +63,7 @@ next_of line rest field after label next so_far found pushed =
     ∙ ap (λ l. l ++ fields_label after)
     (sym (append_assoc label (word field) (codes " ")) ∙ sym pushed)
 
--- and by the last field
+-- and at the end by the last field
 pub last_of : (line rest label whole : List ℕ) → fields_label line ≡ label ++ fields_label rest
     → cut_at 32 rest ≡ None → whole ≡ label ++ word rest → whole ≡ fields_label line
 last_of line rest label whole so_far none pushed =

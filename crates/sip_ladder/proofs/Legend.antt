@@ -1,4 +1,4 @@
--- One more peer, and one more number, in the head of a ladder.
+-- The head of a ladder grows by one peer, and by one number.
 use Rattle.std.proofs.Common.{◌≡◌, ℕ, ◌+◌, ◌<◌, List, [], ◌∷◌, ◌++◌, length, get_or, take, ap, sym, ◌∙◌, arith, decimal}
 use Rattle.std.specs.List.{enumerate_from, flat_map, range_with_len}
 use Rattle.std.proofs.lemmas.List.{flat_map_more, length-take-le, map-id, take_more}

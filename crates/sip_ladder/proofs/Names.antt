@@ -1,4 +1,4 @@
--- A name is in the set of names where the set has a name of the same bytes.
+-- A name is in the set of names if the set has a name with the same bytes.
 use Rattle.std.proofs.Common.{◌≡◌, ℕ, Bool, true, false, not, List, [], ◌∷◌, refl, ap, ◌∙◌, ◌||◌}
 use Rattle.std.specs.List.{list_any}
 use Rattle.std.specs.Str.{bytes_eq}
@@ -19,7 +19,7 @@ twice : (b : Bool) → not (not b) ≡ b
 twice true = refl
 twice false = refl
 
--- it is no new one
+-- then it isn't new
 pub known : (name : List ℕ) (names : List (List ℕ)) (added : Bool)
     → added ≡ not (list_any (is_at (slice_cmp nat_cmp name)) names)
     → not added ≡ is_among names name

@@ -1,4 +1,4 @@
--- Lines that show one happening after another.
+-- Lines that show happenings, one after another.
 use Rattle.std.proofs.Common.{◌≡◌, ℕ, ◌+◌, ◌<◌, List, [], ◌∷◌, ◌++◌, length, map, get_or, take, fold, ap, refl, subst, sym, ◌∙◌, append_assoc, append-nil}
 use Rattle.std.specs.Prelude.{OnOk, Result, Ok, Err}
 use Rattle.std.proofs.lemmas.List.{map-append, map_more}
@@ -35,7 +35,7 @@ both xs ys old mid new names middle after first second = (
   second.1 ∙ ap (λ n. fold names_of n ys) first.1 ∙ sym (names_append names xs ys),
 )
 
--- one line more
+-- one more line
 pub one_line : (x : Happening) (old new : List Line) (line : Line) (names after : Names)
     → new ≡ old ++ line ∷ [] → shape line ≡ shape_of names x → after ≡ names_of names x
     → Shows (x ∷ []) old new names after
@@ -45,7 +45,7 @@ one_line x old new line names after pushed shows taken = (
   taken,
 )
 
--- none yet
+-- no line yet
 pub none : (old : List Line) (names : Names) → Shows [] old old names names
 none old names = (sym (append-nil (map shape old)), refl)
 
@@ -64,7 +64,7 @@ one_more happens xs i x old now next line names middle after lt is so_far pushed
 
 -- ---- one round after another
 
--- what is shown, and what is left to show
+-- what was shown, and what is left to show
 abbrev pub Left : List Happening → List Line → Names → List Happening → Type 0
 Left all lines names left = shapes_after [] all ≡ map shape lines ++ shapes_after names left
 

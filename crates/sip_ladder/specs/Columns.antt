@@ -7,13 +7,13 @@ use Rattle.sip_ladder.specs.declared.columns.Columns.{Columns}
 use Rattle.sip_ladder.specs.declared.line.Way.{Way}
 use Rattle.sip_ladder.specs.declared.line.Way.TheVariants.{In, Out, Own}
 
--- whose column the arrow comes from or goes to
+-- the peer from whose column the arrow comes, or to whose column it goes
 abbrev pub peer_of : Way → Option Addr
 peer_of (In from) = Some from
 peer_of (Out to) = Some to
 peer_of Own = None
 
--- each of the peers once, in the order in which they first come
+-- each peer once, in the order in which they first come
 abbrev pub distinct : List Addr → List Addr
 distinct [] = []
 distinct (peer ∷ peers) =
@@ -23,7 +23,7 @@ distinct (peer ∷ peers) =
 abbrev pub peers_of : List Way → List Addr
 peers_of ways = distinct (filter_map peer_of ways)
 
--- The twelfth column is that of all others. The columns take 36 characters at most, and each 18.
+-- The twelfth column is that of all others. The columns take 36 characters at most, each 18.
 unfoldable pub columns_of : List Way → Columns
 columns_of ways =
     let peers = peers_of ways in

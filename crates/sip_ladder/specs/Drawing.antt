@@ -15,7 +15,7 @@ use Rattle.sip_ladder.specs.Row.{row_line}
 use Rattle.sip_ladder.specs.Shapes.{shape, shapes}
 use Rattle.sip_ladder.specs.declared.line.Line.{Line}
 
--- The text is the ladder of the rounds and of what they gave, at an agent of this address.
+-- The text is the ladder of the rounds and their outputs, for an agent with this address.
 pub record Draws (local : Addr) (rounds : List Round) (outputs : List (List Output))
     (text : List ℕ) : Type 0 where
   pub lines : List Line
@@ -24,8 +24,8 @@ pub record Draws (local : Addr) (rounds : List Round) (outputs : List (List Outp
       let columns = columns_of (map (λ line. line.way) lines) in
       text ≡ head_text local columns ++ flat_map (row_line columns) lines
 
--- the input is a file of the kind, no round of it is refused, and this is the ladder of its rounds
--- and of what they give
+-- the input is a file of the kind, none of its rounds is refused, and this is the ladder of its
+-- rounds and their outputs
 pub record DrawsFile (kind : FileKind) (input text : List ℕ) : Type 0 where
   pub config : Config
   pub rounds : List Round
@@ -38,7 +38,7 @@ pub record DrawsFile (kind : FileKind) (input text : List ℕ) : Type 0 where
 abbrev pub DrawsAll : FileKind → Option (List ℕ) → Option (List ℕ) → List ℕ → Type 0
 DrawsAll kind old new input = (text : List ℕ) × DrawsFile kind input text × Appends old new text
 
--- the writer took the front of a ladder of the input
+-- the writer took a front of a ladder of the input
 abbrev pub DrawsFront : FileKind → Option (List ℕ) → Option (List ℕ) → List ℕ → Type 0
 DrawsFront kind old new input =
     (front rest : List ℕ) × DrawsFile kind input (front ++ rest) × Appends old new front

@@ -1,4 +1,4 @@
--- What a ladder tells beside an arrow, and of an event or an output that has none.
+-- The text beside an arrow, and of an event or output without an arrow.
 use Rattle.std.specs.Prelude.{ℕ, ◌-◌, ◌==◌, ◌&&◌, Bool, List, [], ◌∷◌, ◌++◌, length, take, drop, map, Option, Some, None, Result, Ok, Err, codes, decimal, nat_le, if◌then◌else◌}
 use Rattle.std.specs.Option.{option_map_or}
 use Rattle.std.specs.Str.{bytes_eq}
@@ -14,18 +14,18 @@ use Rattle.sip_reader.specs.ReadMessage.{message_at}
 
 -- ---- words
 
--- a space, or a character of ASCII that is seen
+-- a space, or a visible character of ASCII
 abbrev pub is_printable : ℕ → Bool
 is_printable byte = nat_le 32 byte && nat_le byte 126
 
--- `?` in place of each other byte
+-- the byte, or `?` if it isn't printable
 abbrev pub shown_byte : ℕ → ℕ
 shown_byte byte = if is_printable byte then byte else 63
 
 abbrev pub shown : List ℕ → List ℕ
 shown text = map shown_byte text
 
--- a word, or two dots and the last nine characters of a long one
+-- a word; two dots and the last nine characters of a long one
 unfoldable pub word : List ℕ → List ℕ
 word text =
     if nat_le (length text) 21 then shown text
@@ -35,14 +35,14 @@ word text =
 unfoldable pub named : List ℕ → List ℕ → List ℕ
 named name text = codes " " ++ name ++ word text
 
--- the same of a number, where there is one
+-- the same for a number, if there is one
 abbrev pub number_named : List ℕ → Option ℕ → List ℕ
 number_named name None = []
 number_named name (Some number) = named name (decimal number)
 
 -- ---- lines of a file
 
--- a word of each field, after this much of the first one: fields end at spaces
+-- a word for each field, after this much of the first one; a space ends a field
 abbrev pub fields_from : List ℕ → List ℕ → List ℕ
 fields_from field [] = word field
 fields_from field (byte ∷ bytes) =
@@ -67,19 +67,19 @@ summary message is_again =
     status_text message.start ++ word message.cseq.method ++ named [] (decimal message.cseq.number)
     ++ again_text is_again
 
--- the tag of To; of a request without one that of From
+-- the tag of To; for a request without one, the tag of From
 unfoldable pub tag_text : Message → List ℕ
 tag_text message =
     if length (tag_of message.to) == 0
     then (if is_request_message message then named (codes "from=") (tag_of message.from) else [])
     else named (codes "to=") (tag_of message.to)
 
--- a branch without the mark that each has (RFC 3261, section 8.1.1.7)
+-- a branch without the cookie with which it begins (RFC 3261, section 8.1.1.7)
 unfoldable pub without_cookie : List ℕ → List ℕ
 without_cookie branch =
     if bytes_eq (take 7 branch) (codes "z9hG4bK") then drop 7 branch else branch
 
--- the numbers of RFC 3262, and what tells the message's transaction and its call apart
+-- the numbers of RFC 3262, and what tells the message's transaction and call apart from others
 unfoldable pub details : Message → List ℕ
 details message =
     number_named (codes "rseq=") message.rseq
@@ -94,7 +94,7 @@ message_label message is_again = summary message is_again ++ details message
 abbrev pub first_line : List ℕ → List ℕ
 first_line bytes = option_map_or (λ parts. parts.0) (cut_at 13 bytes) bytes
 
--- the beginning of the first line of what is no message
+-- the beginning of the first line of bytes that aren't a message
 unfoldable pub unread_label : List ℕ → Bool → List ℕ
 unread_label bytes is_again =
     codes "?" ++ again_text is_again ++ codes " "
@@ -104,6 +104,6 @@ abbrev pub label_of_read : Result Message ReadFault → List ℕ → Bool → Li
 label_of_read (Ok message) bytes is_again = message_label message is_again
 label_of_read (Err fault) bytes is_again = unread_label bytes is_again
 
--- the message that the bytes spell, or what is no message
+-- the label of the message that the bytes spell, or of bytes that spell none
 abbrev pub datagram_label : List ℕ → Bool → List ℕ
 datagram_label bytes is_again = label_of_read (message_at bytes) bytes is_again

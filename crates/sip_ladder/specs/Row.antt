@@ -8,7 +8,7 @@ use Rattle.sip_ladder.specs.declared.line.Line.{Line}
 use Rattle.sip_ladder.specs.declared.line.Way.{Way}
 use Rattle.sip_ladder.specs.declared.line.Way.TheVariants.{In, Out, Own}
 
--- ten characters or more, the number at the right, and two blanks
+-- at least ten characters, with the number at the right, and two blanks
 unfoldable pub moment_text : ℕ → List ℕ
 moment_text moment =
     repeat (10 - length (decimal moment)) (codes " ") ++ decimal moment ++ codes "  "
@@ -24,13 +24,13 @@ shaft width passed = repeat passed (repeat width (codes "-")) ++ repeat (width -
 abbrev pub is_same_address : Addr → Addr → Bool
 is_same_address one other = (one.port == other.port) && bytes_eq one.ip other.ip
 
--- how many columns of peers stand before that of this one; a peer without one has the last
+-- how many columns of peers stand before that of this one; a peer without its own has the last
 abbrev pub place_of : List Addr → Addr → ℕ
 place_of [] address = 0
 place_of (peer ∷ peers) address =
     if is_same_address peer address then 0 else 1 + place_of peers address
 
--- the column of the agent, and those of the peers, the first of which are crossed by the arrow
+-- the agent's column and those of the peers, with the arrow across the first of these
 unfoldable pub columns_text : Columns → Way → List ℕ
 columns_text columns (In from) =
     let place = place_of columns.peers from in

@@ -1,4 +1,4 @@
--- What a ladder shows of rounds and their outputs: a line for each event and for each output.
+-- What a ladder shows for rounds and their outputs: a line for each event and each output.
 use Rattle.std.specs.Prelude.{◌≡◌, ℕ, Bool, List, [], ◌∷◌, ◌++◌, codes, fold, map}
 use Rattle.std.specs.List.{list_any}
 use Rattle.std.specs.Str.{bytes_eq}
@@ -25,12 +25,12 @@ pub data Happening : Type 0 where
   Comes : ℕ → Event → Happening
   IsGiven : ℕ → Output → Happening
 
--- a round's events, then its outputs, all at its moment
+-- a round's events, and then its outputs, all at its moment
 abbrev pub round_happenings : Round → List Output → List Happening
 round_happenings round outputs =
     map (Comes round.moment) round.events ++ map (IsGiven round.moment) outputs
 
--- the rounds, each beside its outputs
+-- the rounds, each with its outputs
 abbrev pub happenings : List Round → List (List Output) → List Happening
 happenings [] answers = []
 happenings (round ∷ rounds) [] = []
@@ -39,21 +39,21 @@ happenings (round ∷ rounds) (outputs ∷ answers) =
 
 -- ---- which datagrams are repeats
 
--- the way that a datagram goes, and its peer
+-- the direction of a datagram, and its peer
 abbrev pub way_name : Way → List ℕ
 way_name (In peer) = codes "from " ++ addr_text peer ++ codes " "
 way_name (Out peer) = codes "to " ++ addr_text peer ++ codes " "
 way_name Own = []
 
--- what a datagram is known by: its way, its peer and its bytes
+-- what identifies a datagram: its direction, its peer and its bytes
 abbrev pub datagram_name : Way → List ℕ → List ℕ
 datagram_name way bytes = way_name way ++ bytes
 
--- a datagram of this name came or went before
+-- a datagram with this name came or went before
 abbrev pub is_among : List (List ℕ) → List ℕ → Bool
 is_among names name = list_any (bytes_eq name) names
 
--- the set of the names, and this one
+-- the set of the names, with this one
 abbrev pub with_name : List ℕ → List (List ℕ) → List (List ℕ)
 with_name name names = insert_key (slice_cmp nat_cmp) names name
 
@@ -68,7 +68,7 @@ pub record Shape : Type 0 where
 abbrev pub shape : Line → Shape
 shape line = record { moment = line.moment; way = line.way; label = line.label }
 
--- the line of a datagram after those of these names
+-- the line of a datagram, after the datagrams with these names
 abbrev pub arrow_shape : List (List ℕ) → ℕ → Way → List ℕ → Shape
 arrow_shape names moment way bytes = record {
   moment = moment;
@@ -76,18 +76,18 @@ arrow_shape names moment way bytes = record {
   label = datagram_label bytes (is_among names (datagram_name way bytes));
 }
 
--- a line without an arrow, of the line of a file
+-- a line without an arrow, for the line of a file
 abbrev pub own_shape : ℕ → List ℕ → Shape
 own_shape moment text = record { moment = moment; way = Own; label = fields_label text }
 
--- a datagram comes from its peer
+-- a datagram comes from its peer; other events have no arrow
 abbrev pub event_shape : List (List ℕ) → ℕ → Event → Shape
 event_shape names moment (event.Datagram from bytes) = arrow_shape names moment (In from) bytes
 event_shape names moment (event.Failed key) = own_shape moment (event_text (event.Failed key))
 event_shape names moment (event.Command command) =
     own_shape moment (event_text (event.Command command))
 
--- a Send goes to its peer
+-- a Send goes to its peer; other outputs have no arrow
 abbrev pub output_shape : List (List ℕ) → ℕ → Output → Shape
 output_shape names moment (output.Send key to bytes) = arrow_shape names moment (Out to) bytes
 output_shape names moment (output.Dropped place reason) =
@@ -105,7 +105,7 @@ event_names names (event.Datagram from bytes) = with_name (datagram_name (In fro
 event_names names (event.Failed key) = names
 event_names names (event.Command command) = names
 
--- after an output
+-- the names after an output
 abbrev pub output_names : List (List ℕ) → Output → List (List ℕ)
 output_names names (output.Send key to bytes) = with_name (datagram_name (Out to) bytes) names
 output_names names (output.Dropped place reason) = names
@@ -117,7 +117,7 @@ names_of names (IsGiven moment output) = output_names names output
 
 -- ---- all lines
 
--- a line for each, after datagrams of these names
+-- a line for each, after the datagrams with these names
 abbrev pub shapes_after : List (List ℕ) → List Happening → List Shape
 shapes_after names [] = []
 shapes_after names (happening ∷ more) =
@@ -126,7 +126,7 @@ shapes_after names (happening ∷ more) =
 abbrev pub shapes : List Round → List (List Output) → List Shape
 shapes rounds answers = shapes_after [] (happenings rounds answers)
 
--- lines that show these were added, after datagrams of these names
+-- the lines of these were added, after the datagrams with these names
 abbrev pub Shows : List Happening → List Line → List Line → List (List ℕ) → List (List ℕ) → Type 0
 Shows happenings old new names after =
     (map shape new ≡ map shape old ++ shapes_after names happenings)

@@ -1,4 +1,4 @@
-//! Which datagrams have come or were sent before.
+//! Which datagrams came or were sent before.
 
 ghost use Rattle.std.specs.Prelude.{◌≡◌, ◌++◌, [], codes, IfOk, OnOk};
 ghost use Rattle.sip_message.specs.Addr.{addr_text};
@@ -24,11 +24,11 @@ impl Before {
         Before { names }
     }
 
-    /// Takes a datagram in by its name, and says whether one of that name was taken in before.
+    /// Takes in a datagram by its name, and says whether one with that name was taken in before.
     ///
     /// # Errors
     ///
-    /// Want of memory.
+    /// Memory ran out.
     pub(crate) fn add(&mut self, name: Text) -> Result<bool, AllocError>
         ensures again { IfOk result (λ is_again. is_again
             ≡ spec.is_among self.old.names.keys name) }
@@ -42,7 +42,7 @@ impl Before {
     }
 }
 
-/// The name of a datagram that goes this way.
+/// The name of a datagram that goes in this direction.
 pub(crate) fn name_of(alloc: Global, way: Way, bytes: &[u8]) -> Result<Text, AllocError>
     ensures { IfOk result (λ name. name ≡ spec.datagram_name way bytes.now) }
 {

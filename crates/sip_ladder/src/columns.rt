@@ -10,20 +10,20 @@ use sip_message::Addr;
 use sip_text::Series;
 use std::alloc::{AllocError, Global};
 
-/// How many peers have a column of their own; all others share the last one.
+/// How many peers have a column of their own. All others share the last one.
 const MOST_PEERS: usize = 11;
 
-/// How many characters the columns may take together, and how far one may be from the next.
+/// How many characters the columns may take together, and how far apart two neighbours may be.
 const SPACE: usize = 36;
 
 const MOST_WIDTH: usize = 18;
 
-/// The columns of the peers, from the left; that of the agent is before them.
+/// The columns of the peers, from the left. The agent's column stands before them.
 #[derive(Drop)]
 pub struct Columns {
     pub peers: Series<Addr>,
     pub count: usize,
-    /// How many characters after the one before it a column stands.
+    /// How many characters a column stands after the one before it.
     pub width: usize,
 }
 
@@ -49,7 +49,7 @@ impl Columns {
         })
     }
 
-    /// How many columns of peers stand before that of this one.
+    /// How many columns of peers stand before the column of this one.
     pub(crate) fn place(&self, peer: Addr) -> usize
         ensures { result ≡ row.place_of self.now.peers peer }
     {
@@ -57,7 +57,7 @@ impl Columns {
     }
 }
 
-// Adds a peer that isn't there, where another one may have a column.
+// Adds a peer that isn't there, if there is room for one more column.
 fn add_peer(peers: &mut Vec<Addr>, peer: Addr) -> Result<(), AllocError>
     ensures { (all : List addr.Addr) → peers.old.items ≡ take 12 (spec.distinct all)
         → OnOk result (peers.new.items ≡ take 12 (spec.distinct (all ++ peer ∷ []))) }
@@ -70,7 +70,7 @@ fn add_peer(peers: &mut Vec<Addr>, peer: Addr) -> Result<(), AllocError>
     Ok(())
 }
 
-// How many peers stand before this one: all of them where it isn't there.
+// How many peers stand before this one; all of them if it isn't there.
 fn place_in(peers: &[Addr], address: Addr) -> usize
     ensures place { result ≡ row.place_of peers.now address }
     ensures bound { result ≤ length peers.now }

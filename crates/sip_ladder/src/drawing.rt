@@ -1,4 +1,4 @@
-//! An event file or a session file in, its ladder out.
+//! Reads an event file or a session file, and writes its ladder.
 
 ghost use Rattle.std.specs.Prelude.{◌≡◌, ◌≢◌, Err, IfErr, IfOk, IfSome, IsTrue, OnOk};
 ghost use Rattle.sip_files.specs.Counted.{Counts};
@@ -17,11 +17,11 @@ use std::thread::Threads;
 
 /// Reads a file of this kind, runs its rounds as a replay does, and writes their ladder: a head
 /// that names the agent and its peers, and a row of at most 100 characters for each event and each
-/// output, in order. Of a command the row has its line without its headers.
+/// output, in order. The row of a command has its line, without its headers.
 ///
 /// # Errors
 ///
-/// Those of a replay. With every fault but `Output` nothing was written; with `Output` the front of
+/// As for a replay. With every fault but `Output` nothing was written; with `Output` the front of
 /// the ladder may have been.
 pub fn ladder<T: Threads + Sync, R: CountedRead, W: CountedWrite, G: Gate>(
     rt: &T,
@@ -50,7 +50,7 @@ pub fn ladder<T: Threads + Sync, R: CountedRead, W: CountedWrite, G: Gate>(
     write_whole(writer, &picture)
 }
 
-// The ladder of a file of this kind.
+// The ladder that belongs to a file of this kind.
 fn drawn<T: Threads + Sync, G: Gate>(
     rt: &T,
     alloc: Global,

@@ -13,7 +13,8 @@ use std::alloc::{AllocError, Global};
 /// How many characters the name of a column takes.
 const NAME: usize = 10;
 
-/// Whose each column is, at an agent of this address, and a row with the names of the columns.
+/// Says whose each column is, for an agent with this address, and adds a row with the columns'
+/// names.
 #[tactic(auto, unfolding(crate::specs::Head::head_text))]
 pub(crate) fn head(alloc: Global, local: Addr, columns: &Columns) -> Result<Vec<u8>, AllocError>
     ensures { IfOk result (λ text. text.items ≡ spec.head_text local columns.now) }
@@ -55,7 +56,7 @@ fn push_others(alloc: Global, text: &mut Vec<u8>, columns: &Columns) -> Result<(
     Ok(())
 }
 
-// The name of a column, and whose it is.
+// The name of a column, and who has it.
 #[tactic(auto, unfolding(crate::specs::Head::legend_line))]
 fn push_legend(
     alloc: Global,
@@ -116,7 +117,7 @@ fn push_number(
     push_right(alloc, text, room, &decimal(number as u64))
 }
 
-// A text at the right of so many characters.
+// A text at the right of `width` characters.
 #[tactic(auto, unfolding(crate::specs::Head::at_right))]
 fn push_right(
     alloc: Global,

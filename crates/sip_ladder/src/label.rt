@@ -1,4 +1,4 @@
-//! What is told beside an arrow, or of what has none.
+//! The text beside an arrow, or of a line without an arrow.
 
 ghost use Rattle.std.specs.Prelude.{◌≡◌, ◌++◌, take, IfOk, IsTrue, OnOk};
 ghost use Rattle.std.specs.List.{list_all};
@@ -10,19 +10,20 @@ use sip_reader::read;
 use sip_text::{Text, cut, decimal};
 use std::alloc::{AllocError, Global};
 
-/// How many characters of a word are shown whole, and how many of the end of a longer one.
+/// How long a word may be to be shown whole, and how many characters of the end of a longer one
+/// are.
 const WHOLE: usize = 21;
 
 const END: usize = 9;
 
-/// How many characters are shown of a datagram that is no message.
+/// How many characters are shown of a datagram that isn't a message.
 const MOST_UNREAD: usize = 40;
 
 /// The bytes with which each branch of RFC 3261 begins (section 8.1.1.7).
 const COOKIE: &[u8] = b"z9hG4bK";
 
-/// What is told of a datagram: its method or status and its CSeq, `again` where it is a repeat, and
-/// what tells it apart.
+/// The label of a datagram: its method or status and its CSeq, `again` if it is a repeat, and what
+/// tells it apart from others.
 pub(crate) fn of_datagram(alloc: Global, bytes: &[u8], is_again: bool) -> Result<Text, AllocError>
     ensures printable { IfOk result (λ label. IsTrue (list_all spec.is_printable label)) }
     ensures label { IfOk result (λ label. label ≡ spec.datagram_label bytes.now is_again) }
@@ -40,7 +41,7 @@ fn read_datagram(alloc: Global, bytes: &[u8]) -> Result<Message, ReadFault>
     read(alloc, bytes)
 }
 
-/// The fields of a line, of which the long ones are cut.
+/// The fields of a line. Long fields are cut.
 pub(crate) fn of_fields(alloc: Global, line: &[u8]) -> Result<Text, AllocError>
     ensures printable { IfOk result (λ label. IsTrue (list_all spec.is_printable label)) }
     ensures label { IfOk result (λ label. label ≡ spec.fields_label line.now) }
@@ -139,7 +140,7 @@ fn without_cookie(branch: &[u8]) -> &[u8]
     }
 }
 
-// The beginning of the first line of what is no message.
+// The beginning of the first line of a datagram that isn't a message.
 #[tactic(auto, using(crate::proofs::Printable::unread_is), unfolding(crate::specs::Label::unread_label))]
 fn unread(alloc: Global, bytes: &[u8], is_again: bool) -> Result<Text, AllocError>
     ensures printable { IfOk result (λ label. IsTrue (list_all spec.is_printable label)) }
@@ -169,7 +170,7 @@ fn front(line: &[u8]) -> &[u8]
     &line[..MOST_UNREAD.min(line.len())]
 }
 
-// A number with its name, where there is one.
+// A number with its name, if there is one.
 fn push_number(label: &mut Vec<u8>, name: &[u8], number: Option<u32>) -> Result<(), AllocError>
     ensures { OnOk result (label.new.items ≡ label.old.items
         ++ spec.number_named name.now number) }
@@ -189,7 +190,7 @@ fn push_named(label: &mut Vec<u8>, name: &[u8], word: &[u8]) -> Result<(), Alloc
     push_word(label, word)
 }
 
-// A word, or the end of one that is long.
+// A word, or the end of a long one.
 #[tactic(auto, unfolding(crate::specs::Label::word))]
 fn push_word(label: &mut Vec<u8>, word: &[u8]) -> Result<(), AllocError>
     ensures { OnOk result (label.new.items ≡ label.old.items ++ spec.word word.now) }
@@ -210,7 +211,7 @@ fn push_shown(label: &mut Vec<u8>, bytes: &[u8]) -> Result<(), AllocError>
     Ok(())
 }
 
-// The characters of ASCII, and `?` for each other byte.
+// A printable character of ASCII, or `?` for each other byte.
 fn shown(byte: u8) -> u8
     ensures { result ≡ spec.shown_byte byte }
 {

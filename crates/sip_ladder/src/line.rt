@@ -14,7 +14,7 @@ pub enum Way {
     In(Addr),
     /// From the agent to this peer.
     Out(Addr),
-    /// There is none: the line stands at the agent's column.
+    /// There is no arrow: the line stands at the agent's column.
     Own,
 }
 
@@ -39,7 +39,7 @@ pub struct Line {
     /// In ms.
     pub moment: u64,
     pub way: Way,
-    /// What is told beside the arrow, without a line end.
+    /// The text beside the arrow, without a line end.
     pub label: Text,
     ghost printable: { IsTrue (list_all is_printable label) },
 }

@@ -1,4 +1,4 @@
-//! The lines of a ladder, from the rounds and what they gave.
+//! The lines of a ladder, made from the rounds and their outputs.
 
 ghost use Rattle.std.specs.Prelude.{◌≡◌, ◌++◌, codes, IfOk, OnOk, List, ℕ, map};
 ghost use Rattle.sip_ladder.specs.Shapes as spec;
@@ -146,7 +146,7 @@ fn arrow(
     Ok(Line { moment, way, label })
 }
 
-// A line without an arrow, of a line of a file with its end.
+// A line without an arrow, for a line of a file, which is given with its end.
 fn own_line(alloc: Global, moment: u64, line: &[u8]) -> Result<Line, AllocError>
     ensures { (text : List ℕ) → line.now ≡ text ++ codes "\n"
         → IfOk result (λ line. spec.shape line ≡ spec.own_shape moment text) }

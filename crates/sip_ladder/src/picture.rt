@@ -14,7 +14,7 @@ use sip_message::Addr;
 use sip_round::{Output, Round};
 use std::alloc::{AllocError, Global};
 
-/// The ladder of rounds and of what they gave, at an agent of this address.
+/// The ladder of rounds and their outputs, for an agent with this address.
 pub(crate) fn draw(
     alloc: Global,
     local: Addr,

@@ -39,7 +39,7 @@ fn push_moment(alloc: Global, row: &mut Vec<u8>, moment: u64) -> Result<(), Allo
     row.extend_from_slice(b"  ")
 }
 
-// The columns, with the arrow of this way.
+// The columns, with the arrow in this direction.
 #[tactic(auto, unfolding(crate::specs::Row::columns_text))]
 fn push_columns(
     alloc: Global,
@@ -73,7 +73,7 @@ fn push_columns(
     push_free(alloc, row, width, free)
 }
 
-// An arrow without its head and its ends, which passes so many columns.
+// An arrow without its head and its ends. It passes `passed` columns.
 #[tactic(auto, unfolding(crate::specs::Row::shaft))]
 fn push_shaft(
     alloc: Global,
@@ -88,7 +88,7 @@ fn push_shaft(
     row.extend_from_slice("-".repeat(alloc, width.saturating_sub(2))?.as_bytes())
 }
 
-// So many columns without an arrow.
+// `count` columns without an arrow.
 #[tactic(auto, unfolding(crate::specs::Row::free_columns))]
 fn push_free(alloc: Global, row: &mut Vec<u8>, width: usize, count: usize) -> Result<(), AllocError>
     ensures { OnOk result (row.new.items ≡ row.old.items ++ spec.free_columns width count) }

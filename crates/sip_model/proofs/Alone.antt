@@ -1,4 +1,4 @@
--- What phases say of a key is what that key's own inputs add, and what they say is in order.
+-- What phases say for a key is what that key's own inputs add, and all outputs are in order.
 use Rattle.std.proofs.Common.{◌≡◌, ℕ, Bool, true, false, cond, ◌&&◌, ◌||◌, List, [], ◌∷◌, ◌++◌, map, refl, sym, ◌∙◌, ap, subst, append_assoc, append-nil}
 use Rattle.std.specs.Prelude.{Option, None, Some, filter, option_to_list}
 use Rattle.std.specs.declared.cmp.Ordering.{Ordering}

@@ -44,7 +44,7 @@ both_parts false b e = absurd (false≢true e)
 
 -- ---- states
 
--- the states of the keys that are owned; the others have none
+-- the states of the owned keys; the others have none
 abbrev pub restricted : {K S : Type 0} → (K → Bool) → (K → Option S) → K → Option S
 restricted owns states key = cond (owns key) (states key) None
 
@@ -100,7 +100,7 @@ module _ {K S I O : Type 0} {cmp : K → K → Ordering} (total : IsTotalOrder c
       state_from-append machine q None own later ∙ ap (λ s. state_from machine q s later) here
       ∙ none_unowned phases q foreign
 
-  -- the states of a shard are those of all, of the keys that it owns
+  -- the states of a shard are, for the keys that it owns, those of all
   pub owned_states : (phases : List (Phase K I)) (q : K)
       → states_after cmp machine tick (map (owned_phase owns) phases) q
       ≡ restricted owns (states_after cmp machine tick phases) q
@@ -154,7 +154,7 @@ module _ {K S I O : Type 0} {cmp : K → K → Ordering} (total : IsTotalOrder c
       (λ foreign. ap (λ b. cond b (states q) None) foreign
       ∙ sym (ap (λ b. cond b (stepped cmp machine states item q) None) foreign))
 
-  -- ---- what is said
+  -- ---- the outputs
 
   items_apart : (states : K → Option S) (items : List (Item K I))
       → told_items cmp machine (restricted owns states) (filter (λ item. owns item.key) items)

@@ -1,4 +1,4 @@
--- The held keys in order are those of any ordered list of keys that hold a state.
+-- The held keys in order are the keys with a state in any ordered list that has them all.
 use Rattle.std.proofs.Common.{◌≡◌, true, List, length, refl, sym, ◌∙◌, ap, subst}
 use Rattle.std.specs.Prelude.{Option, Some, is_some, IsSome, filter, count_by}
 use Rattle.std.specs.declared.cmp.Ordering.{Ordering}
@@ -22,7 +22,7 @@ module _ {K S : Type 0} {cmp : K → K → Ordering} (total : IsTotalOrder cmp) 
   abbrev find : K → Option S
   find key = lookup (is_at (cmp key)) es
 
-  -- of keys in order that cover the held ones, those with a state are the held keys
+  -- the held keys are the keys with a state among any keys in order that cover them
   held_keys : (keys : List K) → Covers cmp keys find
       → AllZip (λ k h. cmp k h ≡ Equal) (filter (λ k. is_some (find k)) keys) (keys_of es)
   held_keys keys covers =
@@ -32,14 +32,14 @@ module _ {K S : Type 0} {cmp : K → K → Ordering} (total : IsTotalOrder cmp) 
       (all_both (λ e found again. covers.each e.0 (is_some_from _ e.1 found)) es
       (found_entries total es ordered) (found_entries total es ordered)))
 
-  -- so they are as many
+  -- so there are as many of them
   pub count_held : (keys : List K) → Covers cmp keys find
       → length es ≡ count_by (λ key. is_some (find key)) keys
   count_held keys covers =
       sym (length-keys_of es) ∙ sym (length_all_zip _ _ _ (held_keys keys covers))
       ∙ length-filter (λ key. is_some (find key)) keys
 
--- how many a table holds, where `held` is its value
+-- how many keys a table holds, if `held` is its value
 pub count_live : {K S : Type 0} {cmp : K → K → Ordering} → IsTotalOrder cmp
     → (held table : Held K S) → held ≡ table → IsStrictlySortedBy cmp (keys_of (entries_of held))
     → (keys : List K) → Covers cmp keys (state_at cmp table)

@@ -12,7 +12,7 @@ use Rattle.sip_model.specs.History.{AddsInput, AddsInputs}
 use Rattle.sip_model.proofs.Ordered.{by_bool, exact_at}
 
 module _ {K S I O : Type 0} (machine : Machine K S I O) where
-  -- one input more
+  -- one more input
   pub state_from-push : (key : K) (state : Option S) (inputs : List I) (input : I)
       → state_from machine key state (inputs ++ input ∷ [])
       ≡ next machine key (state_from machine key state inputs) input

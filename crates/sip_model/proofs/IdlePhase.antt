@@ -1,5 +1,5 @@
--- A phase without items that has no tick, or at whose moment nothing is due: nothing changes, and
--- nothing is said.
+-- A phase without items changes nothing and says nothing, if it has no tick or no key is due at its
+-- moment.
 use Rattle.std.proofs.Common.{◌≡◌, ℕ, Bool, true, false, cond, List, [], ◌∷◌, map, refl, sym, ◌∙◌, ap}
 use Rattle.std.specs.Prelude.{Option, Some, filter}
 use Rattle.std.specs.declared.cmp.Ordering.{Ordering}

@@ -1,4 +1,4 @@
--- Items, each given to its key in turn: what has been dealt, and what is left.
+-- Items, each given to its key, one after another: what was dealt, and what is left.
 use Rattle.std.proofs.Common.{◌≡◌, ℕ, List, [], ◌∷◌, ◌++◌, map, ◌∙◌, ap, append_assoc}
 use Rattle.std.specs.Prelude.{Option, cond}
 use Rattle.std.specs.declared.cmp.Ordering.{Ordering}
@@ -8,7 +8,7 @@ use Rattle.sip_model.specs.Machine.{Machine, next, adds}
 use Rattle.sip_model.specs.Table.{AreDues}
 use Rattle.sip_model.specs.Phase.{by_place, stepped, states_then, told_items}
 
--- items over `all` of which `rest` are left: the states now, and what was told
+-- of the items `all`, `rest` are left: the states now, and the outputs so far
 pub record ItemsLeft {K S I O : Type 0} (cmp : K → K → Ordering) (machine : Machine K S I O)
     (due : S → Option ℕ) (old : K → Option S) (all rest : List (Item K I)) (states : K → Option S)
     (dues : List (ℕ × K)) (told : List (ℕ × List O)) : Type 0 where

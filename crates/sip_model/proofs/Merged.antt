@@ -13,7 +13,7 @@ use Rattle.std.proofs.lemmas.List.Sorted.{IsPermutation-sym, IsPermutation-map}
 use Rattle.sip_timers.proofs.Sorts.{same_sorted}
 use Rattle.sip_model.specs.Groups.{groups}
 
--- a closure without a state, each of whose calls compares by the test
+-- a closure without a state that compares by the test at each call
 pub compares : {F X : Type 0} (g : Mut F (Bor X × (Bor X × Unit {0})) Ordering) (lt : X → X → Bool)
     (f : F)
     → ((a : Bor X × (Bor X × Unit {0})) (r : Ordering) (after : F) → Called g f a r after

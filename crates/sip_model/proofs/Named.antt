@@ -1,4 +1,4 @@
--- The keys of a set are in order, and one more is among them.
+-- The keys of a set are in order, and one more key is put among them.
 use Rattle.std.proofs.Common.{◌≡◌, Bool, true, false, cond, ◌&&◌, List, [], ◌∷◌, map, refl, sym, ◌∙◌, ap, T}
 use Rattle.std.specs.Prelude.{Option, Some, is_some}
 use Rattle.std.specs.declared.cmp.Ordering.{Ordering}
@@ -39,7 +39,7 @@ module _ {K : Type 0} {cmp : K → K → Ordering} where
   pub keys_in_order : (named : FinSet cmp) → IsStrictlySortedBy cmp (finite.keys named)
   keys_in_order named = in_order cmp (finite.entries named) (finite.entries_sorted named)
 
-  -- a key is named where it was, and where it is the one that was put in
+  -- a key is named if it was before, or if it is the one that was put in
   pub named_before : IsTotalOrder cmp → (named : FinSet cmp) (key q : K)
       → list_any (is_at (cmp q)) (finite.keys named) ≡ true
       → list_any (is_at (cmp q)) (finite.keys (finite.insert named key tt)) ≡ true

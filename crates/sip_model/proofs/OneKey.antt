@@ -1,4 +1,4 @@
--- One key: after its step a schedule has each key at the moment at which something is due of it.
+-- One key: after its step a schedule has each key at the moment at which its state is due.
 use Rattle.std.proofs.Common.{◌≡◌, ℕ, List, cond, sym, ◌∙◌, ap}
 use Rattle.std.specs.Prelude.{Option}
 use Rattle.std.specs.declared.cmp.Ordering.{Ordering}

@@ -18,7 +18,7 @@ pub ordered_nil : {K : Type 0} (cmp : K → K → Ordering) → IsStrictlySorted
 unfolding IsStrictlySortedBy
 ordered_nil cmp = tt
 
--- the three answers of a comparison
+-- the three cases of a comparison
 pub by_ordering : {G : Type 0} (o : Ordering) → (o ≡ Less → G) → (o ≡ Equal → G) → (o ≡ Greater → G)
     → G
 by_ordering Less less equal greater = less refl
@@ -34,7 +34,7 @@ equal_from_is_eq Less e = absurd (false≢true e)
 equal_from_is_eq Equal e = refl
 equal_from_is_eq Greater e = absurd (false≢true e)
 
--- what holds of each element in two ways
+-- two facts on each element give a third one
 pub all_both : {X : Type 0} {P Q R : X → Type 0} → ((x : X) → P x → Q x → R x) → (xs : List X)
     → AllByRecursion P xs → AllByRecursion Q xs → AllByRecursion R xs
 all_both f [] p q = p
@@ -44,7 +44,7 @@ pub all_here : {X : Type 0} {P : X → Type 0} → ((x : X) → P x) → (xs : L
 all_here f [] = tt
 all_here f (x ∷ xs) = (f x, all_here f xs)
 
--- a fact on the keys, as one on the entries
+-- a fact on the keys, said of the entries
 pub all_entries : {K S : Type 0} (P : K → Type 0) (es : List (K × S))
     → AllByRecursion P (keys_of es) → AllByRecursion (λ (e : K × S). P e.0) es
 all_entries P [] p = p
@@ -55,7 +55,7 @@ pub all_keys : {K S : Type 0} (P : K → Type 0) (es : List (K × S))
 all_keys P [] p = p
 all_keys P (e ∷ es) p = (p.0, all_keys P es p.1)
 
--- what says nothing may be left out
+-- elements without outputs may be left out
 pub flat_map-filter : {X O : Type 0} (f : X → List O) (p : X → Bool)
     → ((x : X) → p x ≡ false → f x ≡ []) → (xs : List X) → flat_map f (filter p xs) ≡ flat_map f xs
 flat_map-filter f p silent [] = refl
@@ -99,12 +99,12 @@ module _ {K : Type 0} {cmp : K → K → Ordering} (total : IsTotalOrder cmp) wh
   lookup_below k [] below = refl
   lookup_below k (e ∷ es) below = rw below.0 (lookup_below k es below.1)
 
-  -- a key that is found isn't the one below all the others
+  -- a key that is found isn't the one below all others
   below_all : (x : K) (k : K) (ks : List K) → cmp x k ≡ Less
       → AllByRecursion (λ y. cmp k y ≡ Less) ks → AllByRecursion (λ y. cmp x y ≡ Less) (k ∷ ks)
   below_all x k ks less below = (less, all_both (λ y p q. total.trans x k y less p) ks below below)
 
-  -- what a test keeps of keys in order is the keys in order that pass it
+  -- filtering keys in order gives the keys in order that pass the test
   pub filter_tied : (p : K → Bool) (keys held : List K) → IsStrictlySortedBy cmp keys
       → IsStrictlySortedBy cmp held
       → AllByRecursion (λ k. p k ≡ list_any (is_at (cmp k)) held) keys
@@ -148,7 +148,7 @@ module _ {K : Type 0} {cmp : K → K → Ordering} (total : IsTotalOrder cmp) wh
       let less : cmp h k ≡ Less = total.antisymm h k ∙ ap ordering_reverse greater in
       absurd (false≢true (sym (none_below h (k ∷ ks) (below_all h k ks less above_k)) ∙ among.0)))
 
-  -- each entry is what a look-up finds
+  -- each entry is what a look-up of its key finds
   pub found_entries : {S : Type 0} (es : List (K × S)) → IsStrictlySortedBy cmp (keys_of es)
       → AllByRecursion (λ (e : K × S). lookup (is_at (cmp e.0)) es ≡ Some e.1) es
   found_entries [] ordered = tt
@@ -162,7 +162,7 @@ module _ {K : Type 0} {cmp : K → K → Ordering} (total : IsTotalOrder cmp) wh
             (not_at_lower e.0 f.0 lower) ∙ found) es above tail,
       )
 
-  -- a key is found where it is among the keys
+  -- a key is found if it is among the keys
   pub is_some-lookup : {S : Type 0} (q : K) (es : List (K × S))
       → is_some (lookup (is_at (cmp q)) es) ≡ list_any (is_at (cmp q)) (keys_of es)
   is_some-lookup q [] = refl
@@ -200,7 +200,7 @@ module _ {K : Type 0} {cmp : K → K → Ordering} (total : IsTotalOrder cmp)
       (λ hit. absurd (false≢true (sym off ∙ ap p (sym (exact_at total exact q k hit)) ∙ passes)))
       (λ miss. sym (ap (λ b. b || among q ks) miss) ∙ same q passes)
 
-  -- so may one that both have first
+  -- so may a key that both lists have first
   without_both : (p : K → Bool) (k : K) (ks hs : List K) → among k ks ≡ false → among k hs ≡ false
       → ((q : K) → p q ≡ true → among q (k ∷ ks) ≡ among q (k ∷ hs)) → (q : K) → p q ≡ true
       → among q ks ≡ among q hs
@@ -219,7 +219,7 @@ module _ {K : Type 0} {cmp : K → K → Ordering} (total : IsTotalOrder cmp)
       ∙ ap (λ b. b || among k ks) (is_at_itself total k))))
       (λ no. no)
 
-  -- lists in order that have the same keys of those that pass have them in the same places
+  -- two lists in order whose keys agree among those that pass have these in the same order
   pub same_filtered : (p : K → Bool) (xs ys : List K) → IsStrictlySortedBy cmp xs
       → IsStrictlySortedBy cmp ys → ((q : K) → p q ≡ true → among q xs ≡ among q ys)
       → filter p xs ≡ filter p ys

@@ -1,4 +1,4 @@
--- A list cut into numbered parts by a function: the parts joined are the list in some order.
+-- A list cut into numbered parts by a function: the parts, joined, are the list in some order.
 use Rattle.std.proofs.Common.{◌≡◌, ℕ, zero, suc, ◌+◌, ◌<◌, Bool, true, false, ◌&&◌, not, List, [], ◌∷◌, ◌++◌, nat_le, nat_eq, refl, sym, ◌∙◌, ap, subst, append_assoc, append-nil, arith}
 use Rattle.std.specs.Prelude.{filter}
 use Rattle.std.specs.List.Sorted.{IsPermutation}
@@ -31,7 +31,7 @@ filter_all p all [] = refl
 filter_all p all (x ∷ xs) = rw (all x) (ap (λ more. x ∷ more) (filter_all p all xs))
 
 module _ {X : Type 0} (number : X → ℕ) where
-  -- the parts of so many numbers from one on, joined
+  -- so many parts, numbered upwards from a number, joined
   abbrev pub parts : ℕ → ℕ → List X → List X
   parts from zero xs = []
   parts from (suc count) xs = filter (λ x. nat_eq (number x) from) xs ++ parts (suc from) count xs
@@ -80,7 +80,7 @@ module _ {X : Type 0} (number : X → ℕ) where
       next : (n m : ℕ) → suc n + m ≡ n + suc m
       next n m = omega arith
 
-  -- where no number is as high as their count, the parts joined are all
+  -- if every number is below the count of parts, the parts joined are all
   pub parts_are_all : (count : ℕ) → ((x : X) → number x < count) → (xs : List X)
       → IsPermutation (parts zero count xs) xs
   parts_are_all count below xs =

@@ -27,7 +27,7 @@ module _ {K S I O : Type 0} (machine : Machine K S I O) where
 
 module _ {K S I O : Type 0} {cmp : K → K → Ordering} (total : IsTotalOrder cmp)
     (exact : CmpEqualImpliesEq cmp) (machine : Machine K S I O) where
-  -- a key's state after items is that after its own inputs among them
+  -- a key's state after items is the one after its own inputs among them
   pub own_items : (states : K → Option S) (items : List (Item K I)) (q : K)
       → states_then cmp machine states items q
       ≡ state_from machine q (states q) (inputs_of cmp items q)
@@ -57,7 +57,7 @@ module _ {K S I O : Type 0} {cmp : K → K → Ordering} (total : IsTotalOrder c
     own_tick states None q = refl
     own_tick states (Some moment) q = refl
 
-    -- the states after one phase more
+    -- the states after one more phase
     pub states_after_phase : (phases : List (Phase K I)) (phase : Phase K I) (q : K)
         → states_after cmp machine tick (phases ++ phase ∷ []) q
         ≡ states_then cmp machine (ticked cmp machine tick
@@ -74,7 +74,7 @@ module _ {K S I O : Type 0} {cmp : K → K → Ordering} (total : IsTotalOrder c
         ∙ sym (own_items (ticked cmp machine tick
         (states_after cmp machine tick phases) phase.moment) phase.items q)
 
-    -- where a table held the states after some phases, it holds those after one more
+    -- a table that held the states after some phases holds those after one more
     pub holds_one_more : (old new : Held K S) (phases : List (Phase K I)) (phase : Phase K I)
         → IsSome new
         → ((q : K) → state_at cmp new q
@@ -92,7 +92,7 @@ module _ {K S I O : Type 0} {cmp : K → K → Ordering} (total : IsTotalOrder c
               ∙ sym (states_after_phase phases phase q);
         }
 
--- ---- the keys that have had items are all that have a state
+-- ---- the keys that have had items are all keys that have a state
 
 abbrev among : {K : Type 0} {cmp : K → K → Ordering} → K → FinSet cmp → Bool
 among {cmp = cmp} q named = list_any (is_at (cmp q)) (finite.keys named)
@@ -105,7 +105,7 @@ module _ {K I : Type 0} {cmp : K → K → Ordering} (total : IsTotalOrder cmp) 
       still_named (finite.insert named item.key tt) items q
       (named_before total named item.key q here)
 
-  -- no item is of a key that isn't named
+  -- no item has a key that isn't named
   unnamed : (named : FinSet cmp) (items : List (Item K I)) (q : K)
       → among q (named_by named items) ≡ false
       → AllByRecursion (λ item. is_at (cmp item.key) q ≡ false) items

@@ -1,4 +1,4 @@
--- What phases say by each key's own inputs is what they say by the states.
+-- The outputs of phases, said by each key's own inputs, are those said by the states.
 use Rattle.std.proofs.Common.{◌≡◌, ℕ, List, [], ◌∷◌, ◌++◌, map, refl, ◌∙◌, ap, append-nil, arith}
 use Rattle.std.specs.Prelude.{Option, None, Some, filter, option_to_list, nat_lt, length}
 use Rattle.std.specs.declared.cmp.Ordering.{Ordering}
@@ -27,7 +27,7 @@ states_then-append cmp machine states (first ∷ items) item =
 
 module _ {K S I O : Type 0} {cmp : K → K → Ordering} (total : IsTotalOrder cmp)
     (exact : CmpEqualImpliesEq cmp) (machine : Machine K S I O) (tick : ℕ → I) where
-  -- what items add after those of the phase so far
+  -- the outputs of items after those of the phase so far
   to_items : (phases : List (Phase K I)) (part : Phase K I) (items : List (Item K I))
       → said_to cmp machine tick phases part items
       ≡ told_items cmp machine (states_then cmp machine (ticked cmp machine tick

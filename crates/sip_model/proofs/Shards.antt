@@ -1,5 +1,5 @@
--- A phase over several shards: what each tells of its own keys, joined and brought into order, is
--- what all tell.
+-- A phase over several shards: the outputs of each for its own keys, joined and sorted, are those
+-- of all keys.
 use Rattle.std.proofs.Common.{◌≡◌, ℕ, zero, suc, ◌<◌, List, [], ◌∷◌, ◌++◌, length, map, nat_eq, refl, sym, ◌∙◌, ap, subst}
 use Rattle.std.specs.Prelude.{Option, filter}
 use Rattle.std.specs.declared.cmp.Ordering.{Ordering}

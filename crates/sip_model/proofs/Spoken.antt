@@ -1,5 +1,6 @@
--- Where each key's machine, from a state of its own by an input that fits it, speaks for its own
--- key alone: what is picked for a key of all that is said in a phase is what that key says.
+-- If the machine of each key speaks only for its own key, then the outputs of a phase that are
+-- picked for a key are those of that key. The machine must start from a state of the key's own,
+-- with an input that fits it.
 use Rattle.std.proofs.Common.{◌≡◌, ℕ, Bool, true, false, cond, List, [], ◌∷◌, ◌++◌, map, refl, sym, subst, ◌∙◌}
 use Rattle.std.specs.Prelude.{Option, None, Some, filter}
 use Rattle.std.specs.declared.cmp.Ordering.{Ordering}
@@ -22,14 +23,14 @@ joined groups = flat_map (λ group. group.1) groups
 module _ {K S I O Z : Type 0} (cmp : K → K → Ordering) (machine : Machine K S I O)
     (says : O → List Z) (picked : K → O → List Z) (Own : K → Option S → Type 0)
     (Fits : K → I → Type 0) where
-  -- of what a step adds, from a state of its key's own by an input that fits the key, all that is
-  -- said is picked for that key, and nothing for another
+  -- if a step starts from a state of its key's own, with an input that fits the key, all its
+  -- outputs are picked for that key, and none for another
   abbrev pub SpeaksForItself : Type 0
   SpeaksForItself = (q key : K) (state : Option S) (input : I) → Own key state → Fits key input
       → flat_map (picked q) (adds machine key state input)
       ≡ cond (is_at (cmp q) key) (flat_map says (adds machine key state input)) []
 
-  -- and the state after it is the key's own again
+  -- and the state after it is again the key's own
   abbrev pub KeepsOwn : Type 0
   KeepsOwn = (key : K) (state : Option S) (input : I) → Own key state → Fits key input
       → Own key (next machine key state input)
@@ -40,7 +41,7 @@ module _ {K S I O Z : Type 0} (cmp : K → K → Ordering) (machine : Machine K 
   abbrev pub FitItems : List (Item K I) → Type 0
   FitItems items = AllByRecursion (λ item. Fits item.key item.input) items
 
-  -- one group more
+  -- one more group
   one_group : {L : Type 0} (q : K) (own : Bool) (group : L × List O)
       (rest kept : List (L × List O))
       → flat_map (picked q) group.1 ≡ cond own (flat_map says group.1) []
@@ -54,7 +55,7 @@ module _ {K S I O Z : Type 0} (cmp : K → K → Ordering) (machine : Machine K 
       flat_map-append (picked q) group.1 (joined rest) ∙ (λ i. here i ++ later i)
 
   module _ (total : IsTotalOrder cmp) (exact : CmpEqualImpliesEq cmp) (keeps : KeepsOwn) where
-    -- a step is one of its own key alone
+    -- a step is one of its own key only
     stepped_own : (states : K → Option S) (item : Item K I) → OwnStates states
         → Fits item.key item.input → OwnStates (stepped cmp machine states item)
     stepped_own states item own fits q =
@@ -79,7 +80,7 @@ module _ {K S I O Z : Type 0} (cmp : K → K → Ordering) (machine : Machine K 
       ticked_own states (Some moment) own q =
           keeps q (states q) (tick moment) (own q) (tick_fits moment q)
 
-      -- the states after a phase whose items fit are their keys' own, where those before it are
+      -- after a phase whose items fit, the states are their keys' own, if those before it are
       pub own_after : (before : List (Phase K I)) (phase : Phase K I)
           → OwnStates (states_after cmp machine tick before) → FitItems phase.items
           → OwnStates (states_after cmp machine tick (before ++ phase ∷ []))
@@ -126,7 +127,7 @@ module _ {K S I O Z : Type 0} (cmp : K → K → Ordering) (machine : Machine K 
             of_keys states moment
             (filter (λ key. speaks (adds machine key (states key) (tick moment))) keys) own
 
-        -- what is picked for a key of all that is said in a phase
+        -- the outputs of a phase that are picked for a key
         pub spoken : (before : List (Phase K I)) (phase : Phase K I)
             → OwnStates (states_after cmp machine tick before) → FitItems phase.items
             → flat_map (picked q) (joined (told_next cmp machine tick before phase).ticks

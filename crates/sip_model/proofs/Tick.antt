@@ -1,4 +1,4 @@
--- A tick of the keys of which something is due: what has been said so far, and what is left.
+-- A tick of the keys that are due: the outputs so far, and the keys that are left.
 use Rattle.std.proofs.Common.{◌≡◌, ℕ, Bool, true, false, cond, ◌||◌, List, [], ◌∷◌, ◌++◌, map, refl, sym, ◌∙◌, ap, append_assoc, arith}
 use Rattle.std.specs.Prelude.{Option, None, Some, IsSome, filter}
 use Rattle.std.specs.declared.cmp.Ordering.{Ordering}
@@ -19,7 +19,7 @@ use Rattle.sip_model.specs.Table.{Covers}
 use Rattle.sip_model.specs.Groups.{speaks, groups, told_ticks, with_said}
 use Rattle.sip_model.proofs.Ordered.{by_bool, is_at_back, is_at_itself, none_below, exact_at, flat_map-filter, same_filtered}
 
--- a tick over `all` that has `rest` left: the states and the due moments now, and what was told
+-- of a tick over `all`, `rest` is left: the states and the due moments now, and the outputs so far
 pub record TickLeft {K S I O : Type 0} (cmp : K → K → Ordering) (machine : Machine K S I O)
     (due : S → Option ℕ) (input : I) (old : K → Option S) (all rest : List K)
     (states : K → Option S) (dues : List (ℕ × K)) (told : List (K × List O)) : Type 0 where
@@ -31,7 +31,7 @@ pub record TickLeft {K S I O : Type 0} (cmp : K → K → Ordering) (machine : M
       (λ q. cond (list_any (is_at (cmp q)) rest) None (due_of due (states q))) dues
   pub said : told ++ told_ticks machine old input rest ≡ told_ticks machine old input all
 
--- what says something to a tick has a state
+-- a key that says something to a tick has a state
 pub has_state : {K S I O : Type 0} (machine : Machine K S I O) (due : S → Option ℕ) (now : ℕ)
     (input : I) → IsIdle machine due now input
     → (q : K) (state : Option S) → speaks (adds machine q state input) ≡ true → IsSome state
@@ -149,7 +149,7 @@ module _ {K S I O : Type 0} {cmp : K → K → Ordering} (total : IsTotalOrder c
             ∙ left.said;
       }
 
-  -- the keys that are due tell what any keys tell among which are all that are held
+  -- the outputs of the due keys are those of any keys that include all held ones
   pub told_by_due : (now : ℕ) → IsIdle machine due now input
       → (old : K → Option S) (keys : List K) → IsStrictlySortedBy cmp keys
       → ((q : K) → list_any (is_at (cmp q)) keys ≡ is_due now (due_of due (old q)))
@@ -166,7 +166,7 @@ module _ {K S I O : Type 0} {cmp : K → K → Ordering} (total : IsTotalOrder c
       ∙ sym (covers.each q (has_state machine due now input idle q (old q) said)))
       (λ not. absurd (false≢true (sym (ap (λ r. speaks r.1) (idle q (old q) not)) ∙ said)))))
 
--- ---- all that was told, joined
+-- ---- all outputs, joined
 
 module _ {K O : Type 0} where
   pub flat_map-groups : {Z : Type 0} (told : List (K × Vec O Z))
@@ -185,7 +185,7 @@ pub silence : {O : Type 0} (outputs : List O) → speaks outputs ≡ false → o
 silence [] e = refl
 silence (o ∷ os) e = absurd (false≢true (sym e))
 
--- what is told of some keys, joined, is what all of them say
+-- the outputs of some keys, joined, are what all of them say
 pub joined_told : {K S I O Z : Type 0} (machine : Machine K S I O) (states : K → Option S)
     (tick : I) (keys : List K) (told : List (K × Vec O Z)) (outputs : List O)
     → groups told ≡ told_ticks machine states tick keys

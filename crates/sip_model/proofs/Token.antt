@@ -1,5 +1,5 @@
--- A token comes with an input, may wait in the state of its key, and goes out with what is said.
--- One that comes once goes out once at most, over all keys.
+-- A token comes with an input, may wait in the state of its key, and goes out with the outputs. A
+-- token that comes once goes out at most once, over all keys.
 use Rattle.std.proofs.Common.{◌≡◌, ◌⊎◌, inl, inr, ℕ, zero, suc, ◌+◌, ◌≤◌, true, false, cond, List, [], ◌∷◌, ◌++◌, refl, sym, ◌∙◌, ap, subst, add_assoc, zero-add, arith}
 use Rattle.std.specs.Prelude.{Option}
 use Rattle.std.specs.declared.cmp.Ordering.{Ordering}
@@ -21,19 +21,19 @@ module _ {K S : Type 0} (cmp : K → K → Ordering) (waits : Option S → ℕ) 
   abbrev pub NoneWaits : (K → Option S) → Type 0
   NoneWaits states = (q : K) → waits (states q) ≡ 0
 
-  -- one waits at most, in the state of one key alone
+  -- at most one token waits, in the state of one key only
   pub record OneWaits (states : K → Option S) : Type 0 where
     pub home : K
     pub few : (q : K) → waits (states q) ≤ 1
     pub elsewhere : (q : K) → is_at (cmp home) q ≡ false → waits (states q) ≡ 0
 
-  -- at most so many may still go out, where so many come
+  -- if so many tokens come, at most so many may still go out
   pub record Budget (most : ℕ) (states : K → Option S) (coming : ℕ) : Type 0 where
     pub single : most ≤ 1
     pub kept : (NoneWaits states × (coming ≤ most))
         ⊎ (OneWaits states × (coming ≡ 0) × (1 ≤ most))
 
-  -- so many went out, and what is left
+  -- so many went out, and what may still go out
   pub record Spent (most gone : ℕ) (states : K → Option S) (coming : ℕ) : Type 0 where
     pub left : ℕ
     pub within : gone + left ≤ most
@@ -43,7 +43,7 @@ module _ {K S : Type 0} (cmp : K → K → Ordering) (waits : Option S → ℕ) 
       → Budget 1 states coming
   budget_from states coming few none = record { single = omega arith; kept = inl (none, few) }
 
-  -- where of no key more waits than before
+  -- no more tokens of a key wait than before
   pub budget_kept : (most : ℕ) (states after : K → Option S) (coming : ℕ)
       → ((q : K) → waits (after q) ≤ waits (states q)) → Budget most states coming
       → Budget most after coming
@@ -67,7 +67,7 @@ module _ {K S : Type 0} (cmp : K → K → Ordering) (waits : Option S → ℕ) 
 module _ {K S I O : Type 0} {cmp : K → K → Ordering} (total : IsTotalOrder cmp)
     (exact : CmpEqualImpliesEq cmp) (machine : Machine K S I O) (waits : Option S → ℕ)
     (comes : I → ℕ) (goes : List O → ℕ) where
-  -- what one input makes of it
+  -- what one input does with the token
   abbrev pub KeepsToken : Type 0
   KeepsToken = (key : K) (state : Option S) (input : I)
       → goes (adds machine key state input) + waits (next machine key state input)
@@ -76,7 +76,7 @@ module _ {K S I O : Type 0} {cmp : K → K → Ordering} (total : IsTotalOrder c
   abbrev pub GoesInParts : Type 0
   GoesInParts = (goes [] ≡ 0) × ((xs ys : List O) → goes (xs ++ ys) ≡ goes xs + goes ys)
 
-  -- so many come with items
+  -- how many tokens come with items
   abbrev pub coming_with : List (Item K I) → ℕ
   coming_with [] = 0
   coming_with (item ∷ items) = comes item.input + coming_with items
@@ -105,7 +105,7 @@ module _ {K S I O : Type 0} {cmp : K → K → Ordering} (total : IsTotalOrder c
         (λ hit. omega (arith, at_hit q hit, here))
         (λ miss. omega (arith, at_miss q miss, there miss))
 
-    -- nothing waited
+    -- no token waited
     spend_none : (most coming : ℕ) → gone + waits after ≤ comes item.input + waits (states item.key)
         → most ≤ 1 → NoneWaits cmp waits states → comes item.input + coming ≤ most
         → Spent cmp waits most gone (stepped cmp machine states item) coming
@@ -140,7 +140,7 @@ module _ {K S I O : Type 0} {cmp : K → K → Ordering} (total : IsTotalOrder c
           };
         })
 
-    -- one waited, and none comes
+    -- one token waited, and none comes
     spend_one : (most coming : ℕ) → gone + waits after ≤ comes item.input + waits (states item.key)
         → OneWaits cmp waits states → comes item.input + coming ≡ 0 → 1 ≤ most
         → Spent cmp waits most gone (stepped cmp machine states item) coming
@@ -205,7 +205,7 @@ module _ {K S I O : Type 0} {cmp : K → K → Ordering} (total : IsTotalOrder c
             (λ off. absurd (omega (arith, kept, nothing, is_gone, one.elsewhere item.key off))))
             (λ off. one.elsewhere q off)
 
-  -- what a step spends
+  -- the tokens that a step sends out
   spend : KeepsToken → (most : ℕ) (states : K → Option S) (item : Item K I) (coming : ℕ)
       → Budget cmp waits most states (comes item.input + coming)
       → Spent cmp waits most (gone states item) (stepped cmp machine states item) coming
@@ -221,7 +221,7 @@ module _ {K S I O : Type 0} {cmp : K → K → Ordering} (total : IsTotalOrder c
           spend_one states item most coming (keeps item.key (states item.key) item.input)
           one.0 one.1 one.2
 
-  -- what items spend
+  -- the tokens that items send out
   pub spend_items : KeepsToken → GoesInParts → (most : ℕ) (states : K → Option S)
       (items : List (Item K I)) (coming : ℕ)
       → Budget cmp waits most states (coming_with items + coming)

@@ -1,4 +1,4 @@
--- What holds of every machine over any phases.
+-- Laws of every machine, for any phases.
 use Rattle.std.specs.Prelude.{◌≡◌, ℕ, Bool, List, [], ◌∷◌, ◌++◌, None, cond, map, filter}
 use Rattle.std.specs.declared.cmp.Ordering.{Ordering}
 use Rattle.std.specs.BTreeMap.{is_at}
@@ -9,13 +9,12 @@ use Rattle.sip_model.specs.Phase.{Phase, PhaseOutputs, history, states_after, to
 
 -- ---- shards
 
--- the part of a phase that a shard is given which owns some keys: the tick, and the items of those
--- keys
+-- the part of a phase for a shard that owns some keys: the tick, and the items of those keys
 abbrev pub owned_phase : {K I : Type 0} → (K → Bool) → Phase K I → Phase K I
 owned_phase owns phase =
     record { moment = phase.moment; items = filter (λ item. owns item.key) phase.items }
 
--- the part of what is said that those keys say
+-- the part of the outputs that those keys give
 abbrev pub owned_told : {K O : Type 0} → (K → Bool) → PhaseOutputs K O → PhaseOutputs K O
 owned_told owns told = record {
   ticks = filter (λ said. owns said.0) told.ticks;
@@ -24,19 +23,19 @@ owned_told owns told = record {
 
 module _ {K S I O : Type 0} (cmp : K → K → Ordering) (machine : Machine K S I O)
     (tick : ℕ → I) where
-  -- a shard that was given its part of each phase says its part of what all say
+  -- a shard that is given its part of each phase says its part of the outputs
   abbrev pub ShardsWorkApart : Type 0
   ShardsWorkApart = (owns : K → Bool) (phases : List (Phase K I)) (phase : Phase K I)
       → told_next cmp machine tick (map (owned_phase owns) phases) (owned_phase owns phase)
       ≡ owned_told owns (told_next cmp machine tick phases phase)
 
-  -- and its part leaves of its own keys what all phases leave of them, and of the others nothing
+  -- and it then holds the states that all phases leave for its own keys, and nothing for others
   abbrev pub ShardsHoldApart : Type 0
   ShardsHoldApart = (owns : K → Bool) (phases : List (Phase K I)) (key : K)
       → states_after cmp machine tick (map (owned_phase owns) phases) key
       ≡ cond (owns key) (states_after cmp machine tick phases key) None
 
-  -- what is said to a tick is in the order of the keys, and what items add in the order of their
+  -- the outputs of a tick are in the order of the keys, and those of items in the order of their
   -- places
   pub record InOrder (phases : List (Phase K I)) (phase : Phase K I) : Type 0 where
     pub by_key : IsStrictlySortedBy cmp
@@ -49,19 +48,19 @@ module _ {K S I O : Type 0} (cmp : K → K → Ordering) (machine : Machine K S 
 
   -- ---- one key alone
 
-  -- what a key says in a phase, in order
+  -- the outputs of a key in a phase, in order
   abbrev pub said_by : K → PhaseOutputs K O → List O
   said_by key told = flat_map (λ said. said.1) (filter (λ said. is_at (cmp key) said.0) told.ticks)
       ++ flat_map (λ said. said.1) (filter (λ said. is_at (cmp key) (said.0).1) told.items)
 
-  -- what it says in phases that come after others
+  -- its outputs in phases that come after others
   abbrev pub said_from : K → List (Phase K I) → List (Phase K I) → List O
   said_from key before [] = []
   said_from key before (phase ∷ phases) =
       said_by key (told_next cmp machine tick before phase)
       ++ said_from key (before ++ phase ∷ []) phases
 
-  -- what phases say of a key, after others, is what that key's own inputs add
+  -- the outputs of phases for a key, after other phases, are those that the key's own inputs add
   abbrev pub EachKeyAlone : Type 0
   EachKeyAlone = (before phases : List (Phase K I)) (key : K)
       → said_from key before phases

@@ -1,8 +1,8 @@
--- A machine of each key, and its fold over the key's own inputs.
+-- A machine for each key, and its fold over the key's own inputs.
 use Rattle.std.specs.Prelude.{◌≡◌, ℕ, false, List, [], ◌∷◌, ◌++◌, Option, None, Some, IsSome}
 use Rattle.sip_timers.specs.Queue.{is_due}
 
--- what comes at a moment in ms; nothing, where time alone goes on
+-- an input at a moment in ms; without an input, time alone goes on
 pub record Timed (I : Type 0) : Type 0 where
   pub moment : ℕ
   pub input : Option I
@@ -15,12 +15,11 @@ given_at now input = record { moment = now; input = Some input }
 abbrev pub tick_at : {I : Type 0} → ℕ → Timed I
 tick_at now = record { moment = now; input = None }
 
--- a step of each key, from a state or none: the state after it, and the outputs that it adds
+-- a step of a key, from a state or none: the state after it, and the outputs that it adds
 pub record Machine (K S I O : Type 0) : Type 0 where
   pub step : K → Option S → I → Option S × List O
 
--- the moment in ms at which something is due of a key in this state; of one without a state nothing
--- is
+-- the moment in ms at which a key in this state is due; a key without a state is never due
 abbrev pub due_of : {S : Type 0} → (S → Option ℕ) → Option S → Option ℕ
 due_of due None = None
 due_of due (Some state) = due state
@@ -30,7 +29,7 @@ module _ {K S I O : Type 0} where
   abbrev pub next : Machine K S I O → K → Option S → I → Option S
   next machine key state input = (machine.step key state input).0
 
-  -- what is said to an input
+  -- the outputs to an input
   abbrev pub adds : Machine K S I O → K → Option S → I → List O
   adds machine key state input = (machine.step key state input).1
 
@@ -40,24 +39,24 @@ module _ {K S I O : Type 0} where
   state_from machine key state (input ∷ inputs) =
       state_from machine key (machine.step key state input).0 inputs
 
-  -- the state of a key after all its inputs, oldest first; before them there is none
+  -- the state of a key after all its inputs, oldest first; before them it has none
   abbrev pub state_after : Machine K S I O → K → List I → Option S
   state_after machine key inputs = state_from machine key None inputs
 
-  -- an input that changes nothing and says nothing where nothing is due at the moment
+  -- an input that changes nothing and says nothing, if the key isn't due at the moment
   abbrev pub IsIdle : Machine K S I O → (S → Option ℕ) → ℕ → I → Type 0
   IsIdle machine due now input =
       (key : K) (state : Option S) → is_due now (due_of due state) ≡ false
       → machine.step key state input ≡ (state, [])
 
-  -- the outputs of a list of inputs, in order, from a state
+  -- the outputs to a list of inputs, in order, from a state
   abbrev pub outputs_from : Machine K S I O → K → Option S → List I → List O
   outputs_from machine key state [] = []
   outputs_from machine key state (input ∷ inputs) =
       let after = machine.step key state input in after.1 ++ outputs_from machine key after.0 inputs
 
-  -- A life among the inputs of a key: after those before it there is no state, after its first
-  -- there is one, and before each of its rest; then come those after it.
+  -- A life among the inputs of a key. There is no state after the inputs before it. There is one
+  -- after its first input, and before each of the rest; then come the inputs after it.
   pub record LifeIn (machine : Machine K S I O) (key : K) (inputs : List I) : Type 0 where
     pub before : List I
     pub first : I
@@ -70,18 +69,18 @@ module _ {K S I O : Type 0} where
         → IsSome (state_from machine key None (first ∷ part))
 
 module _ {K S I O : Type 0} {machine : Machine K S I O} {key : K} {inputs : List I} where
-  -- the state that a life leaves; `None` where it has ended
+  -- the state at the end of a life; `None` if it has ended
   abbrev pub state_left : LifeIn machine key inputs → Option S
   state_left life = state_from machine key None (life.first ∷ life.rest)
 
-  -- what is said to the first input of a life
+  -- the outputs to the first input of a life
   abbrev pub said_at_first : LifeIn machine key inputs → List O
   said_at_first life = (machine.step key None life.first).1
 
-  -- to the rest of its inputs
+  -- the outputs to the rest of its inputs
   abbrev pub said_in_rest : LifeIn machine key inputs → List O
   said_in_rest life = outputs_from machine key (machine.step key None life.first).0 life.rest
 
-  -- and after it
+  -- the outputs to the inputs after it
   abbrev pub said_after : LifeIn machine key inputs → List O
   said_after life = outputs_from machine key (state_left life) life.after

@@ -1,4 +1,4 @@
--- Phases: what the machines of all keys are given together, and what they say to it.
+-- Phases: the inputs that the machines of all keys are given together, and their outputs.
 use Rattle.std.specs.Prelude.{◌≡◌, ℕ, Bool, List, [], ◌∷◌, ◌++◌, Option, None, Some, IsSome, cond, if◌then◌else◌, map, filter, option_to_list}
 use Rattle.std.specs.declared.cmp.Ordering.{Ordering}
 use Rattle.std.specs.BTreeMap.{is_at}
@@ -10,7 +10,7 @@ use Rattle.sip_model.specs.Machine.{Machine, Timed, given_at, next, adds, state_
 use Rattle.sip_model.specs.Table.{Held, Covers, state_at}
 use Rattle.sip_model.specs.Groups.{told_ticks}
 
--- a tick of every key at a moment in ms, where there is one, and then items, in their order
+-- a tick of every key at a moment in ms, if there is one, and then items, in their order
 pub record Phase (K I : Type 0) : Type 0 where
   pub moment : Option ℕ
   pub items : List (Item K I)
@@ -32,7 +32,7 @@ phase_at now ticks items = record {
       record { place = item.place; key = item.key; input = given_at now item.input }) items;
 }
 
--- what is said in a phase: by each key to the tick; and to each item, with its place and its key
+-- the outputs of a phase: of each key to the tick, and to each item, with its place and its key
 pub record PhaseOutputs (K O : Type 0) : Type 0 where
   pub ticks : List (K × List O)
   pub items : List ((ℕ × K) × List O)
@@ -48,11 +48,11 @@ module _ {K I : Type 0} (cmp : K → K → Ordering) where
   inputs_of items key = map (λ item. item.input) (filter (λ item. is_at (cmp item.key) key) items)
 
 module _ {K I : Type 0} (cmp : K → K → Ordering) (tick : ℕ → I) where
-  -- of each phase the tick and then the items of this key
+  -- the tick of each phase, and then the items of this key
   abbrev pub own_inputs : Phase K I → K → List I
   own_inputs phase key = map tick (option_to_list phase.moment) ++ inputs_of cmp phase.items key
 
-  -- all that a key was given in phases, oldest first: of each the tick, and then its own items
+  -- all inputs of a key in phases, oldest first: of each phase the tick, and then its own items
   abbrev pub history : List (Phase K I) → K → List I
   history phases key = flat_map (λ phase. map tick (option_to_list phase.moment)
       ++ map (λ item. item.input) (filter (λ item. is_at (cmp item.key) key) phase.items)) phases
@@ -67,7 +67,7 @@ abbrev pub keys_of_phases : {K I : Type 0} → (K → K → Ordering) → List (
 keys_of_phases cmp phases =
     finite.keys (named_by {cmp = cmp} finite.empty (flat_map (λ phase. phase.items) phases))
 
--- ---- the state of each key, and what is said
+-- ---- the state of each key, and the outputs
 
 module _ {K S I O : Type 0} (cmp : K → K → Ordering) (machine : Machine K S I O) where
   -- one item is a step of its key, and of no other
@@ -79,7 +79,7 @@ module _ {K S I O : Type 0} (cmp : K → K → Ordering) (machine : Machine K S 
   states_then states [] = states
   states_then states (item ∷ items) = states_then (stepped states item) items
 
-  -- what each item adds, in turn
+  -- the outputs of each item, one after another
   abbrev pub told_items : (K → Option S) → List (Item K I) → List ((ℕ × K) × List O)
   told_items states [] = []
   told_items states (item ∷ items) =
@@ -93,16 +93,16 @@ module _ {K S I O : Type 0} (cmp : K → K → Ordering) (machine : Machine K S 
   ticked states None = states
   ticked states (Some moment) = λ key. next machine key (states key) (tick moment)
 
-  -- what these keys say to it
+  -- the outputs of these keys to it
   abbrev pub told_tick : (K → Option S) → Option ℕ → List K → List (K × List O)
   told_tick states None keys = []
   told_tick states (Some moment) keys = told_ticks machine states (tick moment) keys
 
-  -- each key's state is that of its own inputs
+  -- each key's state is the one after its own inputs
   abbrev pub states_after : List (Phase K I) → K → Option S
   states_after phases key = state_after machine key (history cmp tick phases key)
 
-  -- what is said in a phase that comes after others
+  -- the outputs of a phase that comes after others
   abbrev pub told_next : List (Phase K I) → Phase K I → PhaseOutputs K O
   told_next phases phase = record {
     ticks = told_tick (states_after phases) phase.moment (keys_of_phases cmp phases);
@@ -114,7 +114,7 @@ module _ {K S I O : Type 0} (cmp : K → K → Ordering) (machine : Machine K S 
     pub sound : IsSome table
     pub states : (key : K) → state_at cmp table key ≡ states_after phases key
 
-  -- a table before and after a phase, by look-ups, and what was said
+  -- a table before and after a phase, by look-ups, and the outputs
   pub record DealsPhase (old new : Held K S) (phase : Phase K I) (ticks : List (K × List O))
       (items : List (ℕ × List O)) : Type 0 where
     pub sound : IsSome new
@@ -125,8 +125,8 @@ module _ {K S I O : Type 0} (cmp : K → K → Ordering) (machine : Machine K S 
     pub items_told : items ≡ map by_place
         (told_items cmp machine (ticked (state_at cmp old) phase.moment) phase.items)
 
-  -- whatever phases the table held the states of, it holds them of this one more, and what was said
-  -- is what this one adds
+  -- whatever phases the table held the states of, it now holds those with this one added, and the
+  -- outputs are those that this phase adds
   pub record AddsPhase (old new : Held K S) (phase : Phase K I) (ticks : List (K × List O))
       (items : List (ℕ × List O)) : Type 0 where
     pub stands : (phases : List (Phase K I)) → HoldsAfter old phases

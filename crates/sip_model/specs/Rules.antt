@@ -1,5 +1,5 @@
--- What the machines of all keys say in a phase: each input adds what the machine adds to it after
--- the key's own inputs before it.
+-- What the machines of all keys say in a phase: each input adds the outputs that the machine gives
+-- to it after the key's own earlier inputs.
 use Rattle.std.specs.Prelude.{◌≡◌, ℕ, nat_lt, List, [], ◌∷◌, ◌++◌, None, length, map, filter, option_to_list}
 use Rattle.std.specs.declared.cmp.Ordering.{Ordering}
 use Rattle.std.specs.BTreeMap.{is_at}
@@ -13,20 +13,20 @@ use Rattle.sip_model.specs.Phase.{Phase, PhaseOutputs, history, told_next}
 
 module _ {K S I O : Type 0} (cmp : K → K → Ordering) (machine : Machine K S I O)
     (tick : ℕ → I) where
-  -- what the machine adds to an input of a key after all that the key was given in phases
+  -- the outputs to an input of a key, after all that the key was given in phases
   abbrev pub says : List (Phase K I) → K → I → List O
   says phases key input =
       (machine.step key (state_from machine key None (history cmp tick phases key)) input).1
 
-  -- what each item adds, with its place and its key, after phases and the part of its own before it
+  -- the outputs to each item, with its place and key, after phases and the items before it
   abbrev pub said_to : List (Phase K I) → Phase K I → List (Item K I) → List ((ℕ × K) × List O)
   said_to phases part [] = []
   said_to phases part (item ∷ items) =
       ((item.place, item.key), says (phases ++ part ∷ []) item.key item.input)
       ∷ said_to phases (record part { items = part.items ++ item ∷ [] }) items
 
-  -- What is said in a phase after others: to its tick by each key that had an item before, in the
-  -- order of the keys, where it says something; and then to each item.
+  -- The outputs of a phase after others: first to its tick, for each key that had an item before
+  -- and says something, in the order of the keys; then to each item.
   abbrev pub said_in : List (Phase K I) → Phase K I → PhaseOutputs K O
   said_in phases phase =
       let named : FinSet cmp = fold (λ keys item. finite.insert keys item.key tt) finite.empty
@@ -38,7 +38,7 @@ module _ {K S I O : Type 0} (cmp : K → K → Ordering) (machine : Machine K S 
         items = said_to phases (record { moment = phase.moment; items = [] }) phase.items;
       }
 
-  -- what a key says in phases that come after others, in order
+  -- the outputs of a key in phases that come after others, in order
   abbrev pub said_since : K → List (Phase K I) → List (Phase K I) → List O
   said_since key before [] = []
   said_since key before (phase ∷ phases) = let said = said_in before phase in
@@ -48,12 +48,12 @@ module _ {K S I O : Type 0} (cmp : K → K → Ordering) (machine : Machine K S 
 
   -- ---- the rules say the same as the fold over the states of all keys
 
-  -- of a phase
+  -- for a phase
   abbrev pub SaidByHistories : Type 0
   SaidByHistories = (phases : List (Phase K I)) (phase : Phase K I)
       → said_in phases phase ≡ told_next cmp machine tick phases phase
 
-  -- of a key
+  -- for a key
   abbrev pub SaidByAKey : Type 0
   SaidByAKey = (key : K) (before phases : List (Phase K I))
       → said_since key before phases ≡ said_from cmp machine tick key before phases

@@ -1,4 +1,4 @@
--- Several tables, each of the keys that its number owns, in one phase.
+-- Several tables in one phase, each with the keys that its number owns.
 use Rattle.std.specs.Prelude.{◌≡◌, ◌<◌, ℕ, zero, suc, nat_eq, Bool, List, [], ◌∷◌, ◌++◌, length, map}
 use Rattle.std.specs.declared.cmp.Ordering.{Ordering}
 use Rattle.std.specs.Ordering.{nat_cmp}
@@ -10,11 +10,11 @@ use Rattle.sip_model.specs.Groups.{Sorts}
 use Rattle.sip_model.specs.Phase.{Phase, AddsPhase, HoldsAfter, by_place, told_next}
 use Rattle.sip_model.specs.Laws.{owned_phase}
 
--- the shard of this number owns the key
+-- the shard with this number owns the key
 abbrev pub is_owned : {K : Type 0} → (K → ℕ) → ℕ → K → Bool
 is_owned owner number key = nat_eq (owner key) number
 
--- the table of one shard before and after a phase, and what it told
+-- the table of one shard before and after a phase, and its outputs
 pub record ShardPhase (K S O : Type 0) : Type 0 where
   pub before : Held K S
   pub after : Held K S
@@ -23,14 +23,14 @@ pub record ShardPhase (K S O : Type 0) : Type 0 where
 
 module _ {K S I O : Type 0} (cmp : K → K → Ordering) (machine : Machine K S I O) (tick : ℕ → I)
     (owner : K → ℕ) where
-  -- tables whose numbers go up from this one hold what phases left of the keys that each owns
+  -- tables, numbered upwards from this number, hold what phases left for the keys that each owns
   abbrev pub HoldFrom : ℕ → List (Held K S) → List (Phase K I) → Type 0
   HoldFrom number [] phases = Unit {0}
   HoldFrom number (table ∷ tables) phases =
       HoldsAfter cmp machine tick table (map (owned_phase (is_owned owner number)) phases)
       × HoldFrom (suc number) tables phases
 
-  -- shards whose numbers go up from this one, each given its part of a phase
+  -- shards, numbered upwards from this number, are each given their part of a phase
   abbrev pub EachDeals : Phase K I → ℕ → List (ShardPhase K S O) → Type 0
   EachDeals phase number [] = Unit {0}
   EachDeals phase number (dealt ∷ rest) =
@@ -40,8 +40,8 @@ module _ {K S I O : Type 0} (cmp : K → K → Ordering) (machine : Machine K S 
 
 module _ {K S I O : Type 0} (cmp : K → K → Ordering) (machine : Machine K S I O)
     (tick : ℕ → I) where
-  -- after a phase of all shards they hold what it left, and what they told, joined and brought into
-  -- the order of keys and of places, is what all tell
+  -- after a phase of all shards they hold what it left; their outputs, joined and sorted by key and
+  -- by place, are those of all keys
   pub record TellAll (owner : K → ℕ) (phases : List (Phase K I)) (phase : Phase K I)
       (all : List (ShardPhase K S O)) : Type 0 where
     pub holds : HoldFrom cmp machine tick owner zero (map (λ dealt. dealt.after) all)
@@ -52,7 +52,7 @@ module _ {K S I O : Type 0} (cmp : K → K → Ordering) (machine : Machine K S 
         → Sorts nat_cmp (flat_map (λ dealt. dealt.items) all) items
         → items ≡ map by_place (told_next cmp machine tick phases phase).items
 
-  -- whatever shard owns each key, where there is a shard for each, and places rise
+  -- whichever shard owns each key, if there is a shard for each, and if places rise
   abbrev pub ShardsTellAll : Type 0
   ShardsTellAll = (owner : K → ℕ) (phases : List (Phase K I)) (phase : Phase K I)
       (all : List (ShardPhase K S O)) → ((key : K) → owner key < length all)

@@ -9,10 +9,10 @@ use thiserror::Error;
 /// Why a shard refused a call.
 #[derive(Clone, Copy, Debug, PartialEq, Eq, Error)]
 pub enum ShardFault {
-    /// An earlier call met want of memory.
+    /// An earlier call ran out of memory.
     #[error("broken by an earlier want of memory")]
     Broken,
-    /// A growth was refused. From then on every call that can fail answers `Broken`.
+    /// Memory ran out. From then on every call that can fail answers `Broken`.
     #[error("no memory")]
     NoMemory,
 }

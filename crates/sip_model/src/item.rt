@@ -1,9 +1,9 @@
-//! What one key is given in a phase.
+//! An input of one key in a phase.
 
 /// An input of one key.
 #[derive(Drop)]
 pub struct Item<K, I> {
-    /// Where it stands among all items of its phase: what is said of it is told by this place.
+    /// Its place among all items of its phase. The outputs that it adds are told with this place.
     pub place: usize,
     pub key: K,
     pub input: I,

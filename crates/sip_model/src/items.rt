@@ -1,4 +1,4 @@
-//! Items, each given to its key in turn.
+//! Items, each given to its key, one after another.
 
 ghost use Rattle.std.specs.Prelude.{◌≡◌, ◌≤◌, ◌^◌, List, IfOk, OnOk, map};
 ghost use Rattle.std.specs.BTreeMap.{get};
@@ -13,7 +13,7 @@ use sip_timers::Schedule;
 use std::alloc::{AllocError, Global};
 use std::collections::BTreeMap;
 
-/// Gives each item to its key at a moment in ms, and answers what each adds, by its place.
+/// Gives each item to its key at a moment in ms, and answers the outputs of each, with its place.
 pub(crate) fn deal_items<M: StateMachine>(
     alloc: Global,
     machine: &M,

@@ -1,4 +1,4 @@
-//! A shard of a machine's keys, as the phases of a round see it.
+//! A shard of a machine's keys, as the phases of a round use it.
 
 ghost use Rattle.std.specs.Prelude.{◌≡◌, ◌≤◌, ◌^◌, ℕ, Bool, List, Some, None, Err, [], IfOk, IfSome, IsSome, IsTrue, OnErr, OnOk, cond, count_by, is_some, true, false};
 ghost use Rattle.std.specs.Option.{option_map};
@@ -15,10 +15,10 @@ use crate::machine::StateMachine;
 use crate::phase_outputs::PhaseOutputs;
 use std::collections::BTreeMap;
 
-/// Some keys of a machine, held together: what a phase over many shards asks of each.
+/// Some keys of a machine, held together. A phase over many shards calls these functions of each.
 ///
-/// After a call answered [`ShardFault::NoMemory`] it is broken: it holds nothing, and every call
-/// that can fail answers [`ShardFault::Broken`].
+/// If a call answers [`ShardFault::NoMemory`], the shard is broken: it holds nothing, and every
+/// later call that can fail answers [`ShardFault::Broken`].
 pub trait KeyShard {
     type Machine: StateMachine;
 
@@ -35,9 +35,8 @@ pub trait KeyShard {
             → result ≡ count_by
             (λ key. is_some (state_at Self.Machine.Key.cmp (held self.now) key)) keys };
 
-    /// The first moment, in ms, at which something is due of a held key, if there is one. A phase
-    /// without items before it, or without a tick, changes nothing and says nothing. Takes no
-    /// memory.
+    /// The first moment, in ms, at which a held key is due, if there is one. A phase without items
+    /// that is before it or has no tick changes nothing and says nothing. Takes no memory.
     fn next_due(&self) -> Option<u64>
         ensures before { IsSome (held self.now) → (now : ℕ) (ticks : Bool)
             → (ticks ≡ true → is_due now result ≡ false)
@@ -47,15 +46,15 @@ pub trait KeyShard {
             × (due_of Self.Machine.due (state_at Self.Machine.Key.cmp (held self.now) key)
             ≡ Some due)) };
 
-    /// Whether a phase without items at a moment in ms, with a tick or without, changes nothing and
-    /// says nothing. Takes no memory.
+    /// Whether a phase without items, at a moment in ms, with a tick or without, changes nothing
+    /// and says nothing. Takes no memory.
     fn is_idle(&self, now: u64, ticks: bool) -> bool
         ensures { IsTrue result
             → AddsPhase Self.Machine.Key.cmp (Self.Machine.machine (machine self.now)) tick_at
             (held self.now) (held self.now) (phase_at now ticks []) [] [] };
 
-    /// Gives every key a tick at a moment in ms, where the phase has one, and then each item to its
-    /// key, in their order.
+    /// Gives every key a tick at a moment in ms, if the phase has one, and then each item to its
+    /// key, in the order of the items.
     fn deal(
         &mut self,
         now: u64,
@@ -77,7 +76,7 @@ pub trait KeyShard {
             (phase_at now ticks items.items) (groups replies.ticks.items)
             (groups replies.items.items)) };
 
-    /// Holds a key with this state, in place of any other of it.
+    /// Holds a key with this state, in place of any state that it had.
     fn put(
         &mut self,
         key: <Self::Machine as StateMachine>::Key,
@@ -93,7 +92,7 @@ pub trait KeyShard {
             ≡ cond (is_at (Self.Machine.Key.cmp key) q) (Some state)
             (state_at Self.Machine.Key.cmp (held self.old) q)) };
 
-    /// The held keys with their states; a broken shard has none to give.
+    /// The held keys with their states. A broken shard has none to give.
     fn into_states(
         self,
     ) -> Option<

@@ -1,4 +1,4 @@
-//! Laws of machines: what holds over any phases.
+//! Laws of machines, for any phases.
 
 ghost use Rattle.sip_model.specs.Laws.{EachKeyAlone, ShardsHoldApart, ShardsWorkApart, ToldInOrder};
 ghost use Rattle.sip_model.specs.Machine.{tick_at};
@@ -7,10 +7,10 @@ ghost use Rattle.sip_model.specs.Shards.{ShardsTellAll};
 
 use crate::machine::StateMachine;
 
-/// What phases say of a key, after others, is what that key's own inputs add. A shard that was
-/// given its part of each phase says its part of what all say, and holds the states of its own
-/// keys; and what all shards say, joined and brought into order, is what all say. What is said to a
-/// tick is in the order of the keys, and what items add in their own.
+/// What phases say for a key, after other phases, is what that key's own inputs add. A shard that
+/// is given its part of each phase says its part of the outputs, and holds the states of its own
+/// keys. The outputs of all shards, joined and sorted, are those of all keys together. The outputs
+/// of a tick are in the order of the keys, and those of items in the order of their places.
 pub fn laws_of_phases<M: StateMachine>(_machine: &M)
     ensures each_key_alone { EachKeyAlone M.Key.cmp (M.machine _machine.now) tick_at }
     ensures shards_work_apart { ShardsWorkApart M.Key.cmp (M.machine _machine.now) tick_at }
@@ -19,8 +19,8 @@ pub fn laws_of_phases<M: StateMachine>(_machine: &M)
     ensures told_in_order { ToldInOrder M.Key.cmp (M.machine _machine.now) tick_at }
 {}
 
-/// What is said in a phase, to its tick and to each item, is what the machine adds after the own
-/// inputs of the key; and so is what a key says in phases.
+/// What is said in a phase, to its tick and to each item, is what the machine adds after the key's
+/// own inputs; so is what a key says in several phases.
 pub fn phases_are_said_by_histories<M: StateMachine>(_machine: &M)
     ensures phase { SaidByHistories M.Key.cmp (M.machine _machine.now) tick_at }
     ensures key { SaidByAKey M.Key.cmp (M.machine _machine.now) tick_at }

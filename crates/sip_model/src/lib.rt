@@ -1,5 +1,5 @@
 //! State machines by key: the theory of a machine that is folded over each key's own inputs, and
-//! the table of the keys whose machine holds a state.
+//! the table of the keys that have a state.
 #![tactic(auto)]
 
 mod fault;

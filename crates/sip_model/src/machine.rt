@@ -7,7 +7,7 @@ ghost use Rattle.sip_model.specs.Machine.{Machine, Timed, IsIdle, given_at, next
 
 use std::alloc::{AllocError, Global};
 
-/// A machine for each key, as code over one key's state.
+/// A machine for each key, as code that works on the state of one key.
 pub trait StateMachine {
     type Key: Ord + Clone + Drop;
 
@@ -20,17 +20,17 @@ pub trait StateMachine {
     /// The machine that `begin`, `step` and `tick` compute.
     ghost machine: { Self → Machine Self.Key Self.State (Timed Self.Input) Self.Output };
 
-    /// The moment in ms at which something is due of a state, if ever.
+    /// The moment in ms at which a state is due, if ever.
     ghost due: { Self.State → Option ℕ };
 
     fn due_of(&self, state: &Self::State) -> Option<u64>
         ensures { result ≡ due state.now };
 
-    /// Whether an input may give a state to a key without one. Either answer is right: it says how
-    /// a table looks for the key, not what becomes of it.
+    /// Whether an input may give a state to a key without one. Either answer is right: it only
+    /// decides how a table looks for the key.
     fn may_begin(&self, input: &Self::Input) -> bool;
 
-    /// What an input at a moment in ms makes of a key without a state, and what it adds.
+    /// The state that an input at a moment in ms gives to a key without one, and its outputs.
     fn begin(
         &self,
         alloc: Global,
@@ -44,8 +44,8 @@ pub trait StateMachine {
         ensures adds { IfOk result (λ after. after.1.items
             ≡ adds (machine self.now) key.now None (given_at moment input)) };
 
-    /// Changes a key's state, where it stands, as an input at a moment in ms does. Gives whether
-    /// there is a state after it, and what it adds.
+    /// Changes a key's state in place, as an input at a moment in ms does. Answers whether the key
+    /// still has a state, and the outputs.
     fn step(
         &self,
         alloc: Global,
@@ -60,7 +60,8 @@ pub trait StateMachine {
         ensures adds { IfOk result (λ after. after.1.items
             ≡ adds (machine self.now) key.now (Some state.old) (given_at moment input)) };
 
-    /// What a moment in ms makes of a key's state, and what it adds, where time alone goes on.
+    /// The state that a key has once time went on to a moment in ms, without an input, and the
+    /// outputs.
     fn tick(
         &self,
         alloc: Global,
@@ -80,7 +81,7 @@ pub trait StateMachine {
     /// A clone of a key equals it.
     ghost copies: { (key : Self.Key) → IsClonedAlike Self.Key.is_clone key };
 
-    /// Where nothing is due, a tick does nothing.
+    /// A tick does nothing to a state that isn't due.
     ghost idle: { (self : Self) (moment : ℕ)
         → IsIdle (machine self) due moment (tick_at moment) };
 }

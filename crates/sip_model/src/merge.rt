@@ -7,8 +7,8 @@ ghost use Rattle.sip_model.specs.Groups.{Sorts, groups};
 
 use std::cmp::Ordering;
 
-/// The same groups, in the order of their labels. Where the labels differ they have one order: so
-/// the groups of several shards, joined in any order, become those of all.
+/// The same groups, in the order of their labels. If the labels differ, there is only one such
+/// order: the groups of several shards, joined in any order, become those of all.
 pub fn by_label<L: Ord + Drop, O: Drop>(mut told: Vec<(L, Vec<O>)>) -> Vec<(L, Vec<O>)>
     ensures same { IsPermutation told.items result.items }
     ensures in_order { IsSortedBy (λ one other. is_lt (L.cmp one.0 other.0)) result.items }

@@ -1,4 +1,4 @@
-//! One input of one key, among the states that are held and their due moments.
+//! One input of one key, given to the held states and their due moments.
 
 ghost use Rattle.std.specs.Prelude.{◌≡◌, ◌≤◌, ◌^◌, ℕ, Option, None, Some, true, IfOk, OnOk, cond, if◌then◌else◌};
 ghost use Rattle.std.specs.Option.{option_copied};
@@ -13,7 +13,7 @@ use std::alloc::{AllocError, Global};
 use std::collections::BTreeMap;
 use std::collections::btree_map::Entry;
 
-/// Gives one key an input at a moment in ms, and answers what its machine says.
+/// Gives one key an input at a moment in ms, and answers the outputs of its machine.
 pub(crate) fn step_key<M: StateMachine>(
     alloc: Global,
     machine: &M,
@@ -46,7 +46,7 @@ pub(crate) fn step_key<M: StateMachine>(
     Ok(outputs)
 }
 
-// The same, with one look-up for a key that isn't held; one that is held is copied.
+// The same, with one look-up if the key isn't held; if it is, the key is copied.
 fn enter_key<M: StateMachine>(
     alloc: Global,
     machine: &M,
@@ -80,7 +80,7 @@ fn enter_key<M: StateMachine>(
     };
     let (after, outputs) = machine.begin(alloc, entry.key(), now, input)?;
     arm_copy::<M>(dues, entry.key(), due_moment(machine, after.as_ref()))?;
-    // An entry that is let go tells nothing of its map, so what isn't held is refused to it.
+    // A dropped entry says nothing about its map, so inserting a missing state fails instead.
     match Entry::Vacant(entry).or_try_insert_with(|| after.ok_or(NotHeld)) {
         Ok(_) => Ok(outputs),
         Err(NotHeld) => Ok(outputs),
@@ -91,8 +91,8 @@ fn enter_key<M: StateMachine>(
 #[derive(Drop)]
 struct NotHeld;
 
-// A key's state was changed where it stands: it goes where it doesn't stay, and the key is due at
-// this moment, or at none, in place of the former.
+// A key's state was changed in place. It is taken out if it doesn't stay, and the key is made due
+// at this moment, or at none, in place of the former.
 fn settle<K: Ord + Drop, S: Drop>(
     states: &mut BTreeMap<K, S>,
     dues: &mut Schedule<K>,
@@ -114,7 +114,7 @@ fn settle<K: Ord + Drop, S: Drop>(
     set_due(dues, key, former, due)
 }
 
-/// Gives one key, which isn't armed, a tick at a moment in ms, and answers what its machine says.
+/// Gives one key that isn't armed a tick at a moment in ms, and answers the outputs of its machine.
 pub(crate) fn tick_key<M: StateMachine>(
     alloc: Global,
     machine: &M,
@@ -169,7 +169,7 @@ pub(crate) fn hold_key<M: StateMachine>(
     Ok(())
 }
 
-// The state that is held for a key, taken out.
+// Takes out the state that is held for a key.
 fn taken<K: Ord + Drop, S>(states: &mut BTreeMap<K, S>, key: &K) -> Option<S>
     ensures state { result ≡ get K.cmp states.old key.now }
     ensures states { (q : K) → get K.cmp states.new q
@@ -178,8 +178,8 @@ fn taken<K: Ord + Drop, S>(states: &mut BTreeMap<K, S>, key: &K) -> Option<S>
     states.remove(key)
 }
 
-// Holds the state that a key is left with, if there is one, and arms it for the moment at which
-// something is due of it, in place of the former. The key is copied where that moment is another.
+// Holds the state that a key has now, if any, and arms the key for the moment at which that state
+// is due, in place of the former. The key is copied if the moment is another one.
 fn put_back<M: StateMachine>(
     machine: &M,
     states: &mut BTreeMap<M::Key, M::State>,
@@ -229,7 +229,7 @@ fn set_due<K: Ord + Drop>(
     Ok(())
 }
 
-// Makes a copy of a key that isn't armed due at this moment, if at any.
+// Makes a copy of a key that isn't armed due at this moment, if there is one.
 fn arm_copy<M: StateMachine>(
     dues: &mut Schedule<M::Key>,
     key: &M::Key,
@@ -251,7 +251,7 @@ fn copy_of<M: StateMachine>(key: &M::Key) -> Result<M::Key, AllocError>
     key.clone()
 }
 
-// The moment at which something is due of what is held of a key.
+// The moment at which the state of a key is due, if it has one.
 fn due_moment<M: StateMachine>(machine: &M, state: Option<&M::State>) -> Option<u64>
     ensures { result ≡ due_of M.due (option_copied state.entry) }
 {

@@ -22,10 +22,10 @@ use std::alloc::{AllocError, Global};
 use std::collections::BTreeMap;
 use std::marker::Model;
 
-/// The keys whose machine holds a state, with those states.
+/// The keys that have a state, with those states.
 ///
-/// After a call answered [`ShardFault::NoMemory`] the table is broken: it holds nothing, and every
-/// call that can fail answers [`ShardFault::Broken`].
+/// If a call answers [`ShardFault::NoMemory`], the table is broken: it holds nothing, and every
+/// later call that can fail answers [`ShardFault::Broken`].
 pub struct Table<M: StateMachine> {
     alloc: Global,
     live: Option<Live<M>>,
@@ -45,7 +45,7 @@ impl<M: StateMachine> Drop for Table<M> {
     }
 }
 
-// The states that are held, and the moment in ms at which each is due, where there is one.
+// The held states, and the moment in ms at which each is due, if there is one.
 struct Live<M: StateMachine> {
     states: BTreeMap<M::Key, M::State>,
     dues: Schedule<M::Key>,
@@ -63,7 +63,7 @@ impl<M: StateMachine> Model for Live<M> {
 }
 
 impl<M: StateMachine> Live<M> {
-    // The first moment at which something is due.
+    // The first moment at which a key is due.
     fn next_due(&self) -> Option<u64>
         ensures before { (now : ℕ) → is_due now result ≡ false
             → IsCalm M.due (state_in M.Key.cmp self.now) now }
@@ -73,7 +73,7 @@ impl<M: StateMachine> Live<M> {
         self.dues.next_due()
     }
 
-    // Whether there is no tick at the moment, or nothing is due at it.
+    // Whether there is no tick at the moment, or no key is due at it.
     fn is_calm(&self, now: u64, ticks: bool) -> bool
         ensures { IsTrue result → ticks ≡ true → IsCalm M.due (state_in M.Key.cmp self.now) now }
     {
@@ -134,7 +134,7 @@ impl<M: StateMachine> Table<M> {
         self.live.as_ref()?.states.get(key)
     }
 
-    /// The held keys with their states; a broken table has none to give.
+    /// The held keys with their states. A broken table has none to give.
     pub fn into_states(self) -> Option<BTreeMap<M::Key, M::State>>
         ensures { option_map (λ states. states.entries) result ≡ self }
     {
@@ -149,7 +149,7 @@ impl<M: StateMachine> Table<M> {
         live
     }
 
-    /// Holds a key with this state, in place of any other of it.
+    /// Holds a key with this state, in place of any state that it had.
     pub fn put(&mut self, machine: &M, key: M::Key, state: M::State) -> Result<(), ShardFault>
         ensures broken { self.old ≡ None → result ≡ Err ShardFault.Broken }
         ensures only_broken { result ≡ Err ShardFault.Broken → self.old ≡ None }
@@ -165,8 +165,8 @@ impl<M: StateMachine> Table<M> {
         Ok(())
     }
 
-    /// Passes on what was made outside the table. Where memory was refused, the table is broken
-    /// from then on.
+    /// Passes on a value that was made outside the table. If memory ran out there, the table is
+    /// broken from then on.
     pub fn check<T: Drop>(&mut self, given: Result<T, AllocError>) -> Result<T, ShardFault>
         ensures broken { self.old ≡ None → result ≡ Err ShardFault.Broken }
         ensures only_broken { result ≡ Err ShardFault.Broken → self.old ≡ None }
@@ -180,7 +180,7 @@ impl<M: StateMachine> Table<M> {
         Ok(value)
     }
 
-    /// Gives one key an input at a moment in ms, and answers what its machine says.
+    /// Gives one key an input at a moment in ms, and answers the outputs of its machine.
     pub fn handle(
         &mut self,
         machine: &M,
@@ -205,8 +205,8 @@ impl<M: StateMachine> Table<M> {
         Ok(outputs)
     }
 
-    /// Gives every held key the input of a tick at a moment in ms, in key order. Only those are
-    /// looked at of which something is due.
+    /// Gives every held key a tick at a moment in ms, in key order. It only looks at the keys that
+    /// are due.
     pub fn tick(&mut self, machine: &M, now: u64) -> Result<Vec<M::Output>, ShardFault>
         requires { now ≤ 2 ^ 62 }
         ensures broken { self.old ≡ None → result ≡ Err ShardFault.Broken }
@@ -226,9 +226,8 @@ impl<M: StateMachine> Table<M> {
         Ok(outputs)
     }
 
-    /// The first moment, in ms, at which something is due of a held key, if there is one. A phase
-    /// without items before it, or without a tick, changes nothing and says nothing. Takes no
-    /// memory.
+    /// The first moment, in ms, at which a held key is due, if there is one. A phase without items
+    /// that is before it or has no tick changes nothing and says nothing. Takes no memory.
     pub fn next_due(&self, _machine: &M) -> Option<u64>
         ensures before { IsSome self.now → (now : ℕ) (ticks : Bool)
             → (ticks ≡ true → is_due now result ≡ false)
@@ -243,8 +242,8 @@ impl<M: StateMachine> Table<M> {
         }
     }
 
-    /// Whether a phase without items at a moment in ms, with a tick or without, changes nothing and
-    /// says nothing. Takes no memory.
+    /// Whether a phase without items, at a moment in ms, with a tick or without, changes nothing
+    /// and says nothing. Takes no memory.
     pub fn is_idle(&self, _machine: &M, now: u64, ticks: bool) -> bool
         ensures phases { IsTrue result
             → AddsPhase M.Key.cmp (M.machine _machine.now) tick_at
@@ -256,8 +255,8 @@ impl<M: StateMachine> Table<M> {
         }
     }
 
-    /// Gives every key a tick at a moment in ms, where the phase has one, and then each item to its
-    /// key, in their order.
+    /// Gives every key a tick at a moment in ms, if the phase has one, and then each item to its
+    /// key, in the order of the items.
     pub fn deal(
         &mut self,
         machine: &M,

@@ -1,4 +1,4 @@
-//! A tick of every key of which something is due.
+//! A tick for every key that is due.
 
 ghost use Rattle.std.specs.Prelude.{◌≡◌, ◌≤◌, ◌^◌, List, IfOk, OnOk, Some, None, if◌then◌else◌};
 ghost use Rattle.std.specs.List.{flat_map};
@@ -14,8 +14,8 @@ use sip_timers::Schedule;
 use std::alloc::{AllocError, Global};
 use std::collections::BTreeMap;
 
-/// Gives every key of which something is due the input of a tick at a moment in ms, in key order.
-/// Answers what each says, where it says something.
+/// Gives every key that is due a tick at a moment in ms, in key order. Answers the outputs of each
+/// key that has any.
 pub(crate) fn tick_due<M: StateMachine>(
     alloc: Global,
     machine: &M,
@@ -43,7 +43,7 @@ pub(crate) fn tick_due<M: StateMachine>(
     Ok(told)
 }
 
-/// The same where there is a tick; otherwise nothing is said.
+/// The same if there is a tick; otherwise nothing is said.
 pub(crate) fn tick_if<M: StateMachine>(
     alloc: Global,
     machine: &M,
@@ -70,7 +70,7 @@ pub(crate) fn tick_if<M: StateMachine>(
     }
 }
 
-// What one key says goes behind what was told, where it says something.
+// Adds the outputs of one key at the end, if it has any.
 fn tell<K: Drop, O: Drop>(
     told: &mut Vec<(K, Vec<O>)>,
     key: K,
@@ -85,7 +85,7 @@ fn tell<K: Drop, O: Drop>(
     Ok(())
 }
 
-/// All that was said, one after the other.
+/// All outputs, one group after another.
 pub(crate) fn joined<L: Drop, O: Drop>(
     alloc: Global,
     told: Vec<(L, Vec<O>)>,
@@ -100,7 +100,7 @@ pub(crate) fn joined<L: Drop, O: Drop>(
     Ok(outputs)
 }
 
-// How much was said in all.
+// How many outputs there are in all groups.
 fn count_in<L, O>(told: &[(L, Vec<O>)]) -> usize {
     let mut count: usize = 0;
     for group in told {

@@ -1,4 +1,4 @@
--- Where help is asked for, no other command is.
+-- If help is asked for, no other command is.
 use Rattle.std.proofs.Common.{Bool, ap}
 use Rattle.std.specs.Prelude.{IsTrue, IsFalse, not, ◌&&◌}
 

@@ -20,7 +20,7 @@ cut_off (x ∷ xs) b h =
     all_push xs b ∙ ap (λ t. list_all is_in_line xs && t) h ∙ and-true _ in
     rw (all, cut_off xs b h) refl
 
--- an LF stays, with all that stands before it
+-- an LF stays, and so does all that stands before it
 kept : (xs : List ℕ) (b : ℕ) → is_in_line b ≡ false → whole_lines (xs ++ b ∷ []) ≡ xs ++ b ∷ []
 kept [] b h = ap (λ t. cond (t && true) [] (b ∷ [])) h
 kept (x ∷ xs) b h =
@@ -28,7 +28,7 @@ kept (x ∷ xs) b h =
     all_push xs b ∙ ap (λ t. list_all is_in_line xs && t) h ∙ and-false _ in
     rw (all, and-false (is_in_line x), kept xs b h) refl
 
--- the step of a walk from the end
+-- one step of a walk from the end
 pub last_cut_off : (text : List ℕ) → 1 ≤ length text
     → is_in_line (get_or text (length text - 1) 0) ≡ true
     → whole_lines (take (length text - 1) text) ≡ whole_lines text

@@ -1,4 +1,4 @@
--- The status of the program where its input is no file of its kind.
+-- The status of the program if its input isn't a file of its kind.
 use Rattle.std.specs.Prelude.{ℕ}
 use Rattle.sip_files.specs.declared.events_fault.EventsFault.{EventsFault}
 use Rattle.sip_files.specs.declared.events_fault.EventsFault.TheVariants.{TooLong, BadVersion, BadLine, NoMemory}

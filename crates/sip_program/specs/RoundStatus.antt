@@ -1,4 +1,4 @@
--- The status of the program where a round is refused.
+-- The status of the program if a round is refused.
 use Rattle.std.specs.Prelude.{ℕ}
 use Rattle.sip_round.specs.declared.round_fault.RoundFault.{RoundFault}
 use Rattle.sip_round.specs.declared.round_fault.RoundFault.TheVariants.{Broken, MomentBackwards, MomentTooLarge, TooManyEvents, RoundsUsedUp, NoMemory}

@@ -1,5 +1,5 @@
--- The status of the program: 0 where the output file was written; 1 for no file of its kind; 3 for
--- a refused round; 4 for a stream that failed; 5 for want of memory, wherever it came.
+-- The status of the program: 0 if the output file was written; 1 if the input isn't a file of its
+-- kind; 3 for a refused round; 4 for a failed stream; 5 if memory ran out, wherever that was.
 use Rattle.std.specs.Prelude.{ℕ}
 use Rattle.sip_files.specs.declared.file_replay.ReplayFault.{ReplayFault}
 use Rattle.sip_files.specs.declared.file_replay.ReplayFault.TheVariants.{Input, Events, Round, Output, NoMemory}

@@ -1,6 +1,6 @@
--- The status of `ua listen`, `ua call` and `ua agent`: 0 where all turns were taken; 2 for a bad
--- argument; 3 for a refused round; 4 for the random source, the socket, the pipe or an output that
--- failed; 5 for want of memory; 6 for a call that had to be answered and wasn't.
+-- The status of `ua listen`, `ua call` and `ua agent`: 0 if all turns were taken; 2 for a bad
+-- argument; 3 for a refused round; 4 if the random source, the socket, the pipe or an output
+-- failed; 5 if memory ran out; 6 if a call had to be answered and wasn't.
 use Rattle.std.specs.Prelude.{ℕ}
 use Rattle.sip_udp.specs.declared.fault.UaFault.{UaFault}
 use Rattle.sip_udp.specs.declared.fault.UaFault.TheVariants as ua

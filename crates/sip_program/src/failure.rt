@@ -1,4 +1,4 @@
-//! A fault with what is known of its cause.
+//! A fault, with what is known about its cause.
 
 ghost use Rattle.std.specs.Prelude.{◌≡◌};
 
@@ -8,14 +8,14 @@ use sip_udp::UaFault;
 use std::alloc::AllocError;
 use std::{fmt, io};
 
-/// Why `ua listen`, `ua call` or `ua agent` stopped, and what is known of the cause.
+/// Why `ua listen`, `ua call` or `ua agent` stopped, and what is known about the cause.
 #[derive(Clone, Copy)]
 pub(crate) struct Failure<'a> {
     pub(crate) fault: TalkFault,
     pub(crate) cause: Option<Cause<'a>>,
 }
 
-/// What is known of a cause.
+/// What is known about a cause.
 #[derive(Clone, Copy)]
 pub(crate) enum Cause<'a> {
     /// The word of an option isn't what it has to be.
@@ -24,18 +24,18 @@ pub(crate) enum Cause<'a> {
         word: &'a str,
         wanted: &'a str,
     },
-    /// What the system says of the file of an option.
+    /// What the system says about the file of an option.
     File {
         option: &'a str,
         path: &'a str,
         error: io::Error,
     },
-    /// What the system says of an address.
+    /// What the system says about an address.
     Address {
         address: Addr,
         error: io::Error,
     },
-    /// What the system says of one of its own streams or sources.
+    /// What the system says about one of its own streams or sources.
     Stream {
         name: &'a str,
         error: io::Error,

@@ -1,4 +1,4 @@
-//! What the program runs on.
+//! The system that the program runs on.
 
 use std::io::{BufRead, Input, IsTerminal}
 use std::net::Net;

@@ -1,4 +1,4 @@
-//! The program `ua` but for its process: its words, its faults and their statuses.
+//! The program `ua` without its process: its words, its faults and their statuses.
 #![tactic(auto)]
 
 mod failure;

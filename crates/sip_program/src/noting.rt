@@ -4,7 +4,7 @@ ghost use Rattle.std.specs.Prelude.{◌≡◌};
 
 use std::io::{self, Read};
 
-/// A reader that keeps what the last read that failed had against it.
+/// A reader that keeps the error of the last read that failed.
 #[derive(Drop)]
 pub(crate) struct NotingRead<R> {
     reader: R,

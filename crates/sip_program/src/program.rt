@@ -27,14 +27,14 @@ use std::convert::AsStr;
 use std::io::{self, Read, Write};
 use std::thread::Threads;
 
-/// The gate of the program: it holds no piece of work up.
+/// The gate of the program. It holds up no piece of work.
 struct Open;
 
 impl Gate for Open {
     fn begin(&self, _shard: usize) {}
 }
 
-/// All that the program does, from its words to its status; the words stand without the program's
+/// All that the program does, from its words to its status. The words don't include the program's
 /// own name.
 ///
 /// `ua replay` reads an event file from `input` and writes its output file to `output`, and `ua
@@ -131,8 +131,8 @@ pub fn ua<
     }
 }
 
-// Tells the fault of a replay and what a read that failed had against it, and gives the status of
-// the end.
+// Writes the fault of a replay and the error of a read that failed, and gives the status of the
+// end.
 fn finish_file<E: Write>(
     end: Result<(), ReplayFault>,
     unread: Option<io::Error>,

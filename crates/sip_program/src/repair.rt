@@ -1,4 +1,4 @@
-//! A file that was cut off, as by a full disk or a kill.
+//! A file that was cut off, for instance by a full disk or a kill.
 
 ghost use Rattle.std.specs.Prelude.{◌≡◌};
 ghost use Rattle.sip_program.specs.Repair as spec;

@@ -1,4 +1,4 @@
-//! How the program ends: a fault is told, and has its status.
+//! How the program ends: a fault is written, and has its status.
 
 ghost use Rattle.std.specs.Prelude.{◌≡◌, ◌≢◌, ◌⊎◌, MatchResult};
 ghost use Rattle.std.specs.IoError.{error_kind};
@@ -29,14 +29,14 @@ const NO_MEMORY: u8 = 5;
 
 const NOT_ANSWERED: u8 = 6;
 
-/// What is told of words of which one isn't UTF-8.
+/// What is written if one of the words isn't UTF-8.
 const NOT_UTF8: &str = "\
 error: invalid UTF-8 was detected in one or more arguments
 
 For more information, try '--help'.
 ";
 
-/// Tells a fault of the words, and gives its status.
+/// Writes a fault of the words, and gives its status.
 pub(crate) fn tell_words<E: Write>(error: &Error, errors: &mut E) -> u8
     ensures fault { result ≢ 0 }
     ensures events { result ≢ 1 }
@@ -50,8 +50,8 @@ pub(crate) fn tell_words<E: Write>(error: &Error, errors: &mut E) -> u8
     BAD_WORDS
 }
 
-/// Tells why the words of the command line can't be had, and gives the status of that: want of
-/// memory, or a word that isn't UTF-8, which is told as `clap` tells it.
+/// Writes why the words of the command line can't be read, and gives the status of that. Memory ran
+/// out, or a word isn't UTF-8, which is written as `clap` says it.
 pub fn no_words<E: Write>(error: &io::Error, errors: &mut E) -> u8
     ensures memory { error_kind error.now ≡ io_kind.OutOfMemory → result ≡ 5 }
     ensures words { error_kind error.now ≢ io_kind.OutOfMemory → result ≡ 2 }
@@ -63,14 +63,14 @@ pub fn no_words<E: Write>(error: &io::Error, errors: &mut E) -> u8
     BAD_WORDS
 }
 
-// Tells that there is no memory, and gives the status of that.
+// Writes that memory ran out, and gives the status of that.
 fn no_memory<E: Write>(errors: &mut E) -> u8
     ensures { result ≡ 5 }
 {
     finish(Err(ReplayFault::NoMemory), errors)
 }
 
-/// Tells the fault of a replay, and gives the status of the end.
+/// Writes the fault of a replay, if there is one, and gives the status of the end.
 pub(crate) fn finish<E: Write>(end: Result<(), ReplayFault>, errors: &mut E) -> u8
     ensures { MatchResult end (λ _. result ≡ 0) (λ fault. result ≡ fault_status fault) }
 {
@@ -83,8 +83,8 @@ pub(crate) fn finish<E: Write>(end: Result<(), ReplayFault>, errors: &mut E) -> 
     }
 }
 
-/// Tells why one who talks stopped and, on a second line, what is known of the cause; and gives the
-/// status of the end.
+/// Writes why `ua listen`, `ua call` or `ua agent` stopped and, on a second line, what is known
+/// about the cause. Gives the status of the end.
 pub(crate) fn finish_talk<E: Write>(end: Result<(), Failure>, errors: &mut E) -> u8
     ensures { MatchResult end.entry (λ _. result ≡ 0)
         (λ failure. result ≡ talk_status failure.fault) }

@@ -107,8 +107,8 @@ fn listen_plan<'a, T: Files>(
     })
 }
 
-// The status, and the header without which an answer of it is wrong and which it hasn't (RFC 3261,
-// section 21; RFC 3329, section 2; RFC 4028, section 6).
+// The status, and the header that a response with this status must have and that this one lacks
+// (RFC 3261, section 21; RFC 3329, section 2; RFC 4028, section 6).
 fn missing_header(status: u16, has_contact: bool) -> Option<(&'static str, &'static str)> {
     match status {
         300..=399 if !has_contact => Some(("3xx", "needs --contact")),
@@ -133,7 +133,7 @@ fn missing_header(status: u16, has_contact: bool) -> Option<(&'static str, &'sta
     }
 }
 
-// What the words of `ua call` ask for. Without a length it is over once nothing is held.
+// What the words of `ua call` ask for. Without a length it is over as soon as nothing is held.
 fn plan_of<'a, T: Files>(
     rt: &T,
     alloc: Global,
@@ -197,7 +197,7 @@ fn is_scheme_byte(byte: u8) -> bool
     byte.is_ascii_alphanumeric() || byte == b'+' || byte == b'-' || byte == b'.'
 }
 
-// The text of the file of `--body`, where one is named, or none.
+// The text of the file of `--body`, if one is named; otherwise no text.
 fn body_of<'a, T: Files>(
     rt: &T,
     alloc: Global,
@@ -274,7 +274,7 @@ fn ended<'a, E: Write>(
     }
 }
 
-// The input whose end ends the turns. That of a terminal doesn't.
+// The input whose end ends the turns. The end of a terminal doesn't end them.
 fn input_end<'a, T: Threads + Host>(
     rt: &T,
     alloc: Global,
@@ -325,7 +325,7 @@ fn endpoint_of<'a, T: Host>(
     Ok(endpoint)
 }
 
-// A new file for the record, where one is wanted.
+// A new file for the record, if one is asked for.
 fn record_at<'a, T: Files>(rt: &T, path: Option<&'a str>) -> Result<Option<T::File>, Failure<'a>> {
     let Some(path) = path else {
         return Ok(None);
@@ -336,7 +336,7 @@ fn record_at<'a, T: Files>(rt: &T, path: Option<&'a str>) -> Result<Option<T::Fi
     }
 }
 
-// The failure of the file of an option.
+// The failure for the file of an option.
 fn bad_file<'a>(fault: UaFault, option: &'a str, path: &'a str, error: io::Error) -> Failure<'a> {
     Failure::new(
         TalkFault::Ua(fault),
@@ -348,7 +348,7 @@ fn bad_file<'a>(fault: UaFault, option: &'a str, path: &'a str, error: io::Error
     )
 }
 
-// The failure of an option whose word isn't what it has to be.
+// The failure for an option whose word isn't what it has to be.
 fn bad_word<'a>(option: &'a str, word: &'a str, wanted: &'a str) -> Failure<'a> {
     Failure::new(
         TalkFault::BadArgument,
@@ -370,7 +370,7 @@ fn address_of<'a>(alloc: Global, option: &'a str, word: &'a str) -> Result<Addr,
     }
 }
 
-// The address that a text spells as an event file does, `a.b.c.d:port`.
+// The address that a text spells in the way of an event file, `a.b.c.d:port`.
 fn spelled_address(alloc: Global, text: &str) -> Result<Option<Addr>, AllocError>
     ensures { IfOk result (λ found. IfSome found (λ addr. text.now ≡ addr_text addr)) }
 {
@@ -395,7 +395,7 @@ fn text_of(alloc: Global, word: &str) -> Result<Text, AllocError>
     Text::copy_of(alloc, word.as_bytes())
 }
 
-// The key of made names.
+// The key for made names.
 fn random_seed<'a, R: RandomSource>(rt: &R) -> Result<[u8; 32], Failure<'a>> {
     let mut seed = [0; 32];
     match rt.fill_bytes(&mut seed) {

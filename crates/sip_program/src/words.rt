@@ -12,13 +12,13 @@ use std::convert::AsStr;
 use std::rt::Env;
 use std::{env, io};
 
-/// How many shards there may be at most.
+/// The maximum number of shards.
 const MAX_SHARDS: usize = 256;
 
-/// How many workers there may be at most.
+/// The maximum number of workers.
 const MAX_WORKERS: usize = 64;
 
-/// What `ua --version` tells.
+/// The text of `ua --version`.
 const VERSION: &str = "1.0";
 
 /// The end of `ua --help`.
@@ -72,7 +72,7 @@ Example, an OPTIONS to a listener, and what it prints:
 
   notice c1 response 0.1 200 LOCAL-TAG REMOTE-TAG -";
 
-/// How names are cut among shards, by the words of the command line.
+/// How names are cut among shards, as the words of the command line say.
 #[derive(Clone, Copy)]
 pub(crate) enum CutName {
     Spread,
@@ -91,7 +91,7 @@ pub(crate) struct ReplayWords {
     ghost most_workers: { workers ≤ 64 },
 }
 
-/// The words that `ua listen`, `ua call` and `ua agent` all have, as they came.
+/// The words that `ua listen`, `ua call` and `ua agent` have in common, as they were given.
 #[derive(Clone, Copy)]
 pub(crate) struct OwnWords<'a> {
     pub local: &'a str,
@@ -107,7 +107,7 @@ pub(crate) struct LengthWords {
 }
 
 impl LengthWords {
-    /// How many turns are taken at most.
+    /// The maximum number of turns.
     pub(crate) fn turns(self) -> u64 {
         match self.turns {
             Some(turns) => u64::from(turns),
@@ -115,13 +115,13 @@ impl LengthWords {
         }
     }
 
-    /// Whether nothing is said of it.
+    /// Whether no length is given.
     pub(crate) fn is_open(self) -> bool {
         self.turns.is_none() && self.seconds.is_none()
     }
 }
 
-/// The words of `ua listen`, as they came.
+/// The words of `ua listen`, as they were given.
 #[derive(Clone, Copy)]
 pub(crate) struct ListenWords<'a> {
     pub own: OwnWords<'a>,
@@ -135,7 +135,7 @@ pub(crate) struct ListenWords<'a> {
     pub drops: bool,
 }
 
-/// The words of `ua call`, as they came.
+/// The words of `ua call`, as they were given.
 #[derive(Clone, Copy)]
 pub(crate) struct CallWords<'a> {
     pub own: OwnWords<'a>,
@@ -151,7 +151,7 @@ pub(crate) struct CallWords<'a> {
     pub drops: bool,
 }
 
-/// The words of `ua agent`, as they came.
+/// The words of `ua agent`, as they were given.
 #[derive(Clone, Copy)]
 pub(crate) struct AgentWords<'a> {
     pub own: OwnWords<'a>,
@@ -164,13 +164,13 @@ pub(crate) struct AgentWords<'a> {
 ///
 /// # Errors
 ///
-/// A word that isn't UTF-8, and want of memory.
+/// A word isn't UTF-8, or memory ran out.
 pub fn given_words<R: Env + AllocGlobal>(rt: &R) -> io::Result<Vec<String>> {
     let words = env::args(rt)?.skip(1).collect(rt.alloc())?;
     Ok(words)
 }
 
-/// Whether help or the version is asked for. Then no other command is.
+/// Whether help or the version is asked for. If so, no other command is.
 #[tactic(auto, using(crate::proofs::Help::not_another))]
 pub(crate) fn asks_help<S: AsStr>(words: &[S]) -> bool
     ensures help { result ≡ spec.asks_help (map S.text words.now) }
@@ -194,14 +194,14 @@ pub(crate) fn asks_repair<S: AsStr>(words: &[S]) -> bool
     any_repair_option(words)
 }
 
-/// Whether the command that is asked for is `ladder`.
+/// Whether the command is `ladder`.
 pub(crate) fn asks_ladder<S: AsStr>(words: &[S]) -> bool
     ensures { result ≡ spec.asks_ladder (map S.text words.now) }
 {
     !asks_help(words) && asks_command(words, "ladder")
 }
 
-// Whether the first word names this command.
+// Whether the first word is the name of this command.
 fn asks_command<S: AsStr>(words: &[S], name: &str) -> bool
     ensures { result ≡ spec.asks_command name.now (map S.text words.now) }
 {
@@ -241,7 +241,7 @@ fn is_repair_option(word: &str) -> bool
     word == "--repair"
 }
 
-/// The kind of the file that is asked for: a session where one of the words is its option.
+/// The kind of file that is asked for: a session if one of the words is its option.
 pub(crate) fn kind_asked<S: AsStr>(words: &[S]) -> FileKind
     ensures { result ≡ spec.kind_asked (map S.text words.now) }
 {
@@ -264,11 +264,11 @@ fn is_session_option(word: &str) -> bool
     word == "--session"
 }
 
-/// The words as those of one of the commands.
+/// Reads the words as those of one of the commands.
 ///
 /// # Errors
 ///
-/// What `clap` has against them, which may also be the help that they ask for.
+/// The error that `clap` finds in them. It may also be the help that they ask for.
 pub(crate) fn parse<'a, S: AsStr>(alloc: Global, words: &'a [S]) -> Result<ArgMatches<'a>, Error> {
     let command = Command::new(alloc, "ua")
         .about(
@@ -319,7 +319,7 @@ fn length_words(matches: &ArgMatches) -> LengthWords {
     }
 }
 
-/// The words of `ua listen`, where they ask for it.
+/// The words of `ua listen`, if they ask for it.
 pub(crate) fn listen_words<'a>(matches: &ArgMatches<'a>) -> Option<ListenWords<'a>> {
     let listen = matches.subcommand_matches("listen")?;
     Some(ListenWords {
@@ -335,7 +335,7 @@ pub(crate) fn listen_words<'a>(matches: &ArgMatches<'a>) -> Option<ListenWords<'
     })
 }
 
-/// The words of `ua call`, where they ask for it.
+/// The words of `ua call`, if they ask for it.
 pub(crate) fn call_words<'a>(matches: &ArgMatches<'a>) -> Option<CallWords<'a>> {
     let call = matches.subcommand_matches("call")?;
     Some(CallWords {
@@ -353,7 +353,7 @@ pub(crate) fn call_words<'a>(matches: &ArgMatches<'a>) -> Option<CallWords<'a>> 
     })
 }
 
-/// The words of `ua agent`, where they ask for it.
+/// The words of `ua agent`, if they ask for it.
 pub(crate) fn agent_words<'a>(matches: &ArgMatches<'a>) -> Option<AgentWords<'a>> {
     let agent = matches.subcommand_matches("agent")?;
     Some(AgentWords {
@@ -367,7 +367,7 @@ pub(crate) fn agent_words<'a>(matches: &ArgMatches<'a>) -> Option<AgentWords<'a>
     })
 }
 
-// With headers the pipe and the record are as the lines of a session file.
+// With headers, the pipe and the record have the lines of a session file.
 fn kind_of(agent: &ArgMatches) -> FileKind {
     if agent.get_flag("headers") {
         FileKind::Session
@@ -647,7 +647,7 @@ fn replay_command<'a>(alloc: Global) -> Result<Command<'a>, AllocError> {
         .arg(repair)
 }
 
-// The number of an option, which `clap` has found in its range.
+// The number of an option. `clap` has checked that it is in its range.
 fn count(matches: &ArgMatches, id: &str, most: usize) -> usize
     requires { 0 < most }
     ensures some { 0 < result }

@@ -1,4 +1,4 @@
--- When the next thing is due of a ledger.
+-- When something is next due in a ledger.
 use Rattle.std.proofs.Common.{◌≡◌, ◌≢◌, ℕ, ◌+◌, nat_le, ◌||◌, ◌&&◌, Bool, true, false, cond, List, [], ◌∷◌, fold, min, Option, Some, None, refl, sym, ap, ◌∙◌, arith}
 use Rattle.std.specs.List.{list_any}
 use Rattle.std.specs.Option.{is_some, option_map, option_map_or}
@@ -70,7 +70,7 @@ some_due now (p ∷ ps) =
     ∙ or_swap (is_late now p) (is_repeated now p) (list_any (is_late now) ps)
     (list_any (is_repeated now) ps)
 
--- ---- what a tick says then
+-- ---- what a tick answers then
 
 abbrev pub is_something : Tick → Bool
 is_something Nothing = false
@@ -94,7 +94,7 @@ open_due now false ps =
     ∙ by_answer (list_any (is_late now) ps) (list_any (is_repeated now) ps)
     (Again record { items = due_numbers now ps }) refl
 
--- something of a ledger is due just when a tick of it isn't nothing
+-- something is due in a ledger exactly if a tick of it isn't nothing
 pub ledger_due : (now : ℕ) (l : Ledger)
     → is_due now (next_moment l) ≡ is_something (tick_answer l now)
 ledger_due now l = open_due now l.closed l.waiting

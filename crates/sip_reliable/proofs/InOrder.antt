@@ -1,4 +1,4 @@
--- The numbers taken in order: one number more, and that they are consecutive.
+-- The numbers taken in order, with one more number; they are consecutive.
 use Rattle.std.proofs.Common.{◌≡◌, ◌≢◌, ℕ, zero, suc, ◌+◌, ◌<◌, ◌==◌, nat_le, Bool, true, false, cond, List, [], ◌∷◌, ◌++◌, length, Option, Some, refl, sym, ap, ◌∙◌, append-nil, arith, add-one, slice_index, AllPairs}
 use Rattle.std.specs.List.{last_or}
 use Rattle.std.proofs.lemmas.Bool.{eqb-true}
@@ -26,7 +26,7 @@ following-append last (n ∷ ns) r =
       | false ↦ following-append last ns r
     ]
 
--- one number more
+-- one more number
 in_order-append : (came : List ℕ) (r : ℕ)
     → in_order (came ++ r ∷ []) ≡ in_order came ++ taken (offered (latest came) r) r
 in_order-append [] r = refl
@@ -47,7 +47,7 @@ latest-append : (came : List ℕ) (r : ℕ)
 latest-append came r = ap (last_or _) (in_order-append came r)
     ∙ last_or_taken (offered (latest came) r) _ (in_order came) r
 
--- what a call did, over all that came
+-- what a call did, said over all that came
 pub stays : (old new : Option ℕ) (offer : Offer) (came : List ℕ) (r : ℕ) → offer ≡ offered old r
     → new ≡ latest_after offer old r → old ≡ latest came → new ≡ latest (came ++ r ∷ [])
 stays old new offer came r answer after stands = let e = latest-append came r in cc
@@ -56,7 +56,7 @@ pub takes : (old : Option ℕ) (offer : Offer) (came : List ℕ) (r : ℕ) → o
     → old ≡ latest came → in_order (came ++ r ∷ []) ≡ in_order came ++ taken offer r
 takes old offer came r answer stands = let e = in_order-append came r in cc
 
--- ---- that they are consecutive
+-- ---- they are consecutive
 
 abbrev Follows : ℕ → List ℕ → Type 0
 Follows last [] = Unit {0}

@@ -1,4 +1,4 @@
--- What each call does to the ledger that is read from all that happened.
+-- What each call does to the ledger, as it is read from all that happened.
 use Rattle.std.proofs.Common.{◌≡◌, ℕ, ◌+◌, ◌==◌, not, Bool, true, false, cond, List, [], ◌∷◌, ◌++◌, map, filter, Result, Ok, Err, IfOk, OnOk, refl, sym, ap, subst, ◌∙◌, append-nil, arith}
 use Rattle.std.specs.List.{list_any}
 use Rattle.arrayvec.specs.ArrayVec.{ArrayVec}
@@ -107,7 +107,7 @@ module _ (first : ℕ) (supported : Bool) (life : List Happening) where
       ∙ repeats_more low next now rise
   ticks_more GivenUp low next now rise due = gives_up_more
 
--- ---- over all that happened, where the old ledger stands for it
+-- ---- over all that happened, if the old ledger stands for it
 
 pub send_stands : (old new : Ledger) (answer : Result ℕ SendFault) (has_body : Bool) (now : ℕ)
     → IfOk answer (λ number. number ≡ old.next) → OnOk answer (new ≡ with_sent has_body now old)
@@ -131,7 +131,7 @@ due_by false true repeated due numbers e = absurd cc
 due_by false false true due numbers e = cc
 due_by false false false due numbers e = absurd cc
 
--- the numbers that are told are those that are due
+-- the numbers in the answer are those of the responses that are due
 pub numbers_due : (l : Ledger) (now : ℕ) (answer : Tick) → answer ≡ tick_answer l now
     → (numbers : ArrayVec ℕ) → answer ≡ Again numbers → numbers.items ≡ due_numbers now l.waiting
 numbers_due l now answer is numbers same =

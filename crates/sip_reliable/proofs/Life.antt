@@ -1,4 +1,4 @@
--- What one happening more does to the ledger that is read from all that happened.
+-- What one more happening does to the ledger that is read from all that happened.
 use Rattle.std.proofs.Common.{◌≡◌, ℕ, ◌+◌, not, ◌||◌, Bool, true, false, cond, List, [], ◌∷◌, ◌++◌, map, filter, count_by, fold, Option, Some, None, refl, sym, ap, ◌∙◌, add-zero}
 use Rattle.std.specs.List.{list_any}
 use Rattle.std.specs.Option.{option_map}
@@ -53,7 +53,7 @@ same_times : (gone gone' : Bool) (repeats repeats' last last' : ℕ) → gone' �
     → repeats' ≡ repeats → last' ≡ last → timed gone' repeats' last' ≡ timed gone repeats last
 same_times gone gone' repeats repeats' last last' p q r = cc
 
--- the moment and the count after one repeat more
+-- the moment and the count after one more repeat
 abbrev next_of : ℕ → Option Retransmission → Option Retransmission
 next_of now o =
     option_map (λ r. record { due = now + interval_after (r.repeats + 1); repeats = r.repeats + 1 })
@@ -64,7 +64,7 @@ counted : (gone : Bool) (repeats last now : ℕ)
 counted true repeats last now = refl
 counted false repeats last now = refl
 
--- what a happening makes of a response that waits
+-- what a happening changes in a response that waits
 abbrev pub became : Happening → Provisional → Provisional
 became (Sends number has_body now) p = p
 became (Repeats numbers now) p = cond (is_among numbers p.number) (sent_again now p) p
@@ -161,7 +161,7 @@ sending n b t later h false false rest others added this stands answers =
     (sent_before n b t later ∷ filter (λ p. not (is_acknowledgment_of p.number h)) others)
     (filter (λ p. not (is_acknowledgment_of p.number h)) others)) ++ added) (sym this)
 
--- what is left of those that wait after one happening more, and what it adds
+-- those that still wait after one more happening, and those that it adds
 pub waiting_after-more : (life : List Happening) (h : Happening)
     → waiting_after (life ++ h ∷ [])
     ≡ map (became h) (filter (λ p. not (is_acknowledgment_of p.number h)) (waiting_after life))

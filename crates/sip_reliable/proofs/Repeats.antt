@@ -1,4 +1,4 @@
--- What a repeat of those that are due does to all that wait.
+-- Sending the due responses again: what that changes in all that wait.
 use Rattle.std.proofs.Common.{◌≡◌, ℕ, zero, suc, ◌+◌, ◌<◌, ◌==◌, ◌||◌, Bool, true, false, cond, List, [], ◌∷◌, length, map, filter, slice_index, refl, sym, ap, ◌∙◌, arith, add-one, eq-eqb}
 use Rattle.std.specs.List.Sorted.{IsStrictlyIncreasing}
 use Rattle.std.proofs.lemmas.Bool.{eqb-true}
@@ -23,7 +23,7 @@ among_step : (n : ℕ) (p : Provisional) (due : List Provisional) (b : Bool)
 among_step n p due true here rest = λ i. here i || rest i
 among_step n p due false here rest = rest
 
--- a lower number isn't among those that are due
+-- a lower number isn't the number of a due response
 not_among : (n low next now : ℕ) (ps : List Provisional) → n < low → Rise low next ps
     → is_among (due_numbers now ps) n ≡ false
 not_among n low next now [] below rise = refl
@@ -36,7 +36,7 @@ not_among n low next now (p ∷ ps) below rise =
 abbrev repeated : List ℕ → ℕ → List Provisional → List Provisional
 repeated numbers now ps = map (became (Repeats numbers now)) ps
 
--- a lower number is none of theirs
+-- a lower number is the number of none of them
 without : (n low next now : ℕ) (numbers : List ℕ) (ps : List Provisional) → n < low
     → Rise low next ps → repeated (n ∷ numbers) now ps ≡ repeated numbers now ps
 without n low next now numbers [] below rise = refl
@@ -59,7 +59,7 @@ again_step now p rest due true none strip later =
 again_step now p rest due false none strip later =
     λ i. cond (none i) (sent_again now p) p ∷ later i
 
--- those that are due are sent again, and the others stay
+-- the due responses are sent again, and the others stay as they are
 pub again : (low next now : ℕ) (ps : List Provisional) → Rise low next ps
     → repeated (due_numbers now ps) now ps ≡ map (after_repeat now) ps
 again low next now [] rise = refl
@@ -92,7 +92,7 @@ rising low next (p ∷ q ∷ ps) rise =
           )
     ] h
 
--- the numbers of those that are due rise
+-- the numbers of the due responses rise
 pub due_rise : (low next now : ℕ) (ps : List Provisional) → Rise low next ps
     → IsStrictlyIncreasing (due_numbers now ps)
 due_rise low next now ps rise =

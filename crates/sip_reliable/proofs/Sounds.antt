@@ -1,4 +1,4 @@
--- What holds of the responses that wait stays so by each call.
+-- Each call keeps what is always true of the responses that wait.
 use Rattle.std.proofs.Common.{◌≡◌, ℕ, suc, ◌+◌, ◌≤◌, ◌==◌, nat_lt, not, ◌||◌, Bool, true, false, cond, List, [], ◌∷◌, ◌++◌, length, map, filter, take, drop, Option, Some, None, Ok, refl, sym, ap, subst, ◌∙◌, arith, length-append}
 use Rattle.std.specs.List.{list_any, refill}
 use Rattle.std.specs.List.Retain.{RetainsInTurn}
@@ -44,12 +44,12 @@ rise_mapped f same low next (p ∷ ps) rise =
     let rest = rise_mapped f same (p.number + 1) next ps rise.1 in
     rw (same p) (rise.0, rest)
 
--- the next number is above them
+-- the next number is above theirs
 pub rise_up : (low next : ℕ) (ps : List Provisional) → Rise low next ps → low ≤ next
 rise_up low next [] rise = rise
 rise_up low next (p ∷ ps) rise = omega (arith, rise.0, rise_up (p.number + 1) next ps rise.1)
 
--- where no number was used none waits
+-- if no number was used, no response waits
 none_used : (first next : ℕ) (ps : List Provisional) → next ≤ first → Rise first next ps → ps ≡ []
 none_used first next [] used rise = refl
 none_used first next (p ∷ ps) used rise =
@@ -67,7 +67,7 @@ free_by false false true u e = absurd cc
 free_by false false false true e = absurd cc
 free_by false false false false e = (refl, refl)
 
--- where a response may be sent no PRACK has to come before, and a number is left
+-- if a response may be sent, no PRACK has to come before it, and a number is left
 pub free : (l : Ledger) → send_fault l ≡ None
     → (must_wait l ≡ false) × (nat_lt 4294967295 l.next ≡ false)
 free l e = free_by l.closed (not l.supported) (must_wait l) (nat_lt 4294967295 l.next) e
@@ -191,7 +191,7 @@ none_by : (o : Option SendFault) (next number : ℕ) → Ok number ≡ ok_unless
 none_by None next number e = (refl, cc)
 none_by (Some fault) next number e = absurd cc
 
--- a ledger after one more was sent
+-- a ledger after one more response was sent
 abbrev Sent : ℕ → ℕ → List Provisional → Type 0
 Sent first next ps = (next ≤ 4294967296) × IsSound first next ps
 
@@ -220,7 +220,7 @@ sent_sound first next supported closed ps old number p is sent its sound =
       sound_sent first next ps p (its ∙ given.1) parts.0 sound,
     )
 
--- what is left by a closure that only tests
+-- what a closure that only tests leaves of a list
 pub retained : {S X : Type 0} (R : S → X → Bool → S → X → Type 0) (test : X → Bool) (s : S)
     → ((x : X) (b : Bool) (t : S) (y : X) → R s x b t y → (b ≡ test x) × (t ≡ s) × (y ≡ x))
     → (xs ys : List X) → RetainsInTurn R s xs ys → ys ≡ filter test xs
@@ -231,7 +231,7 @@ retained {X = X} R test s tests (x ∷ xs) ys (b, t, y, call, zs, rest, is) =
     (subst (λ u. RetainsInTurn R u xs zs) same.1 rest) in
     is ∙ (λ i. cond (same.0 i) (same.2 i ∷ later i) (later i))
 
--- what was written over a list of the same length stands in its place
+-- a list that was written over one of the same length stands in its place
 pub refilled : (f : Provisional → Provisional) (ps qs : List Provisional) → qs ≡ map f ps
     → refill (length ps) ps qs ≡ map f ps
 refilled f ps qs is =

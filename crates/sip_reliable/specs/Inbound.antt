@@ -5,15 +5,15 @@ use Rattle.std.specs.List.{last_or}
 use Rattle.sip_reliable.specs.declared.offer.Offer.{Offer}
 use Rattle.sip_reliable.specs.declared.offer.Offer.TheVariants.{Taken, Repeat, Gap}
 
--- of the RSeq numbers that come after `latest` was taken, those that are taken: each is one more
--- than the one taken before it
+-- of the RSeq numbers that come after `latest` was taken, those taken: each is one more than the
+-- one taken before it
 abbrev pub following : ℕ → List ℕ → List ℕ
 following latest [] = []
 following latest (number ∷ numbers) =
     if number == latest + 1 then number ∷ following number numbers else following latest numbers
 
--- of the RSeq numbers that came, those that are taken: the first, and then each that is one more
--- than the latest taken
+-- of the RSeq numbers that came, those taken: the first, and then each that is one more than the
+-- latest taken
 abbrev pub in_order : List ℕ → List ℕ
 in_order [] = []
 in_order (number ∷ numbers) = number ∷ following number numbers
@@ -28,7 +28,7 @@ offered None number = Taken
 offered (Some last) number =
     if number == last + 1 then Taken else if nat_le number last then Repeat else Gap
 
--- the number as a list, where it is taken
+-- the number as a list, if it is taken
 abbrev pub taken : Offer → ℕ → List ℕ
 taken Taken number = number ∷ []
 taken Repeat number = []

@@ -11,8 +11,8 @@ use Rattle.sip_reliable.specs.declared.send_fault.SendFault.TheVariants as fault
 use Rattle.sip_reliable.specs.Happening.{Happening, Sends, Repeats, GivesUp, Acknowledges, Closes, is_sending, is_acknowledgment_of, is_closing}
 use Rattle.sip_reliable.specs.Provisional.{Provisional, after_repeat, due_moment, given_up, is_given_up, is_late, is_repeated, sent_before}
 
--- the RSeq of the first, that of the next, whether the INVITE has 100rel, whether a final response
--- was sent, and the responses that wait for their PRACK, in the order of their RSeqs
+-- the RSeq of the first response, that of the next, whether the INVITE has 100rel, whether a final
+-- response was sent, and the responses that wait for their PRACK, in the order of their RSeqs
 pub record Ledger : Type 0 where
   pub first : ℕ
   pub next : ℕ
@@ -20,7 +20,7 @@ pub record Ledger : Type 0 where
   pub closed : Bool
   pub waiting : List Provisional
 
--- whether the response of this number waits for its PRACK
+-- whether the response with this number waits for its PRACK
 abbrev pub waits_for : ℕ → Ledger → Bool
 waits_for number l = list_any (λ p. p.number == number) l.waiting
 
@@ -29,7 +29,7 @@ abbrev pub must_wait : Ledger → Bool
 must_wait l =
     waits_for l.first l || (length l.waiting == MOST_WAITING) || list_any is_given_up l.waiting
 
--- the response of this number waits no longer
+-- the response with this number waits no longer
 abbrev pub acknowledged : ℕ → Ledger → Ledger
 acknowledged number l = record l { waiting = filter (λ p. not (p.number == number)) l.waiting }
 
@@ -37,9 +37,9 @@ acknowledged number l = record l { waiting = filter (λ p. not (p.number == numb
 abbrev pub closed_now : Ledger → Ledger
 closed_now l = record l { closed = true }
 
--- ---- for steps and laws: `run` needs nothing of what follows
+-- ---- for steps and laws: `run` needs none of what follows
 
--- why the next can't be sent: the first reason that fits
+-- why the next response can't be sent: the first reason that fits
 abbrev pub send_fault : Ledger → Option SendFault
 send_fault l =
     if l.closed then Some fault.Closed
@@ -48,28 +48,28 @@ send_fault l =
     else if nat_lt 4294967295 l.next then Some fault.NumbersUsedUp
     else None
 
--- a fault where there is one, otherwise the value
+-- a fault if there is one, otherwise the value
 abbrev pub ok_unless : {A E : Type 0} → Option E → A → Result A E
 ok_unless None value = Ok value
 ok_unless (Some fault) value = Err fault
 
--- the number sent, or why none is
+-- the number sent, or why none was
 abbrev pub send_answer : Ledger → Result ℕ SendFault
 send_answer l = ok_unless (send_fault l) l.next
 
--- one more response waits, of the next number
+-- one more response waits, with the next number
 abbrev pub with_sent : Bool → ℕ → Ledger → Ledger
 with_sent has_body now l =
     record l { next = l.next + 1; waiting = l.waiting ++ sent_before l.next has_body now [] ∷ [] }
 
 -- ---- how many wait
 
--- at most 8 wait for their PRACK, and none but the first until that one was acknowledged
+-- at most 8 wait for their PRACK; while the first one waits, no other does
 abbrev pub FewWait : Ledger → Type 0
 FewWait l =
     (length l.waiting ≤ MOST_WAITING) × (IsTrue (waits_for l.first l) → length l.waiting ≤ 1)
 
--- ---- what is read from all that happened, for the law over a whole life
+-- ---- read from all that happened, for the law over a whole life
 
 -- the responses that were sent and have no PRACK after them
 abbrev pub waiting_after : List Happening → List Provisional
@@ -100,8 +100,8 @@ ledger_after first supported life =
 abbrev pub due_numbers : ℕ → List Provisional → List ℕ
 due_numbers now waiting = map (λ p. p.number) (filter (is_repeated now) waiting)
 
--- what is due of all: giving them up comes before sending again, and nothing is due after a final
--- response
+-- what is due for all responses: giving up comes before sending again, and nothing is due after a
+-- final response
 abbrev pub tick_answer : Ledger → ℕ → Tick
 tick_answer l now =
     if l.closed then Nothing
@@ -110,13 +110,13 @@ tick_answer l now =
     then Again record { items = due_numbers now l.waiting }
     else Nothing
 
--- what happens at a tick
+-- what happens at such a tick
 abbrev pub happenings_of : Tick → ℕ → List Happening
 happenings_of Nothing now = []
 happenings_of (Again numbers) now = Repeats numbers.items now ∷ []
 happenings_of GivenUp now = GivesUp ∷ []
 
--- what waits after a tick of this kind
+-- the ledger after such a tick
 abbrev pub ticked : Tick → Ledger → ℕ → Ledger
 ticked Nothing l now = l
 ticked (Again numbers) l now = record l { waiting = map (after_repeat now) l.waiting }
@@ -129,7 +129,7 @@ first_moment waiting = fold (λ due p. earlier due (due_moment p)) None waiting
 abbrev pub next_moment : Ledger → Option ℕ
 next_moment l = if l.closed then None else first_moment l.waiting
 
--- nothing is due before the moment, and something is at it; nothing is ever due where there is none
+-- nothing is due before the moment, and something is at it; without a moment nothing ever is
 abbrev pub IsNextDue : (ℕ → Tick) → Option ℕ → Type 0
 IsNextDue answers None = (now : ℕ) → answers now ≡ Nothing
 IsNextDue answers (Some due) =

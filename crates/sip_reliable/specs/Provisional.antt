@@ -1,5 +1,5 @@
--- One reliable provisional response that was sent: when it is sent again and given up (RFC 3262,
--- section 3). Moments are in milliseconds.
+-- One reliable provisional response that was sent: when it is sent again, and when it is given up
+-- (RFC 3262, section 3). Moments are in milliseconds.
 use Rattle.std.specs.Prelude.{ℕ, ◌+◌, ◌*◌, ◌^◌, nat_le, Bool, false, ◌&&◌, if◌then◌else◌, List, count_by, fold, Option, None, Some, min}
 use Rattle.std.specs.List.{list_any}
 use Rattle.std.specs.Option.{is_none, is_some, option_map, option_map_or}
@@ -20,7 +20,7 @@ interval_after repeats = T1 * 2 ^ repeats
 
 -- ---- what is due at a moment
 
--- whether it is sent no more
+-- whether it isn't sent any more
 abbrev pub is_given_up : Provisional → Bool
 is_given_up p = is_none p.retransmission
 
@@ -28,7 +28,7 @@ is_given_up p = is_none p.retransmission
 abbrev pub end_of : Provisional → ℕ
 end_of p = p.sent + LIFETIME
 
--- 64*T1 after it was sent, where it is still sent again
+-- 64*T1 went by since it was sent, and it wasn't given up
 abbrev pub is_late : ℕ → Provisional → Bool
 is_late now p = is_some p.retransmission && nat_le (end_of p) now
 
@@ -36,13 +36,13 @@ is_late now p = is_some p.retransmission && nat_le (end_of p) now
 abbrev pub is_repeated : ℕ → Provisional → Bool
 is_repeated now p = option_map_or (λ r. nat_le r.due now) p.retransmission false
 
--- ---- what a tick makes of it
+-- ---- what a tick changes in it
 
--- it is sent no more
+-- from now on it isn't sent any more
 abbrev pub given_up : Provisional → Provisional
 given_up p = record p { retransmission = None }
 
--- the next interval counts from the moment of this sending
+-- sent again; the next interval begins at this moment
 abbrev pub sent_again : ℕ → Provisional → Provisional
 sent_again now p = record p {
   retransmission = option_map
@@ -50,19 +50,19 @@ sent_again now p = record p {
       p.retransmission;
 }
 
--- sent again where it is due
+-- sent again if it is due
 abbrev pub after_repeat : ℕ → Provisional → Provisional
 after_repeat now p = if is_repeated now p then sent_again now p else p
 
--- ---- for steps and laws: `run` needs nothing of what follows
+-- ---- for steps and laws: `run` needs none of what follows
 
--- the next moment at which something is due
+-- the next moment at which it is sent again or given up
 abbrev pub due_moment : Provisional → Option ℕ
 due_moment p = option_map (λ r. min r.due (end_of p)) p.retransmission
 
--- ---- what is read from what happened after it was sent, for the law over a whole life
+-- ---- read from what happened after it was sent, for the law over a whole life
 
--- the moment at which the response was sent last
+-- the moment of the last time that the response was sent
 abbrev pub last_moment : ℕ → ℕ → Happening → ℕ
 last_moment wanted last (Sends number has_body now) = last
 last_moment wanted last (Repeats numbers now) = if is_among numbers wanted then now else last
@@ -70,7 +70,7 @@ last_moment wanted last GivesUp = last
 last_moment wanted last (Acknowledges number) = last
 last_moment wanted last Closes = last
 
--- when it is sent again, after what happened later; never once it is given up
+-- when it is sent again, after what happened later; never after it was given up
 abbrev pub retransmission_after : ℕ → ℕ → List Happening → Option Retransmission
 retransmission_after number sent later =
     let repeats = count_by (is_repeat_of number) later in
@@ -80,7 +80,7 @@ retransmission_after number sent later =
       repeats = repeats;
     }
 
--- a response that was sent at a moment, after what happened later
+-- a response that was sent at a moment, after all that happened later
 abbrev pub sent_before : ℕ → Bool → ℕ → List Happening → Provisional
 sent_before number has_body sent later =
     record {

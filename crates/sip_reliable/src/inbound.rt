@@ -6,10 +6,10 @@ ghost use Rattle.sip_reliable.specs.Inbound.{in_order, latest, offered, taken, l
 use crate::Offer;
 use std::marker::Model;
 
-/// Which reliable provisional responses of one early dialog a caller takes, by their RSeq numbers
-/// (RFC 3262 section 4).
+/// The reliable provisional responses of one early dialog that a caller takes, by their RSeq
+/// numbers (RFC 3262 section 4).
 ///
-/// Contracts see it as the latest number taken.
+/// A contract sees it as the latest number taken.
 #[derive(Clone, Copy)]
 pub struct Inbound {
     latest: Option<u32>,
@@ -26,7 +26,7 @@ impl Model for Inbound {
 }
 
 impl Inbound {
-    /// Nothing came yet.
+    /// No response came yet.
     pub fn new() -> Inbound
         ensures none { result ≡ None }
         ensures came { result ≡ latest [] }
@@ -34,12 +34,12 @@ impl Inbound {
         Inbound { latest: None }
     }
 
-    /// Takes the number `rseq` where it is the first, or one more than the latest taken.
+    /// Takes the number `rseq` if it is the first one, or one more than the latest taken.
     pub fn offer(&mut self, rseq: u32) -> Offer
         ensures answer { result ≡ offered self.old rseq }
         ensures after { self.new ≡ latest_after result self.old rseq }
 
-        // Of all numbers that came, this one too, those that were taken are the ones in order.
+        // Of all numbers that came, up to this one, those taken are the ones in order.
         ensures stays { (came : List ℕ) → self.old ≡ latest came
             → self.new ≡ latest (came ++ rseq ∷ []) }
         ensures in_order { (came : List ℕ) → self.old ≡ latest came
@@ -71,7 +71,7 @@ impl Inbound {
     }
 }
 
-/// A law: whatever numbers came, those that are taken are consecutive, so none is taken twice.
+/// A law: whatever numbers came, those taken are consecutive, so none is taken twice.
 pub fn taken_in_order()
     ensures consecutive { (came : List ℕ) → IsConsecutive (in_order came) }
     ensures once { (came : List ℕ) → AllPairs (λ x y. x ≢ y) (in_order came) }

@@ -1,5 +1,5 @@
-//! The ledgers of reliable provisional responses (RFC 3262): what a caller takes, and what a callee
-//! sends again.
+//! The ledgers of reliable provisional responses (RFC 3262): those that a caller takes, and those
+//! that a callee sends and sends again.
 #![tactic(auto)]
 
 mod inbound;

@@ -1,9 +1,9 @@
-//! The one error of an acknowledgment.
+//! The only error of an acknowledgment.
 
 use std::error::Error;
 use std::fmt;
 
-/// A PRACK names no reliable provisional response that waits for one.
+/// A PRACK names no reliable provisional response that waits for a PRACK.
 #[derive(Clone, Copy, Debug, PartialEq, Eq)]
 pub struct NoMatch;
 

@@ -1,4 +1,4 @@
-//! The answer to a reliable provisional response that came.
+//! What becomes of a reliable provisional response that came.
 
 /// What becomes of a reliable provisional response that came (RFC 3262 section 4).
 #[derive(Clone, Copy, Debug, PartialEq, Eq)]

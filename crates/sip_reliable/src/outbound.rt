@@ -20,17 +20,17 @@ use std::marker::Model;
 
 /// The reliable provisional responses that a callee sends for one INVITE (RFC 3262 section 3).
 ///
-/// Each has an RSeq number, one more than the last. It is sent again after 500 ms, then after 1,000
-/// ms, and so on with the interval doubled each time, until its PRACK comes; 32,000 ms after one
-/// was sent and wasn't acknowledged, all are given up. At most 8 wait for their PRACK at a time,
-/// and none but the first until that one was acknowledged.
+/// Each has an RSeq number, one more than the last. It is retransmitted after 500 ms, then after
+/// 1,000 ms, and so on, with the interval doubled each time, until its PRACK comes. If one has no
+/// PRACK 32,000 ms after it was sent, all are given up. Until the first is acknowledged, no other
+/// is sent; after that at most 8 wait for their PRACK at a time.
 /// Moments are in ms. Nothing takes memory.
 ///
-/// Contracts see it as a `Ledger`, and `ledger_after` says which one stands for all that happened.
+/// A contract sees it as a `Ledger`; `ledger_after` says which one stands for all that happened.
 #[derive(Drop)]
 pub struct Outbound {
     first: u32,
-    // The next number, or 2^32 where they are used up.
+    // The next number, or 2^32 if all are used up.
     next: u64,
     supported: bool,
     closed: bool,
@@ -73,11 +73,11 @@ impl Outbound {
         }
     }
 
-    /// Takes the next number for a response that is sent at `now`, at most 2^62.
+    /// Takes the next number for a response that is sent at `now`. `now` is at most 2^62.
     ///
     /// # Errors
     ///
-    /// The first `SendFault` that fits, and then nothing changes.
+    /// The first `SendFault` that fits; then nothing changes.
     pub fn send(&mut self, now: u64, has_body: bool) -> Result<u32, SendFault>
         requires { now ≤ 2 ^ 62 }
         ensures answer { result ≡ send_answer self.old }
@@ -122,7 +122,7 @@ impl Outbound {
         }
     }
 
-    // Why the next can't be sent.
+    // Why the next response can't be sent.
     fn fault(&self) -> Option<SendFault>
         ensures { result ≡ send_fault self.now }
     {
@@ -139,7 +139,7 @@ impl Outbound {
         }
     }
 
-    // Whether a PRACK has to come before the next is sent.
+    // Whether a PRACK has to come before the next response is sent.
     fn must_wait(&self) -> bool
         ensures { result ≡ must_wait self.now }
     {
@@ -148,8 +148,8 @@ impl Outbound {
             || any_given_up(self.waiting.as_slice())
     }
 
-    /// Does what is due at `now`, at most 2^62: the responses that wait are sent again, each when
-    /// its interval is over, or all are given up.
+    /// Does what is due at `now`, at most 2^62: each waiting response whose interval is over is
+    /// sent again, or all are given up.
     pub fn tick(&mut self, now: u64) -> Tick
         requires { now ≤ 2 ^ 62 }
         ensures answer { result ≡ tick_answer self.old now }
@@ -184,12 +184,12 @@ impl Outbound {
         Tick::Nothing
     }
 
-    /// The PRACK for the number `rseq` came. Once closed or given up, a response is acknowledged
-    /// all the same.
+    /// The PRACK for the number `rseq` came. It acknowledges a response even after the ledger was
+    /// closed or its responses were given up.
     ///
     /// # Errors
     ///
-    /// `NoMatch` where no response with that number waits, and then nothing changes.
+    /// `NoMatch` if no response with that number waits; then nothing changes.
     pub fn acknowledge(&mut self, rseq: u32) -> Result<(), NoMatch>
         ensures matches { IsOk result ↔ IsTrue (waits_for rseq self.old) }
         ensures ok { OnOk result (self.new ≡ acknowledged rseq self.old) }
@@ -214,7 +214,7 @@ impl Outbound {
         Ok(())
     }
 
-    /// A final response was sent: nothing is sent again or given up from then on.
+    /// A final response was sent. From then on nothing is sent again or given up.
     pub fn close(&mut self)
         ensures closed { self.new ≡ closed_now self.old }
         ensures stands { (first : ℕ) (supported : Bool) (life : List Happening)

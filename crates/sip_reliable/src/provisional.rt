@@ -7,23 +7,23 @@ use sip_timers::{LIFETIME, T1};
 use std::default::Default;
 use std::marker::Model;
 
-/// How many reliable provisional responses to one INVITE may wait for their PRACK at a time.
+/// How many reliable provisional responses to one INVITE may wait for their PRACK at the same time.
 pub const MOST_WAITING: usize = 8;
 
 /// A reliable provisional response that waits for its PRACK.
 ///
-/// Contracts see it as the record of its fields.
+/// A contract sees it as the record of its fields.
 #[derive(Drop)]
 pub(crate) struct Provisional {
     number: u32,
     has_body: bool,
-    // The moment, in ms.
+    // The moment in ms.
     sent: u64,
-    // None once it was given up.
+    // None after it was given up.
     retransmission: Option<Retransmission>,
 }
 
-/// When a response is sent again, in ms, and how often it was.
+/// When a response is sent again, in ms, and how often it was sent again.
 #[derive(Clone, Copy)]
 pub(crate) struct Retransmission {
     pub(crate) due: u64,
@@ -111,14 +111,14 @@ impl Provisional {
         }
     }
 
-    /// It isn't sent again.
+    /// From now on it isn't sent again.
     pub(crate) fn give_up(&mut self)
         ensures { self.new ≡ spec.given_up self.old }
     {
         self.retransmission = None;
     }
 
-    /// It is sent again where it is to be.
+    /// If it is due, it is sent again, and gets its next interval.
     pub(crate) fn repeat(&mut self, now: u64)
         requires { now ≤ 2 ^ 62 }
         ensures { self.new ≡ spec.after_repeat now self.old }
@@ -133,7 +133,7 @@ impl Provisional {
         }
     }
 
-    /// The next moment at which something is due, in ms, if there is one.
+    /// The next moment in ms at which it is sent again or given up, if there is one.
     pub(crate) fn next_due(&self) -> Option<u64>
         ensures { result ≡ spec.due_moment self.now }
     {
@@ -141,7 +141,7 @@ impl Provisional {
         Some(next.due.min(self.end()))
     }
 
-    // The moment at which it is given up, 64*T1 after it was sent.
+    // The moment at which it is given up: 64*T1 after it was sent.
     fn end(&self) -> u64
         ensures { result ≡ spec.end_of self.now }
     {

@@ -1,16 +1,16 @@
-//! The errors of a reliable provisional response that is to be sent.
+//! Why a reliable provisional response can't be sent.
 
 use std::error::Error;
 use std::fmt;
 
-/// Why a reliable provisional response can't be sent. The first that fits is answered.
+/// Why a reliable provisional response can't be sent: the first reason that fits.
 #[derive(Clone, Copy, Debug, PartialEq, Eq)]
 pub enum SendFault {
     /// A final response was sent.
     Closed,
     /// The peer doesn't support 100rel.
     NotSupported,
-    /// The first that was sent waits for its PRACK, or 8 do, or one that was given up does.
+    /// The first one sent still waits for its PRACK, or 8 do, or one that was given up does.
     Unacknowledged,
     /// The last number was 4,294,967,295.
     NumbersUsedUp,

@@ -59,7 +59,7 @@ pub(crate) fn due_numbers(waiting: &[Provisional], now: u64) -> ArrayVec<u32, MO
     numbers
 }
 
-/// Each that is to be sent again is.
+/// Sends each that is due again.
 pub(crate) fn repeat(waiting: &mut [Provisional], now: u64)
     requires { now ≤ 2 ^ 62 }
     ensures { waiting.new ≡ map (spec.after_repeat now) waiting.old }
@@ -69,7 +69,7 @@ pub(crate) fn repeat(waiting: &mut [Provisional], now: u64)
     }
 }
 
-/// None is sent again.
+/// From now on none is sent again.
 pub(crate) fn give_up(waiting: &mut [Provisional])
     ensures { waiting.new ≡ map spec.given_up waiting.old }
 {
@@ -78,7 +78,7 @@ pub(crate) fn give_up(waiting: &mut [Provisional])
     }
 }
 
-/// The next moment at which something of one is due, in ms, if there is one.
+/// The next moment in ms at which one is sent again or given up, if there is one.
 pub(crate) fn next_due(waiting: &[Provisional]) -> Option<u64>
     ensures { result ≡ ledger.first_moment waiting.now }
 {

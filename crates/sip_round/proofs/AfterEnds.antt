@@ -1,5 +1,5 @@
--- In the rounds after those in which a life of a transaction has ended nothing of what a call is
--- given comes from it under its id.
+-- After the rounds in which a life of a transaction has ended, nothing that a call is given comes
+-- from it under its id.
 use Rattle.std.proofs.Common.{◌≡◌, ℕ, suc, ◌+◌, Bool, true, false, cond, ◌&&◌, ◌||◌, List, [], ◌∷◌, ◌++◌, map, length, nat_eq, refl, sym, ap, ◌∙◌, append_assoc, append-nil}
 use Rattle.std.specs.Prelude.{Option, None, Some, drop, filter}
 use Rattle.std.specs.BTreeMap.{is_at}
@@ -68,7 +68,7 @@ module _ (id : Id) where
   from q (out.Send key to bytes) = false
   from q (out.Dropped place why) = false
 
-  -- the same by the transaction of a key
+  -- the same, handed up by the transaction with a key
   abbrev picked : Key → Out → List Out
   picked q o = cond (from q o) (o ∷ []) []
 
@@ -118,7 +118,7 @@ module _ (id : Id) where
               (sym (ap (λ b. cond b (o ∷ []) [] ++ flat_map (picked q) outs) isnt) ∙ none),
         ))
 
-    -- what a key says in a phase under the id, where it says nothing
+    -- what a key says in a phase under the id, if it says nothing
     phase_none : (before : List (Phase Key (Timed Input))) (phase : Phase Key (Timed Input))
         → flat_map under (said_by key_cmp transaction_machine tick_at q
         (said_by_transactions before phase)) ≡ []
@@ -188,7 +188,7 @@ module _ (id : Id) where
         (λ place. none_at (λ said. nat_eq (said.0).0 place) told.items parts.1)
         (arrivals config number past round))
 
-    -- ---- nor any input of a call
+    -- ---- and no input of a call does
 
     inputs_none : (call_id : List ℕ) (now at : ℕ) (items : List (Id × Item))
         → AllByRecursion ItemComesNot items
@@ -278,7 +278,7 @@ second_false false b none = none
 
 module _ (over : NothingAfterEachEnd)
     (transactions_alone : EachKeyAlone key_cmp transaction_machine tick_at) where
-  -- what a transaction whose life has ended says in later rounds is not under its id
+  -- a transaction whose life has ended says nothing under its id in later rounds
   nothing_under : (key : Key) (id : Id) (config : Config) (earlier later : List Round)
       (more : List (Phase Key (Timed Input)))
       → (past_of config (earlier ++ later)).transactions

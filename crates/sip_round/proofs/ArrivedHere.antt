@@ -1,4 +1,4 @@
--- The arrivals of a round are placed, and so are their parts.
+-- The arrivals of a round stand at their places, and so do their parts.
 use Rattle.std.proofs.Common.{◌≡◌, ℕ, zero, suc, List, [], ◌∷◌, refl, ◌∙◌, ap}
 use Rattle.sip_message.specs.declared.addr.Addr.{Addr}
 use Rattle.sip_message.specs.declared.id.Id.{Id}

@@ -1,4 +1,4 @@
--- An agent before its first round.
+-- An agent before its first round stands for no rounds.
 use Rattle.std.proofs.Common.{◌≡◌, ℕ, zero, suc, ◌+◌, List, [], ◌∷◌, length, map, refl, sym, subst, arith, All}
 use Rattle.std.specs.Prelude.{None, Some, IsSome}
 use Rattle.std.specs.declared.cmp.Ordering.{Ordering}

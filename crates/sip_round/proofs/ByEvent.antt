@@ -1,4 +1,4 @@
--- What the transactions say, by_event in among the arrivals in turn, is what they say by place.
+-- What the transactions say, put in between the arrivals one by one, is what they say by place.
 use Rattle.std.proofs.Common.{◌≡◌, ℕ, suc, ◌<◌, true, false, cond, List, [], ◌∷◌, ◌++◌, map, nat_eq, refl, sym, ◌∙◌, ap, subst, arith, append-nil, append_assoc}
 use Rattle.std.specs.Prelude.{filter}
 use Rattle.std.specs.List.{flat_map}
@@ -24,7 +24,7 @@ pub flat_map-map : {X Y Z : Type 0} (f : Y → List Z) (g : X → Y) (xs : List 
 flat_map-map f g [] = refl
 flat_map-map f g (x ∷ xs) = ap (λ more. f (g x) ++ more) (flat_map-map f g xs)
 
--- what comes of groups of outputs, group by group
+-- what is made of groups of outputs, group by group
 abbrev pub each : {L X Y : Type 0} → (X → List Y) → List (L × List X) → List Y
 each f groups = flat_map (λ group. flat_map f group.1) groups
 
@@ -35,7 +35,7 @@ by_groups f (g ∷ gs) =
     ap (λ more. flat_map f g.1 ++ more) (by_groups f gs)
     ∙ sym (flat_map-append f g.1 (joined gs))
 
--- what comes of what is said to a tick, and then of what items add, behind what was there
+-- what is made of outputs to a tick, and then of items' outputs, put behind what was there
 pub behind : {L M X Y : Type 0} (f : X → List Y) (ticks : List (L × List X))
     (items : List (M × List X)) (before middle after : List Y) → middle ≡ before ++ each f ticks
     → after ≡ middle ++ each f items → after ≡ before ++ flat_map f (joined ticks ++ joined items)
@@ -68,7 +68,7 @@ one_climbs place id (arrival.Dropped why) rest at later =
 one_climbs place id (arrival.User command) rest at later =
     climbs_from_less place (suc place) (item_places rest) (omega arith) later
 
--- the places of what goes to transactions climb
+-- the places of the transactions' inputs climb
 pub items_climb : (place : ℕ) (arrivals : List (Id × Arrival)) → ArePlaced place arrivals
     → Climbs place (item_places arrivals)
 items_climb place [] placed = tt
@@ -90,7 +90,7 @@ nothing_at place n (t ∷ ts) below climbs =
 abbrev by_said : Said → Id × Arrival → Id × List Out × List (Id × Item)
 by_said told a = (a.0, outs_of (said_in told) a.0 a.1, user_items a.0 a.1)
 
--- what is said of an earlier place is nothing to those that follow
+-- the outputs for an earlier place don't matter to the arrivals that follow
 later_outs : (t : (ℕ × Key) × List Out) (ts : Said) (id : Id) (a : Arrival) → (t.0).0 < id.place
     → outs_of (said_in (t ∷ ts)) id a ≡ outs_of (said_in ts) id a
 later_outs t ts id (arrival.Transaction key input) below =

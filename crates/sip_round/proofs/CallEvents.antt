@@ -1,4 +1,4 @@
--- In any rounds the messages and commands that a call is given come of different events.
+-- In any rounds, the messages and commands that a call is given belong to different events.
 use Rattle.std.proofs.Common.{◌≡◌, inl, inr, ℕ, suc, ◌≤◌, Bool, true, false, cond, List, [], ◌∷◌, ◌++◌, map, nat_eq, refl, sym, ap, subst, ◌∙◌, append_assoc, append-nil, arith}
 use Rattle.std.specs.Prelude.{Option, None, Some, filter, filter_map}
 use Rattle.std.specs.BTreeMap.{is_at}
@@ -60,7 +60,7 @@ ticks_raise id now states (key ∷ keys) =
     (joined (map (λ key. (key, adds transaction_machine key (states key) (tick_at now))) keys))
     ∙ (λ i. no_ups id key (states key) now i ++ ticks_raise id now states keys i)
 
--- ---- each arrival hands up one thing at most
+-- ---- each arrival hands up at most one thing
 
 abbrev pub TellsAt : ℕ → List ((ℕ × Key) × List Out) → List Out
 TellsAt place told = joined (filter (λ said. nat_eq (said.0).0 place) told)
@@ -149,7 +149,7 @@ arrivals_placed said few local round place (event ∷ events) =
     (events_of (flat_map (λ a. items_at said a.0 a.1) rest)) (few_items said few id a)
     (arrivals_placed said few local round (suc place) events))
 
--- the places of what goes to transactions climb
+-- the places of the transactions' inputs climb
 one_climbs : (now round place : ℕ) (a : Arrival) (rest : List (model.Item Key Input))
     → Climbs (suc place) (map (λ item. item.place) (timed_items now rest))
     → Climbs place (map (λ item. item.place) (timed_items now
@@ -195,7 +195,7 @@ round_placed config number past round =
     (ticks_raise (record { round = number; place = 0 }) round.moment before keys)))
     (arrivals_placed (said_at told) few config.local number 1 round.events))
 
--- ---- those of one call
+-- ---- the events of one call
 
 pub one_left : (round place : ℕ) (o : Option Id) (whole : List Id)
     → Places round place (cons_option o whole) → Places round place whole

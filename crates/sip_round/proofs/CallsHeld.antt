@@ -1,4 +1,4 @@
--- What is held of each call after rounds is what the laws of calls say of its inputs.
+-- What is held of each call after rounds is what the laws of calls say about its inputs.
 use Rattle.std.proofs.Common.{◌≡◌, ℕ, ◌+◌, false, List, [], ◌∷◌, ◌++◌, length, refl, sym, ap, subst, ◌∙◌}
 use Rattle.std.specs.Prelude.{Option, None, Some, filter_map, find, fold, map, unwrap_or}
 use Rattle.std.specs.List.{AllByRecursion, IsDistinct}
@@ -103,7 +103,7 @@ dialogs_have_their_history config alone rounds call_id name held is =
           history.life) (of route.0 route.1) (route.2).1;
     }
 
--- ---- inputs up to one
+-- ---- the inputs before one
 
 all_front : (P : Id → Type 0) (xs ys : List Id) → AllByRecursion P (xs ++ ys) → AllByRecursion P xs
 all_front P [] ys all = tt

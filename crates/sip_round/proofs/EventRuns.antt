@@ -1,4 +1,5 @@
--- Runs of a round's events: together they are all arrivals, and what they are set out as is joined.
+-- Runs of a round's events: together they are all arrivals, and what they were set out as is
+-- joined.
 use Rattle.std.proofs.Common.{◌≡◌, ℕ, suc, ◌+◌, List, [], ◌∷◌, ◌++◌, length, map, sym, ◌∙◌, ap, arith, append_assoc, append-nil, subst}
 use Rattle.std.specs.Prelude.{Result, Ok, IfOk}
 use Rattle.std.specs.declared.alloc.AllocError.{AllocError}
@@ -39,7 +40,7 @@ arrivals_apart local round place (e ∷ es) back =
     one_later : (n k : ℕ) → suc n + k ≡ n + suc k
     one_later n k = omega arith
 
--- one run more
+-- one more run
 pub run_more : {P : Type 0} (of : P → List (Id × Arrival)) (local : Addr) (round before : ℕ)
     (runs newer : List P) (one : P) (run rest left : List Event) (whole : List (Id × Arrival))
     → newer ≡ runs ++ one ∷ [] → of one ≡ arrivals_from local round (before + 1) run
@@ -65,14 +66,14 @@ run_more of local round before runs newer one run rest left whole pushed is_run 
 
 -- ---- joining
 
--- what a run was set out as, if memory was there
+-- what a run was set out as, unless memory ran out
 abbrev pub IsOf : List (Id × Arrival) → Result SetOut AllocError → Type 0
 IsOf arrivals run = IfOk run (IsSetOut arrivals)
 
 abbrev pub each : List (List (Id × Arrival)) → List (Id × Arrival)
 each runs = flat_map (λ run. run) runs
 
--- what is joined so far, with what is left, is all
+-- what was joined so far, with what is left, is everything
 pub record JoinsLeft (all : List (List (Id × Arrival))) (rest : List (Result SetOut AllocError))
     (items : List (Item Key Input)) (waiting : List (Id × Waiting)) : Type 0 where
   pub left : List (List (Id × Arrival))
@@ -131,7 +132,7 @@ all_joined all out so_far = whole so_far.left so_far.of so_far.items_left so_far
     }
     whole (run ∷ runs) of items_left waiting_left = absurd of
 
--- ---- of pieces
+-- ---- runs as pieces of work
 
 pub of_pieces : {P : Type 0} (of : P → List (Id × Arrival)) (ps : List P)
     (dones : List (Result SetOut AllocError)) → AllZip (λ p done. IsOf (of p) done) ps dones
@@ -141,7 +142,7 @@ of_pieces of [] (d ∷ ds) given = absurd given
 of_pieces of (p ∷ ps) [] given = absurd given
 of_pieces of (p ∷ ps) (d ∷ ds) given = (given.0, of_pieces of ps ds given.1)
 
--- what is joined of all pieces is all that they are runs of
+-- what is joined from all pieces is what all their runs are
 pub whole_set_out : {P : Type 0} (of : P → List (Id × Arrival)) (ps : List P)
     (whole : List (Id × Arrival)) (out : SetOut) → flat_map of ps ≡ whole
     → IsSetOut (each (map of ps)) out → IsSetOut whole out

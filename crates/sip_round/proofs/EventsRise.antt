@@ -1,4 +1,4 @@
--- The events of what a call is given in rounds rise, by round and by place.
+-- The events with which a call is given something in rounds rise, by round and by place.
 use Rattle.std.proofs.Common.{◌≡◌, ◌⊎◌, inl, inr, ℕ, suc, ◌<◌, ◌≤◌, false, List, [], ◌∷◌, ◌++◌, refl, sym, subst, ◌∙◌, arith}
 use Rattle.std.specs.List.{AllByRecursion, IsDistinct}
 use Rattle.std.proofs.lemmas.Grind.{common_steps}
@@ -7,13 +7,13 @@ use Rattle.sip_message.specs.declared.id.Id.{Id}
 use Rattle.sip_common.proofs.Entries.{none_apart}
 use Rattle.sip_common.specs.Ids.{is_id}
 
--- each is of this round, and of a place from this one on, above those before it
+-- each belongs to this round, at this place or later, and above those before it
 abbrev pub Places : ℕ → ℕ → List Id → Type 0
 Places round place [] = Unit {0}
 Places round place (id ∷ ids) =
     (id.round ≡ round) × (place ≤ id.place) × Places round (suc id.place) ids
 
--- each is above those before it, from this round and this place on
+-- each is above those before it, beginning with this round and this place
 abbrev pub Rise : ℕ → ℕ → List Id → Type 0
 Rise round place [] = Unit {0}
 Rise round place (id ∷ ids) = ((round < id.round) ⊎ ((id.round ≡ round) × (place ≤ id.place)))
@@ -50,7 +50,7 @@ other_round x y below = grind (arith, common_steps, below)
 other_place : (x y : Id) → x.place < y.place → is_id x y ≡ false
 other_place x y below = grind (arith, common_steps, below)
 
--- an event below others is none of them
+-- an event below all others isn't one of them
 none_of : (x : Id) (round place : ℕ) (ids : List Id)
     → ((x.round < round) ⊎ ((x.round ≡ round) × (x.place < place))) → Rise round place ids
     → AllByRecursion (λ y. is_id x y ≡ false) ids

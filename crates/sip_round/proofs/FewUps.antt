@@ -1,4 +1,4 @@
--- What a transaction hands up to one input: at most one thing, and to a tick no message.
+-- A transaction hands up at most one thing for one input, and no message at a tick.
 use Rattle.std.proofs.Common.{◌≡◌, ◌⊎◌, inl, inr, ℕ, List, [], ◌∷◌, ◌++◌, refl, sym, subst}
 use Rattle.std.specs.Prelude.{Option, None, Some, filter_map}
 use Rattle.std.specs.List.{cons_option, flat_map}
@@ -34,7 +34,7 @@ events_of items = filter_map (λ item. event_in (Some item)) items
 abbrev pub raised : Id → List Out → List Id
 raised id outs = events_of (flat_map (raised_of id) outs)
 
--- none, or this one
+-- no event, or this one
 abbrev pub Few : Id → List Id → Type 0
 Few id events = (events ≡ []) ⊎ (events ≡ id ∷ [])
 
@@ -45,7 +45,7 @@ few_of_kind id (kind.Response response) = inr refl
 few_of_kind id kind.Timeout = inl refl
 few_of_kind id kind.Failed = inl refl
 
--- what a row hands up, and sends
+-- what a row hands up, and what it sends
 few_told : (id : Id) (key : Key) (to : Addr) (told : Option Out) (sent : Option (List ℕ))
     → Few id (raised id (option_to_list told ++ option_to_list (option_map (send_out key to) sent)))
 few_told id key to None None = inl refl
@@ -88,7 +88,7 @@ few_by id key held now input None = inl refl
 few_by id key held now input (Some step) =
     few_acted id key now input (state_of held) (context_of (role_of key) held input) step
 
--- to one input
+-- for one input
 pub few_ups : (id : Id) (key : Key) (held : Option Life) (timed : Timed Input)
     → Few id (raised id (adds transaction_machine key held timed))
 unfolding stepped
@@ -111,7 +111,7 @@ none_by id key held now None = refl
 none_by id key held now (Some step) = none_acted id key now (state_of held)
     (context_of (role_of key) held None) step
 
--- to a tick
+-- at a tick
 pub no_ups : (id : Id) (key : Key) (held : Option Life) (now : ℕ)
     → raised id (adds transaction_machine key held (tick_at now)) ≡ []
 unfolding stepped

@@ -1,4 +1,4 @@
--- The notices with a Call-ID, of all that rounds give, are those that the call's own history says.
+-- The notices with a Call-ID that rounds give are those that the call's own history says.
 use Rattle.std.proofs.Common.{◌≡◌, ℕ, suc, List, [], ◌∷◌, ◌++◌, refl, sym, ap, ◌∙◌, append-nil, append_assoc, subst}
 use Rattle.std.specs.List.{flat_map}
 use Rattle.std.proofs.lemmas.Cmp.{nat_list_cmp_total}
@@ -40,7 +40,7 @@ notices_shown q (out ∷ outs) =
 
 -- ---- one round
 
--- each call that phases leave is of its own Call-ID
+-- each call that phases leave has its own Call-ID
 abbrev pub AreOwnCalls : Config → List (Phase (List ℕ) (Timed CallItem)) → Type 0
 AreOwnCalls config phases = (key : List ℕ)
     → IsCallOf key (states_after call_cmp (call_machine (calls_of config)) tick_at phases key)
@@ -79,7 +79,7 @@ module _ (q : List ℕ) (config : Config) (number : ℕ) (past : Past) (round : 
 -- ---- over rounds
 
 module _ (config : Config) where
-  -- the calls' phases in rounds of which the first has this number, after a past
+  -- the calls' phases in these rounds, numbered upwards from this number, after a past
   abbrev pub calls_from : ℕ → Past → List Round → List (Phase (List ℕ) (Timed CallItem))
   calls_from number past [] = []
   calls_from number past (round ∷ rounds) = second config number past round

@@ -1,4 +1,4 @@
--- The Sends with a transaction's key, of all that rounds give, are those that its own history says.
+-- The Sends with a transaction's key that rounds give are those that its own history says.
 use Rattle.std.proofs.Common.{◌≡◌, ℕ, suc, ◌≤◌, Bool, true, false, cond, List, [], ◌∷◌, ◌++◌, map, nat_eq, refl, sym, ap, ◌∙◌, append-nil, append_assoc, subst, arith}
 use Rattle.std.specs.Prelude.{Option, filter}
 use Rattle.std.specs.BTreeMap.{is_at}
@@ -39,7 +39,7 @@ use Rattle.sip_round.proofs.Said.{told_by_transactions, transactions_say}
 
 -- ---- what a transaction says, and what calls say
 
--- the Sends with a key of what a transaction sends or drops
+-- the Sends with a key, of what a transaction sends or drops
 abbrev picked : Key → Out → List Output
 picked q out = sends_with q (sent_of out)
 
@@ -54,7 +54,7 @@ sends_said q (out ∷ outs) =
     sends_append q (sent_of out) (flat_map sent_of outs)
     ∙ ap (λ sends. picked q out ++ sends) (sends_said q outs)
 
--- what a call says has no transaction's key
+-- what a call says never has a transaction's key
 none_shown : (q : Key) (outs : List CallOut) → sends_with q (flat_map shown_of outs) ≡ []
 none_shown q [] = refl
 none_shown q (call_out.Notice notice ∷ outs) = none_shown q outs
@@ -77,12 +77,12 @@ other_place : (place at : ℕ) → suc place ≤ at → nat_eq place at ≡ fals
 other_place place at above = grind (arith, common_steps, above)
 
 module _ (q : Key) (now round : ℕ) (said : ℕ → List Out) where
-  -- what is said from a place on, is said of these items
+  -- what is said from a place on is said for these items
   abbrev TellFrom : ℕ → (Key → Option Life) → List (model.Item Key Input) → Type 0
   TellFrom place states items =
       (at : ℕ) → place ≤ at → said at ≡ TellsAt at (told_by states now items)
 
-  -- the Sends of these arrivals are those that their items say
+  -- the Sends for these arrivals are those that their items say
   abbrev SendsOf : List (Id × Arrival) → (Key → Option Life) → List (model.Item Key Input) → Type 0
   SendsOf arrivals states items = sends_with q (flat_map (sent_at said) arrivals)
       ≡ flat_map (picked q) (joined (told_by states now items))

@@ -18,7 +18,7 @@ some_calls shards are =
     subst (λ n. 0 < n) (sym (map_long (λ shard. shard.held) shards.calls))
     (subst (λ n. 0 < n) (sym are.2) are.0)
 
--- ---- what is so of each shard, and of what each holds
+-- ---- what is true of each shard is true of what each holds
 
 module _ {X Y : Type 0} (P : Y → Type 0) (f : X → Y) where
   pub of_held : (xs : List X) → AllByRecursion (λ x. P (f x)) xs → AllByRecursion P (map f xs)

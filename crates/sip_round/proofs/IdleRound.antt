@@ -1,4 +1,4 @@
--- A round without events in which nothing is due.
+-- A round without events in which nothing is due changes nothing and gives nothing.
 use Rattle.std.proofs.Common.{◌≡◌, ℕ, ◌<◌, true, false, List, [], length, refl, sym, subst}
 use Rattle.std.specs.List.{AllByRecursion}
 use Rattle.std.specs.List.Sorted.{IsStrictlySortedBy}

@@ -1,4 +1,4 @@
--- What is said, as it is given in a form.
+-- Outputs, in the form in which they are given.
 use Rattle.std.proofs.Common.{◌≡◌, ℕ, List, [], ◌∷◌, ◌++◌, map, refl, sym, ◌∙◌, ap, append_assoc}
 use Rattle.std.specs.List.{flat_map}
 use Rattle.std.proofs.lemmas.List.{map-append}
@@ -15,7 +15,7 @@ map-flat_map h f [] = refl
 map-flat_map h f (x ∷ xs) =
     map-append h (f x) (flat_map f xs) ∙ ap (λ more. map h (f x) ++ more) (map-flat_map h f xs)
 
--- outputs that were given behind one another are given together
+-- outputs given one after another are given together
 pub given_together : {F : Type 0} (form : ℕ → Output → F) (one two three : List PlacedOutput)
     (first second third : List F) → first ≡ in_form form one → second ≡ first ++ in_form form two
     → third ≡ second ++ in_form form three → third ≡ in_form form ((one ++ two) ++ three)
@@ -25,7 +25,7 @@ given_together form one two three first second third is_one is_two is_three =
     (is_two ∙ ap (λ os. os ++ in_form form two) is_one ∙ sym (map-append _ one two))
     ∙ sym (map-append _ (one ++ two) three)
 
--- ---- what is said at the ticks, and then by events or items that have a place
+-- ---- what is said at the ticks, and then for events or items with a place
 
 module _ {W O : Type 0} (says : O → List Output) (place : W → ℕ) (outs : W → List O) where
   abbrev pub told : List O → List W → List PlacedOutput
@@ -46,11 +46,11 @@ module _ {W O : Type 0} (says : O → List Output) (place : W → ℕ) (outs : W
       ∙ (λ i. flat_map (λ out. in_form form (at_place 0 (says out))) ticks
       ++ flat_map (λ w. map-flat_map given (by w) (outs w) i) ws)
 
--- ---- of one phase, behind what was given before
+-- ---- one phase, behind what was given before
 
 module _ {O F : Type 0} (says : O → List Output) (form : ℕ → Output → F)
     (before middle after : List F) where
-  -- where other places give the same
+  -- other places that give the same
   pub by_places : {L : Type 0} (place other : ℕ → ℕ) (ticks : List (L × List O))
       (said : List (ℕ × List O)) → ((index : ℕ) → form (other index) ≡ form (place index))
       → middle ≡ before ++ each (λ out. in_form form (at_place 0 (says out))) ticks
@@ -77,7 +77,7 @@ module _ {O F : Type 0} (says : O → List Output) (form : ℕ → Output → F)
           map-map _ _ outputs ∙ ap (λ given. map given outputs) (same index)
           ∙ sym (map-map _ _ outputs)
 
-  -- all of it with place 0
+  -- all of it, with place 0
   pub at_no_place : {L M : Type 0} (ticks : List (L × List O)) (said : List (M × List O))
       → middle ≡ before ++ each (λ out. in_form form (at_place 0 (says out))) ticks
       → after ≡ middle ++ each (λ out. in_form form (at_place 0 (says out))) said

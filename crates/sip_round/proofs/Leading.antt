@@ -49,7 +49,7 @@ joined_by_place : {K O : Type 0} (told : List ((ℕ × K) × List O))
 joined_by_place [] = refl
 joined_by_place (t ∷ ts) = ap (λ more. t.1 ++ more) (joined_by_place ts)
 
--- what was said, shard by shard in order, is all that is said
+-- the outputs of all shards, one shard after another, are all outputs
 whole : {K O : Type 0} (told : PhaseOutputs K O) (ticks : List (K × List O))
     (said : List (ℕ × List O))
     → ticks ≡ told.ticks → said ≡ map by_place told.items
@@ -83,7 +83,7 @@ module _ (owner : Key → ℕ) (old new : List (Held Key Life)) (number now : �
       ((law past (first_phase now arrived)).by_place
       ∙ places_timed now (transaction_items arrived))
 
-  -- what is sent and dropped of what waited
+  -- what is sent and dropped for what waited
   abbrev pub first_given : List (Id × Waiting) → List PlacedOutput
   first_given waiting = told sent_of (λ w. (w.0).place) (λ w. w.1) (joined ticks)
       (by_event waiting said)
@@ -129,9 +129,9 @@ module _ (owner : Key → ℕ) (old new : List (Held Key Life)) (number now : �
         ++ w.2) (λ a. (a.0, outs_of (said_at told) a.0 a.1, user_items a.0 a.1)) arrived));
   }
 
--- ---- the second and the third
+-- ---- the second and the third phase
 
--- what is shown at the ticks, and of these items
+-- what is shown at the ticks, and for these items
 abbrev pub second_given : List (Id × Item) → List (List ℕ × List CallOut)
     → List (ℕ × List CallOut) → List PlacedOutput
 second_given items ticks said = told shown_of (λ group. place_of items group.0) (λ group. group.1)

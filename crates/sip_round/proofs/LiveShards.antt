@@ -1,4 +1,4 @@
--- How much the shards of an agent hold that stands for rounds.
+-- How much the shards of an agent hold if it stands for rounds.
 use Rattle.std.proofs.Common.{◌≡◌, ◌<◌, ℕ, List, All, Some, sym, ◌∙◌, ap, subst, length, is_some}
 use Rattle.std.specs.Prelude.{count_by, sum_by, unwrap_or}
 use Rattle.std.proofs.lemmas.Map.Lookups.{exact_bytes}

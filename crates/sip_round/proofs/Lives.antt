@@ -16,7 +16,8 @@ module _ {K S I O : Type 0} (machine : Machine K S I O) (key : K) where
       (outputs_from machine key (state_from machine key (next machine key state input) before)
       after))
 
-  -- what inputs add is what is said before a life, to its first, to the rest of it, and after it
+  -- the outputs of inputs are those before a life, to its first input, to the rest of it, and after
+  -- it
   pub in_lives : {inputs : List I} (life : LifeIn machine key inputs)
       → outputs_from machine key None inputs
       ≡ outputs_from machine key None life.before

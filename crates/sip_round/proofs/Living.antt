@@ -37,7 +37,7 @@ sum_same f g same [] = refl
 sum_same f g same (x ∷ xs) = sum_by-cons f x xs ∙ ap (λ n. n + sum_by f xs) (same x)
     ∙ ap (λ n. g x + n) (sum_same f g same xs) ∙ sym (sum_by-cons g x xs)
 
--- one more of a list is summed
+-- the sum with one more element of a list
 pub summed : {X : Type 0} (f : X → ℕ) (xs : List X) (k : ℕ) (x : X) (total more newer : ℕ)
     → k < length xs → x ≡ get_or xs k x → total ≡ sum_by f (take k xs) → more ≡ f x
     → newer ≡ total + more → newer ≡ sum_by f (take (k + 1) xs)
@@ -51,7 +51,7 @@ summed f xs k x total more newer below here so_far adds is =
     only : {X : Type 0} (f : X → ℕ) (x : X) → sum_by f (x ∷ []) ≡ f x
     only f x = sum_by-cons f x [] ∙ omega arith
 
--- a number from one on, among so many
+-- a number in a range that begins with a number and has so many
 abbrev inside : ℕ → ℕ → ℕ → Bool
 inside number count o = nat_le number o && nat_lt o (number + count)
 
@@ -131,7 +131,7 @@ module _ {K S I O : Type 0} {cmp : K → K → Ordering} (total : IsTotalOrder c
       held_of true s some = some
       held_of false s some = absurd cc
 
-  -- all shards together hold as many keys as have a state
+  -- all shards together hold as many keys as there are keys with a state
   pub counted : (tables : List (Held K S)) (live : ℕ) → ((key : K) → owner key < length tables)
       → HoldFrom cmp machine tick owner zero tables phases
       → ((keys : List K) → All (λ table. Covers cmp keys (state_at cmp table)) tables

@@ -1,5 +1,5 @@
--- In any rounds the requests that come to a transaction, and its starts, have different ids: those
--- of a server's rise, and under no id a client's is started twice.
+-- In any rounds, the requests that come to a server transaction have rising ids, and no client
+-- transaction is started twice under the same id.
 use Rattle.std.proofs.Common.{◌≡◌, ◌⊎◌, inl, inr, ℕ, suc, ◌≤◌, Bool, true, false, cond, List, [], ◌∷◌, ◌++◌, map, refl, sym, ap, subst, ◌∙◌, append_assoc, append-nil, arith}
 use Rattle.std.specs.Prelude.{Option, None, Some, Result, Ok, Err, filter, filter_map, if◌then◌else◌}
 use Rattle.std.specs.BTreeMap.{is_at}
@@ -64,7 +64,7 @@ names key items = filter_map name_of (inputs_of key_cmp items key)
 
 -- ---- the first phase
 
--- an input names nothing, or its own event, and then it is one of a server
+-- an input names nothing, or its own event; if it names one, it is a server's
 abbrev pub Named : Id → Key → Option Input → Type 0
 Named id k input = (naming_id input ≡ None) ⊎ (IsServer k × (naming_id input ≡ Some id))
 
@@ -111,7 +111,7 @@ arrival_named local id (event.Datagram from bytes) = read_named local id from (m
 arrival_named local id (event.Failed k) = inl refl
 arrival_named local id (event.Command command) = tt
 
--- with one item more
+-- the names with one more item
 abbrev with_one : Key → model.Item Key (Timed Input) → List (model.Item Key (Timed Input)) → Bool
     → List Id
 with_one k item rest hit = filter_map name_of
@@ -212,7 +212,7 @@ starts_ordered (call_out.Command id command ∷ outs) =
     ap (cons_option (start_of id command)) (starts_ordered outs)
 starts_ordered (call_out.Direct to bytes ∷ outs) = starts_ordered outs
 
--- no more starts name a client's transaction than the calls started under that id
+-- at most as many starts name a client transaction as calls started it under that id
 third_few : (x : Id) (k : Key) (now at : ℕ) (orders : List (Id × Command))
     → how_many x (names k (timed_items now (command_items at orders)))
     ≤ how_many x (ids_of (order_starts orders))
@@ -372,7 +372,7 @@ module _ (config : Config) where
         holds = step rest.more rest.holds;
       }
 
-  -- ---- a transaction of a server: its names rise
+  -- ---- a server transaction: its names rise
 
   module _ (branch : List ℕ) (sent_by : SentBy) (method : List ℕ) where
     abbrev server : Key
@@ -410,7 +410,7 @@ module _ (config : Config) where
         (server_placed number past round) rise))
         (rising rounds (suc number) (past_after config number past round))
 
-  -- ---- a transaction of a client: it is started under no id twice
+  -- ---- a client transaction: under no id it is started twice
 
   module _ (branch method : List ℕ) (x : Id) where
     abbrev client : Key

@@ -1,4 +1,4 @@
--- What the tables of all shards hold, and the first moment at which something is due in them.
+-- What the tables of all shards hold, and the first moment at which something in them is due.
 use Rattle.std.proofs.Common.{◌≡◌, ◌⊎◌, inl, inr, ◌<◌, ◌≤◌, ℕ, zero, suc, ◌+◌, true, false, cond, List, [], ◌∷◌, ◌++◌, length, nat_eq, refl, sym, ap, subst, ◌∙◌, arith}
 use Rattle.std.specs.Prelude.{IsSome, None, Option, Some, unwrap_or}
 use Rattle.std.specs.List.{AllByRecursion}
@@ -43,7 +43,7 @@ module _ {K S I O : Type 0} {cmp : K → K → Ordering} (total : IsTotalOrder c
     (exact : CmpEqualImpliesEq cmp) (machine : Machine K S I O) (due : S → Option ℕ) (tick : ℕ → I)
     (idle : (moment : ℕ) → machines.IsIdle machine due moment (tick moment)) (owner : K → ℕ)
   where
-    -- of a key that a table owns it holds the state that phases left
+    -- for a key that it owns, a table holds the state that phases left
     own_state : (phases : List (Phase K I)) (number : ℕ) (table : Held K S)
         (tables : List (Held K S)) (key : K)
         → HoldFrom cmp machine tick owner number (table ∷ tables) phases
@@ -72,7 +72,7 @@ module _ {K S I O : Type 0} {cmp : K → K → Ordering} (total : IsTotalOrder c
         next : (o n : ℕ) → nat_eq o n ≡ false → n ≤ o → suc n ≤ o
         next o n isnt low = grind (arith, common_steps, isnt, low)
 
-    -- two pasts that the same tables hold leave of each key the same
+    -- if the same tables hold two pasts, these left the same for each key
     pub left_alike : (one other : List (Phase K I)) (tables : List (Held K S))
         → ((key : K) → owner key < length tables)
         → HoldFrom cmp machine tick owner zero tables one
@@ -89,7 +89,7 @@ module _ {K S I O : Type 0} {cmp : K → K → Ordering} (total : IsTotalOrder c
     sound_all phases number (table ∷ tables) hold =
         (hold.0.sound, sound_all phases (suc number) tables hold.1)
 
-    -- what is due in a table is due of what the phases left
+    -- what is due in a table is due in what the phases left
     pub due_after : (phases : List (Phase K I)) (number : ℕ) (tables : List (Held K S)) (at : ℕ)
         → HoldFrom cmp machine tick owner number tables phases → IsDueIn cmp due at tables
         → (key : K) × (due_of due (states_after cmp machine tick phases key) ≡ Some at)
@@ -162,7 +162,7 @@ module _ {C : Type 0} (shard_of : C → List ℕ → ℕ → ℕ)
       tick_at (calls.call_ticks_are_idle (calls_of config)) of_calls (past_of config rounds).calls
       zero (calls_held shards) held_calls
 
-  -- where nothing is due in the tables, a round without events is quiet
+  -- if nothing in the tables is due, a round without events is quiet
   pub quiet : ToldInOrder key_cmp transaction_machine tick_at
       → ShardsTellAll key_cmp transaction_machine tick_at
       → ShardsTellAll call_cmp (call_machine agent.calls) tick_at → (moment : ℕ)

@@ -1,4 +1,4 @@
--- What no transaction gives is, of a round's answer, what the calls give in its second phase.
+-- What no transaction gives, the calls give in the second phase of a round's answer.
 use Rattle.std.proofs.Common.{◌≡◌, ℕ, Bool, false, cond, List, [], ◌∷◌, ◌++◌, refl, ap, ◌∙◌, append-nil}
 use Rattle.std.specs.Prelude.{Option, Some, filter}
 use Rattle.std.specs.List.{flat_map}
@@ -18,7 +18,7 @@ use Rattle.sip_round.specs.Answers.{Past, answer, arrivals, first, given_second,
 use Rattle.sip_round.specs.Outputs.{all_said, joined, outs_of, said_at, sent_of, shown_of}
 use Rattle.sip_round.proofs.AnswerParts.{answer_parts, sent_first}
 
--- no Send and no drop passes
+-- no Send and no drop passes the test
 module _ (passes : Output → Bool)
     (no_send : (key : Option Key) (to : Addr) (bytes : List ℕ)
     → passes (output.Send key to bytes) ≡ false)

@@ -1,4 +1,4 @@
--- What a call is given in a round is of its own Call-ID, and a request of its own event.
+-- What a call is given in a round has its own Call-ID, and a request has its own event.
 use Rattle.std.proofs.Common.{◌≡◌, inl, inr, ℕ, suc, Bool, true, false, cond, List, [], ◌∷◌, ◌++◌, map, nat_eq, refl, sym, subst, ◌∙◌, arith}
 use Rattle.std.specs.Prelude.{Option, None, Some, filter}
 use Rattle.std.specs.List.{AllByRecursion, flat_map}
@@ -38,7 +38,7 @@ use Rattle.sip_round.proofs.NamesRise.{ArrivalNamed, Named, arrival_named}
 use Rattle.sip_round.proofs.OwnRequests.{AreOwnUps, IsKindBy, IsOwnUp, own_ups}
 use Rattle.sip_round.proofs.Said.{told_by_transactions, transactions_say}
 
--- ---- an item of its own call, and of its own event
+-- ---- an item with its own call and its own event
 
 abbrev pub IsItemBy : Id → Item → Type 0
 IsItemBy id (Up up) = IsKindBy (Some id) up.id up.kind
@@ -50,7 +50,7 @@ IsOwnItem item = IsItemOf (call_of_item item.1) item.1 × IsItemBy item.0 item.1
 abbrev pub AreOwnItems : List (Id × Item) → Type 0
 AreOwnItems items = AllByRecursion IsOwnItem items
 
--- an input names nothing, or the event of this id
+-- an input names nothing, or the event with this id
 abbrev NamesAlone : Id → Option Id → Type 0
 NamesAlone id event = (own : Id) → event ≡ Some own → Some id ≡ Some own
 
@@ -81,7 +81,7 @@ raised_own id event alone (out.Send key to bytes ∷ outs) all =
 raised_own id event alone (out.Dropped place why ∷ outs) all =
     raised_own id event alone outs all.1
 
--- to a tick no request
+-- no request at a tick
 ticks_own : (now : ℕ) (states : Key → Option Life) (keys : List Key)
     → AreOwnUps None (joined (map (λ key. (
       key,
@@ -98,7 +98,7 @@ ticks_own now states (key ∷ keys) =
 abbrev event_at : ℕ → ℕ → Id
 event_at round place = record { round = round; place = place }
 
--- each item names nothing, or the event of its place
+-- each item names nothing, or the event at its place
 abbrev NameTheirOwn : ℕ → List (model.Item Key (Timed Input)) → Type 0
 NameTheirOwn round items =
     AllByRecursion (λ item. NamesAlone (event_at round item.place) (naming_id item.input.input))

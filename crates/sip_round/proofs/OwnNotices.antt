@@ -1,4 +1,4 @@
--- A call of a Call-ID, given what is of it, tells notices with that Call-ID alone.
+-- A call that is given what belongs to its Call-ID gives only notices with that Call-ID.
 use Rattle.std.proofs.Common.{◌≡◌, ℕ, Bool, true, false, cond, List, [], ◌∷◌, ◌++◌, refl, ◌∙◌}
 use Rattle.std.specs.BTreeMap.{is_at}
 use Rattle.std.specs.List.{AllByRecursion, flat_map}
@@ -15,7 +15,7 @@ use Rattle.sip_round.specs.declared.output.Output.{Output}
 use Rattle.sip_round.specs.Given.{notice_in, notices_of}
 use Rattle.sip_round.specs.Outputs.{shown_of}
 
--- the notices with a Call-ID of what a call tells or sends
+-- the notices with a Call-ID, of what a call says to tell or send
 abbrev pub picked : List ℕ → CallOut → List Output
 picked q out = notices_of q (shown_of out)
 

@@ -1,5 +1,5 @@
--- A transaction speaks under its own key alone: so it is with all that is chosen of its outputs,
--- where it is so with an output of each kind.
+-- A transaction speaks only under its own key. So it does in any choice of its outputs, if that is
+-- true of each kind of output.
 use Rattle.std.proofs.Common.{◌≡◌, ℕ, Bool, true, false, cond, List, [], ◌∷◌, ◌++◌, refl, sym, subst}
 use Rattle.std.specs.Prelude.{Option, None, Some, option_map, option_to_list}
 use Rattle.std.specs.BTreeMap.{is_at}
@@ -35,7 +35,7 @@ use Rattle.sip_round.specs.Answers.{said_by_transactions}
 use Rattle.sip_round.specs.Outputs.{all_said}
 use Rattle.sip_round.proofs.Said.{transactions_say}
 
--- of a transaction nothing else is asked
+-- nothing else is required of a transaction
 abbrev AnyHeld : Key → Option Life → Type 0
 AnyHeld key held = Unit {0}
 
@@ -52,11 +52,12 @@ module _ (X : Type 0) where
   more_own true xs ys zs ws first later = λ i. first i ++ later i
   more_own false xs ys zs ws first later = λ i. first i ++ later i
 
--- of an output of the transaction of a key that key picks all that is chosen, another nothing
+-- of an output of a key's transaction, that key picks all that is chosen, and another key picks
+-- nothing
 abbrev IsOwn : (X : Type 0) → (Out → List X) → (Key → Out → List X) → Key → Key → Out → Type 0
 IsOwn X chosen picked q key o = picked q o ≡ cond (is_at (key_cmp q) key) (chosen o) []
 
--- so with each kind
+-- this is true of each kind of output
 pub record AreAllOwn (X : Type 0) (chosen : Out → List X) (picked : Key → Out → List X)
     : Type 0 where
   pub sends : (q key : Key) (to : Addr) (bytes : List ℕ)
@@ -79,7 +80,7 @@ module _ (X : Type 0) (chosen : Out → List X) (picked : Key → Out → List X
         let own = is_at (key_cmp q) key in
         more_own X own _ _ _ _ (all.sends q key to bytes) (none_own X own)
 
-    -- what a row hands up or drops, and sends
+    -- what a row hands up or drops, and what it sends
     own_told : (q key : Key) (context : Context) (h : Handed) (arrived : Option (Message × Addr))
         (sent : Option (List ℕ))
         → Own q key (option_to_list (handed_out key context h arrived)
@@ -130,7 +131,7 @@ module _ (X : Type 0) (chosen : Out → List X) (picked : Key → Out → List X
     any_items [] = tt
     any_items (item ∷ items) = (tt, any_items items)
 
-    -- what a key picks of a phase is what is chosen of what its own transaction says
+    -- what a key picks from a phase is what is chosen from what its own transaction says
     pub phase_own : (q : Key) (before : List (Phase Key (Timed Input)))
         (phase : Phase Key (Timed Input))
         → flat_map (picked q) (all_said (said_by_transactions before phase))

@@ -1,5 +1,5 @@
--- A request is handed up by the input that begins its life: so its message has the life's Call-ID,
--- and it is handed up under the id of that input.
+-- A request is handed up with the input that begins its life. So its message has the life's
+-- Call-ID, and it is handed up under the id of that input.
 use Rattle.std.proofs.Common.{◌≡◌, ℕ, ◌+◌, true, false, cond, List, [], ◌∷◌, refl, sym, ◌∙◌, ap, subst, arith}
 use Rattle.std.specs.Prelude.{Option, None, Some, option_to_list, codes, if◌then◌else◌}
 use Rattle.std.specs.List.{AllByRecursion}
@@ -35,7 +35,7 @@ use Rattle.sip_transactions.proofs.OneRequest.{held_silent}
 use Rattle.sip_common.specs.OwnCall.{IsKindOf}
 use Rattle.sip_common.proofs.Each.{both}
 
--- a request is of this event
+-- a request belongs to this event
 abbrev pub IsKindBy : Option Id → Id → Kind → Type 0
 IsKindBy event id (kind.Request request reply_to) = event ≡ Some id
 IsKindBy event id (kind.Ack ack) = Unit {0}
@@ -43,7 +43,7 @@ IsKindBy event id (kind.Response response) = Unit {0}
 IsKindBy event id kind.Timeout = Unit {0}
 IsKindBy event id kind.Failed = Unit {0}
 
--- a request that is handed up has the Call-ID under which it is, and the id of this event
+-- a request that is handed up has the Call-ID under which it is handed up, and the id of this event
 abbrev pub IsOwnUp : Option Id → Out → Type 0
 IsOwnUp event (out.Up up) = IsKindOf up.call_id up.kind × IsKindBy event up.id up.kind
 IsOwnUp event (out.Send key to bytes) = Unit {0}
@@ -57,7 +57,7 @@ sends_own : (event : Option Id) (key : Key) (to : Addr) (sent : Option (List ℕ
 sends_own event key to None = tt
 sends_own event key to (Some bytes) = (tt, tt)
 
--- ---- to a life that is held no request is handed up
+-- ---- a held life hands up no request
 
 none_first : (o : Out) (outs : List Out) → requests_in (o ∷ outs) ≡ 0 → is_request_up o ≡ false
 none_first o outs none =

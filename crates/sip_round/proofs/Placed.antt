@@ -1,4 +1,4 @@
--- One event more, by place.
+-- One more event, by place.
 use Rattle.std.proofs.Common.{◌≡◌, ℕ, suc, ◌+◌, ◌<◌, List, ◌∷◌, ◌++◌, ◌∙◌, sym, ap, length, drop, get_or, append_assoc, arith}
 use Rattle.std.proofs.Math.Seq.{drop-cons}
 use Rattle.sip_message.specs.declared.addr.Addr.{Addr}
@@ -25,7 +25,7 @@ next_arrival local round place index event events within item =
     ) ∷ arrivals_from local round n (drop (index + 1) events)) (sym (one_more place))
     ∙ ap (arrivals_from local round place) left)
 
--- what is made of a list, one element further
+-- a list was mapped one element further
 pub further : {A B : Type 0} (of : List A → List B) (a : A) (made front newer whole : List B)
     {left rest : List A} → left ≡ a ∷ rest → of (a ∷ rest) ≡ made ++ of rest
     → newer ≡ front ++ made → front ++ of left ≡ whole → newer ++ of rest ≡ whole

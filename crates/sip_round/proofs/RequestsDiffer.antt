@@ -1,5 +1,5 @@
--- In any rounds the ids of the requests that come up for a call rise, and none comes up twice: each
--- is that of its own event.
+-- In any rounds, the ids of the requests that come up for a call rise, and none comes up twice.
+-- Each is the id of the request's own event.
 use Rattle.std.proofs.Common.{◌≡◌, ◌⊎◌, inl, inr, ℕ, suc, Bool, false, cond, List, [], ◌∷◌, map, sym, refl, ap, subst}
 use Rattle.std.specs.Prelude.{Option, None, Some, filter, filter_map}
 use Rattle.std.specs.BTreeMap.{is_at}
@@ -36,9 +36,9 @@ use Rattle.sip_round.proofs.OwnItems.{AreOwnItems, IsItemBy, items_own}
 use Rattle.sip_round.proofs.OwnRequests.{IsKindBy}
 use Rattle.sip_round.proofs.RequestsRise.{rise_sorted}
 
--- ---- a request is of its own event
+-- ---- a request belongs to its own event
 
--- it brings no request, or that of its own event
+-- it brings no request, or one with its own event's id
 abbrev BringsItsOwn : Timed CallItem → Type 0
 BringsItsOwn timed = (request_brought timed.input ≡ None)
     ⊎ (request_brought timed.input ≡ event_in timed.input)
@@ -88,7 +88,7 @@ rounds_bring config key number past (round ∷ rounds) =
     )
     (rounds_bring config key (suc number) next rounds)
 
--- ---- so they differ where their events do
+-- ---- so requests differ if their events do
 
 abbrev events_in : List (Timed CallItem) → List Id
 events_in inputs = filter_map (λ timed. event_in timed.input) inputs

@@ -1,5 +1,5 @@
--- Of all that rounds give, at most one notice `request` has an id: a request comes up under the id
--- of its own event, and events differ.
+-- At most one notice `request` that rounds give has a given id: a request comes up under the id of
+-- its own event, and events differ.
 use Rattle.std.proofs.Common.{◌≡◌, ℕ, suc, ◌+◌, ◌≤◌, Bool, true, false, cond, List, [], ◌∷◌, ◌++◌, map, length, refl, sym, ap, subst, ◌∙◌, arith}
 use Rattle.std.specs.Prelude.{Option, None, Some, filter, filter_map, unwrap_or}
 use Rattle.std.specs.List.{flat_map}
@@ -100,7 +100,7 @@ module _ (x : Id) where
         tells_append (out ∷ []) outs,
       )
 
-  -- ---- what calls tell in a round, of the requests that come up
+  -- ---- what calls tell in a round about the requests that come up
 
   abbrev coming : List (Id × Item) → ℕ
   coming [] = 0
@@ -175,7 +175,7 @@ module _ (x : Id) where
         items_tell calls round.moment 0 between (items_of_round config number past round),
       ))
 
-  -- ---- each that comes up is of an event of its own
+  -- ---- each request that comes up has an event of its own
 
   same_event : (id own : Id) → Some id ≡ Some own → own ≡ id
   same_event id own is = sym (ap (λ o. unwrap_or o id) is)

@@ -1,5 +1,5 @@
--- Of all that rounds give, the notices `request` come by rising ids: each is told by the input that
--- brings it, under the id of its own event, and events rise.
+-- The notices `request` that rounds give come by rising ids: each is told by the input that brings
+-- the request, under the id of its own event, and events rise.
 use Rattle.std.proofs.Common.{◌≡◌, ◌⊎◌, inl, inr, ℕ, suc, ◌<◌, ◌≤◌, Bool, true, false, cond, List, [], ◌∷◌, ◌++◌, map, refl, sym, ap, subst, ◌∙◌, arith}
 use Rattle.std.specs.Prelude.{Option, None, Some, filter, filter_map, is_some}
 use Rattle.std.specs.List.{AllByRecursion, cons_option, flat_map}
@@ -159,7 +159,7 @@ none_at_all [] few = refl
 none_at_all (y ∷ ys) few =
     absurd (omega (arith, few y, counted_one y y ys (id_itself y)))
 
--- ids among which each other than this one is not, and this one is once at most
+-- ids none of which is another than this one, and among which this one is at most once
 few_are : (own : Id) (ids : List Id)
     → ((x : Id) → how_many x ids ≤ cond (is_id x own) 1 0) → (ids ≡ []) ⊎ (ids ≡ own ∷ [])
 few_are own [] few = inl refl
@@ -192,7 +192,7 @@ few_are own (y ∷ ys) few =
               (subst (λ z. is_id x z ≡ false) (id_exact y own is) apart),
         ))
 
--- no request, or that of this event
+-- no request, or the one of this event
 abbrev AskedBy : Option Id → List Id → Type 0
 AskedBy event ids = (ids ≡ []) ⊎ (ids ≡ cons_option event [])
 
@@ -246,7 +246,7 @@ items_placed calls now at round place states (i ∷ items) all places =
     (λ x. each_told_once calls (states key) (Some i) now x))
     (λ low. items_placed calls now (suc at) round low later items all.1) places)
 
--- a tick tells none
+-- a tick tells of no request
 ticks_ask : (calls : Calls) (now : ℕ) (states : List ℕ → Option Call) (keys : List (List ℕ))
     → asked (joined (map (λ key. (
       key,

@@ -1,4 +1,4 @@
--- One round more.
+-- One more round.
 use Rattle.std.proofs.Common.{◌≡◌, ℕ, suc, ◌+◌, List, [], ◌∷◌, ◌++◌, length, map, refl, sym, ◌∙◌, ap, subst, arith}
 use Rattle.std.proofs.lemmas.List.{length_push}
 use Rattle.std.proofs.lemmas.Option.{same_Some}
@@ -60,7 +60,7 @@ last_moment_from-push moment (r ∷ rs) round = last_moment_from-push r.moment r
 one_later : (next first n more : ℕ) → next ≡ first + n → more ≡ n + 1 → next + 1 ≡ first + more
 one_later next first n more e f = omega (arith, e, f)
 
--- an agent that stands for rounds and dealt with one more stands for these, and its outputs are the
+-- an agent that stood for rounds and has run one more stands for these, and its outputs are the
 -- last of the answers
 pub stands_longer : {C : Type 0} (shard_of : C → List ℕ → ℕ → ℕ) (old new : AgentState C)
     (config : Config) (rounds : List Round) (round : Round) (outputs : List PlacedOutput)
@@ -110,7 +110,7 @@ stands_longer shard_of old new config rounds round outputs leads same_calls same
           (sym answered);
     }
 
--- the same of an agent of which nothing happened in it, in whatever form outputs are given
+-- the same for an agent to which nothing happened in the round, in any form of outputs
 pub passed_longer : {C F : Type 0} (shard_of : C → List ℕ → ℕ → ℕ) (form : ℕ → Output → F)
     (old new : AgentState C) (round : Round) (given : List F)
     → new ≡ record old { next_round = old.next_round + 1; last_moment = round.moment }
@@ -133,7 +133,7 @@ passed_longer {C} shard_of form old new round given same deals none = (
       (ap (λ (agent : AgentState C). agent.last_moment) same) stands,
 )
 
--- the same of an agent whose shards went through its phases and came back
+-- the same for an agent whose shards went through its phases and came back
 pub ended_longer : {C F : Type 0} (shard_of : C → List ℕ → ℕ → ℕ) (form : ℕ → Output → F)
     (old mid new : AgentState C) (round : Round) (given : List F) (before led : ShardTables)
     (calls : Calls) (number : ℕ) → old.shards ≡ Some before
@@ -177,7 +177,7 @@ ended_longer {C} shard_of form old mid new round given before led calls number h
           (ap (λ (agent : AgentState C). agent.last_moment) same) stands,
     )
 
--- the same with the places, where outputs are given with these
+-- the same with the places, if outputs are given with these
 pub placed_longer : {C : Type 0} (shard_of : C → List ℕ → ℕ → ℕ) (old new : AgentState C)
     (round : Round) (given : List PlacedOutput)
     → GivesOneMore shard_of (λ place output. record { place = place; output = output }) old new
@@ -194,7 +194,7 @@ placed_longer shard_of old new round given gives config rounds stands =
 
 -- ---- the first round that is refused
 
--- rounds that aren't refused, and one more
+-- rounds that aren't refused, with one more
 pub refused_from-push : (number moment index : ℕ) (rounds : List Round) (round : Round)
     (more : List Round) → refused_from number moment index rounds ≡ None
     → refused_from number moment index (rounds ++ round ∷ more)

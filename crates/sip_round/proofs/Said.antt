@@ -1,4 +1,4 @@
--- What is said by each one's own inputs is what is told by the states of all.
+-- What is said by each key's own inputs is what is told by the states of all keys.
 use Rattle.std.proofs.Common.{◌≡◌, ◌∙◌, ℕ, List, sym}
 use Rattle.std.proofs.lemmas.Cmp.{nat_list_cmp_total}
 use Rattle.std.proofs.lemmas.Map.Lookups.{exact_bytes}
@@ -19,7 +19,7 @@ use Rattle.sip_calls.specs.Call.{CallItem, call_machine}
 use Rattle.sip_calls.specs.CallShard.{call_cmp}
 use Rattle.sip_round.specs.Answers.{said_by_calls, said_by_transactions}
 
--- ---- of a phase: as the code tells it, and as the rules say it
+-- ---- a phase, as the code tells it and as the rules say it
 
 abbrev pub told_by_transactions : List (Phase Key (Timed Input)) → Phase Key (Timed Input)
     → PhaseOutputs Key Out
@@ -40,7 +40,7 @@ pub calls_say : (calls : Calls) (past : List (Phase (List ℕ) (Timed CallItem))
 calls_say calls past phase =
     sym (said_by_histories nat_list_cmp_total exact_bytes (call_machine calls) tick_at past phase)
 
--- ---- of one key: what phases say of it is what its own inputs add
+-- ---- one key: what phases say for it is what its own inputs add
 
 pub transaction_alone : EachKeyAlone key_cmp transaction_machine tick_at
     → (before phases : List (Phase Key (Timed Input))) (key : Key)

@@ -1,4 +1,5 @@
--- What a call says to send in a dialog ends with the requests that went out in it since it opened.
+-- What a call says to send in a dialog ends with the requests that have gone out in it since it
+-- opened.
 use Rattle.std.proofs.Common.{◌≡◌, ℕ, Bool, true, false, List, [], ◌∷◌, ◌++◌, refl, sym, ap, subst, ◌∙◌, append-nil, append_assoc}
 use Rattle.std.specs.Prelude.{Option, None, Some, if◌then◌else◌}
 use Rattle.std.specs.Option.{option_map}
@@ -17,7 +18,7 @@ use Rattle.sip_calls.specs.Call.{CallItem, call_machine, call_step}
 use Rattle.sip_calls.specs.Histories.{History, begun_with, history_after, history_from, history_of, is_born_of, happens_in, opening_in, with_more}
 use Rattle.sip_calls.specs.Provisionals.{event_in, side_held}
 
--- what was said ends with what was sent since the dialog opened
+-- what was said ends with what has been sent since the dialog opened
 abbrev EndsSo : List CSeq → Option History → Type 0
 EndsSo said None = Unit {0}
 EndsSo said (Some history) = (earlier : List CSeq) × (said ≡ earlier ++ history.sent)

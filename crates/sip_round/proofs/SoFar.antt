@@ -12,7 +12,7 @@ use Rattle.sip_round.specs.AgentState.{AgentState, round_fault, refusal_of}
 use Rattle.sip_round.specs.Answers.{answers, last_moment, last_moment_from, refused, refused_or, refused_from, EndsWithoutMemory, StandsFor}
 use Rattle.sip_round.proofs.Runs.{refused_from-push}
 
--- the agent stands for the first rounds, whose answers were made, and none of which was refused
+-- the agent stands for the first rounds; their answers were made, and none of them was refused
 pub record RunsSoFar {C : Type 0} (shard_of : C → List ℕ → ℕ → ℕ) (config : Config)
     (rounds : List Round) (index : ℕ) (agent : AgentState C)
     (made : List (Vec Output Global)) : Type 0 where
@@ -42,7 +42,7 @@ module _ {C : Type 0} (shard_of : C → List ℕ → ℕ → ℕ) where
       ap (λ held. if is_some held then round_fault agent.last_moment agent.next_round round
       else Some Broken) stands.sound
 
-  -- what an agent that stands for rounds refuses is what the rounds refuse
+  -- an agent that stands for rounds refuses what the rounds refuse
   same_fault : (agent : AgentState C) (config : Config) (rounds : List Round) (round : Round)
       → StandsFor shard_of agent config rounds
       → refusal_of agent round ≡ round_fault (last_moment_from 0 rounds)
@@ -61,7 +61,7 @@ module _ {C : Type 0} (shard_of : C → List ℕ → ℕ → ℕ) where
       ap (λ r. take index rounds ++ r ∷ []) item ∙ sym (take-suc rounds index round within)
       ∙ ap (λ n. take n rounds) one
 
-  -- where the agent refuses no round up to this one, none is refused
+  -- if the agent refuses no round up to this one, none of these rounds is refused
   pub one_unrefused : (config : Config) (rounds : List Round) (index : ℕ) (round : Round)
       (agent : AgentState C) (made : List (Vec Output Global))
       → RunsSoFar shard_of config rounds index agent made → index < length rounds
@@ -154,7 +154,7 @@ module _ {C : Type 0} (shard_of : C → List ℕ → ℕ → ℕ) where
       pick (inl e) = (false, same_error fault (NoMemory false) (sym err ∙ e))
       pick (inr e) = (true, same_error fault (NoMemory true) (sym err ∙ e))
 
-  -- a round that wasn't: for want of memory, or because it is refused
+  -- a round that wasn't answered ran out of memory, or is refused
   pub ends : (X : Type 0) {T : Type 0} (config : Config) (rounds : List Round) (index : ℕ)
       (round : Round) (agent : AgentState C) (made : List (Vec Output Global))
       (r : Result T RoundFault) (fault : RoundFault)

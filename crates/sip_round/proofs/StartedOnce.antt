@@ -1,5 +1,5 @@
--- In any rounds a transaction of a client is started once at most under an id: under that of the
--- event by which it starts, or under that of the command whose CANCEL waited.
+-- In any rounds, a client transaction is started at most once under an id. This is the id of the
+-- event with which it starts, or of the command whose CANCEL waited.
 use Rattle.std.proofs.Common.{◌≡◌, ℕ, suc, ◌+◌, ◌≤◌, true, false, cond, List, [], ◌∷◌, ◌++◌, map, refl, sym, ap, subst, ◌∙◌, zero-add, arith}
 use Rattle.std.specs.Prelude.{Option, None, filter}
 use Rattle.std.specs.List.{AllByRecursion, IsDistinct}
@@ -61,7 +61,7 @@ none_counted : (x : Id) (xs : List Id) → AllByRecursion (λ y. is_id x y ≡ f
 none_counted x [] all = refl
 none_counted x (y ∷ ys) all = counted_none x y ys all.0 ∙ none_counted x ys all.1
 
--- of ids that differ each is there once at most
+-- each of several different ids is there at most once
 pub once_of_distinct : (x : Id) (xs : List Id) → IsDistinct is_id xs → how_many x xs ≤ 1
 once_of_distinct x [] apart = omega arith
 once_of_distinct x (y ∷ ys) apart =
@@ -101,7 +101,7 @@ id_itself x = grind (arith, common_steps)
 is_itself : (x : Id) (xs : List Id) → how_many x (x ∷ xs) ≡ 1 + how_many x xs
 is_itself x xs = counted_one x x xs (id_itself x)
 
--- ids of which each is there once at most differ
+-- ids each of which is there at most once are different
 pub distinct_of_once : (xs : List Id) → ((x : Id) → how_many x xs ≤ 1) → IsDistinct is_id xs
 distinct_of_once [] once = none_apart is_id
 distinct_of_once (y ∷ ys) once =
@@ -154,7 +154,7 @@ module _ (calls : Calls) (x : Id) where
       ∙ ap (how_many x) (map-append (λ s. s.0) (starts xs) (starts ys))
       ∙ how_many-append x (ids_of (starts xs)) (ids_of (starts ys))
 
-  -- so many come as there are events of this id
+  -- as many come as there are events with this id
   coming : (now at : ℕ) (items : List (Id × Item))
       → coming_with nat_list_cmp_total exact_bytes machine waits comes goes
       (timed_items now (call_items at items)) ≡ how_many x (events_of items)
@@ -217,7 +217,7 @@ round_starts config number past round x most later budget =
 
 -- ---- over rounds
 
--- the events of the items of all rounds
+-- the events of the items in all rounds
 abbrev pub events_from : Config → ℕ → Past → List Round → List Id
 events_from config number past [] = []
 events_from config number past (round ∷ rounds) =
@@ -265,7 +265,7 @@ started_within config (round ∷ rounds) number past x most budget =
       rest,
     )
 
--- under no id more than one is started
+-- at most one is started under each id
 pub started_once : (config : Config) (rounds : List Round) (x : Id)
     → how_many x (started_from config config.first no_past rounds) ≤ 1
 started_once config rounds x =

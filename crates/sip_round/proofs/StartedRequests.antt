@@ -1,4 +1,5 @@
--- A life of a client's transaction begins by a request that is started, which goes out at once.
+-- A life of a client transaction begins with a request that is started. The request goes out at
+-- once.
 use Rattle.std.proofs.Common.{◌≡◌, ℕ, Bool, true, false, cond, ◌&&◌, ◌||◌, List, [], ◌∷◌, ◌++◌, refl, sym, ap, ◌∙◌, subst}
 use Rattle.std.specs.Prelude.{not, IsSome, Option, None, Some, is_none, is_some, option_map, unwrap_or, codes}
 use Rattle.std.specs.List.{flat_map}
@@ -75,7 +76,7 @@ is_given send.Latest = false
 is_given send.Trying = false
 is_given send.Ack = false
 
--- a start alone begins a life, and it sends what it is given, and hands nothing up
+-- only a start begins a life; it sends what it is given, and hands nothing up
 abbrev starts_alone : Option State → Trigger → Step → Bool
 starts_alone state trigger step = not (is_none state)
     || cond (is_start trigger) (is_nothing step.handed && is_given step.sent) (is_ended step.next)
@@ -139,7 +140,7 @@ module _ (branch method : List ℕ) where
       (λ miss. ap (λ b. is_start (cond b on.Ack on.Request)) miss)
   no_arrival (start.Response status reason) name = refl
 
-  -- a life is begun by a start, and its request goes out
+  -- a life begins with a start, and its request goes out
   record Begins (first : Timed Input) : Type 0 where
     pub now : ℕ
     pub id : Id

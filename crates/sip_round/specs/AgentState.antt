@@ -1,4 +1,4 @@
--- What an agent shows between its rounds, and when it refuses one before anything is done.
+-- What an agent shows between its rounds, and when it refuses a round before anything is done.
 use Rattle.std.specs.Prelude.{◌≡◌, ℕ, ◌<◌, ◌≤◌, ◌^◌, nat_lt, List, Option, None, Some, length, map, is_some, if◌then◌else◌}
 use Rattle.std.specs.Option.{option_map_or}
 use Rattle.sip_calls.specs.CallShard.{HeldCalls}
@@ -17,12 +17,12 @@ pub record ShardTables : Type 0 where
   pub transactions : List Lives
   pub calls : List HeldCalls
 
--- at least one shard, and at most 256; as many of the one kind as of the other
+-- there is at least one shard and at most 256, and as many of one kind as of the other
 abbrev pub AreShards : ShardTables → Type 0
 AreShards shards = (0 < length shards.transactions) × (length shards.transactions ≤ 256)
     × (length shards.calls ≡ length shards.transactions)
 
--- what the shards of the transactions hold, and what those of the calls
+-- what the shards of the transactions hold, and what those of the calls hold
 abbrev pub lives_held : ShardTables → List (Held Key Life)
 lives_held shards = map (λ shard. shard.held) shards.transactions
 
@@ -42,7 +42,7 @@ pub record AgentState (C : Type 0) : Type 0 where
 abbrev pub shard_count : {C : Type 0} → AgentState C → ℕ
 shard_count agent = option_map_or (λ shards. length shards.transactions) agent.shards 0
 
--- why a round after one at the moment `last`, and of this number, is refused: the first fault that
+-- why a round with this number, after one at the moment `last`, is refused: the first fault that
 -- fits; moments and numbers of rounds are at most 2^62
 abbrev pub round_fault : ℕ → ℕ → Round → Option RoundFault
 round_fault last number round =

@@ -1,5 +1,5 @@
--- What is held of each call after whole rounds: its dialogs, each by its history, its requests,
--- each by its story, in the order of their ids, and the INVITEs that await their ACK (RFC 3261,
+-- What is held of each call after whole rounds: its dialogs, each by its history; its requests,
+-- each by its story, in the order of their ids; and the INVITEs that await their ACK (RFC 3261,
 -- sections 12 and 13.3.1.4).
 use Rattle.std.specs.Prelude.{◌≡◌, ℕ, ◌+◌, true, false, List, [], ◌∷◌, ◌++◌, Option, None, Some, filter_map, find, fold, length, map}
 use Rattle.sip_message.specs.declared.cseq.CSeq.{CSeq}
@@ -33,17 +33,17 @@ use Rattle.sip_round.specs.declared.round.Round.{Round}
 use Rattle.sip_round.specs.Answers.{calls_of, past_of}
 use Rattle.sip_round.specs.Laws.{call_inputs_of, said_of_call}
 
--- what an agent holds of a call after rounds
+-- what an agent holds of a call after these rounds
 abbrev pub call_after : Config → List Round → List ℕ → Option Call
 call_after config rounds call_id =
     states_after call_cmp (call_machine (calls_of config)) tick_at (past_of config rounds).calls
     call_id
 
--- A dialog of a call, after rounds: what its opening and all that happened in it since make, held
--- under the name of its tags. Its local CSeq is that of its opening and one more for each request
--- that went out in it, and each of these had the number after that of the one before it; its remote
--- CSeq is the greatest that was accepted, its route set and its target are those that came last.
--- What the phases say to send in it, up to the end, ends with those requests.
+-- A dialog of a call, after rounds: what its opening and all that has happened in it since make of
+-- it, held under the name of its tags. Its local CSeq is that of its opening, and one more for each
+-- request that went out in it; each of these had the number after the one before it. Its remote
+-- CSeq is the highest accepted one; its route set and its target are those that came last. What the
+-- phases say to send in it ends with those requests.
 pub record HasItsHistory (config : Config) (rounds : List Round) (call_id : List ℕ)
     (name : DialogId) (dialog : Dialog) : Type 0 where
   pub history : History
@@ -64,7 +64,7 @@ pub record HasItsHistory (config : Config) (rounds : List Round) (call_id : List
   pub target : dialog.target
       ≡ fold (target_by (opened history.opening).side) (opened history.opening).target history.life
 
--- every dialog that is held after rounds
+-- every dialog that is held after these rounds
 abbrev pub DialogsHaveTheirHistory : Config → List Round → Type 0
 DialogsHaveTheirHistory config rounds = (call_id : List ℕ) (name : DialogId) (held : HeldDialog)
     → dialog_at name (side_held (call_after config rounds call_id)).dialogs ≡ Some held
@@ -81,19 +81,19 @@ InputsNumberOn config rounds =
     (number_before (opening_in call input.input) (dialog_at name (side_held call).dialogs))
     (cseqs_in name (call_step (calls_of config) call input.input input.moment).1)
 
--- in any rounds: the requests that are held after them stand in the order of their ids
+-- in any rounds: the held requests are in the order of their ids
 abbrev pub EachRequestHeldById : Type 0
 EachRequestHeldById = (config : Config) (rounds : List Round) (call_id : List ℕ)
     → IdsRise (map (λ held. held.id) (requests_held (call_after config rounds call_id)))
 
--- and each is what its story over the inputs of its call says
+-- and each of them is what its story over the inputs of its call says
 abbrev pub EachRequestHasItsStory : Type 0
 EachRequestHasItsStory = (config : Config) (rounds : List Round) (call_id : List ℕ)
     → requests_held (call_after config rounds call_id)
     ≡ map request_of (stories_of (calls_of config) (call_inputs_of config rounds call_id))
 
--- an INVITE that is held after rounds awaits its ACK where a 2xx to it went out, and neither its
--- ACK nor that none came was told since
+-- an INVITE that is held after these rounds awaits its ACK if a 2xx to it went out, and the user
+-- has been told since neither of its ACK nor that none came
 abbrev pub InvitesAwaitAsTold : Config → List Round → Type 0
 InvitesAwaitAsTold config rounds = (call_id : List ℕ) (invite : Id) (held : HeldRequest)
     → find (has_id invite) (requests_held (call_after config rounds call_id)) ≡ Some held
@@ -101,26 +101,26 @@ InvitesAwaitAsTold config rounds = (call_id : List ℕ) (invite : Id) (held : He
     ≡ read_from (awaits_by invite) false (calls_of config) invite None false
     (call_inputs_of config rounds call_id)
 
--- so in any rounds
+-- in any rounds
 abbrev pub EachInviteAwaitsAsTold : Type 0
 EachInviteAwaitsAsTold = (config : Config) (rounds : List Round) → InvitesAwaitAsTold config rounds
 
--- in a dialog that is held after rounds the ACKs and PRACKs are owed that were asked for since it
--- was made, and didn't go out
+-- a dialog that is held after these rounds owes the ACKs and PRACKs that were asked for since it
+-- was made and haven't gone out
 abbrev pub DialogsOweAsTold : Config → List Round → Type 0
 DialogsOweAsTold config rounds = (call_id : List ℕ) (name : DialogId) (held : HeldDialog)
     → dialog_at name (side_held (call_after config rounds call_id)).dialogs ≡ Some held
     → held.pending_requests
     ≡ owed_from (calls_of config) name None [] (call_inputs_of config rounds call_id)
 
--- so in any rounds
+-- in any rounds
 abbrev pub EachDialogOwesAsTold : Type 0
 EachDialogOwesAsTold = (config : Config) (rounds : List Round) → DialogsOweAsTold config rounds
 
--- The reliable provisional responses to an INVITE that is held after rounds: those are kept, and
--- get a 200 to their PRACK, that went out with an RSeq and of whose PRACK the user wasn't told
--- since; those of them are sent again since whose sending no final response went out, and the user
--- wasn't told that no PRACK came.
+-- The reliable provisional responses to an INVITE that is held after these rounds. Those that went
+-- out with an RSeq, and whose PRACK the user hasn't been told of since, are kept and get a 200 to
+-- their PRACK. They are sent again unless a final response went out, or the user was told that no
+-- PRACK came, since they were sent.
 pub record AwaitsItsPracks (config : Config) (rounds : List Round) (call_id : List ℕ)
     (invite : Id) (held : HeldRequest) : Type 0 where
   pub kept : kept_rseqs held ≡ read_from (awaited_by invite) [] (calls_of config) invite None []
@@ -130,7 +130,7 @@ pub record AwaitsItsPracks (config : Config) (rounds : List Round) (call_id : Li
   pub repeated : repeated_rseqs held ≡ read_from (repeated_by invite) [] (calls_of config) invite
       None [] (call_inputs_of config rounds call_id)
 
--- so of each INVITE in any rounds
+-- for each INVITE in any rounds
 abbrev pub EachResponseAwaitsAsTold : Type 0
 EachResponseAwaitsAsTold = (config : Config) (rounds : List Round) (call_id : List ℕ) (invite : Id)
     (held : HeldRequest)

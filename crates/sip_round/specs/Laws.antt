@@ -1,4 +1,4 @@
--- What holds of every transaction and of every call over whole runs.
+-- Laws of every transaction and every call over whole runs.
 use Rattle.std.specs.Prelude.{◌≡◌, ◌≢◌, ℕ, false, List, [], ◌++◌, AllPairs, None, Some}
 use Rattle.std.specs.List.{list_any}
 use Rattle.sip_message.specs.declared.id.Id.{Id}
@@ -24,13 +24,13 @@ use Rattle.sip_round.specs.Answers.{calls_of, past_of}
 abbrev pub inputs_of : Config → List Round → Key → List (Timed Input)
 inputs_of config rounds key = history key_cmp tick_at (past_of config rounds).transactions key
 
--- all that the phases of rounds say of a transaction, in order
+-- all that the phases of these rounds say for a transaction, in order
 abbrev pub said_of : Config → List Round → Key → List Out
 said_of config rounds key =
     said_since key_cmp transaction_machine tick_at key [] (past_of config rounds).transactions
 
--- what rounds say of a transaction is what is said before a life, to its first input, to the rest
--- of it, and after it; its request comes up with the first input, and not again
+-- what rounds say for a transaction is what is said before a life, to its first input, to the rest
+-- of it, and after it; its request is handed up with the first input, and not again
 pub record OneRequestSaid (said : List Out) (key : Key) (inputs : List (Timed Input))
     (life : LifeIn transaction_machine key inputs) : Type 0 where
   pub said_in_order : said ≡ outputs_from transaction_machine key None life.before
@@ -38,14 +38,14 @@ pub record OneRequestSaid (said : List Out) (key : Key) (inputs : List (Timed In
   pub once : requests_in (said_at_first life) ≡ 1
   pub no_more : requests_in (said_in_rest life) ≡ 0
 
--- each life of a server transaction hands its request up once, by its first input
+-- each life of a server transaction hands its request up once, with its first input
 abbrev pub OneRequestInLives : Config → List Round → Type 0
 OneRequestInLives config rounds =
     (key : Key) → IsServer key
     → (life : LifeIn transaction_machine key (inputs_of config rounds key))
     → OneRequestSaid (said_of config rounds key) key (inputs_of config rounds key) life
 
--- so in any rounds
+-- in any rounds
 abbrev pub OneRequestInEachLife : Type 0
 OneRequestInEachLife = (config : Config) (rounds : List Round) → OneRequestInLives config rounds
 
@@ -56,7 +56,7 @@ NothingAfterEnds config rounds =
     → state_left life ≡ None → id_of life.first.input ≡ Some id
     → list_any (carries id) (said_after life) ≡ false
 
--- so in any rounds
+-- in any rounds
 abbrev pub NothingAfterEachEnd : Type 0
 NothingAfterEachEnd = (config : Config) (rounds : List Round) → NothingAfterEnds config rounds
 
@@ -67,15 +67,15 @@ abbrev pub call_inputs_of : Config → List Round → List ℕ → List (Timed C
 call_inputs_of config rounds call_id =
     history call_cmp tick_at (past_of config rounds).calls call_id
 
--- all that the phases of rounds say of a call, in order
+-- all that the phases of these rounds say for a call, in order
 abbrev pub said_of_call : Config → List Round → List ℕ → List CallOut
 said_of_call config rounds call_id =
     said_since call_cmp (call_machine (calls_of config)) tick_at call_id []
     (past_of config rounds).calls
 
--- What rounds say of a call is what its inputs add, in order; and of the reliable provisional
--- responses that came among these to an
--- INVITE in a life of a dialog those in order are shown, so each once.
+-- What rounds say for a call is what its inputs add, in order. Of the reliable provisional
+-- responses to an INVITE that came with these in one life of a dialog, those in order are shown,
+-- and so each once.
 pub record ProvisionalsShown (config : Config) (rounds : List Round) (call_id : List ℕ)
     (invite : AnInvite) (life : DialogReference) : Type 0 where
   pub said_in_order : said_of_call config rounds call_id
@@ -88,7 +88,7 @@ pub record ProvisionalsShown (config : Config) (rounds : List Round) (call_id : 
   pub once : AllPairs (λ x y. x ≢ y)
       (shown (calls_of config) invite life (call_inputs_of config rounds call_id))
 
--- of every call, INVITE and life of a dialog
+-- for every call, INVITE and life of a dialog
 abbrev pub ProvisionalsInLives : Config → List Round → Type 0
 ProvisionalsInLives config rounds =
     (call_id : List ℕ) (invite : AnInvite) (life : DialogReference)

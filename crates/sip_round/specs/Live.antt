@@ -16,7 +16,7 @@ abbrev pub live_after : {K S I O : Type 0} (cmp : K → K → Ordering) → Mach
 live_after cmp machine tick phases =
     count_by (λ key. is_some (states_after cmp machine tick phases key)) (keys_of_phases cmp phases)
 
--- the transactions that have begun and not ended, and the calls under which something is held
+-- the transactions that have begun and haven't ended, and the calls that hold something
 abbrev pub live_of : Config → Past → ℕ × ℕ
 live_of config past = (
   live_after key_cmp transaction_machine tick_at past.transactions,

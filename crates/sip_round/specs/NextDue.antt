@@ -1,4 +1,4 @@
--- When something is due of an agent, and what a round without events does before.
+-- When something in an agent is due, and what a round without events does before that.
 use Rattle.std.specs.Prelude.{◌≡◌, ◌⊎◌, ℕ, List, [], ◌∷◌, ◌++◌, Some}
 use Rattle.sip_calls.specs.Call.{call_due, call_machine}
 use Rattle.sip_calls.specs.CallShard.{call_cmp}
@@ -15,7 +15,7 @@ use Rattle.sip_round.specs.Answers.{Past, answers, calls_of, past_of}
 abbrev pub without_events : ℕ → Round
 without_events moment = record { moment = moment; events = [] }
 
--- a past leaves of each transaction and of each call what another leaves
+-- two pasts leave the same of each transaction and of each call
 pub record LeavesAlike (config : Config) (one other : Past) : Type 0 where
   pub transactions : (key : Key)
       → states_after key_cmp transaction_machine tick_at one.transactions key
@@ -24,15 +24,15 @@ pub record LeavesAlike (config : Config) (one other : Past) : Type 0 where
       → states_after call_cmp (call_machine (calls_of config)) tick_at one.calls call_id
       ≡ states_after call_cmp (call_machine (calls_of config)) tick_at other.calls call_id
 
--- after these rounds a round without events at this moment gives nothing, and changes nothing of
--- what is held
+-- after these rounds, a round without events at this moment gives nothing, and changes nothing that
+-- is held
 pub record IsQuietAfter (config : Config) (rounds : List Round) (moment : ℕ) : Type 0 where
   pub gives : answers config (rounds ++ without_events moment ∷ [])
       ≡ answers config rounds ++ [] ∷ []
   pub leaves : LeavesAlike config (past_of config (rounds ++ without_events moment ∷ []))
       (past_of config rounds)
 
--- after these rounds something is due at this moment, of a transaction or of a call
+-- after these rounds, a transaction or a call is due at this moment
 abbrev pub IsDueAfter : Config → List Round → ℕ → Type 0
 IsDueAfter config rounds moment =
     ((key : Key) × (due_of life_due

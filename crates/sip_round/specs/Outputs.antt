@@ -1,4 +1,4 @@
--- What leaves the agent, and what goes on inside it.
+-- What leaves the agent, and what stays inside it.
 use Rattle.std.specs.Prelude.{ℕ, nat_eq, List, [], ◌∷◌, ◌++◌, Some, None, filter, map, unwrap_or}
 use Rattle.std.specs.List.{flat_map, slice_get}
 use Rattle.sip_message.specs.declared.id.Id.{Id}
@@ -22,7 +22,7 @@ sent_of (out.Up up) = []
 sent_of (out.Send key to bytes) = output.Send (Some key) to bytes ∷ []
 sent_of (out.Dropped place why) = output.Dropped place why ∷ []
 
--- what a transaction hands up is an item of a call
+-- what a transaction hands up, as an item of a call
 abbrev pub raised_of : Id → Out → List (Id × Item)
 raised_of id (out.Up up) = (id, item.Up up) ∷ []
 raised_of id _ = []
@@ -33,19 +33,19 @@ shown_of (call_out.Notice notice) = output.Notice notice ∷ []
 shown_of (call_out.Command id command) = []
 shown_of (call_out.Direct to bytes) = output.Send None to bytes ∷ []
 
--- outputs that come of the event of a place; of a round's ticks with place 0
+-- outputs for the event at a place; for a round's ticks the place is 0
 abbrev pub at_place : ℕ → List Output → List PlacedOutput
 at_place place outputs = map (λ output. record { place = place; output = output }) outputs
 
--- what a transaction sends or drops because of that event
+-- what a transaction sends or drops because of the event at this place
 abbrev pub sent_at : ℕ → Out → List PlacedOutput
 sent_at place out = at_place place (sent_of out)
 
--- what a call shows because of it
+-- what a call shows because of the event at this place
 abbrev pub shown_at : ℕ → CallOut → List PlacedOutput
 shown_at place out = at_place place (shown_of out)
 
--- the place of the event of the item at an index
+-- the place of the event that the item at an index belongs to
 abbrev pub place_of : List (Id × Item) → ℕ → ℕ
 place_of items index = unwrap_or (slice_get (map (λ item. (item.0).place) items) index) 0
 
@@ -54,19 +54,19 @@ abbrev pub command_of : CallOut → List (Id × Command)
 command_of (call_out.Command id command) = (id, command) ∷ []
 command_of _ = []
 
--- all that groups of outputs say, in their order
+-- all outputs of the groups, in their order
 abbrev pub joined : {L O : Type 0} → List (L × List O) → List O
 joined groups = flat_map (λ group. group.1) groups
 
--- all that is said in a phase: to the tick in key order, and then by the items in their order
+-- all outputs of a phase: those to the tick in key order, and then those of the items, in order
 abbrev pub all_said : {K O : Type 0} → PhaseOutputs K O → List O
 all_said told = joined told.ticks ++ joined told.items
 
--- what is said of the item at a place
+-- the outputs of the item at a place
 abbrev pub said_at : {K O : Type 0} → PhaseOutputs K O → ℕ → List O
 said_at told place = joined (filter (λ said. nat_eq (said.0).0 place) told.items)
 
--- what comes of an arrival in the first phase, where the transactions say this by place
+-- the outputs for an arrival in the first phase, if the transactions say these by place
 abbrev pub outs_of : (ℕ → List Out) → Id → Arrival → List Out
 outs_of said id (arrival.Transaction key input) = said id.place
 outs_of said id (arrival.Dropped why) = out.Dropped id.place why ∷ []

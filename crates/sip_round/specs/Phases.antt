@@ -1,5 +1,5 @@
--- The three phases of a round: what the transactions, the calls and again the transactions are
--- given.
+-- The three phases of a round: what is given to the transactions, to the calls, and again to the
+-- transactions.
 use Rattle.std.specs.Prelude.{ℕ, suc, true, false, List, [], ◌∷◌}
 use Rattle.std.specs.List.{flat_map}
 use Rattle.sip_model.specs.Machine.{Timed}
@@ -22,7 +22,7 @@ transaction_item id (arrival.Transaction key input) =
     record { place = id.place; key = key; input = input } ∷ []
 transaction_item id _ = []
 
--- what arrived for transactions
+-- what arrived for the transactions
 abbrev pub transaction_items : List (Id × Arrival) → List (Item Key Input)
 transaction_items arrivals = flat_map (λ a. transaction_item a.0 a.1) arrivals
 
@@ -30,7 +30,7 @@ transaction_items arrivals = flat_map (λ a. transaction_item a.0 a.1) arrivals
 abbrev pub first_phase : ℕ → List (Id × Arrival) → Phase Key (Timed Input)
 first_phase now arrivals = phase_at now true (transaction_items arrivals)
 
--- the second: the calls take a tick, and then what came up and the commands of the user, in their
+-- the second phase: the calls take a tick, and then what came up and the user's commands, in their
 -- order
 abbrev pub call_items : ℕ → List (Id × served.Item) → List (Item (List ℕ) CallItem)
 call_items place [] = []
@@ -42,13 +42,13 @@ call_items place (i ∷ is) =
 abbrev pub second_phase : ℕ → List (Id × served.Item) → Phase (List ℕ) (Timed CallItem)
 second_phase now items = phase_at now true (call_items 0 items)
 
--- the third: the transactions take the commands of the calls, in their order, and no tick
+-- the third phase: the transactions take the commands of the calls, in their order, without a tick
 abbrev pub command_items : ℕ → List (Id × Command) → List (Item Key Input)
 command_items place [] = []
 command_items place (c ∷ cs) =
     record { place = place; key = command_key c.1; input = asked_by c.0 c.1 }
     ∷ command_items (suc place) cs
 
--- the commands to transactions, without a tick
+-- the commands for transactions, without a tick
 abbrev pub third_phase : ℕ → List (Id × Command) → Phase Key (Timed Input)
 third_phase now commands = phase_at now false (command_items 0 commands)

@@ -1,4 +1,4 @@
--- Steps that only the code's proofs need: nothing of them has to be believed.
+-- Steps that only the proofs of the code need: there is nothing in them to believe.
 pub mod Alike
 pub mod Arrived
 pub mod EventRuns

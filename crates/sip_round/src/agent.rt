@@ -28,10 +28,10 @@ use std::alloc::Global;
 use std::marker::Model;
 use std::thread::Threads;
 
-/// The greatest moment in ms, and the greatest round number.
+/// The highest moment in ms, and the highest round number.
 pub const MAX_MOMENT: u64 = 1 << 62;
 
-/// How many events a round has at most.
+/// The maximum number of events in a round.
 pub const MAX_EVENTS_OF_ROUND: usize = 65_536;
 
 // How many phases a round has.
@@ -39,8 +39,8 @@ const PHASES: usize = 3;
 
 /// The transactions and the calls of one user agent, in shards, led through rounds.
 ///
-/// After a round answered `NoMemory` with `broken` it holds nothing, and every later round is
-/// refused as `Broken`.
+/// If a round answers `NoMemory` with `broken`, the agent holds nothing from then on, and refuses
+/// every later round as `Broken`.
 pub struct Agent<C: Cut> {
     alloc: Global,
     cut: C,
@@ -64,7 +64,7 @@ impl<C: Cut> Model for Agent<C> {
       shards = a.shards;
     } };
 
-    // All calls share the same.
+    // All calls share the same settings.
     ghost invariant = { λ a. AreAlike a.calls a.shards };
 }
 
@@ -93,7 +93,7 @@ impl<C: Cut + Drop> Agent<C> {
     ghost use Rattle.sip_round.specs.declared.round.Round.{Round};
     ghost use Rattle.sip_round.specs.declared.round_fault.RoundFault.TheVariants as round_fault;
 
-    /// An agent before its first round, of so many shards, among which names are cut so.
+    /// An agent before its first round, with `shards` shards, among which `cut` distributes names.
     ///
     /// # Errors
     ///
@@ -117,11 +117,12 @@ impl<C: Cut + Drop> Agent<C> {
         })
     }
 
-    /// How many transactions and how many calls are held.
+    /// How many transactions and calls are held.
     pub fn live(&self) -> (u128, u128)
         ensures broken { self.now.shards ≡ None → result ≡ (0, 0) }
 
-        // Of an agent that stands for rounds: those that have begun and not ended.
+        // For an agent that stands for rounds, these are the ones that have begun and haven't
+        // ended.
         ensures counts { (config : Config) (rounds : List Round)
             → StandsFor C.shard_of self.now config rounds
             → result ≡ live_of config (past_of config rounds) }
@@ -132,20 +133,20 @@ impl<C: Cut + Drop> Agent<C> {
         }
     }
 
-    /// The number of the next round, which the ids of its events have. Takes no memory.
+    /// The number of the next round. The ids of its events have it. Takes no memory.
     pub fn next_round(&self) -> u64
         ensures { result ≡ self.now.next_round }
     {
         self.next_round
     }
 
-    /// The first moment, in ms, at which something is due of what is held, if there is one: until
+    /// The first moment, in ms, at which a held transaction or call is due, if there is one. Until
     /// then a host may sleep. Takes no memory.
     pub fn next_due(&self) -> Option<u64>
         ensures broken { self.now.shards ≡ None → result ≡ None }
 
-        // Of an agent that stands for rounds: a round without events at an earlier moment gives
-        // nothing and changes nothing of what is held; at this moment something is due.
+        // For an agent that stands for rounds: at an earlier moment a round without events gives
+        // nothing, and changes nothing that is held; at this moment something is due.
         ensures before { (config : Config) (rounds : List Round)
             → StandsFor C.shard_of self.now config rounds
             → (moment : ℕ) → is_due moment result ≡ false → IsQuietAfter config rounds moment }
@@ -160,13 +161,13 @@ impl<C: Cut + Drop> Agent<C> {
         }
     }
 
-    /// Deals with the events of a round, on up to so many workers, and answers its outputs in stamp
-    /// order. In each phase the gate is told of each shard. One worker starts no thread, nor do few
-    /// events in one shard.
+    /// Runs a round with its events, on up to `workers` workers, and answers its outputs in stamp
+    /// order. In each phase the gate is told of each shard. With one worker, or with few events in
+    /// one shard, it starts no thread.
     ///
     /// # Errors
     ///
-    /// The first fault that fits. All but `NoMemory` with `broken` leave the agent as it is.
+    /// The first fault that fits. All but `NoMemory` with `broken` leave the agent as it was.
     pub fn run_round<R: Threads + Sync, G: Gate>(
         &mut self,
         rt: &R,
@@ -185,8 +186,8 @@ impl<C: Cut + Drop> Agent<C> {
         ensures broken { result ≡ Err (round_fault.NoMemory true) → self.new.shards ≡ None }
         ensures count { OnOk result (shard_count self.new ≡ shard_count self.old) }
 
-        // Whatever rounds the agent stood for, it stands for these and this one, and answers as
-        // this one is answered after them.
+        // Whatever rounds the agent stood for, it now stands for this one too. Its answer is the
+        // one to this round after those.
         ensures answers { IfOk result (λ outputs. (config : Config) (rounds : List Round)
             → StandsFor C.shard_of self.old config rounds
             → StandsFor C.shard_of self.new config (rounds ++ round.now ∷ [])
@@ -196,8 +197,8 @@ impl<C: Cut + Drop> Agent<C> {
         self.run_in_form(rt, round, workers, gate)
     }
 
-    /// The same round; each output is given with the place of the event that it comes of, so that a
-    /// host that kept the round's events knows which one a notice tells of.
+    /// The same round. Each output comes with the place of its event, so that a host that kept the
+    /// round's events knows which one a notice is about.
     ///
     /// # Errors
     ///
@@ -220,15 +221,15 @@ impl<C: Cut + Drop> Agent<C> {
         ensures broken { result ≡ Err (round_fault.NoMemory true) → self.new.shards ≡ None }
         ensures count { OnOk result (shard_count self.new ≡ shard_count self.old) }
 
-        // Whatever rounds the agent stood for, it stands for these and this one, and answers as
-        // this one is answered after them, each output with its place.
+        // Whatever rounds the agent stood for, it now stands for this one too. Its answer is the
+        // one to this round after those, each output with its place.
         ensures answers { IfOk result (λ outputs. (config : Config) (rounds : List Round)
             → StandsFor C.shard_of self.old config rounds
             → StandsFor C.shard_of self.new config (rounds ++ round.now ∷ [])
             × (placed_answers config (rounds ++ round.now ∷ []) ≡ placed_answers config rounds
             ++ outputs.items ∷ [])) }
 
-        // Without their places the outputs are those of the other call.
+        // Without their places, the outputs are those of the other call.
         ensures alone { IfOk result (λ outputs. (config : Config) (rounds : List Round)
             → StandsFor C.shard_of self.old config rounds
             → answers config (rounds ++ round.now ∷ []) ≡ answers config rounds
@@ -237,7 +238,7 @@ impl<C: Cut + Drop> Agent<C> {
         self.run_in_form(rt, round, workers, gate)
     }
 
-    // A round whose outputs are given in this form.
+    // A round with its outputs in this form.
     fn run_in_form<F: Form, R: Threads + Sync, G: Gate>(
         &mut self,
         rt: &R,
@@ -268,7 +269,8 @@ impl<C: Cut + Drop> Agent<C> {
         self.run_phases(rt, round, workers, gate)
     }
 
-    // A round that isn't idle. It stands apart, so that an idle one doesn't pay for its locals.
+    // A round that isn't idle. It is a function of its own, so that an idle round needn't make room
+    // for its locals.
     fn run_phases<F: Form, R: Threads + Sync, G: Gate>(
         &mut self,
         rt: &R,
@@ -297,8 +299,8 @@ impl<C: Cut + Drop> Agent<C> {
         self.end(round, led)
     }
 
-    /// The same round on the thread that asks for it, shard after shard. It starts no thread, and
-    /// needs no handle.
+    /// The same round on the calling thread, shard after shard. It starts no thread, and needs no
+    /// handle.
     ///
     /// # Errors
     ///
@@ -313,8 +315,8 @@ impl<C: Cut + Drop> Agent<C> {
         ensures broken { result ≡ Err (round_fault.NoMemory true) → self.new.shards ≡ None }
         ensures count { OnOk result (shard_count self.new ≡ shard_count self.old) }
 
-        // Whatever rounds the agent stood for, it stands for these and this one, and answers as
-        // this one is answered after them.
+        // Whatever rounds the agent stood for, it now stands for this one too. Its answer is the
+        // one to this round after those.
         ensures answers { IfOk result (λ outputs. (config : Config) (rounds : List Round)
             → StandsFor C.shard_of self.old config rounds
             → StandsFor C.shard_of self.new config (rounds ++ round.now ∷ [])
@@ -324,7 +326,7 @@ impl<C: Cut + Drop> Agent<C> {
         self.run_in_turn(round)
     }
 
-    /// The same round in turn; each output is given with the place of the event that it comes of.
+    /// The same round on the calling thread. Each output comes with the place of its event.
     ///
     /// # Errors
     ///
@@ -342,15 +344,15 @@ impl<C: Cut + Drop> Agent<C> {
         ensures broken { result ≡ Err (round_fault.NoMemory true) → self.new.shards ≡ None }
         ensures count { OnOk result (shard_count self.new ≡ shard_count self.old) }
 
-        // Whatever rounds the agent stood for, it stands for these and this one, and answers as
-        // this one is answered after them, each output with its place.
+        // Whatever rounds the agent stood for, it now stands for this one too. Its answer is the
+        // one to this round after those, each output with its place.
         ensures answers { IfOk result (λ outputs. (config : Config) (rounds : List Round)
             → StandsFor C.shard_of self.old config rounds
             → StandsFor C.shard_of self.new config (rounds ++ round.now ∷ [])
             × (placed_answers config (rounds ++ round.now ∷ []) ≡ placed_answers config rounds
             ++ outputs.items ∷ [])) }
 
-        // Without their places the outputs are those of the other call.
+        // Without their places, the outputs are those of the other call.
         ensures alone { IfOk result (λ outputs. (config : Config) (rounds : List Round)
             → StandsFor C.shard_of self.old config rounds
             → answers config (rounds ++ round.now ∷ []) ≡ answers config rounds
@@ -359,7 +361,7 @@ impl<C: Cut + Drop> Agent<C> {
         self.run_in_turn(round)
     }
 
-    // A round in turn whose outputs are given in this form.
+    // A round on the calling thread, with its outputs in this form.
     fn run_in_turn<F: Form>(&mut self, round: &Round) -> Result<Vec<F>, RoundFault>
         ensures refused { IfSome (refusal_of self.old round.now)
             (λ fault. (result ≡ Err fault) × (self.new ≡ self.old)) }
@@ -386,12 +388,12 @@ impl<C: Cut + Drop> Agent<C> {
         self.end(round, led)
     }
 
-    /// Moves all that is held to so many shards. The agent stands for the same rounds as before.
+    /// Moves everything held to `shards` shards. The agent stands for the same rounds as before.
     ///
     /// # Errors
     ///
-    /// `Broken` after an earlier call answered `NoMemory` with `broken`. `NoMemory`: without
-    /// `broken` nothing has changed.
+    /// `Broken` if an earlier call answered `NoMemory` with `broken`. `NoMemory` without `broken`:
+    /// nothing has changed.
     pub fn reshard(&mut self, shards: usize) -> Result<(), RoundFault>
         requires some { 0 < shards }
         requires most { shards ≤ 256 }
@@ -440,8 +442,8 @@ impl<C: Cut + Drop> Agent<C> {
         }
     }
 
-    // Whether a round has no events, and nothing is due in it: then nothing changes. Four calls ask
-    // it, each in every round.
+    // Whether a round has no events and nothing is due in it. Then nothing changes. Four functions
+    // ask this, each once in every round.
     #[inline(always)]
     fn is_idle(&self, round: &Round) -> bool
         ensures { IsTrue result → IfSome self.now.shards (λ shards.
@@ -456,7 +458,7 @@ impl<C: Cut + Drop> Agent<C> {
         }
     }
 
-    // Whether the shards of a phase are dealt with one after the other, without a thread.
+    // Whether the shards of a phase are dealt with one after another, without a thread.
     fn is_in_turn(&self, workers: usize) -> bool {
         match &self.shards {
             None => true,
@@ -464,7 +466,7 @@ impl<C: Cut + Drop> Agent<C> {
         }
     }
 
-    // Tells the gate of each shard in turn, in each phase of a round in which nothing is to do.
+    // Tells the gate of each shard, one after another, in each phase of a round without work.
     fn tell_of_phases<G: Gate>(&self, gate: &G) {
         if let Some(shards) = &self.shards {
             for _ in 0..PHASES {
@@ -473,7 +475,7 @@ impl<C: Cut + Drop> Agent<C> {
         }
     }
 
-    // A round in which nothing happens goes by.
+    // Passes a round in which nothing happens.
     fn pass<F: Form>(&mut self, round: &Round) -> Vec<F>
         requires { self.old.next_round ≤ 2 ^ 62 }
         ensures outputs { result.items ≡ [] }
@@ -487,8 +489,8 @@ impl<C: Cut + Drop> Agent<C> {
         Vec::new(self.alloc)
     }
 
-    // A round whose events were read and stamped begins: it takes the shards, and what arrived is
-    // cut into their parts. Where memory was or is refused, nothing has changed.
+    // Begins a round whose events were read and stamped. Takes the shards, and cuts what arrived
+    // into their parts. If memory ran out, before or here, nothing has changed.
     fn begin(&mut self, round: &Round, read: Option<SetOut>) -> Result<Begun, RoundFault>
         requires { IfSome read (IsSetOut (arrivals_from self.old.calls.local self.old.next_round 1
             round.now.events)) }
@@ -526,8 +528,8 @@ impl<C: Cut + Drop> Agent<C> {
         })
     }
 
-    // A round that was led through its phases ends: the shards come back. Where memory was refused
-    // they are lost.
+    // Ends a round that was led through its phases: the shards come back. If memory ran out, they
+    // are lost.
     fn end<F: Form>(
         &mut self,
         round: &Round,

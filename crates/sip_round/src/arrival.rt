@@ -1,4 +1,4 @@
-//! What an event is to the transactions and the calls: its input is set out, and the rest waits.
+//! What an event means for the transactions and calls: its input is set out, and the rest waits.
 
 ghost use Rattle.std.specs.Prelude.{◌≡◌, ◌++◌, IfOk, OnOk};
 ghost use Rattle.sip_reader.specs.ReadMessage.{Gives, message_at};
@@ -15,8 +15,8 @@ use sip_reader::read;
 use sip_transactions::{DropReason, Input, received};
 use std::alloc::{AllocError, Global};
 
-/// Sets out the event of this id, its datagram read and stamped: the input of a transaction goes
-/// behind the items, and what is left of the event is given.
+/// Sets out the event with this id, its datagram read and stamped. The input of a transaction is
+/// put at the end of the items. Gives what is left of the event.
 #[tactic(auto, unfolding(crate::specs::Arrivals::arrival_of))]
 pub(crate) fn set_out_event(
     alloc: Global,
@@ -64,7 +64,7 @@ fn read_datagram(alloc: Global, bytes: &[u8]) -> Result<Message, ReadFault>
     read(alloc, bytes)
 }
 
-// The source is stamped on requests alone.
+// Only a request is stamped with its source.
 #[tactic(auto, unfolding(crate::specs::Arrivals::message_arrival))]
 fn set_out_message(
     alloc: Global,
@@ -90,7 +90,7 @@ fn set_out_message(
     }
 }
 
-// An input goes to the transaction of its key, at the place of its event.
+// Sets out an input for the transaction with its key, at the place of its event.
 fn set_out(
     id: Id,
     key: Key,

@@ -2,12 +2,12 @@
 
 use sip_message::Addr;
 
-/// What an agent is started with.
+/// The values with which an agent is started.
 #[derive(Clone, Copy, PartialEq, Eq)]
 pub struct Config {
-    /// The address that it sends from, which stands in the Via of its requests.
+    /// The address from which it sends. It stands in the Via of the agent's requests.
     pub local: Addr,
-    /// The key of the words that made names end in.
+    /// The key of the words in which made names end.
     pub seed: [u8; 32],
     /// The number of the first round, at most 2^62.
     pub first: u64,

@@ -1,4 +1,4 @@
-//! A run of a round's events, which is read as one piece of work.
+//! A run of a round's events. It is read as one piece of work.
 
 ghost use Rattle.std.specs.Prelude.{◌≤◌, ◌+◌, length};
 
@@ -6,7 +6,7 @@ use crate::round::Event;
 use sip_message::Addr;
 use std::alloc::Global;
 
-/// Some events of a round, one behind the other, and how many stand before them.
+/// Some consecutive events of a round, and how many come before them.
 #[derive(Drop)]
 pub(crate) struct EventRun<'a> {
     pub(crate) alloc: Global,

@@ -1,5 +1,5 @@
-//! The form in which a round gives its outputs. A round is led by one code for both forms, and the
-//! one without places keeps none.
+//! The form in which a round gives its outputs. The same code leads a round for both forms. The
+//! form without places keeps none.
 
 ghost use Rattle.std.specs.Prelude.{◌≡◌, ℕ, ◌++◌, ◌∷◌, [], IfOk, OnOk, unwrap_or, slice_get};
 ghost use Rattle.sip_round.specs.Steps.Form.{ArePlacesOf};
@@ -9,28 +9,28 @@ use sip_message::Id;
 use sip_served::Item;
 use std::alloc::{AllocError, Global};
 
-/// How a round gives its outputs: alone, or each with the place of its event.
+/// How a round gives its outputs: by themselves, or each with the place of its event.
 pub(crate) trait Form: Sized + Drop {
     ghost use Rattle.sip_round.specs.declared.output.Output.{Output};
 
-    /// The places of the events of the calls' items, where outputs are given with them.
+    /// The places of the events of the calls' items, if outputs are given with places.
     type Places: Drop;
 
-    /// The output of the event of a place, in this form.
+    /// The output for the event at a place, in this form.
     ghost form: { ℕ → Output → Self };
 
-    /// The place that was kept of the item at an index.
+    /// The place that was kept for the item at an index.
     ghost place_at: { Self.Places → ℕ → ℕ };
 
-    /// An output of the event of this place goes behind the others, in this form.
+    /// Puts an output for the event at this place behind the others, in this form.
     fn push(outputs: &mut Vec<Self>, place: u32, output: Output) -> Result<(), AllocError>
         ensures { OnOk result (outputs.new.items ≡ outputs.old.items ++ form place output ∷ []) };
 
-    /// What has to be kept of the places of these items.
+    /// What has to be kept to know the places of these items.
     fn places_of(alloc: Global, items: &[(Id, Item)]) -> Result<Self::Places, AllocError>
         ensures { IfOk result (ArePlacesOf form place_at items.now) };
 
-    /// The place that was kept of the item at this index.
+    /// The place that was kept for the item at this index.
     fn place(places: &Self::Places, index: usize) -> u32
         ensures { result ≡ place_at places.now index };
 }

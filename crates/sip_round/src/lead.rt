@@ -1,5 +1,5 @@
-//! A round led through its three phases: over several workers, or in turn on the thread that asks
-//! for it. Only who runs the pieces of a phase differs.
+//! A round led through its three phases: on several workers, or shard after shard on the calling
+//! thread. Only who runs the pieces of a phase differs.
 
 ghost use Rattle.std.specs.Prelude.{◌≡◌, ◌<◌, ◌≤◌, ◌^◌, IfOk, length, map};
 ghost use Rattle.std.specs.List.{AllByRecursion};
@@ -19,12 +19,12 @@ use sip_transactions::Transactions;
 use sip_workers::{Gate, NoMemory};
 use std::thread::Threads;
 
-/// Leads a round that has begun through its phases, on up to so many workers; the gate is told of
+/// Leads a round that has begun through its phases, on up to `workers` workers. The gate is told of
 /// each shard in each phase. Gives the shards back, and the outputs.
 ///
 /// # Errors
 ///
-/// `NoMemory`, and then the shards are lost.
+/// `NoMemory`; then the shards are lost.
 pub(crate) fn lead<F: Form, R: Threads + Sync, C: Cut, G: Gate>(
     rt: &R,
     cut: &C,
@@ -88,7 +88,7 @@ pub(crate) fn lead<F: Form, R: Threads + Sync, C: Cut, G: Gate>(
     Ok((Shards::of(lives, held), outputs))
 }
 
-/// The same in turn, shard after shard. It starts no thread, and needs no handle.
+/// The same on the calling thread, shard after shard. It starts no thread, and needs no handle.
 ///
 /// # Errors
 ///

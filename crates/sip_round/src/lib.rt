@@ -1,4 +1,4 @@
-//! Rounds of events, over any number of shards and workers.
+//! Rounds of events, with any number of shards and workers.
 #![tactic(auto)]
 
 mod agent;

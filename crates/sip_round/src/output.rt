@@ -1,4 +1,4 @@
-//! What a round gives.
+//! The outputs of a round.
 
 use sip_message::{Addr, Key};
 use sip_served::Notice;
@@ -8,14 +8,14 @@ use sip_transactions::DropReason;
 /// One output of a round.
 #[derive(Drop)]
 pub enum Output {
-    /// A datagram to send; the key is that of its transaction, and absent where none stands behind
-    /// it.
+    /// A datagram to send. The key is that of its transaction; there is none if the send belongs to
+    /// no transaction.
     Send {
         key: Option<Key>,
         to: Addr,
         bytes: Text,
     },
-    /// The datagram of this place was dropped.
+    /// The datagram at this place was dropped.
     Dropped {
         place: u32,
         reason: DropReason,
@@ -24,11 +24,11 @@ pub enum Output {
     Notice(Notice),
 }
 
-/// An output with the place of the event that it comes of.
+/// An output with the place of the event that it belongs to.
 #[derive(Drop)]
 pub struct PlacedOutput {
-    /// From 1, as the events stand in their round. 0: it comes at the round's ticks, or is what a
-    /// command of a call sends.
+    /// From 1, as the events stand in their round. It is 0 if the output comes at the round's
+    /// ticks, or if a command of a call sends it.
     pub place: u32,
     pub output: Output,
 }

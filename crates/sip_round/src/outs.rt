@@ -1,4 +1,4 @@
-//! What transactions and calls say: outputs of the round, or something for the next phase.
+//! What transactions and calls say: outputs of the round, or something for its next phase.
 
 ghost use Rattle.std.specs.Prelude.{◌≡◌, ◌++◌, OnOk, option_to_list};
 ghost use Rattle.std.specs.List.{flat_map};
@@ -13,8 +13,8 @@ use sip_served::{CallOut, Item};
 use sip_transactions::{Command, Out};
 use std::alloc::AllocError;
 
-/// What transactions say: sends and drops go out with the place of this id, what comes up becomes
-/// an item of it.
+/// What transactions say. Sends and drops go out with the place of this id; what is handed up
+/// becomes an item with this id.
 pub(crate) fn part<F: Form>(
     outs: Vec<Out>,
     id: Id,
@@ -32,7 +32,7 @@ pub(crate) fn part<F: Form>(
     Ok(())
 }
 
-/// What groups of transactions say, each as [`part`] does.
+/// What groups of transactions say, each treated as in [`part`].
 pub(crate) fn part_all<F: Form, L: Drop>(
     told: Vec<(L, Vec<Out>)>,
     id: Id,
@@ -75,8 +75,8 @@ fn put<F: Form>(
     Ok(())
 }
 
-/// What transactions say to commands, group by group: sends go out, with place 0. A command hands
-/// nothing up.
+/// What transactions say to commands, one group after another: sends go out, with place 0. A
+/// command hands nothing up.
 pub(crate) fn send_all<F: Form, L: Drop>(
     told: Vec<(L, Vec<Out>)>,
     outputs: &mut Vec<F>,
@@ -102,7 +102,7 @@ fn send<F: Form>(outs: Vec<Out>, outputs: &mut Vec<F>) -> Result<(), AllocError>
     Ok(())
 }
 
-// What of it leaves the agent, if anything.
+// The output that leaves the agent, if it is one.
 fn sent(out: Out) -> Option<Output>
     ensures { option_to_list result ≡ sent_of out }
 {
@@ -116,8 +116,8 @@ fn sent(out: Out) -> Option<Output>
     }
 }
 
-/// What calls say to the tick, group by group: notices and direct sends go out, with place 0;
-/// commands wait for the third phase.
+/// What calls say to the tick, one group after another: notices and direct sends go out, with place
+/// 0, and commands wait for the third phase.
 pub(crate) fn part_ticks<F: Form, L: Drop>(
     told: Vec<(L, Vec<CallOut>)>,
     outputs: &mut Vec<F>,
@@ -134,7 +134,7 @@ pub(crate) fn part_ticks<F: Form, L: Drop>(
     Ok(())
 }
 
-/// What calls say to their items, by index: the same with the places that were kept of these.
+/// What calls say to their items, by index: the same, with the places that were kept for the items.
 pub(crate) fn part_items<F: Form>(
     told: Vec<(usize, Vec<CallOut>)>,
     places: &F::Places,

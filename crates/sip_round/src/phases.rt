@@ -1,4 +1,4 @@
-//! What begins a round, and what begins and ends its three phases.
+//! How a round begins, and how its three phases begin and end.
 
 ghost use Rattle.std.specs.Prelude.{◌≡◌, ◌<◌, ◌≤◌, ◌++◌, ℕ, List, IfOk, OnOk, map, vec_len};
 ghost use Rattle.sip_calls.specs.Call.{call_machine};
@@ -35,8 +35,8 @@ use sip_transactions::{Command, Input, Out, Transactions};
 use sip_workers::NoMemory;
 use std::alloc::{AllocError, Global};
 
-/// A round of this number that has begun: its shards, the part of each of what arrived, and what
-/// waits for what the transactions say.
+/// A round with this number that has begun: its shards, the part of each in what arrived, and what
+/// waits until the transactions have spoken.
 #[derive(Drop)]
 pub(crate) struct Begun {
     pub(crate) alloc: Global,
@@ -47,7 +47,8 @@ pub(crate) struct Begun {
     pub(crate) waiting: Vec<(Id, Waiting)>,
 }
 
-/// Ends the first phase of the round of this number: the outputs, and the items of the calls.
+/// Ends the first phase of the round with this number. Gives the outputs, and the items of the
+/// calls.
 pub(crate) fn end_first<F: Form>(
     alloc: Global,
     number: u64,
@@ -67,8 +68,8 @@ pub(crate) fn end_first<F: Form>(
     Ok(first_outputs(alloc, number, replies, waiting)?)
 }
 
-/// Begins the second phase: each item goes to its call, in the part of that call's shard. Beside
-/// the parts is what has to be kept of the places of the items.
+/// Begins the second phase: puts each item for its call into the part of that call's shard. Also
+/// gives what has to be kept of the places of the items.
 pub(crate) fn begin_second<F: Form, C: Cut>(
     alloc: Global,
     cut: &C,
@@ -95,8 +96,8 @@ pub(crate) fn begin_second<F: Form, C: Cut>(
     Ok((parts, places))
 }
 
-/// Ends the second phase: notices and direct sends go behind the outputs, and what is left are the
-/// commands of the third phase.
+/// Ends the second phase: puts notices and direct sends behind the outputs. Gives the commands of
+/// the third phase.
 pub(crate) fn end_second<F: Form>(
     alloc: Global,
     replies: PhaseOutputs<CallId, CallOut>,
@@ -119,8 +120,8 @@ pub(crate) fn end_second<F: Form>(
     Ok(commands)
 }
 
-/// Begins the third phase: each command goes to its transaction, in the part of that transaction's
-/// shard.
+/// Begins the third phase: puts each command for its transaction into the part of that
+/// transaction's shard.
 pub(crate) fn begin_third<C: Cut>(
     alloc: Global,
     cut: &C,
@@ -144,7 +145,7 @@ pub(crate) fn begin_third<C: Cut>(
     Ok(parts)
 }
 
-/// Ends the third phase: what the transactions send goes behind the outputs.
+/// Ends the third phase: puts what the transactions send behind the outputs.
 pub(crate) fn end_third<F: Form>(
     replies: PhaseOutputs<Key, Out>,
     outputs: &mut Vec<F>,

@@ -37,7 +37,7 @@ impl<'a> Job for EventRun<'a> {
     }
 }
 
-/// The events of the round of this number, read and stamped on up to so many workers, in their
+/// The events of the round with this number, read and stamped on up to `workers` workers, in their
 /// order.
 pub(crate) fn set_out_by<R: Threads + Sync>(
     rt: &R,
@@ -61,7 +61,7 @@ pub(crate) fn set_out_by<R: Threads + Sync>(
     Ok(joined(alloc, events.len(), gather(alloc, dones)?)?)
 }
 
-// The events in runs, by the numbers of these.
+// The events, cut into numbered runs.
 fn runs_of<'a>(
     alloc: Global,
     local: Addr,
@@ -90,7 +90,7 @@ fn runs_of<'a>(
     Ok(runs)
 }
 
-// What runs of so many events were set out as, one behind the other.
+// What runs with `events` events were set out as, one after another.
 fn joined(
     alloc: Global,
     events: usize,

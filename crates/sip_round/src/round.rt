@@ -13,23 +13,23 @@ use sip_text::{Series, Text};
 pub enum Event {
     /// A datagram came in.
     Datagram { from: Addr, bytes: Text },
-    /// A message of the transaction of this key could not be sent.
+    /// A message of the transaction with this key couldn't be sent.
     Failed(Key),
-    /// The user asks something of a call.
+    /// The user asks a call for something.
     Command(UserCommand),
 }
 
-/// A moment and the events that are dealt with then.
+/// A moment, and the events at that moment.
 #[derive(Drop)]
 pub struct Round {
-    /// In ms. It doesn't decrease from round to round.
+    /// In ms. It never decreases from round to round.
     pub moment: u64,
     /// Numbered by place, from 1.
     pub events: Series<Event>,
 }
 
-/// The event of this place, where these are the events of a round; an output names it so. There is
-/// none of place 0. Takes no memory.
+/// The event at this place, if these are the events of a round. An output names its event by such a
+/// place. There is none at place 0. Takes no memory.
 pub fn event_at(events: &[Event], place: u32) -> Option<&Event>
     ensures { option_copied result ≡ spec.event_at events.now place }
 {
@@ -37,8 +37,8 @@ pub fn event_at(events: &[Event], place: u32) -> Option<&Event>
     events.get(before)
 }
 
-/// The bytes of the datagram that came in at this place, where these are the events of a round.
-/// None where another event stands there, or none. Takes no memory.
+/// The bytes of the datagram that came in at this place, if these are the events of a round. None
+/// if the event there isn't a datagram, or if there is none. Takes no memory.
 pub fn datagram_at(events: &[Event], place: u32) -> Option<&Text>
     ensures { option_copied result ≡ spec.datagram_at events.now place }
 {

@@ -22,8 +22,8 @@ use sip_workers::NoMemory;
 use std::alloc::{AllocError, Global};
 use std::marker::Model;
 
-/// The shards of the transactions and those of the calls: as many of these as of those, at least
-/// one and at most 256.
+/// The shards of the transactions and of the calls. There are as many of either kind, at least one
+/// and at most 256.
 pub(crate) struct Shards {
     transactions: Vec<Shard>,
     calls: Vec<CallShard>,
@@ -56,7 +56,7 @@ impl Shards {
     ghost use Rattle.sip_model.specs.Machine.{Timed, tick_at};
     ghost use Rattle.sip_transactions.specs.declared.input.Input.{Input};
 
-    /// So many shards that hold nothing, of calls that share this.
+    /// `shards` shards that hold nothing. Their calls share `calls`.
     pub(crate) fn new(alloc: Global, calls: Calls, shards: usize) -> Result<Shards, AllocError>
         requires some { 0 < shards }
         requires most { shards ≤ 256 }
@@ -101,12 +101,12 @@ impl Shards {
         (transactions, calls)
     }
 
-    /// Moves all that is held to other shards, which hold nothing: each key to the shard that the
-    /// cut names for it.
+    /// Moves everything held to other shards, which hold nothing: each key goes to the shard that
+    /// the cut names for it.
     ///
     /// # Errors
     ///
-    /// `NoMemory`, and then what was held is lost.
+    /// `NoMemory`; then what was held is lost.
     pub(crate) fn transfer<C: Cut>(
         self,
         cut: &C,
@@ -134,7 +134,7 @@ impl Shards {
         Ok(Shards::of(transactions, calls))
     }
 
-    /// How many shards there are of either kind.
+    /// How many shards of each kind there are.
     pub(crate) fn count(&self) -> usize
         ensures count { result ≡ length self.now.transactions }
         ensures some { 0 < result }
@@ -143,7 +143,7 @@ impl Shards {
         self.transactions.len()
     }
 
-    /// Whether nothing is due in any of them at the moment in ms. Takes no memory.
+    /// Whether nothing in them is due at the moment in ms. Takes no memory.
     pub(crate) fn are_idle(&self, moment: u64) -> bool
         ensures shards { AreShards self.now }
         ensures first { IsTrue result → AllByRecursion
@@ -159,7 +159,7 @@ impl Shards {
             && are_idle(moment, true, &self.calls)
     }
 
-    /// The first moment, in ms, at which something is due in any of them. Takes no memory.
+    /// The first moment, in ms, at which something in them is due. Takes no memory.
     pub(crate) fn next_due(&self) -> Option<u64>
         ensures shards { AreShards self.now }
         ensures transactions { AllByRecursion (λ held. IsSome held) (lives_held self.now)

@@ -1,4 +1,4 @@
-//! The events of a round: the inputs of transactions, and what waits for what these say.
+//! The events of a round: the inputs of transactions, and what waits until these have spoken.
 
 ghost use Rattle.std.specs.Prelude.{◌≡◌, ◌≤◌, ◌+◌, ◌++◌, IfOk, OnOk, length};
 ghost use Rattle.std.specs.List.{flat_map};
@@ -22,10 +22,10 @@ use sip_transactions::{DropReason, Input, Out};
 use std::alloc::{AllocError, Global};
 use std::vec::IntoIter;
 
-/// What is left of an arrival when its input is on its way.
+/// What is left of an arrival after its input was set out.
 #[derive(Drop)]
 pub(crate) enum Waiting {
-    /// What its transaction says comes of it.
+    /// Its transaction says what happens.
     Transaction,
     /// It is dropped.
     Dropped(DropReason),
@@ -42,7 +42,7 @@ pub(crate) struct SetOut {
     pub(crate) waiting: Vec<(Id, Waiting)>,
 }
 
-/// Events of the round of this number, read and stamped; so many stand before them.
+/// Events of the round with this number, read and stamped; `before` events come before them.
 pub(crate) fn set_out(
     alloc: Global,
     local: Addr,
@@ -65,8 +65,8 @@ pub(crate) fn set_out(
     Ok(SetOut { items, waiting })
 }
 
-/// The outputs of the first phase of the round of this number, and the items of the calls: those of
-/// the ticks, and then by place.
+/// The outputs of the first phase of the round with this number, and the items of the calls: first
+/// those of the ticks, and then the others by place.
 pub(crate) fn first_outputs<F: Form>(
     alloc: Global,
     round: u64,

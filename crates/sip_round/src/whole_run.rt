@@ -19,25 +19,25 @@ use sip_workers::Gate;
 use std::alloc::Global;
 use std::thread::Threads;
 
-/// The outputs of each round, from an agent that begins with this configuration, of so many shards
-/// among which names are cut so, on up to so many workers.
+/// The outputs of each round, from an agent that begins with this configuration. It has `shards`
+/// shards, among which `cut` distributes names, and up to `workers` workers.
 ///
-/// So of what is given: the Sends with a transaction's key are in order just what that
-/// transaction's own history says to send (`sends_of_each_transaction`), and the notices with a
-/// Call-ID just those that the call's own history says (`notices_of_each_call`). At most one notice
-/// `request` has an id, since each life of a server transaction hands its request up once
-/// (`each_request_once`); and these notices come by rising ids, in the order of the events by which
-/// the requests came (`requests_by_id`). Each life of a client's transaction begins by a request
-/// that is started, and that request goes out (`started_requests`). Of the reliable provisional
-/// responses that come to an INVITE in one life of a dialog the user is told in order, of each once
-/// (`provisionals_in_order`). In the rounds after those in which a transaction has ended nothing
-/// that is told of a call comes from it (`nothing_after_the_end`).
+/// Among all outputs, the Sends with a transaction's key are exactly what that transaction's own
+/// history says to send, in order (`sends_of_each_transaction`), and the notices with a Call-ID are
+/// exactly those that the call's own history says (`notices_of_each_call`). At most one notice
+/// `request` has a given id, since each life of a server transaction hands its request up once
+/// (`each_request_once`). These notices come by rising ids, in the order of the events with which
+/// the requests came (`requests_by_id`). Each life of a client transaction begins with a request
+/// that is started, and that request goes out (`started_requests`). The reliable provisional
+/// responses to an INVITE that come in one life of a dialog are told in order, and each once
+/// (`provisionals_in_order`). After the rounds in which a transaction has ended, nothing that is
+/// told of a call comes from it (`nothing_after_the_end`).
 ///
 /// # Errors
 ///
-/// The first round that is refused, by its index from 0, with its fault; or `NoMemory`, with the
-/// index of the round in which memory was refused, where neither it nor one before it is refused
-/// otherwise. Where the agent itself found no memory, before the first round and whatever the
+/// The first round that is refused, by its index from 0, with its fault. Or `NoMemory`, with the
+/// index of the round that ran out of memory, if neither it nor an earlier one is refused for
+/// another reason. If the agent itself runs out of memory before the first round, whatever the
 /// rounds are, the index is 0 and `broken` is true.
 pub fn run<R: Threads + Sync, C: Cut + Drop, G: Gate>(
     rt: &R,

@@ -1,4 +1,4 @@
--- A phase of one shard, which owns every key.
+-- A phase of a single shard, which owns every key.
 use Rattle.std.proofs.Common.{◌≡◌, ℕ, zero, ◌<◌, Bool, List, [], ◌∷◌, ◌++◌, length, map, refl, sym, ◌∙◌, ap, subst}
 use Rattle.std.proofs.lemmas.List.{nil_from_length}
 use Rattle.std.specs.List.{AllByRecursion}
@@ -13,7 +13,7 @@ use Rattle.sip_shards.specs.AllShards.{DealsAll, DealsParts}
 use Rattle.sip_shards.proofs.Cutting.{all_in_one}
 use Rattle.sip_shards.proofs.Together.{first_of}
 
--- what holds of all holds of the last
+-- what is true of all elements is true of the last
 pub all_last : {X : Type 0} (P : X → Type 0) (xs : List X) (x : X)
     → AllByRecursion P (xs ++ x ∷ []) → P x
 all_last P [] x all = all.0
@@ -54,7 +54,7 @@ module _ {K S I O : Type 0} (cmp : K → K → Ordering) (machine : Machine K S 
     (tick : ℕ → Timed I) (now : ℕ) (with_tick : Bool) (old new : Held K S) (items : List (Item K I))
     (ticks : List (K × List O)) (said : List (ℕ × List O))
     (adds : AddsPhase cmp machine tick old new (phase_at now with_tick items) ticks said) where
-  -- the one part is all items
+  -- the one part has all items
   deals_one : DealsParts cmp machine tick now with_tick (items ∷ []) (old ∷ []) (new ∷ []) ticks
       said
   unfolding first_of
@@ -64,7 +64,7 @@ module _ {K S I O : Type 0} (cmp : K → K → Ordering) (machine : Machine K S 
       (subst (λ is. AddsPhase cmp machine tick old new (phase_at now with_tick is) ticks said) same
       adds)
 
-  -- behind what is left where the one of each was taken out
+  -- the same at the end of what is left, after a single one was taken out
   pub deals_last : (tables tables_left tables_new : List (Held K S))
       (parts parts_left : List (List (Item K I))) → tables ≡ tables_left ++ old ∷ []
       → length tables_left ≡ 0 → parts ≡ parts_left ++ items ∷ [] → length parts_left ≡ 0

@@ -1,4 +1,4 @@
--- Numbers that climb are in order.
+-- Climbing numbers are in order.
 use Rattle.std.proofs.Common.{◌≡◌, ℕ, suc, ◌<◌, ◌≤◌, true, cond, ◌==◌, List, [], ◌∷◌, nat_lt, ap, arith}
 use Rattle.std.specs.Ordering.{nat_cmp}
 use Rattle.std.specs.declared.cmp.Ordering.TheVariants.{Less, Equal, Greater}
@@ -6,7 +6,7 @@ use Rattle.std.specs.List.{AllByRecursion}
 use Rattle.std.specs.List.Sorted.{IsStrictlySortedBy}
 use Rattle.std.proofs.lemmas.Grind.{common_steps}
 
--- each is at least the number, and more than those before it
+-- each is at least the number, and greater than those before it
 abbrev pub Climbs : ℕ → List ℕ → Type 0
 Climbs n [] = Unit {0}
 Climbs n (x ∷ xs) = (n ≤ x) × Climbs (suc x) xs

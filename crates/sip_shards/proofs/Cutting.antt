@@ -9,7 +9,7 @@ use Rattle.sip_model.proofs.Ordered.{by_bool}
 use Rattle.sip_shards.specs.Parts.{cut_by}
 use Rattle.sip_shards.specs.Steps.Put.{with_item}
 
--- the parts of so far, with what is left, are the parts of all
+-- the parts so far, with those of the items left, are the parts of all items
 pub record PartsLeft {K I : Type 0} (owner : K → ℕ) (shards : ℕ) (all rest : List (Item K I))
     (parts : List (List (Item K I))) : Type 0 where
   pub count : length parts ≡ shards
@@ -32,7 +32,7 @@ pub map_long : {X Y : Type 0} (f : X → Y) (xs : List X) → length (map f xs) 
 map_long f [] = refl
 map_long f (x ∷ xs) = ap suc (map_long f xs)
 
--- where there is one shard, it has all items
+-- a single shard has all items
 pub all_in_one : {K I : Type 0} (owner : K → ℕ) (items : List (Item K I))
     → ((key : K) → owner key < 1)
     → filter (λ item. is_owned owner 0 item.key) items ≡ items
@@ -62,7 +62,7 @@ module _ {K I : Type 0} (owner : K → ℕ) (shards : ℕ) (all : List (Item K I
           (get_or-map items (part ∷ parts) k part [] inside ∙ empty k part inside)
           ∙ ap (filter (λ item. is_owned owner k item.key)) begun
 
-  -- an item goes behind the part of its owner
+  -- an item is put at the end of its owner's part
   pushed_at : (item : Item K I) (rest : List (Item K I)) (parts : List (List (Item K I)))
       (newer : List (Item K I)) → owner item.key < shards
       → newer ≡ get_or parts (owner item.key) [] ++ item ∷ []
@@ -102,7 +102,7 @@ module _ {K I : Type 0} (owner : K → ℕ) (shards : ℕ) (all : List (Item K I
       subst (PartsLeft owner shards all rest) (sym put) (pushed_at item rest parts
       (get_or parts (owner item.key) [] ++ item ∷ []) within refl left)
 
-  -- lists that are the parts at each index
+  -- lists that are the parts at each index are all parts
   cut_from : (number : ℕ) (parts : List (List (Item K I)))
       → ((k : ℕ) → k < length parts → get_or parts k []
       ≡ filter (λ item. is_owned owner (number + k) item.key) all)

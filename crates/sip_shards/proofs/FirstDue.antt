@@ -1,4 +1,4 @@
--- The first moment at which something is due in any of several shards.
+-- The first moment at which a key in any of several shards is due.
 use Rattle.std.proofs.Common.{◌≡◌, inl, inr, ◌≤◌, ℕ, true, false, List, [], ◌∷◌, length, map, min, nat_le, refl, sym, subst, ◌-◌, arith}
 use Rattle.std.specs.Prelude.{IfSome, None, Option, Some, drop, get_or, take}
 use Rattle.std.specs.List.{AllByRecursion}
@@ -19,7 +19,7 @@ le_min : (x y now : ℕ) → nat_le (min x y) now ≡ false
 le_min x y now before =
     (grind (arith, common_steps, before), grind (arith, common_steps, before))
 
--- where neither is due, the earlier one isn't, and the other way round
+-- if neither is due, the earlier one isn't, and the other way round
 pub neither_due : (now : ℕ) (a b : Option ℕ) → is_due now (earlier a b) ≡ false
     → (is_due now a ≡ false) × (is_due now b ≡ false)
 neither_due now None b before = (refl, before)

@@ -1,4 +1,4 @@
--- A phase in which no shard has an item and nothing is due in any.
+-- A phase in which no shard has an item and no key is due.
 use Rattle.std.proofs.Common.{◌≡◌, ℕ, zero, suc, ◌<◌, Bool, List, [], ◌∷◌, length, map, refl, sym, ◌∙◌, ap, subst, arith}
 use Rattle.std.specs.Prelude.{Result, Ok, IfOk}
 use Rattle.std.specs.declared.cmp.Ordering.{Ordering}
@@ -22,11 +22,11 @@ use Rattle.sip_shards.proofs.Together.{deals_all}
 abbrev pub no_group : (Y : Type 0) → List Y
 no_group Y = []
 
--- what a shard in which nothing happens gives
+-- what a shard gives in which nothing happens
 abbrev by_itself : {X : Type 0} (E : Type 0) → X → Result X E → Type 0
 by_itself E x done = IfOk done (λ y. x ≡ y)
 
--- nothing, in any order
+-- no groups, in any order
 sorts_nothing : {L O : Type 0} (cmp : L → L → Ordering) → Sorts {L = L} {O = O} cmp [] []
 sorts_nothing cmp all sorted same = sym (nil_from_length all (length_permutation [] all same))
 
@@ -49,7 +49,7 @@ empty_parts {X = X} part (p ∷ ps) (t ∷ ts) none same =
     ap (λ (xs : List X). xs ∷ map part ps) none.0
     ∙ ap (λ (more : List (List X)). [] ∷ more) (empty_parts part ps ts none.1 (omega (arith, same)))
 
--- shards of one machine in which nothing happens, as what they hold
+-- shards of one machine in which nothing happens, seen as what they hold
 pub idle_held : {X M K S I O : Type 0} (cmp : K → K → Ordering)
     (spec : M → Machine K S (Timed I) O) (tick : ℕ → Timed I) (now : ℕ) (ticks : Bool)
     (machine_of : X → M) (held : X → Held K S) (machine : M) (xs : List X)

@@ -1,4 +1,4 @@
--- A phase of all shards from its pieces of work, whoever did them.
+-- A phase of all shards from its pieces, whoever ran them.
 use Rattle.std.proofs.Common.{◌≡◌, ℕ, List, [], ◌∷◌, length, map, sym, ◌∙◌, ap, subst}
 use Rattle.std.proofs.lemmas.List.{length-map}
 use Rattle.std.proofs.lemmas.Slice.Zip.{AllZip-long}
@@ -16,7 +16,7 @@ use Rattle.sip_shards.specs.AllShards.{DealsParts, IsApart, IsEnded}
 use Rattle.sip_shards.proofs.Numbered.{map_twice, parts_timed, places_timed}
 use Rattle.sip_shards.proofs.Together.{deals_all}
 
--- a piece has this machine, this moment, and a tick or none
+-- a piece has this machine and this moment, with a tick or without
 abbrev pub Shares : {P M : Type 0} → (P → M) → (P → ℕ) → (P → Bool) → M → ℕ → Bool → P → Type 0
 Shares machine_of now_of ticks_of machine now with_tick piece = (machine_of piece ≡ machine)
     × (now_of piece ≡ now) × (ticks_of piece ≡ with_tick)
@@ -65,7 +65,7 @@ module _ {P M K S I O D : Type 0} (cmp : K → K → Ordering) (spec : M → Mac
       worked new ended.joined_ticks all_ticks ended.joined_items all_said ended.apart
       ended.sorts_ticks ended.sorts_items
 
--- as many come back as there were
+-- there are as many tables as before
 pub tables_back : {P T D E X Y : Type 0} (R : P → Result D E → Type 0) (table_of : P → T)
     (after : D → T) (ticks : D → List X) (said : D → List Y) (pieces : List P) (tables new : List T)
     (gathered : List (Result D E)) (all_ticks : List X) (all_said : List Y)

@@ -1,4 +1,4 @@
--- Tables and parts, piled up as pieces of work, and taken apart again.
+-- Tables and parts, put together as pieces of work, and taken apart again.
 use Rattle.std.proofs.Common.{◌≡◌, List, [], ◌∷◌, ◌++◌, length, map, sym, ◌∙◌, ap, subst, arith, append_assoc, append-nil}
 use Rattle.std.specs.Prelude.{Result, Ok}
 use Rattle.std.specs.List.{AllByRecursion, flat_map}
@@ -11,14 +11,14 @@ all_pushed : {P : Type 0} (Q : P → Type 0) (ps : List P) (p : P) → AllByRecu
 all_pushed Q [] p all one = (one, tt)
 all_pushed Q (q ∷ ps) p all one = (all.0, all_pushed Q ps p all.1 one)
 
--- what a list maps to, one after the other, with what is left
+-- a list is mapped one element after another; what is left stays behind
 map_pushed : {P T : Type 0} (f : P → T) (ps : List P) (p : P) (t : T) (left all : List T) → f p ≡ t
     → map f ps ++ t ∷ left ≡ all → map f (ps ++ p ∷ []) ++ left ≡ all
 map_pushed f ps p t left all is so_far =
     ap (λ xs. xs ++ left) (map-append f ps (p ∷ [])) ∙ append_assoc (map f ps) (f p ∷ []) left
     ∙ ap (λ x. map f ps ++ x ∷ left) is ∙ so_far
 
--- the pieces of so far, with what is left of the tables and the parts
+-- the pieces so far, and the tables and parts that are left
 pub record PiecesLeft {P T X : Type 0} (table : P → T) (items : P → X) (Same : P → Type 0)
     (tables left_tables : List T) (parts left_parts : List X) (pieces : List P) : Type 0 where
   pub tables_are : map table pieces ++ left_tables ≡ tables
@@ -49,7 +49,7 @@ module _ {P T X : Type 0} (table : P → T) (items : P → X) (Same : P → Type
 
 -- ---- dones
 
--- the dones of so far, taken apart, and those that are left
+-- the dones so far, taken apart, and those that are left
 pub record DonesLeft {D E T X Y : Type 0} (table : D → T) (ticks : D → List X) (items : D → List Y)
     (dones left : List (Result D E)) (tables : List T) (all_ticks : List X)
     (all_items : List Y) : Type 0 where

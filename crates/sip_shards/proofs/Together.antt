@@ -1,4 +1,4 @@
--- A phase of all shards, from what each of them did.
+-- A phase of all shards, made of what each of them did.
 use Rattle.std.proofs.Common.{◌≡◌, ℕ, zero, suc, ◌<◌, List, [], ◌∷◌, ◌++◌, length, map, refl, sym, ◌∙◌, ap, subst}
 use Rattle.std.specs.Prelude.{Result, Ok}
 use Rattle.std.specs.declared.cmp.Ordering.{Ordering}

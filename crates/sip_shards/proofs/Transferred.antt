@@ -88,7 +88,7 @@ module _ {K S : Type 0} {cmp : K → K → Ordering} (total : IsTotalOrder cmp)
         (not_here total exact owner key q k at other)));
   }
 
-  -- what is left of a map, over what was moved, is what there was
+  -- the keys left in a map, over those moved, are the keys that there were
   pub still_all : (rest rest_old : K → Option S) (moved moved_new : K → Option S) (key : K)
       (state : S) → rest_old key ≡ Some state
       → ((q : K) → rest q ≡ cond (is_at (cmp key) q) None (rest_old q))
@@ -105,7 +105,7 @@ module _ {K S : Type 0} {cmp : K → K → Ordering} (total : IsTotalOrder cmp)
       ap (λ r. option_or r (moved_new q)) (left q ∙ ap (λ b. cond b None (rest_old q)) miss)
       ∙ ap (option_or (rest_old q)) (put q ∙ ap (λ b. cond b (Some state) (moved q)) miss))
 
-  -- what is left of one table, and what was moved of it
+  -- the keys left in one table, and those moved from it
   pub record TableLeft (shards : ℕ) (all rest : K → Option S)
       (old moved : List (Held K S)) : Type 0 where
     pub count : length moved ≡ shards
@@ -134,7 +134,7 @@ module _ {K S : Type 0} {cmp : K → K → Ordering} (total : IsTotalOrder cmp)
 
 -- ---- all tables
 
--- the tables that are left, and what was moved of the ones before
+-- the tables that are left, and the keys moved from those before them
 pub record TransferLeft {K S I O : Type 0} (cmp : K → K → Ordering) (machine : Machine K S I O)
     (tick : ℕ → I) (owner : K → ℕ) (shards : ℕ) (all rest moved : List (Held K S)) : Type 0 where
   pub count : length moved ≡ shards
@@ -173,7 +173,7 @@ module _ {K S I O : Type 0} (cmp : K → K → Ordering) (machine : Machine K S 
       none_below : {X : Type 0} (n : ℕ) (x : Option X) → None ≡ cond (nat_lt n 0) x None
       none_below n x = ap (λ b. cond b x None) (never n)
 
-  -- one table more is moved
+  -- one more table is moved
   pub one_moved : (shards : ℕ) (all : List (Held K S)) (table : Held K S)
       (rest moved moved_new : List (Held K S)) → length moved_new ≡ length moved
       → AreOwners cmp owner moved_new

@@ -3,11 +3,11 @@ use Rattle.std.specs.Prelude.{ℕ, zero, suc, List, [], ◌∷◌, filter}
 use Rattle.sip_model.specs.declared.item.Item.{Item}
 use Rattle.sip_model.specs.Shards.{is_owned}
 
--- the shard of a key, of so many, by how names are cut
+-- the shard of a key, among so many, by the way in which names are cut
 abbrev pub owner_of : {K : Type 0} → (List ℕ → ℕ → ℕ) → (K → List ℕ) → ℕ → K → ℕ
 owner_of shard_of name shards key = shard_of (name key) shards
 
--- the items of each of so many shards from this number on, in their order
+-- for each of so many shards, numbered upwards from this number, its items, in their order
 abbrev pub cut_by : {K I : Type 0} → (K → ℕ) → ℕ → ℕ → List (Item K I) → List (List (Item K I))
 cut_by owner number zero items = []
 cut_by owner number (suc count) items =

@@ -1,4 +1,4 @@
-//! When something is due in any of several shards.
+//! When a key in any of several shards is due.
 
 ghost use Rattle.std.specs.Prelude.{◌≡◌, ℕ, Bool, IfSome, IsSome, false, map, true};
 ghost use Rattle.std.specs.List.{AllByRecursion};
@@ -10,7 +10,7 @@ ghost use Rattle.sip_model.specs.Machine.{tick_at};
 use sip_model::KeyShard;
 use sip_timers::earlier;
 
-/// The first moment, in ms, at which something is due in any of these shards. Takes no memory.
+/// The first moment, in ms, at which a key in any of these shards is due. Takes no memory.
 pub fn next_due_in<S: KeyShard>(shards: &[S]) -> Option<u64>
     ensures before { AllByRecursion (λ shard. IsSome (S.held shard)) shards.now
         → (now : ℕ) (ticks : Bool) → (ticks ≡ true → is_due now result ≡ false) → AllByRecursion

@@ -1,5 +1,5 @@
-//! Shards of a machine's keys: a phase over all of them, on workers or in turn, and what is held
-//! moved to others.
+//! Shards of a machine's keys: a phase over all of them, on workers or shard after shard, and held
+//! keys moved to other shards.
 #![tactic(auto)]
 
 mod due;

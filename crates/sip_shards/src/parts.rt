@@ -9,7 +9,7 @@ use sip_message::{CallId, Cut, Key};
 use sip_model::Item;
 use std::alloc::{AllocError, Global};
 
-/// A key that is cut among shards by a name.
+/// A key with a name, by which it is cut among shards.
 pub trait Named {
     ghost name: { Self → List ℕ };
 
@@ -35,7 +35,7 @@ impl Named for CallId {
     }
 }
 
-/// The part of each of so many shards: the items of the keys that it owns, in their order.
+/// For each of `shards` shards, the items of the keys that it owns, in their order.
 pub fn parts_of<C: Cut, K: Named + Drop, I: Drop>(
     alloc: Global,
     cut: &C,
@@ -68,7 +68,7 @@ fn one_part<K: Drop, I: Drop>(
     Ok(parts)
 }
 
-// Each item goes to the shard of its name.
+// Puts each item into the part of the shard that owns its name.
 fn parts_by_name<C: Cut, K: Named + Drop, I: Drop>(
     alloc: Global,
     cut: &C,
@@ -87,7 +87,7 @@ fn parts_by_name<C: Cut, K: Named + Drop, I: Drop>(
     Ok(parts)
 }
 
-/// An item goes behind the part of the shard, of so many, that owns its key.
+/// Puts an item at the end of the part of the shard that owns its key; there are `shards` shards.
 pub fn put<C: Cut, K: Named + Drop, I: Drop>(
     cut: &C,
     shards: usize,
@@ -105,7 +105,7 @@ pub fn put<C: Cut, K: Named + Drop, I: Drop>(
     Ok(parts[shard].push(item)?)
 }
 
-// The shard, of so many, that owns a key. The only one owns all.
+// The shard that owns a key, of `shards` shards. A single shard owns all.
 fn owner<C: Cut, K: Named>(cut: &C, key: &K, shards: usize) -> usize
     requires some { 0 < shards }
     requires most { shards ≤ 256 }
@@ -117,7 +117,7 @@ fn owner<C: Cut, K: Named>(cut: &C, key: &K, shards: usize) -> usize
     cut.shard(key.name(), shards)
 }
 
-/// So many parts without an item, with room for so many items in all.
+/// `shards` parts without items, with room for `items` items in all.
 pub fn empty_parts<X: Drop>(
     alloc: Global,
     shards: usize,

@@ -1,4 +1,4 @@
-//! A phase of all shards: what begins it, who runs its pieces, and what ends it.
+//! A phase of all shards: how it begins, who runs its pieces, and how it ends.
 
 ghost use Rattle.std.specs.Prelude.{◌≡◌, ◌<◌, ◌≤◌, ◌^◌, [], IfOk, IsTrue, length, map, nat_eq};
 ghost use Rattle.std.specs.List.{AllByRecursion, IsDistinct};
@@ -13,15 +13,15 @@ use sip_workers::{Gate, NoMemory, Piece, dones_in_order, gather, run_alone, run_
 use std::alloc::{AllocError, Global};
 use std::thread::Threads;
 
-/// The gate of work that no one watches.
+/// The gate of work that nobody watches.
 pub struct Unwatched;
 
 impl Gate for Unwatched {
     fn begin(&self, _: usize) {}
 }
 
-/// A phase that is to come: each shard with its part of the items, at a moment in ms, with a tick
-/// or without.
+/// A phase before it is dealt with: each shard with its part of the items, at a moment in ms, with
+/// a tick or without.
 #[derive(Drop)]
 pub struct Phase<S: KeyShard> {
     pub machine: S::Machine,
@@ -39,7 +39,7 @@ impl<S: KeyShard + Drop> Phase<S>
 where
     S::Machine: Copy,
 {
-    // The phase of one shard, which has all items: what it says is in order.
+    // The phase of a single shard, which has all items. Its outputs are in order as they come.
     fn deal_alone<G: Gate>(
         self,
         gate: &G,
@@ -80,7 +80,7 @@ where
         Ok((shards, replies))
     }
 
-    // Whether nothing happens in it: no shard has an item, and nothing is due.
+    // Whether nothing happens in it: no shard has an item, and no key is due.
     fn is_idle(&self) -> bool
         requires { AllByRecursion (λ shard. S.machine shard ≡ self.now.machine)
             self.now.shards.items }
@@ -93,7 +93,7 @@ where
         have_no_items(&self.parts) && are_idle(self.moment, self.ticks, &self.shards)
     }
 
-    // What it gives where nothing happens in it.
+    // What it gives if nothing happens in it.
     fn unchanged(
         self,
         alloc: Global,
@@ -109,7 +109,7 @@ where
         (self.shards, PhaseOutputs { ticks, items })
     }
 
-    // Begins it: each shard with its part, under its number.
+    // Its pieces: each shard with its part, under its number.
     fn pieces(self, alloc: Global) -> Result<Vec<Piece<ShardWork<S>>>, AllocError>
         ensures numbered { IfOk result (λ pieces. IsNumbered pieces.items) }
         ensures shards { IfOk result (λ pieces. map (λ piece. piece.job.shard) pieces.items
@@ -144,11 +144,11 @@ where
         Ok(pieces)
     }
 
-    /// Deals with it in turn, shard after shard, on the thread that asks for it.
+    /// Deals with it shard after shard, on the calling thread.
     ///
     /// # Errors
     ///
-    /// As `deal`.
+    /// As [`deal_phase`].
     pub fn deal_in_turn(
         self,
         alloc: Global,
@@ -182,14 +182,14 @@ where
     }
 }
 
-/// Tells the gate of each of so many shards in turn, as a phase does in which nothing is to do.
+/// Tells the gate of each of `shards` shards, one after another, as a phase without work does.
 pub fn tell_of_each<G: Gate>(shards: usize, gate: &G) {
     for shard in 0..shards {
         gate.begin(shard);
     }
 }
 
-/// Whether nothing is due in any of these shards at the moment in ms, or the phase has no tick.
+/// Whether no key in these shards is due at the moment in ms, or the phase has no tick.
 pub fn are_idle<S: KeyShard>(now: u64, ticks: bool, shards: &[S]) -> bool
     ensures { IsTrue result → AllByRecursion (λ shard.
         IsIdle S.Machine.Key.cmp (S.Machine.machine (S.machine shard)) tick_at now ticks
@@ -211,8 +211,8 @@ fn have_no_items<K, I>(parts: &[Vec<Item<K, I>>]) -> bool
     }
 }
 
-// Ends a phase whose pieces of work have run: the shards, in order, and what was said, in the order
-// of keys and of places. `NoMemory`: the shards are lost.
+// Ends a phase whose pieces have run. Gives the shards, in order, and the outputs, in the order of
+// keys and of places. `NoMemory`: the shards are lost.
 fn end_phase<S: KeyShard>(
     alloc: Global,
     dones: Vec<(usize, Result<ShardDone<S>, ShardFault>)>,
@@ -234,7 +234,7 @@ where
     Ok((shards, replies.in_order()))
 }
 
-// The shards, and all that was said, shard by shard.
+// The shards, and all outputs, one shard after another.
 fn into_parts<S: KeyShard>(
     alloc: Global,
     dones: Vec<Result<ShardDone<S>, ShardFault>>,
@@ -266,12 +266,12 @@ where
     Ok((shards, PhaseOutputs { ticks, items }))
 }
 
-/// Deals with a phase on up to so many workers. Gives the shards back, in order, and what was said,
+/// Deals with a phase on up to `workers` workers. Gives the shards back, in order, and the outputs,
 /// in the order of keys and of places. The gate is told of each shard as its part begins.
 ///
 /// # Errors
 ///
-/// `NoMemory`, and then the shards are lost.
+/// `NoMemory`; then the shards are lost.
 pub fn deal_phase<R: Threads + Sync, S: KeyShard + Drop + Send, G: Gate>(
     rt: &R,
     alloc: Global,

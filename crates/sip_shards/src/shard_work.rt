@@ -20,7 +20,7 @@ pub struct ShardWork<S: KeyShard> {
     ghost in_bounds: { now ≤ 2 ^ 62 },
 }
 
-/// A shard after a phase, and what was said in it.
+/// A shard after a phase, and its outputs.
 #[derive(Drop)]
 pub struct ShardDone<S: KeyShard> {
     pub(crate) shard: S,

@@ -14,12 +14,12 @@ use sip_message::Cut;
 use sip_model::{KeyShard, StateMachine, laws_of_phases};
 use sip_workers::NoMemory;
 
-/// Moves all that shards of a machine hold to others, which hold nothing: each key to the shard
-/// that the cut names for it.
+/// Moves all that shards of a machine hold to other shards, which hold nothing: each key goes to
+/// the shard that the cut names for it.
 ///
 /// # Errors
 ///
-/// `NoMemory`, and then what they held is lost.
+/// `NoMemory`; then what they held is lost.
 pub fn transfer<C: Cut, S: KeyShard + Drop>(
     cut: &C,
     machine: &S::Machine,
@@ -51,7 +51,7 @@ where
     Ok(moved)
 }
 
-// Moves what one shard holds.
+// Moves all that one shard holds.
 fn transfer_shard<C: Cut, S: KeyShard + Drop>(
     cut: &C,
     shard: S,

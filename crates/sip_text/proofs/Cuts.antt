@@ -13,7 +13,7 @@ use Rattle.sip_text.proofs.Options.{bind_some, same_some}
 abbrev pub has_no : ℕ → List ℕ → Bool
 has_no at text = list_all (λ b. not (eqb b at)) text
 
--- a text in two parts, of which the first has no such byte
+-- a text in two parts, of which the first doesn't have this byte
 pub record Parts (at : ℕ) (text front rest : List ℕ) : Type 0 where
   pub whole : text ≡ front ++ at ∷ rest
   pub none : has_no at front ≡ true
@@ -59,7 +59,7 @@ uncut at (b ∷ bs) none =
     ap (λ r. cut_by at b bs r (cut_at at bs)) (not-true (eqb b at) parts.0)
     ∙ ap (λ o. option_map (λ p. (b ∷ p.0, p.1)) o) (uncut at bs parts.1)
 
--- ---- bytes that are none of a text
+-- ---- bytes that don't occur in a text
 
 pub has_no-append : (at : ℕ) (xs ys : List ℕ) → has_no at xs ≡ true → has_no at ys ≡ true
     → has_no at (xs ++ ys) ≡ true
@@ -70,7 +70,7 @@ other : (test : ℕ → Bool) (at b : ℕ) (r : Bool) → eqb b at ≡ r → tes
 other test at b true e fails is = absurd (true≢false (sym is ∙ ap test (eqb-true b at e) ∙ fails))
 other test at b false e fails is = ap not e
 
--- a byte that fails the test isn't among those that pass
+-- a byte that fails the test isn't among bytes that pass
 pub none_passing : (test : ℕ → Bool) (at : ℕ) (text : List ℕ) → test at ≡ false
     → list_all test text ≡ true → has_no at text ≡ true
 none_passing test at [] fails all = refl
@@ -85,7 +85,7 @@ digits_have_no at digits fails all = none_passing is_ascii_digit at digits fails
 
 -- ---- fields
 
--- A reader of fields: what it reads is spelled so and fits, and what fits is read from its
+-- A reader of fields: what it reads is spelled that way and fits, and what fits is read from its
 -- spelling.
 pub record Reads {A : Type 0} (Fits : A → Type 0) (spell : A → List ℕ)
     (read : List ℕ → Option A) : Type 0 where

@@ -21,7 +21,7 @@ trimmed_end-blank (x ∷ xs) b h =
     all_push xs b ∙ ap (λ t. list_all is_blank xs && t) h ∙ and-true _ in
     rw (all, trimmed_end-blank xs b h) refl
 
--- any other byte stays, with all that stands before it
+-- any other byte stays, and so does all that stands before it
 pub trimmed_end-other : (xs : List ℕ) (b : ℕ) → is_blank b ≡ false
     → trimmed_end (xs ++ b ∷ []) ≡ xs ++ b ∷ []
 trimmed_end-other [] b h = ap (λ t. cond (t && true) [] (b ∷ [])) h
@@ -37,7 +37,7 @@ front_last text some =
     let whole : take ((length text - 1) + 1) text ≡ text = take_all _ _ (omega arith) in
     sym whole ∙ more
 
--- the step of a walk from the end
+-- one step of a walk from the end
 pub blank_last : (text : List ℕ) → 1 ≤ length text
     → is_blank (get_or text (length text - 1) 0) ≡ true
     → trimmed_end (take (length text - 1) text) ≡ trimmed_end text

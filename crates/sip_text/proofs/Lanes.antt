@@ -1,4 +1,4 @@
--- Where a byte stands first among several that are looked at together.
+-- The first place of a byte among several that are looked at together.
 use Rattle.std.proofs.Common.{◌≡◌, ℕ, ◌+◌, ◌*◌, ◌%◌, ◌^◌, ◌<◌, ◌≤◌, ◌||◌, eqb, Bool, true, false, cond, not, List, [], ◌∷◌, suc, map, length, replicate, bit_or, refl, sym, ap, ◌∙◌, arith, inl, inr}
 use Rattle.std.specs.Prelude.{Option, None, Some}
 use Rattle.std.proofs.lemmas.Bool.{true≢false, cases_lt}
@@ -9,7 +9,7 @@ use Rattle.std.specs.List.{prefix_len}
 use lib.Count.{count_trailing_zeros}
 use lib.Lanes.{chunk, zip2, mask_l, top}
 
--- a lane of a comparison
+-- one lane of a comparison
 abbrev lane : Bool → ℕ
 lane b = cond b 255 0
 
@@ -36,7 +36,7 @@ marks_are one other v long =
     ∙ (λ i. map (λ x. top_of_either (eqb x one) (eqb x other) i) v))
     ∙ mask_l-mod (map (is_byte2 one other) v) 64 (omega (arith, length-map v (is_byte2 one other)))
 
--- no bit, no such byte
+-- if no bit is set, there is no such byte
 pub none_marked : (test : ℕ → Bool) (text : List ℕ) (i n : ℕ) → i + n ≤ length text
     → mask_l (map test (chunk i n text)) ≡ 0 → Nowhere (Passes test text) i (i + n)
 none_marked test text i n room none k from to is =
@@ -74,7 +74,7 @@ first_marked test text i n m room few is some =
       run_in_chunk_stops test text i n r 0 room counted short,
     )
 
--- none in what was seen, and the first among others
+-- there is none in what was seen, so the first among others is the first of all
 pub found_later : (P : ℕ → Type 0) (from seen to end r : ℕ) → from ≤ seen → to ≤ end
     → Nowhere P 0 seen → NoneBefore P from to r × P r → NoneBefore P 0 end r × P r
 found_later P from seen to end r le within before first = (
@@ -89,7 +89,7 @@ found_later P from seen to end r le within before first = (
   first.1,
 )
 
--- none in what was seen, and the first of all the rest
+-- there is none in what was seen, so the first of the rest is the first of all
 pub first_of_all : (P : ℕ → Type 0) (from seen end : ℕ) (found : Option ℕ) → from ≤ seen
     → Nowhere P 0 seen → IsFirst P from end found → IsFirst P 0 end found
 first_of_all P from seen end None le before none = λ k low high.
@@ -97,7 +97,7 @@ first_of_all P from seen end None le before none = λ k low high.
 first_of_all P from seen end (Some r) le before first =
     found_later P from seen end end r le (omega arith) before first
 
--- none in what was seen, and none among the next
+-- there is none in what was seen, and none in the bytes that follow
 pub none_further : (P : ℕ → Type 0) (seen n : ℕ) → Nowhere P 0 seen → Nowhere P seen (seen + n)
     → Nowhere P 0 (seen + n)
 none_further P seen n before none k low high =

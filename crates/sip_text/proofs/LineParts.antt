@@ -1,4 +1,4 @@
--- Lines, one after the other.
+-- Lines, one after another.
 use Rattle.std.proofs.Common.{◌≡◌, ℕ, Bool, true, false, cond, not, eqb, IsTrue, List, [], ◌∷◌, ◌++◌, Option, Some, None, refl, sym, ap, subst, ◌∙◌, append_assoc, ◌&&◌, ◌-◌, ◌≤◌, length, take, drop, get_or, arith}
 use Rattle.std.specs.List.{list_all, slice_split, onto_first}
 use Rattle.std.specs.Option.{option_map}
@@ -54,7 +54,7 @@ no_line text e = no_end text (not_mapped (λ (p : List ℕ × List ℕ). (strip_
 
 -- ---- the loop over lines
 
--- the lines before are those that the text begins with
+-- the lines found so far are those that the text begins with
 abbrev pub HasBefore : List ℕ → List (List ℕ) → List ℕ → Type 0
 HasBefore text front rest =
     (more : List (List ℕ)) (end : List ℕ) → IsLines rest more end → IsLines text (front ++ more) end
@@ -71,7 +71,7 @@ one_line_more text front rest line after before e more end lines =
 abbrev pub at_lf : ℕ → Bool
 at_lf b = eqb b 10
 
--- a text is the part before the first LF, and the split of what follows
+-- a text is split into the part before the first LF, and the split of what follows
 abbrev pub split_at : List ℕ → Option (List ℕ × List ℕ) → List (List ℕ)
 split_at text None = text ∷ []
 split_at text (Some p) = p.0 ∷ slice_split at_lf p.1
@@ -139,7 +139,7 @@ at_break : (whole rest line after : List ℕ) → cut_at 10 rest ≡ Some (line,
 at_break whole rest line after e =
     ap (unfolded_behind whole) (slice_split-cut_at rest ∙ ap (split_at rest) e)
 
--- the line goes on
+-- the next line continues this one
 pub goes_on : (whole rest line after : List ℕ) → cut_at 10 rest ≡ Some (line, after)
     → begins_blank after ≡ true → folded_behind
     (trimmed_end (strip_carriage_return (whole ++ line)) ++ 32 ∷ []) (trimmed_start after)
@@ -156,7 +156,7 @@ goes_on whole rest line after e blank =
     (joined (strip_carriage_return (whole ++ line)) first.line) first.lines)
     (unfolded_from ((whole ++ line) ++ (10 ∷ first.line)) first.lines)) here)
 
--- another line begins
+-- the next line is another line
 pub begins_anew : (whole rest line after : List ℕ) → cut_at 10 rest ≡ Some (line, after)
     → begins_blank after ≡ false → folded_behind ((whole ++ line) ++ 10 ∷ []) after
     ≡ folded_behind whole rest
@@ -176,7 +176,7 @@ pub last_line : (whole rest : List ℕ) → cut_at 10 rest ≡ None
 last_line whole rest e =
     sym (ap (unfolded_behind whole) (slice_split-cut_at rest ∙ ap (split_at rest) e))
 
--- ---- what is taken off the end of a line
+-- ---- what is cut off the end of a line
 
 cut_off_by : (b : ℕ) (bs : List ℕ) (r : Bool) → (rest : List ℕ) × (bs ≡ trimmed_end bs ++ rest)
     → (rest : List ℕ) × (b ∷ bs ≡ cond r [] (b ∷ trimmed_end bs) ++ rest)

@@ -1,4 +1,4 @@
--- Reading the pieces of a text one after the other, as a loop does.
+-- Reading the pieces of a text one after another, as a loop does.
 use Rattle.std.proofs.Common.{◌≡◌, ℕ, List, [], ◌∷◌, ◌++◌, map, Option, Some, None, refl, sym, ap, ◌∙◌, append_assoc}
 use Rattle.std.specs.Prelude.{option_and_then}
 use Rattle.std.specs.Option.{option_map}
@@ -8,7 +8,7 @@ use Rattle.sip_text.specs.declared.separator.Separator.{Separator}
 use Rattle.sip_text.specs.declared.separator.Place.TheVariants.{Plain}
 use Rattle.sip_text.proofs.Splits.{split_some, split_none}
 
--- what was read before, and what is still read
+-- what was read before, in front of what is still to be read
 abbrev pub onto : {X : Type 0} → List X → Option (List X) → Option (List X)
 onto front read = option_map (λ ys. front ++ ys) read
 

@@ -1,4 +1,4 @@
--- Numbers in their one spelling: what is read is spelled so, and what is spelled so is read.
+-- A number has one spelling: what is read is spelled that way, and that spelling is read.
 use Rattle.std.proofs.Common.{◌≡◌, ◌≢◌, ℕ, zero, suc, ◌^◌, ◌<◌, ◌≤◌, true, false, cond, not, eqb, leb, ◌&&◌, List, [], ◌∷◌, length, get_or, Some, None, refl, sym, ap, subst, ◌∙◌, arith, rules, decimal}
 use Rattle.std.specs.List.{list_all}
 use Rattle.std.specs.Char.{is_ascii_digit}
@@ -81,7 +81,7 @@ number_reads most lt = record { took = number_took most lt; again = number_again
 pub decimal_digits : (n : ℕ) → n < 2 ^ 64 → list_all is_ascii_digit (decimal n) ≡ true
 decimal_digits n fits = digits_decimal own n fits
 
--- a byte that is no digit isn't in a number
+-- a byte that isn't a digit doesn't occur in a number
 pub number_has_no : (at n : ℕ) → is_ascii_digit at ≡ false → n < 2 ^ 64
     → has_no at (decimal n) ≡ true
 number_has_no at n fails fits = digits_have_no at (decimal n) fails (decimal_digits n fits)

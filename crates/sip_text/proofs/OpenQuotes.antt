@@ -1,4 +1,4 @@
--- A text without a quote ends outside of quotes.
+-- A text without quotes ends outside of quotes.
 use Rattle.std.proofs.Common.{◌≡◌, ℕ, suc, Bool, true, false, eqb, List, [], ◌∷◌, length, get_or, refl, arith}
 use Rattle.std.specs.Prelude.{fold, Option, None, Some, is_some}
 use Rattle.std.proofs.lemmas.Bool.{false_from_ne_true}
@@ -35,7 +35,7 @@ none_open : (text : List ℕ) → Nowhere (λ k. eqb (get_or text k 0) 34 ≡ tr
 unfolding has_open_quote
 none_open text none = stays_outside Plain text refl none
 
--- where a search finds none
+-- a search for a quote finds none
 pub no_quote : (text : List ℕ) (found : Option ℕ) → is_some found ≡ false
     → IsFirstByte (is_byte 34) text found → has_open_quote text ≡ false
 no_quote text None none first = none_open text first

@@ -1,15 +1,15 @@
--- Steps that gave something.
+-- What follows if a step gave a value.
 use Rattle.std.proofs.Common.{◌≡◌, Bool, true, false, cond, Option, Some, None, refl, ◌⊎◌, inl, inr}
 pub use Rattle.std.proofs.lemmas.Option.{cond_some as passed, same_Some as same_some}
 use Rattle.sip_text.specs.Options.{◌>>=◌}
 
--- the value of a step that gave one
+-- if both steps together gave a value, each gave one
 pub bind_some : {A B : Type 0} (o : Option A) (f : A → Option B) (y : B) → (o >>= f) ≡ Some y
     → (x : A) × (o ≡ Some x) × (f x ≡ Some y)
 bind_some None f y e = absurd cc
 bind_some (Some x) f y e = (x, refl, e)
 
--- which way a test went
+-- which branch a test took
 pub chosen : {A : Type 0} (b : Bool) (x y z : A) → cond b x y ≡ z
     → ((b ≡ true) × (x ≡ z)) ⊎ ((b ≡ false) × (y ≡ z))
 chosen true x y z e = inl (refl, e)

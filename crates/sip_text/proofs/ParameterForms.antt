@@ -1,4 +1,4 @@
--- Parameters are read as they stand in the form.
+-- Reading parameters finds exactly what their form says.
 use Rattle.std.proofs.Common.{ℕ, List, Option, refl, map, [], ◌∷◌}
 use Rattle.std.specs.List.{AllZip}
 use Rattle.sip_text.specs.Parameter.{Name, name_from, Value, value_from, with_value, without_value, IsParameter, parameter_from, Parameters, parameters_from, is_blanks, is_parameter_value}

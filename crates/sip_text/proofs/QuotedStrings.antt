@@ -1,4 +1,4 @@
--- A text passes the test of quoted strings where it is a quote, units, and a quote.
+-- A text passes the test of quoted strings if it is a quote, units, and a quote.
 use Rattle.std.proofs.Common.{◌≡◌, ℕ, Bool, true, false, cond, eqb, ◌||◌, IsTrue, List, [], ◌∷◌, ◌++◌, refl, sym, ap, ◌∙◌, append_assoc}
 use Rattle.std.specs.List.{AllByRecursion, concat}
 use Rattle.std.proofs.lemmas.Bool.{eqb-true, not-true, or_parts, or_from, not_from_false}
@@ -16,7 +16,7 @@ abbrev ClosesAfterByte : List ℕ → Type 0
 ClosesAfterByte [] = ⊥
 ClosesAfterByte (b ∷ bs) = (is_line_byte b ≡ false) × Closes bs
 
--- what the walk says at either place
+-- what the walk says, behind a backslash or not
 abbrev Goes : Bool → List ℕ → Type 0
 Goes true text = ClosesAfterByte text
 Goes false text = Closes text

@@ -1,4 +1,4 @@
--- What is read from left to right is what stands in the form, for each way to make a form.
+-- Reading from left to right finds exactly what the form says, for each way to make a form.
 use Rattle.std.proofs.Common.{◌≡◌, ℕ, Bool, true, false, cond, List, [], ◌∷◌, inl, inr, Option, Some, None, refl, sym, ap, subst, ◌∙◌}
 use Rattle.std.specs.Prelude.{option_and_then}
 use Rattle.std.specs.List.{AllZip}
@@ -11,7 +11,7 @@ use Rattle.sip_text.specs.declared.separator.Place.TheVariants.{Plain}
 use Rattle.sip_text.proofs.Separators.{and_then_some, mapped, cut_takes, cut_again, whole_takes, whole_again}
 use Rattle.sip_text.proofs.Splits.{splits, split_again}
 
--- f finds the one x that stands in P to a, where there is one
+-- f finds the one x for which P holds of a, if there is one
 pub record Reads (A X : Type 0) (f : A → Option X) (P : X → A → Type 0) : Type 0 where
   pub takes : (a : A) (x : X) → f a ≡ Some x → P x a
   pub again : (a : A) (x : X) → P x a → f a ≡ Some x

@@ -13,7 +13,7 @@ pub record PassesTo (test : ℕ → Bool) (text : List ℕ) (n : ℕ) : Type 0 w
   pub within : n ≤ length text
   pub each : (k : ℕ) → k < n → test (get_or text k 0) ≡ true
 
--- and so does the next
+-- and so does the next byte
 pub one_further : (test : ℕ → Bool) (text : List ℕ) (n : ℕ) → n < length text → PassesTo test text n
     → test (get_or text n 0) ≡ true → PassesTo test text (n + 1)
 one_further test text n room before is = record {
@@ -49,7 +49,7 @@ four_further test text n room before first second third fourth =
     rw four (one_further test text (n + 3) room
     (three_further test text n (omega arith) before first second third) fourth)
 
--- and the next does not: the run ends there
+-- the next byte doesn't pass, so the run ends there
 pub run_ends_at : (test : ℕ → Bool) (text : List ℕ) (n : ℕ) → PassesTo test text n
     → test (get_or text n 0) ≡ false → n ≡ prefix_len test text
 run_ends_at test text n before stops =
@@ -69,7 +69,7 @@ ends_alike true run all rest e =
     ]
 ends_alike false run all rest e = ne_eqb 0 (suc all) (λ s. omega arith)
 
--- each byte passes where the run is the whole text
+-- each byte passes exactly if the run is the whole text
 pub run_is_text : (test : ℕ → Bool) (text : List ℕ)
     → eqb (prefix_len test text) (length text) ≡ list_all test text
 run_is_text test [] = refl
@@ -84,7 +84,7 @@ passes_by test b bs true is rest =
     rw one (rw is rest)
 passes_by test b bs false is rest = refl
 
--- bytes that pass, of which there is one at least
+-- bytes that all pass, at least one
 pub run_from_all : (test : ℕ → Bool) (text : List ℕ) → 0 < length text → list_all test text ≡ true
     → is_run test text ≡ true
 run_from_all test [] some all = absurd (omega arith)
@@ -100,7 +100,7 @@ pub run_whole : (test : ℕ → Bool) (text : List ℕ)
     → text ≡ take (prefix_len test text) text ++ drop (prefix_len test text) text
 run_whole test text = sym (take-append-drop (prefix_len test text) text)
 
--- a text in its run, this byte, and what follows
+-- a text in three parts: its run, this byte, and what follows
 pub record IsRunBefore (test : ℕ → Bool) (end : ℕ) (text run after : List ℕ) : Type 0 where
   pub parts : text ≡ run ++ (end ∷ after)
   pub run_is : is_run test run ≡ true

@@ -1,4 +1,4 @@
--- Cutting at a separator from left to right gives the cut.
+-- Cutting a text from left to right gives the cut that the definition says.
 use Rattle.std.proofs.Common.{◌≡◌, ℕ, zero, suc, ◌+◌, ◌<◌, Bool, true, false, eqb, List, [], ◌∷◌, ◌++◌, length, take, drop, get_or, Option, Some, None, refl, sym, ap, subst, ◌∙◌, arith}
 use Rattle.memchr.specs.Find.{Nowhere}
 use Rattle.std.specs.Prelude.{option_and_then}
@@ -131,7 +131,7 @@ cut_at_index at place last (b ∷ bs) (suc k) lt none stops =
     ap (λ o. by_place b bs o (λ p. cut_from at p bs)) s.1
     ∙ ap (option_map (λ (q : List ℕ × List ℕ). (b ∷ q.0, q.1))) more
 
--- ---- the short way
+-- ---- cutting without steps
 
 quiet_step : (at : Separator) (b : ℕ) → separates at b ≡ false → opens at b ≡ false
     → next_place at Plain b ≡ Some Plain
@@ -141,7 +141,7 @@ quiet_step (Anywhere at) b s o = rw s refl
 quiet_step Blank b s o = rw s refl
 quiet_step Colon b s o = rw (s, o) refl
 
--- where no byte separates and none opens anything, the text is still plain
+-- if no byte separates or opens anything, the reader is still outside of quotes and brackets
 pub quiet : (at : Separator) (text : List ℕ)
     → Nowhere (λ k. separates at (get_or text k 0) ≡ true) 0 (length text)
     → Nowhere (λ k. opens at (get_or text k 0) ≡ true) 0 (length text)
@@ -154,7 +154,7 @@ quiet at (b ∷ bs) s o =
     ∙ quiet at bs (λ k low high. s (suc k) (omega arith) (omega arith))
     (λ k low high. o (suc k) (omega arith) (omega arith))
 
--- where no byte separates, nothing is cut
+-- a byte that doesn't separate doesn't cut
 at_rest : (at : Separator) (place : Place) (b : ℕ) → separates at b ≡ false
     → (next : Place) × (next_place at place b ≡ Some next)
 at_rest at Plain b s = (step at Plain b, rw s refl)
@@ -186,7 +186,7 @@ in_front : (P : ℕ → Bool) (text : List ℕ) (k i : ℕ) → i < k
     → P (get_or (take k text) i 0) ≡ P (get_or text i 0)
 in_front P text k i lt = ap P (get_or-take k text i 0 lt)
 
--- the first byte that may separate does so, where nothing is opened before it
+-- the first byte that may separate does, if nothing was opened before it
 pub cut_at_first : (at : Separator) (text : List ℕ) (k : ℕ) → k < length text
     → Nowhere (λ i. separates at (get_or text i 0) ≡ true) 0 k
     → separates at (get_or text k 0) ≡ true

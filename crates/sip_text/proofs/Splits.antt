@@ -9,7 +9,7 @@ use Rattle.sip_text.specs.declared.separator.Place.{Place}
 use Rattle.sip_text.specs.declared.separator.Place.TheVariants.{Plain}
 use Rattle.sip_text.proofs.Separators.{cut_again, whole_again}
 
--- a text is the part before the first separator, and the split of what follows
+-- a text is split into the part before the first separator, and the split of what follows
 abbrev pub split_by : List ℕ → Option (List ℕ × List ℕ) → (List ℕ → List (List ℕ)) → List (List ℕ)
 split_by text None split = text ∷ []
 split_by text (Some p) split = p.0 ∷ split p.1

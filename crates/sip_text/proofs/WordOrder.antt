@@ -1,4 +1,4 @@
--- The order of two texts, as their words of eight bytes tell it.
+-- The order of two texts, found by comparing words of eight bytes.
 use Rattle.std.proofs.Common.{◌≡◌, ◌≢◌, ℕ, zero, suc, ◌+◌, ◌-◌, ◌*◌, ◌^◌, ◌<◌, ◌≤◌, min, List, [], ◌∷◌, ◌++◌, length, get_or, take, drop, refl, sym, ap, ◌∙◌, subst, arith, w8, Fits}
 use Rattle.std.proofs.Math.Nat.{mul-le-mul_right, pow-suc}
 use Rattle.std.proofs.Math.Seq.{drop-cons, take-add}
@@ -81,7 +81,7 @@ module _ (a b : List ℕ) where
       (length-take-le place a (omega arith) ∙ sym (length-take-le place b (omega arith))) in
       (λ i. slice_cmp nat_cmp (take-add place count a i) (take-add place count b i)) ∙ parts
 
-  -- texts that are equal to a place are equal to each place before it
+  -- texts that agree up to a place agree up to each place before it
   pub equal_before : (place before : ℕ) → before ≤ place → place ≤ length a → place ≤ length b
       → order_to a b place ≡ Equal → order_to a b before ≡ Equal
   equal_before place before below in_a in_b equal =
@@ -106,7 +106,7 @@ module _ (a b : List ℕ) where
     agree : x ≡ y → order_to a b (place + count) ≡ Equal
     agree same = to_end ∙ equal_at x y same
 
--- ---- texts of which one is the beginning of the other
+-- ---- texts of which one begins with the other
 
 longer : (o : Ordering) (m n : ℕ) → MatchOrdering o (m < n) (m ≡ n) (n < m)
     → MatchOrdering o (suc m < suc n) (suc m ≡ suc n) (suc n < suc m)
@@ -136,7 +136,7 @@ pub lengths_decide : (a b : List ℕ) (both : ℕ) → both ≡ min (length a) (
 lengths_decide a b both is equal =
     sym (nat_cmp_is (length a) (length b) (slice_cmp nat_cmp a b) (by_length a b both is equal))
 
--- ---- bytes as one number, the first of them the highest
+-- ---- bytes as one number, the first byte being the highest
 
 abbrev Byte : ℕ → Type 0
 Byte b = b < 256
@@ -155,7 +155,7 @@ worth_fits (b ∷ bs) all =
     mul-le-mul_right (256 ^ length bs) below in
     omega (arith, rest, first, pow-suc 256 (length bs))
 
--- two bytes, and what is less than one of them is worth
+-- numbers in two parts are ordered by their higher parts first
 ranked_parts : (x y p q size : ℕ) (first rest : Ordering) → p < size → q < size
     → MatchOrdering first (x < y) (x ≡ y) (y < x) → MatchOrdering rest (p < q) (p ≡ q) (q < p)
     → MatchOrdering (ordering_then first rest) (x * size + p < y * size + q)

@@ -7,11 +7,11 @@ use Rattle.std.specs.Char.{is_ascii_alphanumeric}
 abbrev pub is_among : List ℕ → ℕ → Bool
 is_among bytes b = list_any (λ c. c == b) bytes
 
--- a space or a tab, of which the white space inside a line is made
+-- a space or a tab: the white space inside a line
 abbrev pub is_blank : ℕ → Bool
 is_blank b = b == 32 || b == 9
 
--- a byte that ends a line or stands before the end: CR or LF
+-- a byte of a line end: CR or LF
 abbrev pub is_line_byte : ℕ → Bool
 is_line_byte b = b == 13 || b == 10
 

@@ -4,7 +4,7 @@ use Rattle.std.specs.Option.{option_map}
 use Rattle.std.specs.Borrow.{Bor}
 use Rattle.sip_text.specs.Options.{◌>>=◌}
 
--- the parts before and after the first byte that passes the test, or nothing where none does
+-- the parts before and after the first byte that passes the test; nothing if none does
 abbrev pub cut_where : (ℕ → Bool) → List ℕ → Option (List ℕ × List ℕ)
 cut_where test [] = None
 cut_where test (b ∷ bs) =
@@ -14,7 +14,7 @@ cut_where test (b ∷ bs) =
 abbrev pub cut_at : ℕ → List ℕ → Option (List ℕ × List ℕ)
 cut_at at text = cut_where (λ b. b == at) text
 
--- what is read of the part before the first such byte, and the part after it
+-- the value read from the part before the first such byte, and the part after it
 abbrev pub field_at : {A : Type 0} → ℕ → (List ℕ → Option A) → List ℕ → Option (A × List ℕ)
 field_at at read text = cut_at at text >>= λ p. read p.0 >>= λ x. Some (x, p.1)
 

@@ -21,15 +21,15 @@ number_of text =
     else Err NumberTooLarge)
     else Err NotAToken
 
--- ---- one spelling for a number, up to a greatest one
+-- ---- one spelling for each number, up to a maximum
 
--- digits, of which the first is no zero where there are several
+-- digits, of which the first isn't zero if there are several
 abbrev pub is_numeral : List ℕ → Bool
 is_numeral [] = false
 is_numeral (b ∷ []) = is_ascii_digit b
 is_numeral (b ∷ c ∷ bs) = not (b == 48) && list_all is_ascii_digit (b ∷ c ∷ bs)
 
--- the number up to a greatest one whose one spelling the text is
+-- the number, at most `most`, whose one spelling the text is
 unfoldable pub number_at : ℕ → List ℕ → Option ℕ
 number_at most text =
     if is_numeral text && nat_le (digits_value 10 text) most then Some (digits_value 10 text)

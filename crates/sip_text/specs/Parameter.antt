@@ -1,5 +1,5 @@
 -- Parameters as text (RFC 3261, sections 7.3.1 and 25.1): each a semicolon, a token, and optionally
--- `=` and a value, with white space allowed round both marks.
+-- `=` and a value, with white space allowed around both marks.
 use Rattle.std.specs.Prelude.{ℕ, Bool, not, ◌||◌, List, [], Option, Some, None, codes}
 use Rattle.std.specs.List.{list_all}
 use Rattle.sip_text.specs.Character.{is_among, is_blank}
@@ -23,23 +23,23 @@ is_value_word text = is_run is_value_byte text
 unfoldable pub is_parameter_value : List ℕ → Bool
 is_parameter_value text = is_quoted text || is_value_word text
 
--- blanks only, or nothing
+-- nothing but blanks, or nothing at all
 abbrev pub is_blanks : List ℕ → Bool
 is_blanks text = list_all is_blank text
 
--- a token, with white space round it
+-- a token, with white space allowed around it
 abbrev pub Name : List ℕ → List ℕ → Type 0
 Name name text = Of (Passing is_token) trimmed name text
 
--- the name, with blanks allowed round it
+-- the name, with white space allowed around it
 abbrev pub name_from : List ℕ → Option (List ℕ)
 name_from text = reading_of (passing is_token) trimmed text
 
--- the value, with blanks allowed round it
+-- a value, with white space allowed around it
 abbrev pub Value : List ℕ → List ℕ → Type 0
 Value value text = Of (Passing is_parameter_value) trimmed value text
 
--- what reading it finds
+-- the value, with white space allowed around it
 abbrev pub value_from : List ℕ → Option (List ℕ)
 value_from text = reading_of (passing is_parameter_value) trimmed text
 
@@ -58,18 +58,17 @@ abbrev pub IsParameter : List ℕ × Option (List ℕ) → List ℕ → Type 0
 IsParameter parameter text =
     OnCut (Byte 61) (Told with_value (Both Name Value)) (Told without_value Name) parameter text
 
--- what reading a parameter finds
+-- the parameter that is read
 abbrev pub parameter_from : List ℕ → Option (List ℕ × Option (List ℕ))
 parameter_from text = on_cut (Byte 61) (told with_value (both name_from value_from))
     (told without_value name_from) text
 
--- nothing, or what stands in this form behind a semicolon, once or more; white space before the
--- first
+-- nothing, or once or more a semicolon and what has this form; white space may stand first
 abbrev pub Parameters : {X : Type 0} → (X → List ℕ → Type 0) → List X → List ℕ → Type 0
 Parameters P xs text =
     OnCut (Byte 59) (Behind is_blanks (Split (Byte 59) P)) (Guarded is_blanks (Always [])) xs text
 
--- what reading parameters finds
+-- the parameters that are read
 abbrev pub parameters_from : {X : Type 0} → (List ℕ → Option X) → List ℕ → Option (List X)
 parameters_from f text =
     on_cut (Byte 59) (behind is_blanks (split (Byte 59) f)) (guarded is_blanks (always [])) text

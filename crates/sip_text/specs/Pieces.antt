@@ -1,4 +1,4 @@
--- What the pieces of a text are, and when there are none.
+-- What the pieces of a text are, and why there are none.
 use Rattle.std.specs.Prelude.{◌≡◌, ℕ, true, false, List, map, Option}
 use Rattle.std.specs.Option.{option_copied}
 use Rattle.std.specs.Borrow.{Bor}
@@ -11,7 +11,7 @@ use Rattle.sip_text.specs.declared.fault.TextFault.TheVariants as fault
 use Rattle.sip_text.specs.declared.parameters.ParameterText.{ParameterText}
 use Rattle.sip_text.specs.declared.separator.Separator.TheVariants.{Byte}
 
--- what references point to
+-- what the references point to
 abbrev pub all_now : List (Bor (List ℕ)) → List (List ℕ)
 all_now texts = map (λ text. text.now) texts
 
@@ -21,7 +21,7 @@ parameter_now p = (p.name.now, option_copied p.value)
 abbrev pub IsTrimmed : List ℕ → List ℕ → Type 0
 IsTrimmed value text = value ≡ trimmed text
 
--- The values of a list, without the white space round them; no quoted string is left open.
+-- The values of a list, without the white space around them; no quoted string is left open.
 pub record AreValues (values : List (List ℕ)) (text : List ℕ) : Type 0 where
   pub closed : has_open_quote text ≡ false
   pub values_are : Split (Byte 44) IsTrimmed values text
@@ -47,7 +47,7 @@ TellsParameters fault.NotAToken text =
 TellsParameters fault.NoMemory text = Unit {0}
 TellsParameters fault.NumberTooLarge text = ⊥
 
--- memory alone may be wanting
+-- memory ran out; there is no other reason
 abbrev pub TellsMemory : TextFault → Type 0
 TellsMemory fault.NoMemory = Unit {0}
 TellsMemory other = ⊥

@@ -3,7 +3,7 @@ use Rattle.std.specs.Prelude.{◌≡◌, ℕ, Bool, true, false, ◌==◌, IsTru
 use Rattle.std.specs.List.{AllByRecursion, concat}
 use Rattle.sip_text.specs.Character.{is_line_byte}
 
--- neither a quote nor a backslash, nor a byte that ends a line
+-- not a quote, a backslash or a byte that ends a line
 abbrev pub is_plain_byte : ℕ → Bool
 is_plain_byte b = not (b == 34 || (b == 92 || is_line_byte b))
 

@@ -1,4 +1,4 @@
--- A text cut at a separator, most of which count only outside quoted strings and brackets (RFC
+-- A text cut at a separator. Most separators count only outside quoted strings and brackets (RFC
 -- 3261, sections 7.3.1 and 25.1).
 use Rattle.std.specs.Prelude.{◌≡◌, ℕ, Bool, false, List, [], ◌∷◌, ◌++◌, Option, Some, None, ◌==◌, ◌||◌, if◌then◌else◌, option_and_then}
 use Rattle.std.specs.Option.{option_map}
@@ -9,9 +9,9 @@ use Rattle.sip_text.specs.declared.separator.Separator.TheVariants.{Byte, Anywhe
 use Rattle.sip_text.specs.declared.separator.Place.{Place}
 use Rattle.sip_text.specs.declared.separator.Place.TheVariants.{Plain, Quoted, Escaped, Bracketed}
 
--- ---- where a text stands
+-- ---- where a reader of a text stands
 
--- A quote opens a quoted string and another closes it, but for one behind a backslash; `<` opens
+-- A quote opens a quoted string, and the next one not behind a backslash closes it. `<` opens
 -- brackets, `>` closes them.
 abbrev pub after : Place → ℕ → Place
 after Plain b = if b == 34 then Quoted else (if b == 60 then Bracketed else Plain)
@@ -27,7 +27,7 @@ after_bracket place b = place
 
 -- ---- separators
 
--- the byte is this separator, where it counts
+-- the byte is this separator, if it stands where separators count
 abbrev pub separates : Separator → ℕ → Bool
 separates (Byte at) b = b == at
 separates (Anywhere at) b = b == at
@@ -48,20 +48,19 @@ step (Anywhere at) place b = Plain
 step Blank place b = Plain
 step Colon place b = after_bracket place b
 
--- where the text stands after one more byte, or nothing where that is a separator that counts
+-- where the reader stands after one more byte; nothing if that is a separator that counts
 abbrev pub next_place : Separator → Place → ℕ → Option Place
 next_place at Plain b = if separates at b then None else Some (step at Plain b)
 next_place at place b = Some (step at place b)
 
--- where it stands after these bytes, or nothing where one is a separator that counts
+-- where the reader stands after these bytes; nothing if one is a separator that counts
 abbrev pub place_after : Separator → Place → List ℕ → Option Place
 place_after at place [] = Some place
 place_after at place (b ∷ bs) = option_and_then (λ p. place_after at p bs) (next_place at place b)
 
 -- ---- cuts
 
--- The text is cut in these parts at the first separator that counts, where it is read from this
--- place on.
+-- Read from this place on, the text is cut into these parts at the first separator that counts.
 pub record IsCutFrom (at : Separator) (place : Place) (parts : List ℕ × List ℕ)
     (text : List ℕ) : Type 0 where
   pub byte : ℕ
@@ -83,7 +82,7 @@ IsCut at parts text = IsCutFrom at Plain parts text
 abbrev pub IsWhole : Separator → List ℕ → Type 0
 IsWhole at text = IsWholeFrom at Plain text
 
--- The text is these pieces, with a separator that counts between each two.
+-- The text is these pieces, with a separator that counts between one and the next.
 abbrev pub IsSplitFrom : Separator → Place → List (List ℕ) → List ℕ → Type 0
 IsSplitFrom at place [] text = ⊥
 IsSplitFrom at place (piece ∷ []) text = (text ≡ piece) × IsWholeFrom at place piece
@@ -97,7 +96,7 @@ IsSplit at pieces text = IsSplitFrom at Plain pieces text
 
 -- ---- the same, from left to right
 
--- the byte cuts, or goes before the cut that is found behind it
+-- the byte cuts, or is put in front of the cut that is found behind it
 abbrev pub by_place : ℕ → List ℕ → Option Place → (Place → Option (List ℕ × List ℕ))
     → Option (List ℕ × List ℕ)
 by_place b bs None more = Some ([], bs)
@@ -108,7 +107,7 @@ abbrev pub cut_from : Separator → Place → List ℕ → Option (List ℕ × L
 cut_from at place [] = None
 cut_from at place (b ∷ bs) = by_place b bs (next_place at place b) (λ p. cut_from at p bs)
 
--- the byte cuts, or goes into the first piece of what is behind it
+-- the byte cuts, or is put in front of the first piece of what is behind it
 abbrev pub by_piece : ℕ → Option Place → (Place → List (List ℕ)) → List (List ℕ)
 by_piece b None more = [] ∷ more Plain
 by_piece b (Some place) more = onto_first b (more place)

@@ -1,4 +1,4 @@
--- Tokens, which are compared without case (RFC 3261, sections 7.3.1 and 25.1).
+-- Tokens, which are compared whatever their case (RFC 3261, sections 7.3.1 and 25.1).
 use Rattle.std.specs.Prelude.{ℕ, Bool, false, List, [], ◌∷◌}
 use Rattle.std.specs.List.{list_all}
 unfoldable pub use Rattle.sip_text.specs.Character.{is_token_byte}

@@ -5,8 +5,8 @@ ghost use Rattle.std.specs.Borrow.{sem};
 use std::alloc::{AllocError, Global};
 use std::marker::Model;
 
-/// A value that stands on the heap, so that it is moved as one pointer, and takes no more room than
-/// that where there is none. A contract sees the value.
+/// A value on the heap. It is moved as one pointer, and an option of it takes no more room than the
+/// pointer. A contract sees the value.
 #[derive(Clone, Drop)]
 pub struct Boxed<T> {
     value: Box<T>,

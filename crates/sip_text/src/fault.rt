@@ -10,7 +10,7 @@ pub enum TextFault {
     NumberTooLarge,
     /// A quoted string without its end.
     OpenQuote,
-    /// A growth was refused.
+    /// Memory ran out.
     NoMemory,
 }
 

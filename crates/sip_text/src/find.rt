@@ -7,14 +7,14 @@ use std::simd::prelude::*;
 /// How many bytes are looked at together.
 const LANES: usize = 16;
 
-/// The first place of the byte, or None where it doesn't occur.
+/// The first place of the byte, or None if it doesn't occur.
 pub fn find_byte(byte: u8, text: &[u8]) -> Option<usize>
     ensures { IsFirstByte (is_byte byte) text.now result }
 {
     find_two(byte, byte, text)
 }
 
-/// The first place of either byte, or None where neither occurs.
+/// The first place of either byte, or None if neither occurs.
 pub fn find_either(one: u8, other: u8, text: &[u8]) -> Option<usize>
     ensures { IsFirstByte (is_byte2 one other) text.now result }
 {
@@ -28,7 +28,7 @@ fn find_two(one: u8, other: u8, text: &[u8]) -> Option<usize>
     if text.len() < LANES {
         return text.iter().position(|byte| *byte == one || *byte == other);
     }
-    // The last sixteen end where the text does, and some of them may have been looked at.
+    // The last sixteen bytes end where the text does; some of them may have been looked at already.
     let last = text.len() - LANES;
     let mut place = 0;
     while place < last {
@@ -40,7 +40,7 @@ fn find_two(one: u8, other: u8, text: &[u8]) -> Option<usize>
     find_in_lanes(one, other, text, last)
 }
 
-// The same among the sixteen bytes from a place on.
+// The first place of either byte among the sixteen bytes from a place on.
 #[inline(always)]
 fn find_in_lanes(one: u8, other: u8, text: &[u8], place: usize) -> Option<usize>
     requires { place + 16 ≤ length text.now }

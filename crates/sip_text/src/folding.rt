@@ -13,8 +13,8 @@ use crate::pieces::cut;
 use crate::trim::{trimmed_end, trimmed_start};
 use std::alloc::{AllocError, Global};
 
-/// The text with each fold as one space: a line break before a space or tab, with the white space
-/// round it.
+/// The text with each fold as one space. A fold is a line break before a space or tab, with the
+/// white space around it.
 ///
 /// # Errors
 ///
@@ -26,7 +26,7 @@ pub fn unfold(alloc: Global, text: &[u8]) -> Result<Vec<u8>, TextFault>
     Ok(unfolded(alloc, text)?)
 }
 
-/// The lines that have their end, which is CR LF or LF, without it.
+/// The lines that have an end, CR LF or LF, without it.
 ///
 /// # Errors
 ///
@@ -65,7 +65,7 @@ fn unfolded(alloc: Global, text: &[u8]) -> Result<Vec<u8>, AllocError>
     Ok(whole)
 }
 
-/// Takes a carriage return off, and the white space before it.
+/// Takes a carriage return off the end, and the white space before it.
 fn trim_break(line: &mut Vec<u8>)
     ensures { line.new.items ≡ trims.trimmed_end (strip_carriage_return line.old.items) }
 {

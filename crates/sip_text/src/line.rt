@@ -6,8 +6,7 @@ ghost use Rattle.sip_text.specs.Line.{line_at};
 
 use crate::pieces::cut;
 
-/// The first line without its end, which is CR LF or LF, and the text after it. None where no line
-/// ends.
+/// The first line without its end, CR LF or LF, and the text after it. None if no line ends.
 #[tactic(auto, unfolding(crate::specs::Line::line_at))]
 pub fn next_line(text: &[u8]) -> Option<(&[u8], &[u8])>
     ensures parts { both_now result ≡ line_at text.now }

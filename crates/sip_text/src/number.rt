@@ -15,7 +15,7 @@ use itoa::Buffer;
 ///
 /// # Errors
 ///
-/// NotAToken for a text that is empty or has another byte, NumberTooLarge above 2^32 - 1.
+/// NotAToken if the text is empty or has another byte; NumberTooLarge above 2^32 - 1.
 #[tactic(auto, unfolding(crate::specs::Number::number_of))]
 pub fn number_u32(text: &[u8]) -> Result<u32, TextFault>
     ensures { result ≡ number.number_of text.now }
@@ -29,7 +29,7 @@ pub fn number_u32(text: &[u8]) -> Result<u32, TextFault>
     }
 }
 
-/// The number in its one spelling, without leading zeros, where it is at most `most`.
+/// The number, written without leading zeros, if it is at most `most`.
 #[tactic(auto, unfolding(crate::specs::Number::number_at))]
 pub fn number_up_to(text: &[u8], most: u64) -> Option<u64>
     ensures number { result ≡ number.number_at most text.now }
@@ -65,7 +65,7 @@ fn all_digits(text: &[u8]) -> bool
     text.iter().all(|byte| byte.is_ascii_digit())
 }
 
-// The number that digits stand for, where it is at most `most`.
+// The number that the digits stand for, if it is at most `most`.
 fn value_of(digits: &[u8], most: u64) -> Option<u64>
     requires { list_all char.is_ascii_digit digits.now ≡ true }
     ensures { SomeIff result (digits_value 10 digits.now ≤ most) (digits_value 10 digits.now) }
@@ -80,7 +80,7 @@ fn value_of(digits: &[u8], most: u64) -> Option<u64>
     Some(value)
 }
 
-// The number with one more decimal digit at its end.
+// The number with one more decimal digit at its end, if it is below 2^64.
 fn with_digit(number: u64, digit: u8) -> Option<u64>
     ensures { SomeIff result (number * 10 + digit < 2 ^ 64) (number * 10 + digit) }
 {

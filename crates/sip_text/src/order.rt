@@ -1,4 +1,4 @@
-//! The order of two texts, by words of eight bytes.
+//! The order of two texts, compared in words of eight bytes.
 ghost use Rattle.std.specs.Prelude.{◌≡◌, ◌+◌, ◌≤◌, length, take, drop};
 ghost use Rattle.std.specs.Int.{w64, from_be_bytes};
 ghost use Rattle.std.specs.Ordering.{nat_cmp};
@@ -9,7 +9,8 @@ use std::cmp::Ordering;
 /// How many bytes a word has.
 const WORD: usize = 8;
 
-/// The order of two texts: the first byte that differs decides, otherwise the shorter comes first.
+/// The order of two texts: the first byte that differs decides, otherwise the shorter text comes
+/// first.
 pub fn byte_order(a: &[u8], b: &[u8]) -> Ordering
     ensures { result ≡ slice_cmp nat_cmp a.now b.now }
 {
@@ -17,7 +18,8 @@ pub fn byte_order(a: &[u8], b: &[u8]) -> Ordering
     if both < WORD {
         return order_by_bytes(a, b);
     }
-    // The last word ends where the shorter text does, over bytes that may have been compared.
+    // The last word ends where the shorter text does; some of its bytes may have been compared
+    // already.
     let last = both - WORD;
     let mut place = 0;
     while place < last {
@@ -45,7 +47,7 @@ fn order_by_bytes(a: &[u8], b: &[u8]) -> Ordering
     a.len().cmp(&b.len())
 }
 
-// Eight bytes as one number, the first of them the highest.
+// Eight bytes as one number, the first byte being the highest.
 fn word_at(text: &[u8], place: usize) -> u64
     requires { place + 8 ≤ length text.now }
     ensures { result ≡ from_be_bytes w64 (take 8 (drop place text.now)) }

@@ -18,20 +18,20 @@ use crate::token::is_token;
 use crate::trim::trimmed;
 use std::alloc::{AllocError, Global};
 
-/// A parameter as it stands in a text: its name, and its value where it has one, a quoted string
-/// with its quotes.
+/// A parameter as it stands in a text: its name, and its value if it has one. A quoted string keeps
+/// its quotes.
 #[derive(Clone, Copy)]
 pub struct ParameterText<'a> {
     pub name: &'a [u8],
     pub value: Option<&'a [u8]>,
 }
 
-/// The parameters of a text, each of which begins with `;`. None where the text is empty or white
+/// The parameters of a text, each of which begins with `;`. None if the text is empty or white
 /// space.
 ///
 /// # Errors
 ///
-/// OpenQuote where a quoted string has no end, otherwise NotAToken where a piece isn't a parameter;
+/// OpenQuote if a quoted string has no end, otherwise NotAToken if a piece isn't a parameter;
 /// NoMemory.
 pub fn params(alloc: Global, text: &[u8]) -> Result<Vec<ParameterText<'_>>, TextFault>
     ensures parameters { IfOk result
@@ -84,7 +84,7 @@ fn each_parameter(alloc: Global, text: &[u8]) -> Result<Option<Vec<ParameterText
     Ok(Some(parameters))
 }
 
-/// A name, or a name, `=` and a value, with white space round each. None where the text isn't one.
+/// A name, or a name, `=` and a value, with white space around each. None if the text isn't that.
 pub fn parameter_in(text: &[u8]) -> Option<ParameterText<'_>>
     ensures exact { option_map pieces.parameter_now result ≡ parameter.parameter_from text.now }
     ensures name { IfSome result (λ p. IsTrue (is_token p.name.now)) }
@@ -123,7 +123,7 @@ fn value_in(text: &[u8]) -> Option<&[u8]>
     }
 }
 
-/// Whether the text is spaces and tabs alone.
+/// Whether the text has only spaces and tabs, or nothing.
 pub fn is_blanks(text: &[u8]) -> bool
     ensures { result ≡ parameter.is_blanks text.now }
 {

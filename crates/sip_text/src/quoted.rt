@@ -4,7 +4,7 @@ ghost use Rattle.sip_text.specs.Quoted as quoted;
 
 use crate::character::is_line_byte;
 
-/// Whether the text is a quoted string, its quotes included. A backslash stands before any byte.
+/// Whether the text is a quoted string, with its quotes. A backslash escapes the next byte.
 #[tactic(auto, unfolding(crate::specs::Quoted::is_quoted))]
 pub fn is_quoted(text: &[u8]) -> bool
     ensures { result ≡ quoted.is_quoted text.now }

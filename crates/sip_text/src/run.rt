@@ -9,15 +9,15 @@ ghost use Rattle.sip_text.specs.Token as token;
 pub trait ByteClass {
     ghost use Rattle.std.specs.Prelude.{ℕ, Bool};
 
-    // Whether a byte is of the class.
+    // Whether a byte belongs to the class.
     ghost holds: { ℕ → Bool };
 
-    /// Whether the byte is of the class.
+    /// Whether the byte belongs to the class.
     fn test(byte: u8) -> bool
         ensures { result ≡ holds byte };
 }
 
-/// Whether each byte of the text is of the class.
+/// Whether each byte of the text belongs to the class.
 pub fn each_is<C: ByteClass>(text: &[u8]) -> bool
     ensures { result ≡ list_all C.holds text.now }
 {
@@ -40,7 +40,7 @@ pub fn run_len<C: ByteClass>(text: &[u8]) -> usize
     ensures within { result ≤ length text.now }
 {
     let mut index = 0;
-    // Four tests a turn spare the loop's own.
+    // Four tests in each turn, for fewer tests of the loop itself.
     while 4 <= text.len() - index {
         if !C::test(text[index]) {
             return index;
@@ -62,8 +62,8 @@ pub fn run_len<C: ByteClass>(text: &[u8]) -> usize
     index
 }
 
-/// The bytes of the class that the text begins with, of which there is one at least, where this
-/// byte follows them, and what stands behind it.
+/// The bytes of the class that the text begins with, at least one, if this byte follows them; and
+/// what stands behind that byte.
 #[tactic(auto, unfolding(crate::specs::Run::run_before))]
 pub fn run_before<C: ByteClass>(end: u8, text: &[u8]) -> Option<(&[u8], &[u8])>
     ensures { both_now result ≡ run_before C.holds end text.now }

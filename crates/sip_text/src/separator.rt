@@ -1,4 +1,4 @@
-//! A text cut at a separator, most of which count only outside quotes and brackets.
+//! A text cut at a separator. Most separators count only outside quotes and brackets.
 ghost use Rattle.std.specs.Prelude.{◌≡◌, ◌+◌, true, IfNone, IfSome, length};
 ghost use Rattle.memchr.specs.Find.{IsFirstByte, Nowhere};
 ghost use Rattle.std.specs.Prelude.{slice_index};
@@ -23,7 +23,7 @@ pub enum Separator {
     Colon,
 }
 
-/// Where a text that is read from its start stands.
+/// Where a reader stands that reads a text from its start.
 #[derive(Clone, Copy, Debug, PartialEq, Eq)]
 pub enum Place {
     /// Where the separator counts.
@@ -37,8 +37,8 @@ pub enum Place {
 }
 
 impl Separator {
-    /// The parts before and after the first separator that counts, or None where there is none.
-    // Each call names its separator, so that one case is left of it there.
+    /// The parts before and after the first separator that counts, or None if there is none.
+    // Each caller names its separator, so that only one case is compiled in there.
     #[inline(always)]
     pub fn cut(self, text: &[u8]) -> Option<(&[u8], &[u8])>
         ensures exact { both_now result ≡ separators.cut_from self place.Plain text.now }
@@ -91,7 +91,7 @@ impl Separator {
         None
     }
 
-    /// Where the text stands after this byte, or None where the byte is a separator that counts.
+    /// Where the reader stands after this byte, or None if the byte is a separator that counts.
     fn next_place(self, place: Place, byte: u8) -> Option<Place>
         ensures { result ≡ separators.next_place self place byte }
     {
@@ -123,7 +123,7 @@ impl Separator {
 }
 
 impl Place {
-    /// Where a text stands after one more byte.
+    /// Where the reader stands after one more byte.
     pub fn after(self, byte: u8) -> Place
         ensures { result ≡ separators.after self byte }
     {
@@ -140,7 +140,7 @@ impl Place {
         }
     }
 
-    /// The same, where square brackets alone hide something.
+    /// The same, where only square brackets hide separators.
     fn after_bracket(self, byte: u8) -> Place
         ensures { result ≡ separators.after_bracket self byte }
     {

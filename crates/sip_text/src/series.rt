@@ -7,7 +7,7 @@ ghost use Rattle.std.specs.Cmp.Lexicographic.{pointwise, lists_per, lists_equiv}
 use std::alloc::{AllocError, Global};
 use std::marker::Model;
 
-/// Values in order. A contract sees it as their list.
+/// Values in order. A contract sees the list of them.
 #[derive(Clone, Drop)]
 pub struct Series<T> {
     values: Vec<T>,
@@ -22,7 +22,7 @@ impl<T> Model for Series<T> {
 }
 
 impl<T> Series<T> {
-    /// A list without a value. Takes no memory.
+    /// A list without values. Takes no memory.
     pub fn new(alloc: Global) -> Series<T>
         ensures { result ≡ [] }
     {
@@ -71,7 +71,7 @@ impl<T> Series<T> {
         self.values.as_slice().first()
     }
 
-    /// Adds a value at its end. Without memory the list stays as it is, and the value is gone.
+    /// Adds a value at its end. If memory runs out, the list stays as it is and the value is lost.
     #[inline(always)]
     pub fn push(&mut self, value: T) -> Result<(), AllocError>
     where
@@ -83,8 +83,8 @@ impl<T> Series<T> {
         Ok(())
     }
 
-    /// Adds these values at its end. Takes no memory where one of the lists is empty. Without
-    /// memory it is not known what the list holds.
+    /// Adds these values at its end. Takes no memory if one of the lists is empty. If memory runs
+    /// out, it isn't known what the list holds.
     pub fn append(&mut self, values: Series<T>) -> Result<(), AllocError>
     where
         T: Drop,

@@ -14,7 +14,7 @@ use std::convert::AsSlice;
 use std::hash::{Hash, Hasher};
 use std::marker::Model;
 
-/// A text: bytes in order. A contract sees it as the list of its bytes.
+/// A text: bytes in order. A contract sees the list of its bytes.
 #[derive(Clone, Drop)]
 pub struct Text {
     bytes: Vec<u8>,

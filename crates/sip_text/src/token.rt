@@ -6,7 +6,7 @@ ghost use Rattle.sip_text.specs.Token as token;
 use crate::character::TokenBytes;
 use crate::run::is_run;
 
-/// Whether the bytes are a token: one or more letters, digits and marks among ``-.!%*_+`'~``.
+/// Whether the bytes are a token: one or more letters, digits and marks from ``-.!%*_+`'~``.
 #[tactic(auto, unfolding(crate::specs::Token::is_token))]
 pub fn is_token(text: &[u8]) -> bool
     ensures { result ≡ token.is_token text.now }
@@ -14,7 +14,7 @@ pub fn is_token(text: &[u8]) -> bool
     is_run::<TokenBytes>(text)
 }
 
-/// Whether two tokens are the same, without regard to the case of ASCII letters.
+/// Whether two tokens are equal, whatever the case of their ASCII letters.
 pub fn token_eq(one: &[u8], other: &[u8]) -> bool
     ensures { result ≡ str_eq_ignore_ascii_case one.now other.now }
 {

@@ -13,11 +13,11 @@ use crate::trim::trimmed;
 use std::alloc::{AllocError, Global};
 
 /// The values between the commas outside quoted strings and angle brackets, without the white space
-/// round them.
+/// around them.
 ///
 /// # Errors
 ///
-/// OpenQuote where a quoted string has no end; NoMemory.
+/// OpenQuote if a quoted string has no end; NoMemory.
 pub fn split_values(alloc: Global, text: &[u8]) -> Result<Vec<&[u8]>, TextFault>
     ensures values { IfOk result (λ found. pieces.AreValues (pieces.all_now found.items) text.now) }
     ensures fault { IfErr result (λ fault. pieces.TellsList fault text.now) }

@@ -1,4 +1,4 @@
--- Where the earlier of two moments isn't due, neither is.
+-- If the earlier of two moments isn't due, neither of them is.
 use Rattle.std.proofs.Common.{◌≡◌, ℕ, Bool, true, false, ◌||◌, nat_le, refl, sym, ◌∙◌, arith}
 use Rattle.std.specs.Prelude.{Option, None, Some}
 use Rattle.std.proofs.lemmas.Grind.{common_steps}
@@ -15,7 +15,7 @@ earlier_is_due now (Some a) None = sym (or_false (nat_le a now))
     or_false false = refl
 earlier_is_due now (Some a) (Some b) = grind (arith, common_steps)
 
--- where the earlier isn't due, neither is
+-- if the earlier isn't due, neither is
 pub neither_due : (now : ℕ) (a b : Option ℕ) → is_due now (earlier a b) ≡ false
     → (is_due now a ≡ false) × (is_due now b ≡ false)
 neither_due now a b calm = parts (is_due now a) (is_due now b) (sym (earlier_is_due now a b) ∙ calm)

@@ -1,4 +1,4 @@
--- Lemmas on the index of a schedule: how each change looks at a key, and what stands in front.
+-- Lemmas on the index of a schedule: what each change means for a key, and what is first in it.
 use Rattle.std.proofs.Common.{◌≡◌, ℕ, zero, suc, ◌≤◌, ◌<◌, Bool, true, false, cond, ◌&&◌, List, [], ◌∷◌, Option, Some, None, refl, sym, ap, ◌∙◌, arith, length, take, drop, filter}
 use Rattle.std.specs.Prelude.{nat_lt, nat_le, ◌==◌}
 use Rattle.std.specs.List.{list_any, take_while, AllByRecursion}
@@ -17,7 +17,7 @@ pub by_bool : {G : Type 0} (b : Bool) → (b ≡ true → G) → (b ≡ false �
 by_bool true on_true on_false = on_true refl
 by_bool false on_true on_false = on_false refl
 
--- two moments beside two keys are tied where the moments are and the keys are
+-- two pairs are tied if their moments and their keys are
 pub tied_pair : (a b : ℕ) (o : Ordering) → is_eq (ordering_then (nat_cmp a b) o)
     ≡ ((a == b) && is_eq o)
 tied_pair a b o =
@@ -37,7 +37,7 @@ pub moment_from : (at : ℕ) (o : Option ℕ) → is_moment at o ≡ true → o 
 moment_from at None e = absurd (false≢true e)
 moment_from at (Some due) e = ap (λ (m : ℕ). Some m) (sym (eqb-true at due e))
 
--- ---- how an edit of the index looks at a key
+-- ---- what a change of the index means for a key
 
 -- the index after a pair is put in or taken out
 abbrev pub Puts : {K : Type 0} → (K → K → Ordering) → List (ℕ × K) → List (ℕ × K) → ℕ → K → Bool
@@ -46,7 +46,7 @@ Puts {K} cmp dues rest due key put =
     (p : ℕ × K) → is_due_at cmp rest p.0 p.1
     ≡ cond (is_eq (due_cmp cmp (due, key) p)) put (is_due_at cmp dues p.0 p.1)
 
--- the index after what it says of one key was changed, by moments
+-- the index after a change of the moments of one key
 abbrev pub Changes : {K : Type 0} → (K → K → Ordering) → List (ℕ × K) → List (ℕ × K) → K
     → (ℕ → Bool → Bool) → Type 0
 Changes {K} cmp dues rest key change =
@@ -78,7 +78,7 @@ module _ {K : Type 0} (cmp : K → K → Ordering) (key : K) where
       twice (f at) (g at) (is_at (cmp key) q) (is_due_at cmp dues at q)
       (is_due_at cmp between at q) (is_due_at cmp rest at q) (first at q) (second at q)
 
--- two moments that are the same at each moment are one
+-- two optional moments are equal if they agree at each moment
 pub same_moment : (a b : Option ℕ) → ((at : ℕ) → is_moment at a ≡ is_moment at b) → a ≡ b
 same_moment None None same = refl
 same_moment None (Some due) same = absurd (false≢true (same due ∙ eq-eqb due due refl))
@@ -87,7 +87,7 @@ same_moment (Some due) (Some other) same =
     ap (λ (m : ℕ). Some m) (eqb-true due other (sym (same due) ∙ eq-eqb due due refl))
 
 module _ {K : Type 0} {cmp : K → K → Ordering} (total : IsTotalOrder cmp) where
-  -- equal keys have one moment
+  -- equal keys have the same moment
   pub moment_tied : (moments : K → Option ℕ) (dues : List (ℕ × K)) → IsIndexOf cmp moments dues
       → (key q : K) → is_at (cmp key) q ≡ true → moments q ≡ moments key
   moment_tied moments dues index key q tied =
@@ -98,7 +98,7 @@ module _ {K : Type 0} {cmp : K → K → Ordering} (total : IsTotalOrder cmp) wh
       (total.congr key q due.1 equal i))) dues in
       sym (index at q) ∙ sym there ∙ index at key)
 
-  -- it is the index of the moments with that key's changed
+  -- the changed index is that of the moments with that key's changed
   pub index_changed : (moments : K → Option ℕ) (dues rest : List (ℕ × K)) (key : K)
       (change : ℕ → Bool → Bool) (moment : Option ℕ) → IsIndexOf cmp moments dues
       → Changes cmp dues rest key change
@@ -137,9 +137,9 @@ at_most a b o below =
     let above : is_gt (ordering_then (nat_cmp a b) o) ≡ true = rw (ge, apart) in
     absurd (false≢true (sym below ∙ above))))
 
--- ---- what is due stands in front
+-- ---- due pairs stand in front
 
--- how many of the index are due, at its front
+-- how many pairs at the front of the index are due
 abbrev pub due_count : {K : Type 0} → ℕ → List (ℕ × K) → ℕ
 due_count now dues = length (take_while (λ due. nat_le due.0 now) dues)
 

@@ -24,7 +24,7 @@ none_some n same = cc
 
 -- ---- the earliest moment
 
--- a number that none is below, and that is one of them
+-- a number that is in the list, with none below it, is the least
 fold_least : (due a : ℕ) (xs : List ℕ) → due ≤ a → AllByRecursion (λ x. due ≤ x) xs
     → (a ≡ due) ⊎ (list_any (λ x. x == due) xs ≡ true) → fold min a xs ≡ due
 fold_least due a [] low every (inl same) = same
@@ -69,7 +69,7 @@ module _ {K : Type 0} {cmp : K → K → Ordering} (total : IsTotalOrder cmp) wh
         (ap (λ b. cond b (Some e.1) (moment cmp es q)) apart) (before q))),
   )
 
-  -- it is known by look-ups
+  -- the same by look-ups
   pub earliest : (es : List (K × ℕ)) → IsStrictlySortedBy cmp (keys_of es) → (first : Option ℕ)
       → IfSome first (λ due. (q : K) → IfSome (moment cmp es q) (λ other. due ≤ other))
       → IfSome first (λ due. (q : K) × (moment cmp es q ≡ Some due))
@@ -88,7 +88,7 @@ module _ {K : Type 0} {cmp : K → K → Ordering} (total : IsTotalOrder cmp) wh
         | inr more ↦ inr more
       ])))
 
--- ---- an armed key gets the moment that it has
+-- ---- an armed key is given the moment that it has
 
 pub insert_same : {K : Type 0} {cmp : K → K → Ordering} → IsTotalOrder cmp → (es : List (K × ℕ))
     → IsStrictlySortedBy cmp (keys_of es) → (key : K) (due : ℕ) → moment cmp es key ≡ Some due

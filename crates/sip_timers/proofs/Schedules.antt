@@ -1,4 +1,4 @@
--- Lemmas on a schedule: what it is the index of after each change, and what is due in it.
+-- Lemmas on a schedule: whose index it is after each change, and what is due in it.
 use Rattle.std.proofs.Common.{◌≡◌, ℕ, ◌+◌, ◌≤◌, ◌<◌, Bool, true, false, cond, ◌&&◌, List, [], ◌∷◌, ◌++◌, map, filter, Option, Some, None, IfSome, refl, sym, ap, subst, ◌∙◌, arith, length, take, drop, get_or, length-drop}
 use Rattle.std.specs.Prelude.{IfNone, nat_lt, nat_le, ◌==◌}
 use Rattle.std.specs.List.{list_any, IsDistinct}
@@ -24,9 +24,9 @@ use Rattle.sip_timers.proofs.Dues.{by_bool, Puts, put_changes, changes_twice, in
 use Rattle.sip_timers.proofs.Moments.{given}
 use Rattle.sip_timers.proofs.Sorts.{rises_if_distinct}
 
--- ---- moments that are the same
+-- ---- equal moments
 
--- the index of moments is that of the same moments
+-- an index of moments is also one of equal moments
 pub index_of_same : {K : Type 0} (cmp : K → K → Ordering) (moments others : K → Option ℕ)
     (dues : List (ℕ × K)) → ((q : K) → moments q ≡ others q) → IsIndexOf cmp moments dues
     → IsIndexOf cmp others dues
@@ -35,17 +35,17 @@ index_of_same cmp moments others dues same index = λ at q.
 
 -- ---- a change of one key
 
--- the pair is put in where there was none
+-- a pair is put in where there was none
 come : (due at : ℕ) → cond (due == at) true false ≡ (at == due)
 come due at = by_bool (due == at) (λ b. rw b) (λ b. rw b) ∙ nat_eq_equiv.symm due at
 
--- the pair is taken out
+-- a pair is taken out
 gone : (former at : ℕ) → cond (former == at) false (at == former) ≡ false
 gone former at =
     by_bool (former == at) (λ same. rw same) (λ apart. rw apart
     (nat_eq_equiv.symm at former ∙ apart))
 
--- a pair is put in, and then the former taken out
+-- a pair is put in, and then the former one taken out
 come_gone : (former due at : ℕ) → (former ≡ due → ⊥)
     → cond (former == at) false (cond (due == at) true (at == former)) ≡ (at == due)
 come_gone former due at other =
@@ -74,7 +74,7 @@ module _ {K : Type 0} {cmp : K → K → Ordering} (total : IsTotalOrder cmp)
       index (put_changes cmp key dues rest due false takes)
       (λ at. ap (λ o. cond (due == at) false (is_moment at o)) there ∙ gone due at)
 
-  -- a key that was armed is disarmed again
+  -- a key that has just been armed is disarmed again
   pub undone : moments key ≡ None
       → IsIndexOf cmp (with_moment cmp (with_moment cmp moments key (Some due)) key None) rest
       → IsIndexOf cmp moments rest
@@ -112,7 +112,7 @@ module _ {K : Type 0} {cmp : K → K → Ordering} (total : IsTotalOrder cmp)
       (λ at. ap (λ o. cond (former == at) false (cond (due == at) true (is_moment at o))) there
       ∙ come_gone former due at other)
 
--- ---- the first of it
+-- ---- the first pair
 
 module _ {K : Type 0} {cmp : K → K → Ordering} (total : IsTotalOrder cmp)
     (moments : K → Option ℕ) (dues : List (ℕ × K)) (index : IsIndexOf cmp moments dues) where
@@ -137,7 +137,7 @@ module _ {K : Type 0} {cmp : K → K → Ordering} (total : IsTotalOrder cmp)
       nothing_in [] empty at = refl
       nothing_in (d ∷ ds) empty at = absurd (omega arith)
 
--- where the earliest moment isn't due, none is
+-- if the earliest moment isn't due, no key is
 pub calm_before : {K : Type 0} (now : ℕ) (moments : K → Option ℕ) (first : Option ℕ)
     → IfSome first (λ due. (q : K) → IfSome (moments q) (λ other. due ≤ other))
     → IfNone first ((q : K) → moments q ≡ None) → is_due now first ≡ false
@@ -153,7 +153,7 @@ calm_before now moments (Some due) before none quiet q = later (moments q) (befo
 
 -- ---- taking out what is due
 
--- the pair that is taken out is the next of the whole
+-- the pair that is taken out is the next one of the whole list
 pub next_place : {X Y : Type 0} (f : X → Y) (all : List X) (i : ℕ) (x : X) (rest : List X)
     → drop i all ≡ x ∷ rest
     → (map f (take (i + 1) all) ≡ map f (take i all) ++ f x ∷ []) × (drop (i + 1) all ≡ rest)
@@ -163,7 +163,7 @@ next_place f all i x rest is =
     let first : get_or all i x ≡ x = cc in
     (map_more f all i x within ∙ ap (λ y. map f (take i all) ++ f y ∷ []) first, cc)
 
--- the entries that the pairs are
+-- the entries that the pairs stand for
 abbrev entries_of : {K : Type 0} → List (ℕ × K) → List (K × ℕ)
 entries_of dues = map (λ d. (d.1, d.0)) dues
 
@@ -195,7 +195,7 @@ module _ {K : Type 0} {cmp : K → K → Ordering} (total : IsTotalOrder cmp) wh
   abbrev is_it : ℕ → K → ℕ × K → Bool
   is_it at q d = is_eq (ordering_then (nat_cmp at d.0) (cmp q d.1))
 
-  -- of the pairs, those at some moments
+  -- the pairs at the moments that pass a test
   kept_at : (f : ℕ → Bool) (ds : List (ℕ × K)) (at : ℕ) (q : K)
       → is_due_at cmp (filter (λ d. f d.0) ds) at q ≡ (is_due_at cmp ds at q && f at)
   kept_at f [] at q = refl
@@ -212,7 +212,7 @@ module _ {K : Type 0} {cmp : K → K → Ordering} (total : IsTotalOrder cmp) wh
       ∙ by_bool (is_due_at cmp ds at q) (λ e. rw e) (λ e. rw e) ∙ sym (same ∙ leave))))
       (λ apart. by_bool (f d.0) (λ keep. rw (keep, apart) more) (λ leave. rw (leave, apart) more))
 
-  -- where their keys differ, pairs are the index of their own moments
+  -- pairs with different keys are the index of their own moments
   own_index : (ds : List (ℕ × K)) → IsDistinct (eq_by_cmp cmp) (keys_of (entries_of ds))
       → (at : ℕ) (q : K) → is_due_at cmp ds at q ≡ is_moment at (moment cmp (entries_of ds) q)
   own_index [] differ at q = refl

@@ -1,4 +1,4 @@
--- A sort of keys that differ gives the one list in which they rise.
+-- Sorting distinct keys gives the one list in which they rise.
 use Rattle.std.proofs.Common.{◌≡◌, ◌+◌, ◌≤◌, ◌<◌, false, List, [], ◌∷◌, ◌⊎◌, inl, inr, refl, sym, ap, subst, ◌∙◌, arith, get_or}
 use Rattle.std.specs.List.{AllByRecursion, IsDistinct}
 use Rattle.std.specs.List.Sorted.{IsPermutation, IsSorted, IsStrictlySortedBy}
@@ -44,7 +44,7 @@ module _ {K : Type 0} {cmp : K → K → Ordering} (total : IsTotalOrder cmp) wh
   less_both : (x y : K) → cmp x y ≡ Less → cmp y x ≡ Less → ⊥
   less_both x y less again = less_itself x (total.trans x y x less again)
 
-  -- the tail of a list that rises, among the elements of another
+  -- the tail of a rising list has elements of the other list's tail
   tail_among : (x : K) (xs ys : List K) → AllByRecursion (λ z. cmp x z ≡ Less) ys
       → AllByRecursion (λ z. Among z (x ∷ xs)) ys → AllByRecursion (λ z. Among z xs) ys
   tail_among x xs [] above among = tt
@@ -56,7 +56,7 @@ module _ {K : Type 0} {cmp : K → K → Ordering} (total : IsTotalOrder cmp) wh
     tail_among x xs ys above.1 among.1,
   )
 
-  -- two lists that rise and have the same elements are one
+  -- two rising lists with the same elements are equal
   same_elements : (xs ys : List K) → IsStrictlySortedBy cmp xs → IsStrictlySortedBy cmp ys
       → AllByRecursion (λ y. Among y xs) ys → AllByRecursion (λ x. Among x ys) xs → ys ≡ xs
   same_elements [] [] rises rise_too all_ys all_xs = refl
@@ -84,7 +84,7 @@ module _ {K : Type 0} {cmp : K → K → Ordering} (total : IsTotalOrder cmp) wh
       (same_elements xs ys (sorted_tail cmp x xs rises)
       (sorted_tail cmp y ys rise_too) ys_in xs_in)
 
-  -- a sort of keys that differ rises
+  -- distinct keys, sorted, rise
   pub rises_if_distinct : (xs ys : List K) → IsDistinct (eq_by_cmp cmp) xs → IsPermutation xs ys
       → IsSorted cmp ys → IsStrictlySortedBy cmp ys
   unfolding IsStrictlySortedBy
@@ -107,7 +107,7 @@ module _ {K : Type 0} {cmp : K → K → Ordering} (total : IsTotalOrder cmp) wh
       (λ greater. absurd (false≢true
       (sym not_below ∙ ap is_lt (total.antisymm b a ∙ ap ordering_reverse greater)))))
 
-  -- so it is any list with the same elements that rises
+  -- so the result is any rising list with the same elements
   pub same_sorted : (all keys sorted : List K) → IsStrictlySortedBy cmp all → IsPermutation all keys
       → IsPermutation keys sorted → IsSorted cmp sorted → sorted ≡ all
   same_sorted all keys sorted rises taken ordered is_sorted =

@@ -1,4 +1,4 @@
--- Lemmas on taking the entries of keys that are due out of a queue.
+-- Lemmas on taking the entries of due keys out of a queue.
 use Rattle.std.proofs.Common.{◌≡◌, ℕ, ◌≤◌, true, false, cond, ◌||◌, List, [], ◌∷◌, ◌++◌, Some, refl, sym, ap, ◌∙◌, length, take, drop}
 use Rattle.std.specs.Prelude.{nat_lt, nat_le}
 use Rattle.std.specs.List.{list_any, AllByRecursion}
@@ -20,14 +20,14 @@ use Rattle.sip_timers.specs.Queue.{moment, is_due, due_keys, later}
 use Rattle.sip_timers.proofs.Dues.{by_bool, by_ordering}
 use Rattle.sip_timers.proofs.Sorts.{weaker}
 
--- the map's own keys in place of those that are taken out, one after another
+-- the map's own keys, in place of those that are taken out one after another
 abbrev pub own_keys : {K : Type 0} → (K → K → Ordering) → List K → List (K × ℕ) → List K
 own_keys cmp [] entries = []
 own_keys cmp (k ∷ ks) entries =
     unwrap_or (lookup_key (is_at (cmp k)) entries) k
     ∷ own_keys cmp ks (remove_entry (is_at (cmp k)) entries)
 
--- what is left then
+-- the entries that are left
 abbrev pub without : {K : Type 0} → (K → K → Ordering) → List K → List (K × ℕ) → List (K × ℕ)
 without cmp [] entries = entries
 without cmp (k ∷ ks) entries = without cmp ks (remove_entry (is_at (cmp k)) entries)
@@ -101,7 +101,7 @@ module _ {K : Type 0} {cmp : K → K → Ordering} (total : IsTotalOrder cmp) wh
         let after : nat_lt now e.1 ≡ true = lt-ltb now e.1 (leb-false e.1 now waits) in
         (rw waits (kept.0 ∙ further.0), rw after (kept.1 ∙ ap (λ left. e ∷ left) further.1))
 
-    -- it is, and the first key finds it
+    -- the first entry is due, and the first key finds it
     module _ (k : K) (ks : List K) (rises : IsStrictlySortedBy cmp (k ∷ ks))
         (same : AreDue now (k ∷ ks) (e ∷ es)) (due : nat_le e.1 now ≡ true) where
       first_tied : cmp k e.0 ≡ Equal
@@ -136,7 +136,7 @@ module _ {K : Type 0} {cmp : K → K → Ordering} (total : IsTotalOrder cmp) wh
           let past : nat_lt now e.1 ≡ false = le-ltb now e.1 (leb-true e.1 now due) in
           (rw (here, due) (ap (λ own. e.0 ∷ own) others.0), rw (here, past) others.1)
 
-  -- taking those out gives the keys that are due, and leaves what is later
+  -- taking them out gives the due keys, and leaves the later entries
   pub takes_due : (now : ℕ) (es : List (K × ℕ)) (ks : List K) → IsStrictlySortedBy cmp ks
       → IsStrictlySortedBy cmp (keys_of es) → AreDue now ks es
       → (own_keys cmp ks es ≡ due_keys now es) × (without cmp ks es ≡ later now es)
@@ -159,7 +159,7 @@ module _ {K : Type 0} {cmp : K → K → Ordering} (total : IsTotalOrder cmp) wh
       (takes_due now es (k ∷ ks) rises (sorted_tail cmp e.0 (keys_of es) in_order)
       (due_further now e es in_order (k ∷ ks) same waits)))
 
--- when no key is left
+-- no key is left to take out
 pub all_taken : {K : Type 0} (cmp : K → K → Ordering) (keys : List K) (i : ℕ) → length keys ≤ i
     → (entries : List (K × ℕ)) → (keys ≡ take i keys ++ own_keys cmp (drop i keys) entries)
     × (entries ≡ without cmp (drop i keys) entries)

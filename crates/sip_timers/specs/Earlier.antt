@@ -1,4 +1,4 @@
--- The earlier of two moments, of which either may be missing.
+-- The earlier of two moments, either of which may be missing.
 use Rattle.std.specs.Prelude.{ℕ, min, Option, None, Some}
 
 abbrev pub earlier : Option ℕ → Option ℕ → Option ℕ

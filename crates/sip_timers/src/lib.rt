@@ -1,4 +1,4 @@
-//! A queue of timers: for each key the moment at which it is due. T1, from which moments follow.
+//! A queue of timers: for each key the moment at which it is due. Also T1 and 64 times T1.
 #![tactic(auto)]
 
 mod estimate;

@@ -1,4 +1,4 @@
-//! A queue of timers: a map from keys to due moments, and the schedule of its keys.
+//! A queue of timers: a map from keys to due moments, and a schedule of the keys.
 
 ghost use Rattle.std.specs.Prelude.{◌≡◌, ◌≢◌, ◌≤◌, [], Some, None, All, min, if◌then◌else◌, OnOk, OnErr, IfOk, IfSome, IfNone};
 ghost use Rattle.std.specs.List.{reduce, list_any};
@@ -14,7 +14,7 @@ use std::marker::Model;
 
 /// A finite map from keys to the moments, in milliseconds, at which they are due.
 ///
-/// Contracts see it as the list of its entries in the order of the keys.
+/// A contract sees it as the list of its entries, in the order of the keys.
 #[derive(Drop)]
 pub struct Queue<K: Ord + Clone> {
     moments: BTreeMap<K, u64>,
@@ -46,11 +46,11 @@ impl<K: Ord + Clone + Drop> Queue<K> {
         }
     }
 
-    /// Makes `key` due at the moment `due`, in place of the moment that it had.
+    /// Makes `key` due at `due`, whatever moment it had before.
     ///
     /// # Errors
     ///
-    /// `NoMemory`, and then the queue is as it was.
+    /// `NoMemory`; then the queue is unchanged.
     pub fn arm(&mut self, key: K, due: u64) -> Result<(), NoMemory>
         requires { IsClonedAlike K.is_clone key }
         ensures ok { OnOk result (self.new ≡ insert_entry K.cmp self.old key due) }
@@ -64,12 +64,12 @@ impl<K: Ord + Clone + Drop> Queue<K> {
         }
     }
 
-    /// Makes `key` due at the moment `due`, in place of another, `former`, that it had, if it had
-    /// one: what [`Queue::arm`] does, with one look-up less.
+    /// Makes `key` due at `due`, another moment than `former`, the one that it had, if any. This
+    /// does what [`Queue::arm`] does, with one look-up less.
     ///
     /// # Errors
     ///
-    /// `NoMemory`, and then the queue is as it was.
+    /// `NoMemory`; then the queue is unchanged.
     pub fn rearm(&mut self, key: K, former: Option<u64>, due: u64) -> Result<(), NoMemory>
         requires alike { IsClonedAlike K.is_clone key }
         requires former { moment K.cmp self.old key ≡ former }
@@ -88,7 +88,7 @@ impl<K: Ord + Clone + Drop> Queue<K> {
         Ok(())
     }
 
-    /// Takes `key` out. A key that isn't there changes nothing. It takes no memory.
+    /// Takes `key` out. If it isn't there, nothing changes. Takes no memory.
     pub fn disarm(&mut self, key: &K)
         ensures entries { self.new ≡ remove_entry (is_at (K.cmp key.now)) self.old }
         ensures moments { (q : K) → moment K.cmp self.new q
@@ -99,18 +99,18 @@ impl<K: Ord + Clone + Drop> Queue<K> {
         }
     }
 
-    /// The moment at which `key` is due, if it is armed. It takes no memory.
+    /// The moment at which `key` is due, if it is armed. Takes no memory.
     pub fn moment(&self, key: &K) -> Option<u64>
         ensures { result ≡ moment K.cmp self.now key.now }
     {
         self.moments.get(key).copied()
     }
 
-    /// The earliest moment at which a key is due. It takes no memory.
+    /// The earliest moment at which a key is due. Takes no memory.
     pub fn next_due(&self) -> Option<u64>
         ensures earliest { result ≡ reduce min (values_of self.now) }
 
-        // By look-ups: no key is due before it, and it is the moment of one.
+        // The same by look-ups: no key is due earlier, and one is due at that moment.
         ensures none_before { IfSome result
             (λ due. (q : K) → IfSome (moment K.cmp self.now q) (λ other. due ≤ other)) }
         ensures of_a_key { IfSome result (λ due. (q : K) × (moment K.cmp self.now q ≡ Some due)) }
@@ -119,11 +119,11 @@ impl<K: Ord + Clone + Drop> Queue<K> {
         self.dues.next_due()
     }
 
-    /// Takes out all keys that are due at `now` or were before, and gives them in their order.
+    /// Takes out all keys that are due at `now` or before, and gives them in the order of the keys.
     ///
     /// # Errors
     ///
-    /// `NoMemory`, and then the queue is as it was.
+    /// `NoMemory`; then the queue is unchanged.
     pub fn take_due(&mut self, now: u64) -> Result<Vec<K>, NoMemory>
         requires { All (λ e. IsClonedAlike K.is_clone e.0) self.old }
         ensures due { IfOk result (λ keys. keys.items ≡ due_keys now self.old) }
@@ -131,13 +131,13 @@ impl<K: Ord + Clone + Drop> Queue<K> {
         ensures ok { OnOk result (self.new ≡ later now self.old) }
         ensures err { OnErr result (self.new ≡ self.old) }
 
-        // By look-ups: a key is given where it was due, and keeps its moment where it wasn't.
+        // The same by look-ups: a key is given if it was due, otherwise it keeps its moment.
         ensures given { IfOk result (λ keys. (q : K)
             → list_any (is_at (K.cmp q)) keys.items ≡ is_due now (moment K.cmp self.old q)) }
         ensures moments { OnOk result ((q : K)
             → moment K.cmp self.new q ≡ if_later now (moment K.cmp self.old q)) }
     {
-        // The schedule has copies of the keys, so each gives way to the key of the map.
+        // The schedule has copies of the keys; each is replaced by the key of the map.
         let mut keys = self.dues.take_due(now)?;
         for key in keys.iter_mut() {
             if let Some((own, _)) = self.moments.remove_entry(&*key) {

@@ -1,4 +1,4 @@
-//! The moments at which keys are due, where whoever holds a key knows its moment.
+//! The moments at which keys are due, for a caller that knows the moment of each key.
 
 ghost use Rattle.std.specs.Prelude.{◌≡◌, ◌≢◌, ℕ, ◌≤◌, [], Option, Some, None, nat_le, length, OnOk, OnErr, IfOk, IfSome, IfNone};
 ghost use Rattle.std.specs.List.{list_any, take_while};
@@ -14,9 +14,9 @@ use std::marker::Model;
 
 /// Keys by the moments, in milliseconds, at which they are due, each key at most once.
 ///
-/// It doesn't look for the moment of a key: whoever moves a key or takes it out says at which it
-/// is. Contracts see the list of moments beside keys, and speak of any moments of keys of which
-/// that is the index.
+/// It doesn't look up the moment of a key: a caller that moves a key or takes it out says at which
+/// moment it is. A contract sees the list of moments with their keys. Its clauses hold for any map
+/// from keys to moments of which this list is the index.
 #[derive(Drop)]
 pub struct Schedule<K: Ord> {
     alloc: Global,
@@ -32,7 +32,7 @@ impl<K: Ord> Model for Schedule<K> {
 }
 
 impl<K: Ord + Drop> Schedule<K> {
-    /// An empty schedule. It takes no memory.
+    /// An empty schedule. Takes no memory.
     pub fn new(alloc: Global) -> Schedule<K>
         ensures { result ≡ [] }
     {
@@ -42,7 +42,7 @@ impl<K: Ord + Drop> Schedule<K> {
         }
     }
 
-    /// The earliest moment at which a key is due. It takes no memory.
+    /// The earliest moment at which a key is due. Takes no memory.
     pub fn next_due(&self) -> Option<u64>
         ensures none_before { (moments : K → Option ℕ) → IsIndexOf K.cmp moments self.now
             → IfSome result (λ due. (q : K) → IfSome (moments q) (λ other. due ≤ other)) }
@@ -54,11 +54,11 @@ impl<K: Ord + Drop> Schedule<K> {
         Some(self.dues.first()?.0)
     }
 
-    /// Makes a key due that wasn't.
+    /// Makes a key due that wasn't in the schedule.
     ///
     /// # Errors
     ///
-    /// `NoMemory`, and then the schedule is as it was.
+    /// `NoMemory`; then the schedule is unchanged.
     pub fn arm(&mut self, key: K, due: u64) -> Result<(), NoMemory>
         ensures ok { OnOk result ((moments : K → Option ℕ) → IsIndexOf K.cmp moments self.old
             → moments key ≡ None
@@ -69,11 +69,11 @@ impl<K: Ord + Drop> Schedule<K> {
         Ok(())
     }
 
-    /// Makes a key due at another moment than `former`, at which it is.
+    /// Moves a key from the moment `former`, at which it is due, to another.
     ///
     /// # Errors
     ///
-    /// `NoMemory`, and then the key is due no longer.
+    /// `NoMemory`; then the key is no longer in the schedule.
     pub fn rearm(&mut self, key: K, former: u64, due: u64) -> Result<(), NoMemory>
         ensures ok { OnOk result ((moments : K → Option ℕ) → IsIndexOf K.cmp moments self.old
             → moments key ≡ Some former
@@ -88,7 +88,7 @@ impl<K: Ord + Drop> Schedule<K> {
         Ok(())
     }
 
-    /// Takes out a key, which is due at this moment. It takes no memory.
+    /// Takes out a key that is due at this moment. Takes no memory.
     pub fn disarm(&mut self, key: K, due: u64)
         ensures { (moments : K → Option ℕ) → IsIndexOf K.cmp moments self.old
             → moments key ≡ Some due
@@ -97,11 +97,11 @@ impl<K: Ord + Drop> Schedule<K> {
         self.dues.remove(&(due, key));
     }
 
-    /// Takes out all keys that are due at `now` or were before, and gives them in their order.
+    /// Takes out all keys that are due at `now` or before, and gives them in the order of the keys.
     ///
     /// # Errors
     ///
-    /// `NoMemory`, and then the schedule is as it was.
+    /// `NoMemory`; then the schedule is unchanged.
     pub fn take_due(&mut self, now: u64) -> Result<Vec<K>, NoMemory>
         ensures in_order { (moments : K → Option ℕ) → IsIndexOf K.cmp moments self.old
             → IfOk result (λ keys. IsStrictlySortedBy K.cmp keys.items) }
@@ -126,8 +126,8 @@ impl<K: Ord + Drop> Schedule<K> {
 }
 
 impl<K: Ord + Clone + Drop> Schedule<K> {
-    // Makes a copy of a key due, in place of the key at `former`, and gives the key back. The copy
-    // goes in first, so that want of memory changes nothing.
+    // Puts a copy of a key in at `due`, takes out the key at `former`, and gives the key back. The
+    // copy goes in first, so that nothing changes if memory runs out.
     pub(crate) fn replace(&mut self, key: K, former: Option<u64>, due: u64) -> Result<K, NoMemory>
         requires alike { IsClonedAlike K.is_clone key }
         requires other { former ≢ Some due }
@@ -147,7 +147,7 @@ impl<K: Ord + Clone + Drop> Schedule<K> {
     }
 }
 
-// How many keys are due at `now` or were before. It looks at these and at the next.
+// How many keys are due at `now` or before. It looks at these and at the next one.
 fn count_due<K: Ord>(dues: &BTreeSet<(u64, K)>, now: u64) -> usize
     ensures count { result ≡ length (take_while (λ due. nat_le due.0 now) dues.now.keys) }
     ensures ordered { IsStrictlySortedBy (due_cmp K.cmp) dues.now.keys }

@@ -1,4 +1,4 @@
-//! Stored cases: what `ua` is run on, and what it is to write.
+//! Stored cases: the input of `ua`, and what it has to write.
 
 use crate::stop::{Stop, expect};
 use crate::tally::tell;
@@ -8,16 +8,15 @@ use std::fs::{self, DirEntry};
 use std::io;
 use std::thread::Threads;
 
-/// What stands before what is written by a run that doesn't end well.
+/// The line before the output of a run that doesn't end well.
 const WRITTEN: &[u8] = b"and writes\n";
 
-/// Runs the cases of a folder, which has a folder for each topic, in the order of their names, and
-/// writes of each that differs in what it does.
+/// Runs the cases of a folder, which has a folder for each topic, in the order of their names.
+/// Writes what differs in each case that differs.
 ///
 /// # Errors
 ///
-/// `Count` where one differs; a file that is missing or can't be read, an output that fails, and
-/// want of memory.
+/// `Count` if one differs; a file is missing or can't be read; an output fails; or memory ran out.
 pub fn run_cases<T: Threads + Host>(
     rt: &HostRuntime,
     threads: &T,
@@ -44,7 +43,7 @@ fn case_names(rt: &HostRuntime, folder: &str) -> io::Result<Vec<String>> {
     Ok(names)
 }
 
-// Adds the names of the cases of a topic, where it is a folder.
+// Adds the names of the cases of a topic, if it is a folder.
 fn push_topic(
     rt: &HostRuntime,
     topic: &DirEntry<HostRuntime>,
@@ -58,7 +57,7 @@ fn push_topic(
     Ok(())
 }
 
-// Adds the name of the case whose input this file is.
+// Adds the name of the case that has this file as its input.
 fn push_name(
     alloc: Global,
     topic: &str,
@@ -71,7 +70,7 @@ fn push_name(
     }
 }
 
-// Whether a case writes what it is to; else says in what it differs first.
+// Whether a case writes what it should; if not, says where it first differs.
 fn is_right<T: Threads + Host>(
     rt: &HostRuntime,
     threads: &T,
@@ -87,7 +86,7 @@ fn is_right<T: Threads + Host>(
     Ok(is_same)
 }
 
-// What `ua` writes on NAME.events.
+// What `ua` writes for NAME.events.
 fn written_by<T: Threads + Host>(
     rt: &HostRuntime,
     threads: &T,
@@ -104,8 +103,8 @@ fn written_by<T: Threads + Host>(
     )
 }
 
-// The output file of a run that ends well and tells nothing; else its status, what is told on
-// standard error, and what is written.
+// The output file of a run that ends well without errors; otherwise its status, what it wrote to
+// standard error, and its output.
 fn run<T: Threads + Host>(
     threads: &T,
     alloc: Global,
@@ -144,7 +143,7 @@ fn fault_of(
     Ok(fault)
 }
 
-// The words of `ua`, one a line and without its own name: NAME.args, or `replay`.
+// The words of `ua`, one on each line, without its own name: NAME.args, or `replay`.
 fn words_of(rt: &HostRuntime, folder: &str, name: &str) -> io::Result<Vec<u8>> {
     match file_of(rt, folder, name, "args") {
         Err(error) if error.kind() == io::ErrorKind::NotFound => {
@@ -154,7 +153,7 @@ fn words_of(rt: &HostRuntime, folder: &str, name: &str) -> io::Result<Vec<u8>> {
     }
 }
 
-// NAME.outputs, or NAME.fault, whose first line is the status and the others what is told.
+// NAME.outputs, or NAME.fault: its first line is the status, and the others are what is told.
 fn expected_of(rt: &HostRuntime, folder: &str, name: &str) -> io::Result<Vec<u8>> {
     match file_of(rt, folder, name, "outputs") {
         Err(error) if error.kind() == io::ErrorKind::NotFound => {
@@ -169,7 +168,7 @@ fn file_of(rt: &HostRuntime, folder: &str, name: &str, kind: &str) -> io::Result
     fs::read(rt, path.as_str())
 }
 
-// Says in which line, from 1, what is written differs first, and how that line is to be.
+// Says in which line, from 1, the output first differs, and what that line should be.
 fn tell_difference(
     rt: &HostRuntime,
     name: &str,
@@ -187,7 +186,7 @@ fn tell_difference(
     println!(rt; "{name}, line {number}:\n{given}\nand not\n{wanted}")
 }
 
-// The line of this index, empty where there is none.
+// The line with this index; empty if there is none.
 fn line_at(alloc: Global, text: &[u8], index: usize) -> Result<String, AllocError> {
     let line = text.split(|b| *b == b'\n').nth(index).unwrap_or(b"");
     String::from_utf8_lossy(alloc, line)

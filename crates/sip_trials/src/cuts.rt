@@ -1,4 +1,5 @@
-//! A script in many numbers of shards and workers, by both cuts, moved between its rounds or not.
+//! A script in many numbers of shards and workers, by both cuts, with and without moves between
+//! rounds.
 
 use crate::open::Open;
 use crate::script::Script;
@@ -15,7 +16,7 @@ const MOST_SHARDS: usize = 256;
 
 const MOST_WORKERS: usize = 8;
 
-/// With how many shards it is run again and again.
+/// The number of shards with which it is run again and again.
 const REPEATED_SHARDS: usize = 64;
 
 /// How a run of the script is cut.
@@ -23,7 +24,7 @@ const REPEATED_SHARDS: usize = 64;
 struct Way {
     shards: usize,
     workers: usize,
-    /// Whether all that is held is moved before each round.
+    /// Whether everything held is moved before each round.
     moves: bool,
 }
 
@@ -39,12 +40,12 @@ pub struct Runs<'a, R> {
     differ: u64,
 }
 
-/// Runs the script in each of the ways, and so often in the widest one: how many runs there were,
-/// and how many of them differ.
+/// Runs the script in each of the ways, and `times` times in the widest one. Gives how many runs
+/// there were, and how many of them differ.
 ///
 /// # Errors
 ///
-/// A round that is refused, and want of memory.
+/// A round was refused, or memory ran out.
 pub fn cuts_of<R: Threads + Sync>(
     rt: &R,
     alloc: Global,
@@ -78,7 +79,7 @@ pub fn cuts_of<R: Threads + Sync>(
 }
 
 impl<'a, R: Threads + Sync> Runs<'a, R> {
-    // In so many shards, on each number of workers.
+    // Runs it in `shards` shards, on each number of workers.
     fn in_shards(&mut self, shards: usize) -> Result<(), Stop> {
         for workers in 1..=MOST_WORKERS {
             self.by_both_cuts(Way {
@@ -100,7 +101,7 @@ impl<'a, R: Threads + Sync> Runs<'a, R> {
         self.one(way, First)
     }
 
-    // One run, and whether it gives the output file.
+    // Makes one run, and counts whether it gives the output file.
     fn one<C: Cut + Drop>(&mut self, way: Way, cut: C) -> Result<(), Stop> {
         let Way {
             shards,
@@ -126,7 +127,7 @@ impl<'a, R: Threads + Sync> Runs<'a, R> {
     }
 }
 
-// Moves all that is held to another number of shards before the round of this index.
+// Moves everything held to another number of shards before the round with this index.
 fn move_before<C: Cut + Drop>(agent: &mut Agent<C>, index: usize) -> Result<(), RoundFault> {
     match index % 4 {
         0 => agent.reshard(2),

@@ -1,4 +1,4 @@
-//! Readers, writers and outlets that fail at one of their calls, each of them in turn.
+//! Readers, writers and outlets that fail at one of their calls, at each one in turn.
 
 use crate::open::Open;
 use crate::script::{LONG, SHORT, Script};
@@ -16,7 +16,7 @@ use std::thread::Threads;
 /// The scripts, and how many bytes a device takes or gives at once.
 const SCRIPTS: [(&str, usize); 2] = [(LONG, 512), (SHORT, 1)];
 
-/// In how many shards, and on how many workers, they are run.
+/// How many shards and workers they are run with.
 const SHARDS: usize = 2;
 
 const WORKERS: usize = 2;
@@ -24,24 +24,24 @@ const WORKERS: usize = 2;
 /// The same, as words of `ua`.
 const WORDS: [&str; 5] = ["replay", "--shards", "2", "--workers", "2"];
 
-/// The statuses that `ua` ends in.
+/// The statuses with which `ua` ends.
 const SUCCESS: u8 = 0;
 
 const FAILED_DEVICE: u8 = 4;
 
-/// What is told where a read failed.
+/// What is told if a read failed.
 const UNREAD: &[u8] = b"ua: input failed\nua: standard input: other error\n";
 
-/// How many times a device is made at most.
+/// How often a device is made at most.
 const MOST_TURNS: u64 = 100_000;
 
-/// The number of a call that never comes.
+/// The number of a call that is never made.
 const NEVER: u64 = u64::MAX;
 
-/// When all that a script began is over, after its last round.
+/// After its last round: when all that a script began is over.
 const OVER: [u64; 3] = [100_000, 200_000, 300_000];
 
-/// A reader and a writer of so many bytes at once, at most. Its call of this number, from 0, fails,
+/// A reader and writer of at most `most` bytes at once. Its call with this number, from 0, fails,
 /// and no other.
 #[derive(Drop)]
 struct Failing<'a> {
@@ -63,7 +63,7 @@ impl<'a> Failing<'a> {
         }
     }
 
-    // Counts a call, which fails where it has the number.
+    // Counts a call. It fails if it has the number.
     fn call(&mut self) -> io::Result<()> {
         let number = self.calls;
         self.calls = number.saturating_add(1);
@@ -74,7 +74,7 @@ impl<'a> Failing<'a> {
         }
     }
 
-    // Whether a call failed; then none may have come after it.
+    // Whether a call failed. If so, none may have followed it.
     fn has_failed(&self) -> Result<bool, Stop> {
         let has_failed = self.calls > self.fails_at;
         if has_failed {
@@ -112,7 +112,7 @@ impl Write for Failing<'_> {
     }
 }
 
-/// An outlet whose send of this number, from 0, fails.
+/// An outlet whose send with this number, from 0, fails.
 #[derive(Drop)]
 struct Lossy {
     sends_left: u64,
@@ -136,12 +136,13 @@ impl Outlet for Lossy {
     }
 }
 
-/// Fails each read, each write and each send of two scripts in turn, and says how many there are.
+/// Lets each read, each write and each send of two scripts fail, one in each run, and says how many
+/// there are.
 ///
 /// # Errors
 ///
-/// `Different` and `Count` where one isn't told as it is to be, a file that is missing or can't be
-/// read, and want of memory.
+/// `Different` and `Count` if one isn't told as it should be; a file is missing or can't be read;
+/// or memory ran out.
 pub fn run_devices<T: Threads + Host>(
     rt: &HostRuntime,
     threads: &T,
@@ -153,7 +154,7 @@ pub fn run_devices<T: Threads + Host>(
     Ok(())
 }
 
-// Those of one script.
+// The calls of one script.
 fn tell_failed<T: Threads + Host>(
     rt: &HostRuntime,
     threads: &T,
@@ -173,7 +174,7 @@ fn tell_failed<T: Threads + Host>(
     )?)
 }
 
-// How many reads there are, or how many writes, each of which was failed.
+// How many reads there are, or how many writes. Each was made to fail.
 fn failed_calls<T: Threads + Host>(
     threads: &T,
     alloc: Global,
@@ -196,8 +197,8 @@ fn failed_calls<T: Threads + Host>(
     Err(Stop::Different)
 }
 
-// Whether no call failed, and all was written. Where a read failed, that is told, and nothing
-// written; where a write did, that is told, and no more written than before.
+// Whether no call failed, and all was written. If a read failed, that is told and nothing is
+// written. If a write failed, that is told and no more is written than before it.
 fn is_whole<T: Threads + Host>(
     threads: &T,
     alloc: Global,
@@ -230,7 +231,7 @@ fn is_whole<T: Threads + Host>(
     Ok(wanted == SUCCESS)
 }
 
-// How many sends there are: what failed comes into the next round, and at last nothing is held.
+// How many sends there are. A failed send enters the next round, and in the end nothing is held.
 fn failed_sends<R: Threads + Sync>(rt: &R, alloc: Global, script: &Script) -> Result<u64, Stop> {
     for sends_left in 0..MOST_TURNS {
         let mut outlet = Lossy {
@@ -245,7 +246,7 @@ fn failed_sends<R: Threads + Sync>(rt: &R, alloc: Global, script: &Script) -> Re
     Err(Stop::Different)
 }
 
-// Runs the script, whose sends go through the outlet, to its end.
+// Runs the script to its end, and sends through the outlet.
 fn send_script<R: Threads + Sync>(
     rt: &R,
     alloc: Global,
@@ -268,7 +269,7 @@ fn send_script<R: Threads + Sync>(
     expect("held at the end", 0, held)
 }
 
-// Runs a round, with the failures of the one before at its end, sends, and gives the failures.
+// Runs a round, with the failures of the one before at its end. Sends, and gives the new failures.
 fn send_round<R: Threads + Sync>(
     rt: &R,
     alloc: Global,

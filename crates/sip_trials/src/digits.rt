@@ -1,4 +1,4 @@
-//! Numbers of seven digits, of which names are made.
+//! Numbers with seven digits, from which names are made.
 
 use std::alloc::AllocError;
 
@@ -8,7 +8,7 @@ const DIGITS: usize = 7;
 ///
 /// # Errors
 ///
-/// Want of memory.
+/// Memory ran out.
 pub fn push_digits(text: &mut Vec<u8>, number: u64) -> Result<(), AllocError> {
     let mut digits = [b'0'; DIGITS];
     let mut rest = number;

@@ -1,7 +1,7 @@
-//! Examples: each public call of the core that takes memory once, with its answer compared.
+//! Examples: each public call of the core that takes memory, made once, with its answer compared.
 //!
-//! Each example ends as it is to be, or says that memory was refused and left all as it is to be
-//! then. Where a call that was refused memory changes nothing, the example makes it again.
+//! Each example ends as it should, or says that memory ran out and then left everything as it
+//! should be. If a call that ran out of memory changes nothing, the example makes it again.
 
 mod calls;
 mod dialogs;
@@ -85,7 +85,7 @@ const NAMES: [&str; 49] = [
     "Host",
 ];
 
-// The example of this number.
+// Runs the example with this number.
 fn example<T: Threads + Sync>(threads: &T, alloc: Global, number: usize) -> Result<(), Stop> {
     match number {
         0 => texts::a_fold_is_one_space(alloc),
@@ -147,12 +147,12 @@ fn agent(alloc: Global) -> Result<Agent<Spread>, Stop> {
     Ok(Agent::new(alloc, CONFIG, SHARDS, Spread)?)
 }
 
-/// Runs the example of this name.
+/// Runs the example with this name.
 ///
 /// # Errors
 ///
-/// `Different` where its answer is another than the right one, `NoMemory` and `Broken` where memory
-/// was refused and what stays is as it is to be, `Words` where there is no such example.
+/// `Different` if its answer isn't the right one; `NoMemory` and `Broken` if memory ran out and
+/// what is left is as it should be; `Words` if there is no such example.
 pub fn run_example<T: Threads + Sync>(
     rt: &HostRuntime,
     threads: &T,
@@ -171,7 +171,7 @@ pub fn run_example<T: Threads + Sync>(
 ///
 /// # Errors
 ///
-/// `Count` where one differs, and an output that fails.
+/// `Count` if one differs, or an output fails.
 pub fn run_examples<T: Threads + Sync>(rt: &HostRuntime, threads: &T) -> Result<(), Stop> {
     let mut differ: u64 = 0;
     for (number, name) in NAMES.iter().enumerate() {

@@ -1,4 +1,4 @@
-//! An agent under load: requests come, are told to the user, are answered and end.
+//! An agent under load: requests come in, the user is told, answers them, and they end.
 
 use crate::open::Open;
 use crate::options::options_of;
@@ -11,21 +11,21 @@ use std::alloc::{AllocError, Global};
 use std::mem;
 use std::thread::Threads;
 
-/// The status that each request is answered with, and the reason.
+/// The status with which each request is answered, and the reason.
 const OK: u16 = 200;
 
 const REASON: &[u8] = b"OK";
 
-/// The most shards that an agent has.
+/// The maximum number of shards of an agent.
 pub const MOST_SHARDS: usize = 256;
 
-/// The most workers that a round has.
+/// The maximum number of workers of a round.
 pub const MOST_WORKERS: usize = 64;
 
-/// What each answer begins with.
+/// The beginning of each answer.
 const ANSWER: &[u8] = b"SIP/2.0 200 ";
 
-/// What the agent is started with.
+/// The configuration with which the agent is started.
 pub const CONFIG: Config = Config {
     local: Addr {
         ip: [127, 0, 0, 1],
@@ -35,13 +35,13 @@ pub const CONFIG: Config = Config {
     first: 0,
 };
 
-/// An agent, the user that answers each of its requests with 200, and what was counted so far.
+/// An agent, a user that answers each request with 200, and the counts so far.
 #[derive(Drop)]
 pub struct Load {
     alloc: Global,
     agent: Agent<Spread>,
     workers: usize,
-    // The answers that the next round gets.
+    // The answers for the next round.
     answers: Vec<Event>,
     made: u64,
     told: u64,
@@ -54,7 +54,7 @@ impl Load {
     ///
     /// # Errors
     ///
-    /// `Words` for numbers of shards or workers that there can't be, and want of memory.
+    /// `Words` for a number of shards that isn't possible, or memory ran out.
     pub fn new(alloc: Global, shards: usize, workers: usize) -> Result<Load, Stop> {
         if shards == 0 || shards > MOST_SHARDS {
             return Err(Stop::Words);
@@ -71,12 +71,12 @@ impl Load {
         })
     }
 
-    /// Runs a round at a moment, with the answers to what the user was told of in the last one and
-    /// so many new requests.
+    /// Runs a round at a moment, with the answers to the requests that the user was told of in the
+    /// last one, and with `requests` new requests.
     ///
     /// # Errors
     ///
-    /// A round that is refused, and want of memory.
+    /// A round was refused, or memory ran out.
     pub fn round<R: Threads + Sync>(
         &mut self,
         rt: &R,
@@ -94,11 +94,11 @@ impl Load {
         Ok(())
     }
 
-    /// Runs a round without events at a moment, of which nothing comes.
+    /// Runs a round without events at a moment. It must give nothing.
     ///
     /// # Errors
     ///
-    /// A round that is refused, want of memory, and `Count` where something comes.
+    /// A round was refused, memory ran out, or `Count` if it gives something.
     pub fn idle_round<R: Threads + Sync>(&mut self, rt: &R, moment: u64) -> Result<(), Stop> {
         let round = Round {
             moment,
@@ -108,12 +108,11 @@ impl Load {
         expect("outputs", 0, outputs.len() as u64)
     }
 
-    /// Runs a round, whose outputs aren't counted.
+    /// Runs a round without counting its outputs.
     ///
     /// # Errors
     ///
-    /// `Words` for a number of workers that there can't be, a round that is refused, and want of
-    /// memory.
+    /// `Words` for a number of workers that isn't possible; a round was refused; or memory ran out.
     pub fn run<R: Threads + Sync>(&mut self, rt: &R, round: &Round) -> Result<Vec<Output>, Stop> {
         let workers = self.workers;
         if workers == 0 || workers > MOST_WORKERS {
@@ -124,12 +123,11 @@ impl Load {
         Ok(outputs)
     }
 
-    /// Moves all that is held to so many shards.
+    /// Moves everything held to `shards` shards.
     ///
     /// # Errors
     ///
-    /// `Words` for a number of shards that there can't be, an agent that refuses, and want of
-    /// memory.
+    /// `Words` for a number of shards that isn't possible; the agent refuses; or memory ran out.
     pub fn reshard(&mut self, shards: usize) -> Result<(), Stop> {
         if shards == 0 || shards > MOST_SHARDS {
             return Err(Stop::Words);
@@ -137,11 +135,11 @@ impl Load {
         Ok(self.agent.reshard(shards)?)
     }
 
-    /// That so many transactions, and as many calls, are held.
+    /// Checks that `held` transactions, and as many calls, are held.
     ///
     /// # Errors
     ///
-    /// `Count` where that isn't so.
+    /// `Count` if that isn't so.
     pub fn is_held(&self, held: u64) -> Result<(), Stop> {
         let (transactions, calls) = self.agent.live();
         let transactions = u64::try_from(transactions).unwrap_or(u64::MAX);
@@ -150,13 +148,13 @@ impl Load {
         expect("calls held", held, calls)
     }
 
-    /// What came of the requests: how many were told, answered, have ended and are held, and how
-    /// many rounds passed.
+    /// What happened to the requests: how many were told, were answered, have ended and are held,
+    /// and how many rounds there were.
     ///
     /// # Errors
     ///
-    /// `Count`, where the user wasn't told of each request, not each was answered, or not as many
-    /// are held as are to be.
+    /// `Count` if the user wasn't told of each request, if not each was answered, or if not as many
+    /// are held as should be.
     pub fn served(&self, held: u64) -> Result<[u64; 5], Stop> {
         self.is_held(held)?;
         expect("requests told", self.made, self.told)?;
@@ -199,7 +197,7 @@ fn is_answer(text: &[u8]) -> bool {
     text.starts_with(ANSWER)
 }
 
-// The answer to what the user is told, where that is a request.
+// The answer to a notice, if it is about a request.
 fn answer_to(alloc: Global, notice: &Notice) -> Result<Option<Event>, AllocError> {
     let Notice::Request { call_id, id, .. } = notice else {
         return Ok(None);

@@ -1,5 +1,6 @@
-//! Tries the program `ua` and the core below it: stored cases, and one kind of work so often as the
-//! words ask for, which is measured from outside. With no words it does what the gate runs.
+//! Tries the program `ua` and the core below it: with stored cases, and with one kind of work, done
+//! as often as the words say, to be measured from outside. Without words it does what the gate
+//! runs.
 #![tactic(auto)]
 
 mod cases;
@@ -29,8 +30,8 @@ use work::done;
 
 const SUCCESS: u8 = 0;
 
-/// What is done where no words are given: the cases of the folder that the program runs in, a small
-/// load, and all that has no numbers of its own.
+/// What is done without words: the cases of the folder in which the program runs, a small load, and
+/// everything that takes no numbers.
 const GATE: [&[&str]; 6] = [
     &["cases", "."],
     &["transactions", "10", "10"],

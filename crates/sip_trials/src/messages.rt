@@ -6,18 +6,18 @@ use sip_reader::read;
 use sip_text::Text;
 use std::alloc::Global;
 
-/// The tag that answers get.
+/// The tag of the answers.
 pub const TAG: &[u8] = b"000000000000000000000000000000010bee7079f";
 
 const REASON: &[u8] = b"OK";
 
 const OK: u16 = 200;
 
-/// Reads a text so often: how often, and its bytes.
+/// Reads a text `times` times. Gives how often, and its length in bytes.
 ///
 /// # Errors
 ///
-/// `Message`, where the text spells none, and want of memory.
+/// `Message` if the text spells none, or memory ran out.
 pub fn read_often(alloc: Global, text: &[u8], times: u64) -> Result<[u64; 2], Stop> {
     let mut messages: u64 = 0;
     for _ in 0..times {
@@ -29,11 +29,12 @@ pub fn read_often(alloc: Global, text: &[u8], times: u64) -> Result<[u64; 2], St
     Ok([messages, text.len() as u64])
 }
 
-/// Reads a text so often, and each time makes its 200 and writes it: how often, and its bytes.
+/// Reads a text `times` times, and each time makes its 200 and writes it. Gives how often, and the
+/// length of the 200 in bytes.
 ///
 /// # Errors
 ///
-/// `Message`, where the text spells none, and want of memory.
+/// `Message` if the text spells none, or memory ran out.
 pub fn answer_often(alloc: Global, text: &[u8], times: u64) -> Result<[u64; 2], Stop> {
     answered(alloc, text, times, &token(alloc, TAG)?)
 }
@@ -61,7 +62,7 @@ fn written_answer(alloc: Global, request: &Message, tag: &Token) -> Result<Vec<u
 ///
 /// # Errors
 ///
-/// Want of memory.
+/// Memory ran out.
 pub fn success_to(alloc: Global, request: &Message, tag: &Token) -> Result<Message, Stop> {
     let Some(status) = StatusCode::new(OK) else {
         return Err(Stop::Different);
@@ -74,7 +75,7 @@ pub fn success_to(alloc: Global, request: &Message, tag: &Token) -> Result<Messa
 ///
 /// # Errors
 ///
-/// `Message` where it spells none, and want of memory.
+/// `Message` if it spells none, or memory ran out.
 pub fn message(alloc: Global, text: &[u8]) -> Result<Message, Stop> {
     Ok(read(alloc, text)?)
 }
@@ -83,7 +84,7 @@ pub fn message(alloc: Global, text: &[u8]) -> Result<Message, Stop> {
 ///
 /// # Errors
 ///
-/// `Different` where it spells none, and want of memory.
+/// `Different` if it spells none, or memory ran out.
 pub fn token(alloc: Global, text: &[u8]) -> Result<Token, Stop> {
     Token::new(Text::copy_of(alloc, text)?).ok_or(Stop::Different)
 }

@@ -2,7 +2,7 @@
 
 use sip_round::Gate;
 
-/// A gate that holds no piece of work up.
+/// A gate that holds up no piece of work.
 pub struct Open;
 
 impl Gate for Open {

@@ -1,4 +1,4 @@
-//! The requests of a load: OPTIONS, of which each has its own branch and Call-ID.
+//! The requests of a load: OPTIONS, each with its own branch and Call-ID.
 
 use crate::digits::push_digits;
 use sip_message::Addr;
@@ -6,13 +6,13 @@ use sip_round::Event;
 use sip_text::Text;
 use std::alloc::{AllocError, Global};
 
-/// Who sends the requests.
+/// The sender of the requests.
 const PEER: Addr = Addr {
     ip: [127, 0, 0, 1],
     port: 5070,
 };
 
-/// How many bytes a request has at most.
+/// The maximum length of a request, in bytes.
 const ROOM: usize = 320;
 
 const UP_TO_BRANCH: &[u8] = b"OPTIONS sip:bob@127.0.0.1:5060 SIP/2.0\r
@@ -29,11 +29,11 @@ CSeq: 63104 OPTIONS\r
 \r
 ";
 
-/// The datagram of the request of this number.
+/// The datagram of the request with this number.
 ///
 /// # Errors
 ///
-/// Want of memory.
+/// Memory ran out.
 pub fn options_of(alloc: Global, number: u64) -> Result<Event, AllocError> {
     let mut text = Vec::with_capacity(alloc, ROOM)?;
     text.extend_from_slice(UP_TO_BRANCH)?;

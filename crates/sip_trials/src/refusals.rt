@@ -1,4 +1,4 @@
-//! The script, of which memory may be refused: the answer is right, or says so.
+//! The script when memory may run out: the answer is right, or says that memory ran out.
 
 use crate::open::Open;
 use crate::script::Script;
@@ -9,17 +9,17 @@ use sip_round::{Agent, Output, Round, RoundFault};
 use std::alloc::Global;
 use std::thread::Threads;
 
-/// In how many shards, and on how many workers, an agent does it.
+/// The numbers of shards and workers of the agent that runs it.
 pub const SHARDS: usize = 2;
 
 pub const WORKERS: usize = 2;
 
-/// Runs the script round by round, and each round again that was refused memory where its agent
-/// stands.
+/// Runs the script round by round. A round that ran out of memory is run again if its agent isn't
+/// broken.
 ///
 /// # Errors
 ///
-/// As of an example.
+/// As for an example.
 pub fn round_by_round<R: Threads + Sync>(
     rt: &R,
     alloc: Global,
@@ -35,12 +35,12 @@ pub fn round_by_round<R: Threads + Sync>(
     check(write_outputs(alloc, &told)?.as_slice() == script.outputs.as_slice())
 }
 
-/// The outputs of a round. Where it was refused memory and the agent stands, the same round gives
-/// them; where the agent is broken, it has to be so from then on.
+/// The outputs of a round. If it runs out of memory and the agent isn't broken, the same round
+/// gives them. If the agent is broken, it has to stay so.
 ///
 /// # Errors
 ///
-/// As of an example.
+/// As for an example.
 pub fn outputs_of<R: Threads + Sync>(
     rt: &R,
     agent: &mut Agent<Spread>,
@@ -56,13 +56,13 @@ pub fn outputs_of<R: Threads + Sync>(
     }
 }
 
-// Whether an agent that was refused memory is broken.
+// Checks that an agent that ran out of memory is broken.
 fn broken<R: Threads + Sync>(rt: &R, agent: &mut Agent<Spread>, round: &Round) -> Stop {
     let again = agent.run_round(rt, round, WORKERS, &Open);
     broken_where(matches!(again, Err(RoundFault::Broken)) && has_left(agent))
 }
 
-/// Whether an agent moves nothing, and holds nothing.
+/// Whether an agent refuses to move anything, and holds nothing.
 pub fn has_left(agent: &mut Agent<Spread>) -> bool {
     agent.reshard(SHARDS) == Err(RoundFault::Broken) && agent.live() == (0, 0)
 }

@@ -10,7 +10,7 @@ use std::fs;
 /// The name of the script of forty transactions, in the folder of the cases.
 pub const LONG: &str = "keys/forty-keys";
 
-/// The name of that of one.
+/// The name of the script with one transaction.
 pub const SHORT: &str = "requests/told-and-answered";
 
 /// An event file, as text and as it is read, and the output file that it gives.
@@ -21,11 +21,11 @@ pub struct Script {
 }
 
 impl Script {
-    /// The script of this name in a folder of cases.
+    /// The script with this name, in a folder of cases.
     ///
     /// # Errors
     ///
-    /// A file that is missing or can't be read, and want of memory.
+    /// A file is missing or can't be read, or memory ran out.
     pub fn read(rt: &HostRuntime, folder: &str, name: &str) -> Result<Script, Stop> {
         let events = format!(in rt.alloc(); "{folder}/{name}.events")?;
         let outputs = format!(in rt.alloc(); "{folder}/{name}.outputs")?;
@@ -39,7 +39,7 @@ impl Script {
     ///
     /// # Errors
     ///
-    /// `Script` where the text is no event file, and want of memory.
+    /// `Script` if the text isn't an event file, or memory ran out.
     pub fn rounds(&self, alloc: Global) -> Result<(Config, Series<Round>), Stop> {
         Ok(read_events(alloc, &self.events)?)
     }

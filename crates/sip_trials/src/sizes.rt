@@ -1,4 +1,4 @@
-//! Large numbers: what is held in one shard, shards, workers, and events of a round.
+//! Large numbers: of what one shard holds, of shards, of workers, and of events in a round.
 
 use crate::load::{CONFIG, Load, MOST_SHARDS, MOST_WORKERS};
 use crate::open::Open;
@@ -14,30 +14,29 @@ use std::thread::Threads;
 /// How many transactions, and as many calls, are held in one shard.
 const HELD: u64 = 5_000;
 
-/// How long a transaction is held once it is answered, in ms: 64 T1.
+/// How long a transaction is held after it is answered, in ms: 64 T1.
 const LIFE: u64 = 32_000;
 
-/// How many requests come in a round to the most shards and workers.
+/// How many requests come in a round with the most shards and workers.
 const REQUESTS: u64 = 1_000;
 
-/// How many rounds there are of which each begins what ends 64 T1 later, and how long each takes.
+/// How many rounds begin something that ends 64 T1 later, and how long each takes.
 const SHORT_ROUNDS: u64 = 20_000;
 
 const ROUND: u64 = 100;
 
-/// How many events a round has at most, and how many of them are different requests.
+/// How many events a round may have, and how many of them are different requests.
 const MOST_EVENTS: u64 = 65_536;
 
 const REQUESTS_AT_MOST: u64 = 512;
 
-/// Holds much in one shard, moves it to the most shards and back, runs rounds in the most shards on
-/// the most workers, and a round of the most events: how much is held, how many shards, workers and
-/// events there are.
+/// Holds much in one shard, and moves it to the most shards and back. Runs rounds in the most
+/// shards on the most workers, and a round with the most events. Gives how much is held, and the
+/// numbers of shards, workers and events.
 ///
 /// # Errors
 ///
-/// `Count` where not all is told, answered, sent and ended; a round that is refused; and want of
-/// memory.
+/// `Count` if not all is told, answered, sent and ended; a round was refused; or memory ran out.
 pub fn sizes_of<R: Threads + Sync>(rt: &R, alloc: Global) -> Result<[u64; 4], Stop> {
     held_in_one_shard(rt, alloc)?;
     most_shards(rt, alloc)?;
@@ -70,7 +69,7 @@ fn most_shards<R: Threads + Sync>(rt: &R, alloc: Global) -> Result<(), Stop> {
     Ok(())
 }
 
-// What has ended is no longer held: a request is told and answered in its round, and 64 T1 later
+// What has ended is no longer held. A request is told and answered in its round, and 64 T1 later
 // nothing of it is left.
 fn many_rounds<R: Threads + Sync>(rt: &R, alloc: Global) -> Result<(), Stop> {
     let mut load = Load::new(alloc, 3, 1)?;
@@ -84,8 +83,8 @@ fn many_rounds<R: Threads + Sync>(rt: &R, alloc: Global) -> Result<(), Stop> {
     load.is_held(LIFE / ROUND)
 }
 
-// The round of this number, in which an OPTIONS comes and is answered; each is of another branch
-// and another call.
+// The round with this number, in which an OPTIONS comes in and is answered. Each has its own branch
+// and its own call.
 fn round_of(alloc: Global, number: u64) -> Result<Series<Round>, Stop> {
     let moment = number.saturating_mul(ROUND);
     let text = format!(in alloc;
@@ -100,7 +99,7 @@ fn round_of(alloc: Global, number: u64) -> Result<Series<Round>, Stop> {
     Ok(rounds)
 }
 
-// The same requests come again and again in one round: each is told once.
+// The same requests come again and again in one round. The user is told of each once.
 fn most_events<R: Threads + Sync>(rt: &R, alloc: Global) -> Result<(), Stop> {
     let mut agent = Agent::new(alloc, CONFIG, 1, Spread)?;
     let events = many_events(alloc)?;

@@ -21,7 +21,7 @@ const FAILED_DEVICE: u8 = 4;
 
 const NO_MEMORY: u8 = 5;
 
-/// What is told of words that ask for nothing.
+/// What is told if the words ask for nothing.
 const USAGE: &str = "\
 bad words; it takes none, or one of
   cases FOLDER
@@ -41,23 +41,23 @@ with each number from 1 to 9999999, at most 999 rounds, 256 shards and 64 worker
 /// Why a trial stopped.
 #[derive(Clone, Copy, Debug, Error)]
 pub enum Stop {
-    /// The words ask for nothing that there is.
+    /// The words don't ask for anything that exists.
     #[error("{usage}", usage = USAGE)]
     Words,
-    /// Something is another than it is to be.
+    /// Something isn't what it should be.
     #[error("something differs")]
     Different,
-    /// Of this there is another number than there is to be.
+    /// Something has another count than it should have.
     #[error("{given} {what}, and not {wanted}")]
     Count {
         what: &'static str,
         wanted: u64,
         given: u64,
     },
-    /// A text spells no message.
+    /// A text doesn't spell a message.
     #[error("no message")]
     Message,
-    /// A text is no event file.
+    /// A text isn't an event file.
     #[error("no event file")]
     Script,
     /// A round was refused.
@@ -66,16 +66,16 @@ pub enum Stop {
     /// A file or a stream failed.
     #[error("a file or a stream failed")]
     Device,
-    /// Memory was refused, and what stays of it is as it is to be.
+    /// Memory ran out, and what is left is as it should be.
     #[error("no memory")]
     NoMemory,
-    /// The same, and what it was refused to is broken, as it is to be then.
+    /// The same, and what ran out of memory is broken, as it should be then.
     #[error("no memory, and broken")]
     Broken,
 }
 
 impl Stop {
-    /// The status that the program ends in.
+    /// The status with which the program ends.
     pub fn status(self) -> u8 {
         match self {
             Stop::Different | Stop::Count { .. } | Stop::Message | Stop::Script => DIFFERENT,
@@ -87,20 +87,20 @@ impl Stop {
     }
 }
 
-/// Goes on where this holds.
+/// Goes on if this is true.
 ///
 /// # Errors
 ///
-/// `Different` where it doesn't.
+/// `Different` if it isn't.
 pub fn check(holds: bool) -> Result<(), Stop> {
     if holds { Ok(()) } else { Err(Stop::Different) }
 }
 
-/// Goes on where a count is what it is to be.
+/// Goes on if a count is what it should be.
 ///
 /// # Errors
 ///
-/// `Count` where it isn't.
+/// `Count` if it isn't.
 pub fn expect(what: &'static str, wanted: u64, given: u64) -> Result<(), Stop> {
     if given == wanted {
         Ok(())
@@ -113,7 +113,7 @@ pub fn expect(what: &'static str, wanted: u64, given: u64) -> Result<(), Stop> {
     }
 }
 
-/// Why something stopped that was refused memory, which has to be broken from then on.
+/// Why something stopped that ran out of memory. It has to be broken from then on.
 pub fn broken_where(is_broken: bool) -> Stop {
     if is_broken {
         Stop::Broken

@@ -1,12 +1,12 @@
-//! What was counted.
+//! The counts that a task gives.
 
 use std::io;
 
-/// Says what was counted, as `2 cases, 0 differ`.
+/// Writes counts, as in `2 cases, 0 differ`.
 ///
 /// # Errors
 ///
-/// An output that fails.
+/// An output fails.
 pub fn tell(rt: &HostRuntime, counts: &[(u64, &str)]) -> io::Result<()> {
     let mut before = "";
     for (count, what) in counts {

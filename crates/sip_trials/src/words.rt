@@ -2,10 +2,10 @@
 
 use std::convert::AsStr;
 
-/// The greatest number that a word may be: numbers stand in names as seven digits.
+/// The highest number that a word may be: in names, numbers have seven digits.
 const MAX_COUNT: u64 = 9_999_999;
 
-/// How many numbers follow a word at most.
+/// The maximum number of numbers after a word.
 const MOST_NUMBERS: usize = 3;
 
 /// What is tried.
@@ -13,31 +13,31 @@ const MOST_NUMBERS: usize = 3;
 pub enum Task {
     /// The stored cases of a folder.
     Cases,
-    /// The message of a file is read so often.
+    /// Reads the message of a file that often.
     Read,
-    /// It is read, and its 200 is made and written.
+    /// Reads it, and makes and writes its 200, that often.
     Answer,
-    /// So many transactions are held, and so many more come at the same rate.
+    /// That many transactions are held, and that many more come at the same rate.
     Transactions,
-    /// So many transactions are held while so many rounds without events pass.
+    /// That many transactions are held, while that many rounds without events pass.
     Idle,
-    /// So many large rounds, in so many shards, on so many workers.
+    /// That many large rounds, in that many shards, on that many workers.
     Rounds,
     /// All examples.
     Examples,
-    /// The example of this name alone. Memory may be refused.
+    /// Only the example with this name. Memory may run out.
     Example,
-    /// The script of a folder of cases, round by round. Memory may be refused.
+    /// The script of a folder of cases, round by round. Memory may run out.
     RoundByRound,
-    /// The script in each number of shards and workers, and so often in many.
+    /// The script in each number of shards and workers, and that often in many of them.
     Cuts,
-    /// The script over devices that fail.
+    /// The script with devices that fail.
     Devices,
-    /// Large numbers of all that there is.
+    /// Large numbers of everything.
     Sizes,
 }
 
-/// The word of each task, whether a text follows it, and how many numbers do then.
+/// The word of each task, whether a text follows it, and how many numbers follow then.
 const FORMS: [(&str, Task, bool, usize); 12] = [
     ("cases", Task::Cases, true, 0),
     ("read", Task::Read, true, 1),
@@ -53,7 +53,7 @@ const FORMS: [(&str, Task, bool, usize); 12] = [
     ("sizes", Task::Sizes, false, 0),
 ];
 
-/// A task, and what it is asked for with.
+/// A task, and its text and numbers.
 #[derive(Clone, Copy)]
 pub struct Asked<'a> {
     pub task: Task,
@@ -73,7 +73,7 @@ pub fn asked_by<'a, S: AsStr>(words: &'a [S]) -> Option<Asked<'a>> {
     None
 }
 
-// A task with a text, where it has one, and so many numbers.
+// A task with a text, if it takes one, and `count` numbers.
 fn with_words<'a, S: AsStr>(
     task: Task,
     has_text: bool,
@@ -96,7 +96,7 @@ fn with_words<'a, S: AsStr>(
     })
 }
 
-// The numbers that the words are, from 1 to the most.
+// The numbers that the words are, from 1 to the maximum.
 fn numbers_of<S: AsStr>(words: &[S]) -> Option<[u64; MOST_NUMBERS]> {
     let mut numbers = [1; MOST_NUMBERS];
     for (number, word) in numbers.iter_mut().zip(words) {

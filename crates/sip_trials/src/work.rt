@@ -17,22 +17,22 @@ use std::alloc::Global;
 use std::fs;
 use std::thread::Threads;
 
-/// How long a transaction is held once it is answered, in ms: 64 T1.
+/// How long a transaction is held after it is answered, in ms: 64 T1.
 const LIFE: u64 = 32_000;
 
-/// How many requests come in a round before idle ones.
+/// How many requests come in a round before the idle ones.
 const REQUESTS_AT_ONCE: u64 = 100;
 
-/// How many requests a large round has, and how many of them there may be at most.
+/// How many requests a large round has, and how many large rounds there may be.
 const REQUESTS_OF_ROUND: u64 = 10_000;
 
 const MOST_ROUNDS: u64 = 999;
 
-/// Does a task, and says what it counted; of cases that differ also in what they do.
+/// Does a task, and writes its counts; for cases that differ, also how they differ.
 ///
 /// # Errors
 ///
-/// Each of `Stop`.
+/// Each case of `Stop`.
 pub fn done<T: Threads + Host>(
     rt: &HostRuntime,
     threads: &T,
@@ -70,12 +70,12 @@ pub fn done<T: Threads + Host>(
     }
 }
 
-// A number of shards or workers; of those that there can't be, 0 is one.
+// A number of shards or workers. Too large a number becomes 0, which is refused.
 fn size_of(number: u64) -> usize {
     usize::try_from(number).unwrap_or(0)
 }
 
-// Reads the message of a file so often, or answers it.
+// Reads or answers the message of a file `times` times.
 fn often(rt: &HostRuntime, task: Task, file: &str, times: u64) -> Result<(), Stop> {
     let text = fs::read(rt, file)?;
     let ([count, bytes], what) = match task {
@@ -106,7 +106,7 @@ fn of_script<T: Threads + Host>(
     }
 }
 
-// What came of requests.
+// Writes what happened to requests.
 fn served(rt: &HostRuntime, counts: [u64; 5]) -> Result<(), Stop> {
     let [told, answered, ended, held, rounds] = counts;
     Ok(tell(
@@ -121,8 +121,8 @@ fn served(rt: &HostRuntime, counts: [u64; 5]) -> Result<(), Stop> {
     )?)
 }
 
-// Requests come one a round, so fast that so many are held as soon as the first ends; then as many
-// more; and all end.
+// One request comes in each round, so fast that `held` are held when the first ends. Then come
+// `more` more, and all end.
 fn transactions<R: Threads + Sync>(
     rt: &R,
     alloc: Global,
@@ -140,7 +140,7 @@ fn transactions<R: Threads + Sync>(
     load.served(0)
 }
 
-// When the request of this number comes, where so many come in the time for which each is held.
+// When the request with this number comes, if `held` requests come while each is held.
 fn moment_of(number: u64, held: u64) -> u64 {
     number
         .saturating_mul(LIFE)
@@ -148,7 +148,7 @@ fn moment_of(number: u64, held: u64) -> u64 {
         .unwrap_or(u64::MAX)
 }
 
-// So many requests are answered, and rounds without events pass while they are held.
+// `held` requests are answered, and rounds without events pass while they are held.
 fn idle<R: Threads + Sync>(
     rt: &R,
     alloc: Global,
@@ -167,7 +167,7 @@ fn idle<R: Threads + Sync>(
     load.served(held)
 }
 
-// Large rounds, of which each ends what the last but one began.
+// Large rounds. Each ends what the last but one began.
 fn large_rounds<R: Threads + Sync>(rt: &R, mut load: Load, rounds: u64) -> Result<[u64; 5], Stop> {
     if rounds > MOST_ROUNDS {
         return Err(Stop::Words);

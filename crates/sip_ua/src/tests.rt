@@ -1,4 +1,4 @@
-//! Runs of the whole program over memory.
+//! Runs of the whole program in memory.
 
 mod desk;
 mod dialog;
@@ -31,7 +31,7 @@ struct Ended {
 }
 
 impl Ended {
-    // Whether it ended and wrote so.
+    // Whether it ended with this status and wrote these texts.
     fn is(&self, status: u8, output: &str, errors: &str) -> bool {
         self.status == status
             && self.output.as_slice() == output.as_bytes()
@@ -39,7 +39,7 @@ impl Ended {
     }
 }
 
-/// A gate that holds no piece of work up.
+/// A gate that holds up no piece of work.
 struct Open;
 
 impl Gate for Open {
@@ -65,8 +65,8 @@ fn run_on<T: Threads + Host, R: Read>(
     })
 }
 
-// A run on an event file whose rounds begin so, and whose last round has so many events, of which
-// each is a failed send of a transaction that isn't there.
+// A run with an event file whose rounds begin this way, and whose last round has `events` events.
+// Each is a failed send of a transaction that isn't held.
 fn run_of_many<T: Threads + Host>(
     rt: &T,
     alloc: Global,
@@ -81,8 +81,8 @@ fn run_of_many<T: Threads + Host>(
     run_on(rt, alloc, ["replay"].as_slice(), &mut input.as_slice())
 }
 
-// A round of the most events is answered, and one of more refused. Where several faults fit, the
-// first is told.
+// A round with the most events is answered, and one with more is refused. If several faults fit,
+// the first is told.
 #[test]
 fn rounds_of_many_events(rt: HostRuntime) -> Result<(), Fail> {
     let most = run_of_many(&rt, rt.alloc(), "round 0\n", 65_536)?;
@@ -106,7 +106,7 @@ fn rounds_of_many_events(rt: HostRuntime) -> Result<(), Fail> {
     Ok(())
 }
 
-/// A reader of so many bytes, none of which is a line's end.
+/// A reader of this many bytes, none of which ends a line.
 #[derive(Drop)]
 struct Long {
     bytes_left: usize,
@@ -135,7 +135,7 @@ fn a_text_of_more_than_an_event_file_has(rt: HostRuntime) -> Result<(), Fail> {
     Ok(())
 }
 
-/// A writer that has to be flushed after what was written, and whose flushes may fail.
+/// A writer that has to be flushed after writes, and whose flushes may fail.
 #[derive(Drop)]
 struct Flushed {
     bytes: Vec<u8>,
@@ -190,7 +190,7 @@ fn a_replay_flushes_its_output(rt: HostRuntime) {
     }
 }
 
-/// The words of a program: its name and this one.
+/// The words of a program: its name, and this one.
 #[derive(Drop)]
 struct OneWord<'a>(&'a [u8]);
 

@@ -1,4 +1,4 @@
--- The end of a poster's line is one of the desk, whatever was collected since.
+-- The end of a poster's line belongs to the desk, whatever was collected since.
 use Rattle.std.specs.Prelude.{Option, Some, None, IfSome}
 use Rattle.sip_desk.specs.declared.desk.Desk.{Desk}
 use Rattle.sip_desk.specs.declared.poster.Poster.{Poster}

@@ -7,7 +7,7 @@ use Rattle.sip_files.specs.declared.version.FileKind.{FileKind}
 use Rattle.sip_udp.specs.declared.pipe.PipeLine.{PipeLine}
 use Rattle.sip_udp.specs.Piping.{SaysRead, SayLines, PostsFront}
 
--- what was read of the pipe was posted, and this number is that of its next line
+-- what was read from the pipe was posted, and the next line has this number
 pub record FedSoFar (kind : FileKind) (text : List ℕ) (left : Option (List ℕ))
     (before now : List PipeLine) (number : ℕ) : Type 0 where
   pub said : List PipeLine
@@ -17,12 +17,12 @@ pub record FedSoFar (kind : FileKind) (text : List ℕ) (left : Option (List ℕ
   pub lines : SayLines kind 1 text said rest
   pub next : number ≡ 1 + length said
 
--- a line that has something is the first of what has something
+-- if a line has bytes, so has the text that it begins
 some_left : (rest : List ℕ) → 0 < length (take_through 10 rest) → 0 < length rest
 some_left [] some = some
 some_left (x ∷ rest) some = omega arith
 
--- one line more at the end
+-- one more line at the end
 say_more : (kind : FileKind) (number : ℕ) (text : List ℕ) (said : List PipeLine) (rest : List ℕ)
     (one : PipeLine) → SayLines kind number text said rest → 0 < length rest
     → SaysRead kind (number + length said) (take_through 10 rest) one
@@ -41,7 +41,7 @@ say_more kind number text (first ∷ said) rest one lines some says = (
       (subst (λ n. SaysRead kind n (take_through 10 rest) one) (omega arith) says),
 )
 
--- ---- of a pipe whose bytes may be known
+-- ---- a pipe whose bytes may be known
 
 pub fed_nothing : (kind : FileKind) (known : Option (List ℕ)) (before : List PipeLine)
     → IfSome known (λ text. FedSoFar kind text known before before 1)
@@ -63,7 +63,7 @@ fed_front kind None left before now number so_far = tt
 fed_front kind (Some text) left before now number so_far =
     (so_far.said, so_far.rest, so_far.appended, so_far.lines)
 
--- a line was read of what is left
+-- one more line was read
 pub fed_more : (kind : FileKind) (known left later : Option (List ℕ))
     (before now next : List PipeLine) (number : ℕ)
     (line : List ℕ) (one : PipeLine)
@@ -92,7 +92,7 @@ fed_more kind (Some text) left later before now next number line one so_far fron
       next = omega (arith, so_far.next, length-append so_far.said (one ∷ []));
     }
 
--- what was read behind nothing
+-- what was read into an empty text is all of that text
 pub read_front : (left : Option (List ℕ)) (before text : List ℕ) → before ≡ []
     → IfSome left (λ xs. text ≡ before ++ take_through 10 xs)
     → IfSome left (λ xs. text ≡ take_through 10 xs)

@@ -1,4 +1,4 @@
--- The URI of the user who calls is one.
+-- The caller's URI is a URI.
 use Rattle.std.proofs.Common.{ℕ, ◌<◌, not, List, ◌++◌, refl, ap, ◌∙◌, IsTrue, codes, slice_index}
 use Rattle.std.specs.Char.{is_ascii_digit}
 use Rattle.std.proofs.lemmas.List.Folds.{list_all-append}

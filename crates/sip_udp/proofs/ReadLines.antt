@@ -8,7 +8,7 @@ inside : (b : ℕ) (is : Bool) (xs ys : List ℕ)
 inside b true xs ys = refl
 inside b false xs ys = refl
 
--- where the last byte is this one, what stands before it is left, and otherwise all
+-- if the last byte is this one, what stands before it is left; otherwise all is
 pub without_at_end : (byte last : ℕ) (front : List ℕ)
     → without_last byte (front ++ last ∷ []) ≡ (if last == byte then front else front ++ last ∷ [])
 without_at_end byte last [] = refl

@@ -1,4 +1,4 @@
--- One sending after another.
+-- One send after another.
 use Rattle.std.proofs.Common.{◌≡◌, ℕ, ◌+◌, ◌≤◌, Bool, true, false, List, [], ◌∷◌, ◌++◌, length, map, refl, sym, ap, ◌∙◌, append-nil, append_assoc, suc, length-append, subst, arith}
 use Rattle.std.specs.Prelude.{Option, Some, None}
 use Rattle.std.specs.List.{flat_map}
@@ -27,8 +27,8 @@ asked_more (Some before) b c xs ys p q =
 abbrev pub output_of : PlacedOutput → Output
 output_of placed = placed.output
 
--- after some of the outputs were dealt with: these are left, with their failures, and there is room
--- for all of those
+-- after some of the outputs: these outputs and their failures are left, and there is room for all
+-- of the failures
 pub record SoFar (old now : Option (List Asked)) (outputs left : List PlacedOutput)
     (failures : List (Option Event)) (failed : List Event) (capacity : ℕ) : Type 0 where
   pub done : List PlacedOutput
@@ -83,13 +83,13 @@ few_of (Some key) true = omega arith
 few_of (Some key) false = omega arith
 few_of None is_sent = omega arith
 
--- an output gives one failure at most
+-- an output gives at most one failure
 few : (output : Output) (is_sent : Bool) → length (failures_of (output, is_sent)) ≤ 1
 few (output.Send key to bytes) is_sent = few_of key is_sent
 few (output.Dropped place reason) is_sent = omega arith
 few (output.Notice notice) is_sent = omega arith
 
--- what comes first of what is left was sent
+-- the first of what is left was sent
 pub goes_on : (old now next : Option (List Asked)) (outputs left rest : List PlacedOutput)
     (failures more : List (Option Event)) (failed after : List Event) (capacity : ℕ)
     (placed : PlacedOutput) (failure : Option Event) (is_sent : Bool)

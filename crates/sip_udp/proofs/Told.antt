@@ -31,7 +31,7 @@ told_more f a b c xs more x m p q =
     subst P (flat_map_more f [] xs x ∙ ap (flat_map f) (sym m))
     (appended_more a b c (flat_map f xs) (f x) p q)
 
--- what is told of outputs, and how much of it the writer has
+-- the lines told for outputs so far, and what the writer has of them
 abbrev pub ToldSoFar : FileKind → Option ℕ → List Event → Option (List ℕ) → Option (List ℕ)
     → List PlacedOutput → Type 0
 ToldSoFar kind drops events before now outputs =
@@ -60,7 +60,7 @@ output_told kind drops events before now next outputs more placed text m (told, 
       appended_more before now next told text has is,
     )
 
--- its header lines and its line are told
+-- the header lines and the line of one output are told
 pub told_one : {E : Type 0} (result : Result (Unit {0}) E) (kind : FileKind) (drops : Option ℕ)
     (events : List Event) (placed : PlacedOutput) (headers : List HeaderLine)
     (before now next : Option (List ℕ))

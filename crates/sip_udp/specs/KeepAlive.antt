@@ -1,4 +1,4 @@
--- Datagrams that only keep the way through a NAT open.
+-- Datagrams that only keep a NAT binding alive.
 use Rattle.std.specs.Prelude.{ℕ, Bool, ◌&&◌, ◌||◌, ◌==◌, List, [], ◌∷◌, length, nat_le, nat_lt, drop, take, slice_index}
 use Rattle.std.specs.List.{list_all}
 use Rattle.std.specs.Str.{bytes_eq}
@@ -17,6 +17,6 @@ is_stun bytes =
     nat_le 8 (length bytes) && (nat_lt (slice_index bytes 0) 2
     && bytes_eq (take 4 (drop 4 bytes)) magic_cookie)
 
--- nothing but CR, LF and NUL bytes (RFC 5626, section 3.5.1), or STUN
+-- only CR, LF and NUL bytes (RFC 5626, section 3.5.1), or STUN
 abbrev pub is_keep_alive : List ℕ → Bool
 is_keep_alive bytes = list_all is_blank_byte bytes || is_stun bytes

@@ -1,4 +1,4 @@
--- What the lines of the pipe say, what is posted of them, and what is asked for.
+-- What the lines of the pipe say, what is posted for them, and what is asked for.
 use Rattle.std.specs.Prelude.{◌≡◌, ℕ, ◌+◌, ◌<◌, ◌==◌, Bool, true, false, if◌then◌else◌, List, [], ◌∷◌, ◌++◌, length, Option, Some, None, IsTrue, IsFalse}
 use Rattle.std.specs.Option.{option_map}
 use Rattle.std.specs.Io.BufRead.{take_through, drop_through}
@@ -16,7 +16,7 @@ use Rattle.sip_udp.specs.declared.pipe.PipeLine.{PipeLine}
 use Rattle.sip_udp.specs.declared.pipe.Said.{Said}
 use Rattle.sip_udp.specs.declared.pipe.Said.TheVariants as said
 
--- the text without this byte at its end, where it stands there
+-- the text without this byte at its end, if it ends with it
 abbrev pub without_last : ℕ → List ℕ → List ℕ
 without_last byte [] = []
 without_last byte (b ∷ []) = if b == byte then [] else b ∷ []
@@ -26,7 +26,7 @@ without_last byte (b ∷ c ∷ bs) = b ∷ without_last byte (c ∷ bs)
 abbrev pub line_of : List ℕ → List ℕ
 line_of text = without_last 13 (without_last 10 text)
 
--- the part before a cut, and all of a text that isn't cut
+-- the part before a cut, or all of a text that isn't cut
 abbrev pub before_cut : List ℕ → Option (List ℕ × List ℕ) → List ℕ
 before_cut text None = text
 before_cut text (Some parts) = parts.0
@@ -40,14 +40,13 @@ abbrev pub is_comment : List ℕ → Bool
 is_comment [] = true
 is_comment (b ∷ text) = b == 35
 
--- where there are header lines, as in a session, these begin with a space, and no command does
+-- in a session, which may have header lines, these begin with a space, and no command does
 abbrev pub is_for_header : FileKind → List ℕ → Bool
 is_for_header file_kind.Events text = false
 is_for_header file_kind.Session [] = false
 is_for_header file_kind.Session (b ∷ text) = b == 32
 
--- the command or the header whose line it is, or that it is the line of none; a comment says
--- nothing
+-- whose line it is: a command's, a header's, or none of these; a comment says nothing
 abbrev pub Says : FileKind → List ℕ → Said → Type 0
 Says kind text said.Comment = IsTrue (is_comment text)
 Says kind text (said.Command command) =
@@ -64,15 +63,15 @@ Says kind text said.NoHeader =
 abbrev pub SaysRead : FileKind → ℕ → List ℕ → PipeLine → Type 0
 SaysRead kind number text line = (line.number ≡ number) × Says kind (line_of text) line.said
 
--- these are what the lines of a text say, from its front on, each once and in order, where the
--- first has this number, and this is left of the text
+-- these are what the lines of a text say, from its front on, each once and in order; the first line
+-- has this number, and this much of the text is left
 abbrev pub SayLines : FileKind → ℕ → List ℕ → List PipeLine → List ℕ → Type 0
 SayLines kind number text [] rest = rest ≡ text
 SayLines kind number text (line ∷ lines) rest =
     (0 < length text) × SaysRead kind number (take_through 10 text) line
     × SayLines kind (number + 1) (drop_through 10 text) lines rest
 
--- what was posted before, what is now, and the text of the pipe: its first lines were posted
+-- the first lines of the text of the pipe were posted, after what was posted before
 abbrev pub PostsFront : FileKind → List PipeLine → List PipeLine → List ℕ → Type 0
 PostsFront kind before now text =
     (lines : List PipeLine) × (rest : List ℕ) × (now ≡ before ++ lines)
@@ -89,8 +88,8 @@ abbrev pub event_of : Option UserCommand → List Event
 event_of (Some command) = event.Command command ∷ []
 event_of None = []
 
--- a command with the header lines that stand right before it, where it takes them; where one of
--- them is none, they say no headers
+-- a command with the header lines right before it, if it takes them; if one of those lines isn't a
+-- header line, there is no command
 abbrev pub command_with : Option (List GivenHeader) → UserCommand → Option UserCommand
 command_with (Some headers) command = with_given headers command
 command_with None command = None
@@ -103,7 +102,7 @@ asked_by headers said.NoCommand = []
 asked_by headers (said.Header header) = []
 asked_by headers said.NoHeader = []
 
--- the header lines that stand right before the next line, but for comments
+-- the header lines that stand right before the next line; comments don't count
 abbrev pub headers_after : Option (List GivenHeader) → Said → Option (List GivenHeader)
 headers_after headers said.Comment = headers
 headers_after headers (said.Command command) = Some []
@@ -111,7 +110,7 @@ headers_after headers said.NoCommand = Some []
 headers_after headers (said.Header header) = option_map (λ given. given ++ header ∷ []) headers
 headers_after headers said.NoHeader = None
 
--- the same of lines, where such header lines stand before the first
+-- the same for several lines, where such header lines stand before the first
 abbrev pub all_asked : Option (List GivenHeader) → List PipeLine → List Event
 all_asked headers [] = []
 all_asked headers (line ∷ lines) =

@@ -1,4 +1,4 @@
--- What a wait for a datagram gives.
+-- The result of waiting for a datagram.
 use Rattle.std.specs.Prelude.{ℕ, ◌≤◌, List, length}
 use Rattle.sip_udp.specs.declared.inlet.Received.{Received}
 use Rattle.sip_udp.specs.declared.inlet.Received.TheVariants as received

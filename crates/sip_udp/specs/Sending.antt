@@ -1,4 +1,4 @@
--- What an outlet is asked for the outputs of a round, and the failed sends that are told.
+-- What an outlet is asked to send for the outputs of a round, and which failed sends are reported.
 use Rattle.std.specs.Prelude.{◌≡◌, Bool, true, false, List, [], ◌∷◌, ◌++◌, map, Option, Some, None, IfSome}
 use Rattle.std.specs.List.{flat_map}
 use Rattle.sip_message.specs.declared.key.Key.{Key}
@@ -8,13 +8,13 @@ use Rattle.sip_round.specs.declared.round.Event.{Event}
 use Rattle.sip_round.specs.declared.round.Event.TheVariants as event
 use Rattle.sip_udp.specs.declared.outlet.Asked.{Asked}
 
--- where the outlet tells what it was asked, these calls are the next, in order
+-- if the outlet tells what it was asked, these requests come next, in order
 abbrev pub Asks : Option (List Asked) → Option (List Asked) → List Asked → Type 0
 Asks old new calls = IfSome old (λ before. new ≡ Some (before ++ calls))
 
--- ---- an output, and the answer of the outlet that was asked to send it
+-- ---- an output, and whether the outlet sent it
 
--- a Send is asked for once, and nothing else is
+-- it is asked once for a Send, and for nothing else
 abbrev pub calls_for : Output × Bool → List Asked
 calls_for (output.Send key to bytes, is_sent) =
     record { to = to; bytes = bytes; is_sent = is_sent } ∷ []
@@ -32,8 +32,8 @@ failures_of (output.Send key to bytes, is_sent) = failure_of key is_sent
 failures_of (output.Dropped place reason, is_sent) = []
 failures_of (output.Notice notice, is_sent) = []
 
--- the outlet gave each of the outputs an answer: it was asked for each Send, in order, and these
--- are the failures
+-- the outlet answered for each of the outputs: it was asked for each Send, in order, and these are
+-- the failures
 pub record SendsAll (old new : Option (List Asked)) (outputs : List Output)
     (failed : List Event) : Type 0 where
   pub answered : List (Output × Bool)

@@ -1,5 +1,5 @@
--- What the user is told of an output: its line and, in a session, the headers of the datagram that
--- a notice tells of.
+-- What the user is told about an output: its line and, in a session, the headers of the datagram
+-- that a notice is about.
 use Rattle.std.specs.Prelude.{◌≡◌, ℕ, List, [], ◌++◌, Option, Some, None, codes, decimal, if◌then◌else◌}
 use Rattle.std.specs.List.{AllZip, flat_map}
 use Rattle.sip_reader.specs.Head.{HasHeaderLines}
@@ -25,16 +25,16 @@ use Rattle.sip_udp.specs.Piping.{first_line}
 abbrev pub told_id : Id → List ℕ
 told_id id = (decimal id.round ++ codes ".") ++ decimal id.place
 
--- what the line of a drop begins with: its id and its reason
+-- the beginning of the line of a drop: its id and its reason
 abbrev pub dropped_head : Id → DropReason → List ℕ
 dropped_head id reason = ((codes "drop " ++ told_id id) ++ reason_text reason) ++ codes " "
 
--- the line of a drop: that, and as an event file has it the datagram with its first line alone
+-- the line of a drop: that, and the datagram as in an event file, but with only its first line
 abbrev pub dropped_line : Id → DropReason → Addr → List ℕ → List ℕ
 dropped_line id reason from bytes =
     dropped_head id reason ++ ended_text (line.Event (event.Datagram from (first_line bytes)))
 
--- a drop has its line where drops are told, with the number of the round; a keep-alive has none
+-- a drop has a line if drops are told, with the number of the round; a keep-alive has none
 abbrev pub told_drop : Option ℕ → ℕ → DropReason → Option Event → List ℕ
 told_drop None place reason event = []
 told_drop (Some round) place reason (Some (event.Datagram from bytes)) =
@@ -53,7 +53,7 @@ told_line drops events (output.Dropped place reason) =
     told_drop drops place reason (event_at events place)
 told_line drops events (output.Notice notice) = output_line (output.Notice notice)
 
--- the datagram whose headers are told before an output, where it came in at this place
+-- the datagram whose headers are told before an output, if it came in at this place
 abbrev pub told_datagram : FileKind → List Event → ℕ → Output → Option (List ℕ)
 told_datagram kind events place (output.Send key to bytes) = None
 told_datagram kind events place (output.Dropped at reason) = None

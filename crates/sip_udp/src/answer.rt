@@ -1,4 +1,4 @@
-//! The answers that the users give to requests.
+//! The responses that the users give to requests.
 
 use crate::hang_up::nothing;
 use sip_message::{CallId, Content, ContentHeaders, DisplayText, Id, NameAddr, Reason, Uri};
@@ -19,7 +19,7 @@ const NOT_ACCEPTABLE_HERE: u16 = 488;
 
 const NOT_IMPLEMENTED: u16 = 501;
 
-/// 200 to BYE and OPTIONS, 488 to INVITE, and 501 to all else.
+/// 200 to BYE and OPTIONS, 488 to INVITE, and 501 to all other requests.
 pub(crate) fn answer(
     alloc: Global,
     call_id: &CallId,
@@ -56,7 +56,7 @@ pub(crate) fn ringing(alloc: Global, call_id: &CallId, id: Id) -> Result<Event, 
     )
 }
 
-/// 183 Session Progress, which its caller is to acknowledge (RFC 3262, section 3).
+/// 183 Session Progress, which its caller has to acknowledge (RFC 3262, section 3).
 pub(crate) fn progress(alloc: Global, call_id: &CallId, id: Id) -> Result<Event, AllocError> {
     let status = SESSION_PROGRESS;
     respond(
@@ -99,7 +99,7 @@ pub(crate) fn contact(alloc: Global, uri: Uri) -> Result<Content, AllocError> {
     Content::new(alloc, headers, Text::from_vec(Vec::new(alloc)))
 }
 
-/// A response of this status, with the usual reason.
+/// A response with this status, with the usual reason.
 pub(crate) fn respond(
     alloc: Global,
     call_id: &CallId,
@@ -119,7 +119,7 @@ pub(crate) fn respond(
     })))
 }
 
-// The reason that RFC 3261, section 21, gives for a status; an empty one for those not in use here.
+// The reason that RFC 3261, section 21, gives for a status; empty for those not used here.
 fn reason_of(status: u16) -> &'static [u8] {
     match status {
         RINGING_STATUS => b"Ringing",

@@ -18,11 +18,11 @@ use std::mem;
 struct Unanswered {
     call_id: CallId,
     id: Id,
-    /// Its body, where it has one.
+    /// Its body, if it has one.
     offer: Text,
     /// How many INVITEs came before it in its dialog.
     before: u32,
-    /// The moment, in ms, at which it is answered; none as long as its 183 isn't acknowledged.
+    /// The moment, in ms, at which it is answered; none while its 183 isn't acknowledged.
     due: Option<u64>,
 }
 
@@ -35,16 +35,16 @@ struct Made {
     remote_tag: Text,
     /// How many re-INVITEs came.
     re_invites: u32,
-    /// Whether the ACK of its 2xx came: before that no BYE may end it (RFC 3261, section 15).
+    /// Whether the ACK of its 2xx came; before that no BYE may end it (RFC 3261, section 15).
     is_confirmed: bool,
 }
 
-/// Answers INVITEs by its plan, a re-INVITE at once, BYE and OPTIONS with 200, and every other
-/// request with 501. Once the input has ended, INVITEs that aren't answered get 480, and each
-/// dialog a BYE.
+/// Answers INVITEs by its plan, re-INVITEs at once, BYE and OPTIONS with 200, and every other
+/// request with 501. When the input has ended, INVITEs that aren't answered yet get 480, and each
+/// dialog gets a BYE.
 #[derive(Drop)]
 pub(crate) struct Answering {
-    // One's own.
+    // The agent's own IP address.
     ip: [u8; 4],
     plan: ListenPlan,
     unanswered: Vec<Unanswered>,
@@ -63,8 +63,8 @@ impl Answering {
         }
     }
 
-    // An INVITE came with these tags, of which the first is one's own. In a dialog, where it is a
-    // re-INVITE, it is answered at once.
+    // An INVITE came with these tags. The first is the agent's own. A re-INVITE in a dialog is
+    // answered at once.
     fn invited(
         &mut self,
         alloc: Global,
@@ -92,7 +92,7 @@ impl Answering {
         Ok(())
     }
 
-    // It rings, where it is to, or is answered.
+    // Lets the phone ring, if the plan says so, or answers.
     fn alert(
         &mut self,
         alloc: Global,
@@ -110,7 +110,7 @@ impl Answering {
         Ok(())
     }
 
-    // In the dialog of these tags comes a further INVITE; gives how many came before it.
+    // Counts one more INVITE in the dialog with these tags. Gives how many came before it.
     fn re_invited(&mut self, call_id: &CallId, tags: (&Text, &Text)) -> Option<u32> {
         for made in self.dialogs.iter_mut() {
             if made.has(call_id, tags) {
@@ -121,7 +121,7 @@ impl Answering {
         None
     }
 
-    // The dialog of an INVITE, where its answer makes one.
+    // Remembers the dialog of an INVITE, if its answer makes one.
     fn remember(
         &mut self,
         call_id: &CallId,
@@ -162,7 +162,7 @@ impl Answering {
         Ok(())
     }
 
-    // Each confirmed dialog gets a BYE.
+    // Sends a BYE in each confirmed dialog.
     fn hang_up(&mut self, alloc: Global, events: &mut Vec<Event>) -> Result<(), AllocError> {
         for made in mem::replace(&mut self.dialogs, Vec::new(alloc)) {
             if made.is_confirmed {
@@ -175,7 +175,7 @@ impl Answering {
         Ok(())
     }
 
-    // INVITEs that wait for an answer get 480, and each confirmed dialog a BYE.
+    // Answers waiting INVITEs with 480, and sends a BYE in each confirmed dialog.
     fn leave(&mut self, alloc: Global, events: &mut Vec<Event>) -> Result<(), AllocError> {
         self.is_leaving = true;
         for one in mem::replace(&mut self.unanswered, Vec::new(alloc)) {
@@ -191,7 +191,7 @@ impl Answering {
         respond(alloc, call_id, *id, status, Reliability::Plain, content)
     }
 
-    // What its final answer has beside its status: of a 2xx the body.
+    // What a final response has besides its status: a 2xx has the body.
     fn content(&self, alloc: Global, invite: &Unanswered) -> Result<Content, AllocError> {
         if self.plan.makes_dialogs() {
             let Unanswered { before, offer, .. } = invite;
@@ -204,7 +204,7 @@ impl Answering {
         }
     }
 
-    // The 183s of a call, or that of one INVITE, need no acknowledgement any more.
+    // The 183s of a call, or that of one INVITE, needn't be acknowledged any more.
     fn go_on(
         &mut self,
         alloc: Global,

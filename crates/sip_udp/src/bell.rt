@@ -1,4 +1,4 @@
-//! The bell by which a thread that posts wakes the turns.
+//! The bell with which a thread that posts wakes the turns.
 
 use std::io::{self, ErrorKind, Read, Write};
 use std::net::Net;
@@ -6,10 +6,10 @@ use std::os::unix::net::UnixStream;
 use std::sync::atomic::{AtomicBool, Ordering};
 use std::time::Duration;
 
-/// Who waits at the bell goes on as soon as it is rung.
+/// Whoever waits at the bell goes on as soon as it rings.
 #[derive(Drop)]
 pub struct Bell {
-    // Whether a byte is under way, so that there are never many.
+    // Whether a byte is on its way, so that there are never many.
     is_rung: AtomicBool,
     hammer: UnixStream,
     ear: UnixStream,
@@ -18,7 +18,7 @@ pub struct Bell {
 impl Bell {
     /// # Errors
     ///
-    /// Where the system has no more sockets.
+    /// The system has no more sockets.
     pub fn new<N: Net>(rt: &N) -> io::Result<Bell> {
         let (hammer, ear) = UnixStream::pair(rt)?;
         Ok(Bell {
@@ -28,14 +28,14 @@ impl Bell {
         })
     }
 
-    /// Wakes who waits, or who waits next.
+    /// Wakes the thread that waits, or the next one that does.
     pub(crate) fn ring(&self) {
         if !self.is_rung.swap(true, Ordering::SeqCst) {
             let _ = (&self.hammer).write(b"!");
         }
     }
 
-    /// Waits until it is rung, but only so long. What was posted before it was rung can be
+    /// Waits until the bell rings, but at most `most`. What was posted before it rang can be
     /// collected then.
     pub(crate) fn wait(&self, most: Duration) -> io::Result<()> {
         self.ear.set_read_timeout(Some(most))?;

@@ -1,11 +1,11 @@
-//! What `call` is to do.
+//! What `call` does.
 
 use sip_message::{Addr, CallId, Content, Uri};
 use sip_served::{Invite, ProvisionalSupport};
 use sip_text::{Series, Text};
 use std::alloc::{AllocError, Global};
 
-/// Which call is placed, and how.
+/// Which call is made, and how.
 pub struct CallPlan {
     /// Where the INVITE is sent.
     pub to: Addr,
@@ -16,18 +16,18 @@ pub struct CallPlan {
     pub body: Text,
     /// Whether it supports reliable provisional responses (RFC 3262, section 4).
     pub is_reliable: bool,
-    /// How many ms the first dialog that a 2xx confirms stays up; without it the BYE goes out at
+    /// How many ms the first dialog that a 2xx confirms stays up. Without it the BYE is sent at
     /// once.
     pub hold: Option<u32>,
-    /// One second before the last turn a call that isn't answered is cancelled, and one that is up
-    /// ended; and the turns are over once nothing is held.
+    /// One second before the last turn, a call that isn't answered yet is cancelled, and one that
+    /// is up is ended. The turns are over as soon as nothing is held.
     pub leaves: bool,
-    /// That no 2xx came is a fault.
+    /// Whether it is a fault if no 2xx came.
     pub must_answer: bool,
 }
 
 impl CallPlan {
-    /// A call of this URI at this address without a body, which ends as soon as it is answered.
+    /// A call to this URI at this address, without a body. It ends as soon as it is answered.
     pub fn usual(alloc: Global, to: Addr, uri: Uri, call_id: CallId) -> CallPlan {
         CallPlan {
             to,
@@ -41,7 +41,7 @@ impl CallPlan {
         }
     }
 
-    /// The INVITE, from this URI.
+    /// The INVITE, with this URI in From.
     pub(crate) fn invite(self, alloc: Global, from: Uri) -> Result<Invite, AllocError> {
         let CallPlan {
             to: address,

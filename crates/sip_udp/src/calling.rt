@@ -19,17 +19,17 @@ const INVITE: Id = Id { round: 0, place: 1 };
 /// How far the call is.
 #[derive(Clone, Copy, PartialEq, Eq)]
 enum Stage {
-    /// The INVITE has no final response.
+    /// The INVITE has no final response yet.
     Asked,
-    /// It has none, and it was cancelled.
+    /// It has none, and was cancelled.
     Cancelled,
     /// A 2xx came.
     Answered,
-    /// It was rejected, or has failed.
+    /// It was rejected, or it failed.
     Refused,
 }
 
-/// A dialog that is up until its BYE.
+/// A dialog that stays up until its BYE.
 #[derive(Drop)]
 struct Up {
     local_tag: Text,
@@ -38,22 +38,22 @@ struct Up {
     due: u64,
 }
 
-/// Sends an INVITE and ends each dialog that a 2xx to it confirms by a BYE, the first one as late
-/// as its plan says. Where that 2xx, or a reliable provisional response, has an offer and the
+/// Sends an INVITE, and ends each dialog that a 2xx to it confirms with a BYE, the first one as
+/// late as its plan says. If that 2xx, or a reliable provisional response, has an offer and the
 /// INVITE had none, its ACK or PRACK waits for the user, who answers that its streams are inactive.
-/// BYE and OPTIONS of the peer are answered with 200, a re-INVITE with 488, every other request
-/// with 501. In the last second a call that isn't answered is cancelled and one that is up is
-/// ended, where it is to be, and always once the input has ended.
+/// The peer's BYE and OPTIONS get 200, a re-INVITE gets 488, and every other request 501. In the
+/// last second a call that isn't answered is cancelled and one that is up is ended, if the plan
+/// says so; after the end of the input this is always done.
 #[derive(Drop)]
 pub(crate) struct Calling {
-    // One's own.
+    // The agent's own IP address.
     ip: [u8; 4],
-    // Until it was sent.
+    // The INVITE, until it is sent.
     invite: Option<Invite>,
     call_id: CallId,
-    // Whether the INVITE has a body: an offer, to which a body of its 2xx is the answer.
+    // Whether the INVITE has a body. That is an offer, and the body of its 2xx is the answer.
     has_offer: bool,
-    // Whether provisional responses to it may be reliable.
+    // Whether provisional responses to the INVITE may be reliable.
     is_reliable: bool,
     hold: Option<u32>,
     leaves: bool,
@@ -88,7 +88,7 @@ impl Calling {
         })
     }
 
-    // A final response to the INVITE, of this status.
+    // A final response to the INVITE came, with this status.
     fn answered(
         &mut self,
         alloc: Global,
@@ -144,14 +144,14 @@ impl Calling {
         })
     }
 
-    // No answer comes any more, where none has come.
+    // If no answer has come so far, none will come.
     fn refused(&mut self) {
         if self.stage != Stage::Answered {
             self.stage = Stage::Refused;
         }
     }
 
-    // The dialog that is up, where it is to end now.
+    // Takes the dialog that is up, if it has to end now.
     fn due_dialog(&mut self, now: u64, is_leaving: bool) -> Option<Up> {
         match self.up.take() {
             Some(up) if is_leaving || up.due <= now => Some(up),

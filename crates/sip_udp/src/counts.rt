@@ -1,4 +1,4 @@
-//! What a run counts.
+//! The counts of a run.
 
 use crate::dropped::is_keep_alive;
 use crate::outcomes::Outcomes;
@@ -9,7 +9,7 @@ use sip_transactions::DropReason;
 use std::alloc::{AllocError, Global};
 use std::fmt;
 
-/// What a run counts, with its address.
+/// The counts of a run, with the agent's address.
 #[derive(Drop)]
 pub(crate) struct Counts {
     local: Addr,
@@ -17,7 +17,7 @@ pub(crate) struct Counts {
     datagrams: u64,
     keep_alives: u64,
     dropped: Vec<Dropped>,
-    /// Datagrams that were to be sent.
+    /// Datagrams that the agent asked to send.
     asked: u64,
     again: u64,
     before: Sent,
@@ -54,11 +54,11 @@ impl Counts {
         }
     }
 
-    /// Counts the round of this number, after which so many transactions and calls are held.
+    /// Counts the round with this number, after which `held` transactions and calls are held.
     ///
     /// # Errors
     ///
-    /// Want of memory.
+    /// Memory ran out.
     pub(crate) fn add(
         &mut self,
         number: u64,

@@ -2,8 +2,7 @@
 
 ghost use Rattle.std.specs.Prelude.{◌<◌, ◌≤◌};
 
-/// Into how many parts transactions and calls are cut, and on how many threads a round is dealt
-/// with.
+/// How many shards transactions and calls are cut into, and how many threads work on a round.
 #[derive(Clone, Copy)]
 pub struct Division {
     pub shards: usize,

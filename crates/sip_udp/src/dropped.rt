@@ -1,4 +1,4 @@
-//! What the user is told of a datagram that was dropped.
+//! What the user is told about a datagram that was dropped.
 
 ghost use Rattle.std.specs.Prelude.{◌≡◌, IfOk, decimal, string_bytes};
 ghost use Rattle.std.specs.List.{list_all};
@@ -17,10 +17,10 @@ use sip_text::{Text, cut};
 use sip_transactions::DropReason;
 use std::alloc::{AllocError, Global};
 
-/// The bytes 4 to 7 of a STUN message (RFC 5389, section 6).
+/// Bytes 4 to 7 of a STUN message (RFC 5389, section 6).
 const MAGIC_COOKIE: [u8; 4] = [0x21, 0x12, 0xa4, 0x42];
 
-/// Whether a datagram only keeps the way through a NAT open: nothing but CR, LF and NUL bytes, or a
+/// Whether a datagram only keeps a NAT binding alive: if it has only CR, LF and NUL bytes, or is a
 /// STUN message.
 pub(crate) fn is_keep_alive(bytes: &[u8]) -> bool
     ensures { result ≡ spec.is_keep_alive bytes.now }
@@ -46,7 +46,7 @@ fn is_stun(bytes: &[u8]) -> bool
     bytes.len() >= 8 && bytes[0] < 2 && &bytes[4..8] == MAGIC_COOKIE.as_slice()
 }
 
-/// The line of a drop: its id, its reason, and as an event the datagram with its first line.
+/// The line of a drop: its id, its reason, and the datagram's event, with only its first line.
 pub(crate) fn dropped_line(
     alloc: Global,
     id: Id,
@@ -63,7 +63,7 @@ pub(crate) fn dropped_line(
     Ok(line)
 }
 
-// A line up to its datagram.
+// The line up to its datagram.
 fn head(alloc: Global, id: Id, reason: DropReason) -> Result<Vec<u8>, AllocError>
     ensures { IfOk result (λ text. text.items ≡ dropped_head id reason) }
 {
@@ -122,7 +122,7 @@ fn first_line(alloc: Global, text: &[u8]) -> Result<Text, AllocError>
     Text::copy_of(alloc, without(b'\r', before_end(text)))
 }
 
-// What stands before the first LF of a text, or all of it.
+// The text before the first LF, or all of the text.
 fn before_end(text: &[u8]) -> &[u8]
     ensures { result.now ≡ before_cut text.now (cut_at 10 text.now) }
 {

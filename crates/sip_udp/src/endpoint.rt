@@ -1,4 +1,4 @@
-//! What a user agent over UDP is run with.
+//! What a user agent over UDP needs to run.
 
 use crate::division::Division;
 use crate::input_end::InputEnd;
@@ -8,30 +8,30 @@ use sip_round::Config;
 use std::net::UdpSocket;
 use std::sync::Arc;
 
-/// What a user agent over UDP is run with.
+/// What a user agent over UDP needs to run.
 #[derive(Drop)]
 pub struct Endpoint<F> {
     pub socket: UdpSocket,
-    /// What its agent is started with.
+    /// The configuration with which its agent is started.
     pub config: Config,
     pub division: Division,
     /// Where the run is recorded, if it is.
     pub record: Option<F>,
-    /// As the lines of which kind of file a pipe is read and the run is recorded. In a session
-    /// commands have header lines.
+    /// The kind of file whose lines a pipe has and a record gets. In a session commands may have
+    /// header lines.
     pub kind: FileKind,
-    /// Whether it is told at the end what was counted.
+    /// Whether the counts are written at the end.
     pub is_counted: bool,
-    /// Whether drops are told, too. They always are to a user on a pipe.
+    /// Whether drops are told, too. A user on a pipe is always told of them.
     pub tells_drops: bool,
-    /// After how many seconds the turns are over, if they are to be.
+    /// After how many seconds the turns end, if at all.
     pub seconds: Option<u32>,
     /// The input whose end ends the turns of `listen` and `call`, if one does.
     pub input: Option<Arc<InputEnd>>,
 }
 
 impl<F> Endpoint<F> {
-    /// An endpoint at this address, with 4 shards and 2 workers, that begins with round 0. It is
+    /// An endpoint at this address, with 4 shards and 2 workers. It begins with round 0, and is
     /// recorded as an event file.
     pub fn new(socket: UdpSocket, local: Addr, seed: [u8; 32], record: Option<F>) -> Endpoint<F> {
         Endpoint {

@@ -9,7 +9,7 @@ use thiserror::Error;
 /// Why a user agent stopped before its last turn.
 #[derive(Clone, Copy, Debug, PartialEq, Eq, Error)]
 pub enum UaFault {
-    /// The socket can't be used, the clock fails, or the thread of the listener can't be started.
+    /// The socket can't be used, the clock fails, or the listener's thread can't be started.
     #[error("socket failed")]
     Socket,
     /// The pipe can't be read.
@@ -18,7 +18,7 @@ pub enum UaFault {
     /// The notices can't be written.
     #[error("output failed")]
     Output,
-    /// The round of this number was refused.
+    /// The round with this number was refused.
     #[error("round {number}: {fault}")]
     Round { number: u64, fault: RoundFault },
     /// No 2xx came to a call that had to be answered.
@@ -58,7 +58,7 @@ impl From<sip_round::NoMemory> for UaFault {
     }
 }
 
-/// The fault of a round of this number that was refused: want of memory is that of the whole.
+/// The fault of a round with this number that was refused; lack of memory has a fault of its own.
 pub(crate) fn refused_round(number: u64, fault: RoundFault) -> UaFault {
     match fault {
         RoundFault::NoMemory { .. } => UaFault::NoMemory,

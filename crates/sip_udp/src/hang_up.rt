@@ -9,7 +9,7 @@ use sip_served::{DialogRequest, UserCommand};
 use sip_text::Text;
 use std::alloc::{AllocError, Global};
 
-/// No header, and no body.
+/// No headers and no body.
 pub(crate) fn nothing(alloc: Global) -> Content
     ensures { result ≡ content_of_body [] }
 {

@@ -7,10 +7,10 @@ use sip_message::Addr;
 use std::io::ErrorKind;
 use std::net::{SocketAddr, UdpSocket};
 
-/// What a wait for a datagram gave.
+/// The result of waiting for a datagram.
 #[derive(Clone, Copy)]
 pub enum Received {
-    /// A datagram of this length; it stands at the front of the buffer.
+    /// A datagram of this length. It stands at the front of the buffer.
     Datagram { from: Addr, length: usize },
     /// Nothing came in time.
     Nothing,
@@ -25,7 +25,7 @@ pub trait Inlet {
         ensures { IsInBuffer result buffer.new };
 }
 
-/// The socket waits as long as its read timeout says. A datagram of an IPv6 address is passed over.
+/// The socket waits as long as its read timeout says. A datagram from an IPv6 address is ignored.
 impl Inlet for UdpSocket {
     fn receive(&mut self, buffer: &mut [u8]) -> Received
         ensures { IsInBuffer result buffer.new }

@@ -1,4 +1,4 @@
-//! The end of an input of which nothing else is wanted: it ends `listen` and `call`.
+//! The end of an input that is watched only for its end, which ends `listen` and `call`.
 
 use crate::fault::UaFault;
 use std::alloc::Global;
@@ -7,7 +7,7 @@ use std::sync::Arc;
 use std::sync::atomic::{AtomicBool, Ordering};
 use std::thread::{self, Threads};
 
-/// How far an input was read. One that can't be read never ends.
+/// How far an input was read. An input that can't be read never ends.
 #[derive(Drop)]
 pub struct InputEnd {
     has_bytes: AtomicBool,
@@ -19,7 +19,7 @@ impl InputEnd {
     ///
     /// # Errors
     ///
-    /// Want of memory, and a thread that can't be started.
+    /// Memory ran out, or a thread can't be started.
     pub fn watch<R: Threads, I: Read + Send + Drop + 'static>(
         rt: &R,
         alloc: Global,
@@ -44,7 +44,7 @@ impl InputEnd {
         self.has_ended.load(Ordering::SeqCst)
     }
 
-    /// Whether a byte came before its end.
+    /// Whether a byte came before the end.
     pub(crate) fn has_bytes(&self) -> bool {
         self.has_bytes.load(Ordering::SeqCst)
     }

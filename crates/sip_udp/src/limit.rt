@@ -1,4 +1,4 @@
-//! How long turns are taken.
+//! How long the turns go on.
 
 ghost use Rattle.std.specs.Prelude.{◌≡◌, ◌≢◌, ◌+◌, ◌≤◌, ◌<◌, true, false};
 ghost use Rattle.sip_udp.specs.declared.limit.TimeLeft.TheVariants as time_left;
@@ -6,14 +6,14 @@ ghost use Rattle.sip_udp.specs.declared.limit.TimeLeft.TheVariants as time_left;
 use crate::input_end::InputEnd;
 use std::sync::Arc;
 
-/// How long before the end calls are left, in ms.
+/// How long before the end calls are ended, in ms.
 const LEAVING: u64 = 1_000;
 
-/// How many turns that is.
+/// The number of turns in that time.
 const TURNS_OF_LEAVING: u64 = 100;
 
-/// In which time, in ms, an input that has no byte ends if it is empty from the start, as /dev/null
-/// is.
+/// An input without bytes that ends within this time, in ms, was empty from the start, like
+/// /dev/null.
 const EMPTY: u64 = 1_000;
 
 /// How near the end of the turns is.
@@ -23,22 +23,22 @@ pub(crate) enum TimeLeft {
     More,
     /// The last second.
     LastSecond,
-    /// The last second, since the input has ended.
+    /// The last second, because the input has ended.
     InputEnded,
 }
 
-/// How long turns are taken. Moments are in ms since the start.
+/// How long the turns go on. Moments are in ms since the start.
 #[derive(Drop)]
 pub(crate) struct Limit {
-    // From this moment on there are no more.
+    // From this moment on there are no more turns.
     until: u64,
-    // The input that may end yet.
+    // The input, as long as it may still end.
     input: Option<Arc<InputEnd>>,
     has_input_ended: bool,
 }
 
 impl Limit {
-    /// So many seconds, or for ever, but only until a second after the input has ended.
+    /// `seconds` seconds, or for ever, but only until a second after the end of the input.
     pub(crate) fn new(seconds: Option<u32>, input: Option<Arc<InputEnd>>) -> Limit {
         let until = match seconds {
             Some(seconds) => u64::from(seconds).saturating_mul(1_000),
@@ -51,8 +51,8 @@ impl Limit {
         }
     }
 
-    /// Looks at the moment `now` whether the input has ended. One that was empty from the start
-    /// never ends.
+    /// Looks, at the moment `now`, whether the input has ended. An input that was empty from the
+    /// start never ends.
     pub(crate) fn look(&mut self, now: u64)
         ensures sooner { self.new.until ≤ self.old.until }
         ensures ended { self.new.has_input_ended ≡ false → self.new.until ≡ self.old.until }
@@ -79,7 +79,7 @@ impl Limit {
         self.until <= now
     }
 
-    /// How near the end is at the moment `now`, where so many turns are left.
+    /// How near the end is at the moment `now`, when `turns_left` turns are left.
     pub(crate) fn left(&self, now: u64, turns_left: u64) -> TimeLeft
         ensures input { self.now.has_input_ended ≡ true → result ≡ time_left.InputEnded }
         ensures turns { self.now.has_input_ended ≡ false → turns_left ≤ 100

@@ -9,23 +9,23 @@ use std::alloc::{AllocError, Global};
 /// How an INVITE is answered.
 #[derive(Drop)]
 pub struct ListenPlan {
-    /// It gets 180 first, and its answer so many ms later, unless its caller cancels it.
+    /// It gets 180 first, and its answer this many ms later, unless its caller cancels it.
     pub ring: Option<u32>,
-    /// Before all that it gets a reliable 183, where its caller supports that, and the rest once
-    /// that is acknowledged.
+    /// If its caller supports that, it gets a reliable 183 before all that, and the rest after that
+    /// 183 is acknowledged.
     pub reliable: bool,
     /// The status of its answer, from 200 to 699.
     pub status: u16,
-    /// The body of an answer of 200 to 299.
+    /// The body of a response with a status from 200 to 299.
     pub body: AnswerBody,
-    /// Where an answer that isn't a 2xx sends its caller (RFC 3261, section 21.3).
+    /// Where a response that isn't a 2xx sends its caller (RFC 3261, section 21.3).
     pub contact: Option<Uri>,
 }
 
 /// The body of a 2xx to an INVITE.
 #[derive(Drop)]
 pub enum AnswerBody {
-    /// A session description without media, which answers that of the INVITE.
+    /// A session description without media, as an answer to that of the INVITE.
     Inactive,
     /// This text.
     Given(Text),
@@ -34,7 +34,8 @@ pub enum AnswerBody {
 }
 
 impl AnswerBody {
-    /// The body for an INVITE with this one, from this IP; before it the dialog had so many.
+    /// The body for an INVITE with the body `offer`, from this IP; `version` INVITEs came before it
+    /// in its dialog.
     pub(crate) fn to(
         &self,
         alloc: Global,
@@ -62,7 +63,7 @@ impl ListenPlan {
         }
     }
 
-    /// Whether its answer makes a dialog, as a 2xx does (RFC 3261, section 12.1).
+    /// Whether its final response makes a dialog, as a 2xx does (RFC 3261, section 12.1).
     pub(crate) fn makes_dialogs(&self) -> bool {
         (200..=299).contains(&self.status)
     }

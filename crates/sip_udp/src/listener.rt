@@ -1,4 +1,4 @@
-//! The listener: it reads datagrams on a thread of its own and posts them.
+//! The listener: it reads datagrams on a thread of its own, and posts them.
 
 ghost use Rattle.std.specs.Prelude.{◌≡◌, IfSome};
 ghost use Rattle.sip_desk.specs.Lines.{IsEndOfLine, SameLine};
@@ -24,17 +24,17 @@ pub struct Flags {
     pub stop: AtomicBool,
     /// The listener has ended.
     pub ended: AtomicBool,
-    // It is rung when the listener has posted something or ended.
+    // The bell rings when the listener has posted something or has ended.
     bell: Option<Arc<Bell>>,
 }
 
 impl Flags {
-    /// Neither.
+    /// Neither the turns are over, nor has the listener ended.
     pub fn new() -> Flags {
         Flags::with_bell(None)
     }
 
-    /// Neither; at this bell the turns wait.
+    /// The same. The turns wait at this bell.
     pub(crate) fn with_bell(bell: Option<Arc<Bell>>) -> Flags {
         Flags {
             stop: AtomicBool::new(false),
@@ -60,7 +60,7 @@ impl Flags {
 /// What is left of a listener.
 #[derive(Drop)]
 pub struct Heard {
-    /// The end of its line, where there is a desk.
+    /// The end of its line, unless the desk is gone.
     pub end: Option<Ended<Event>>,
     /// Why it ended before it was told to.
     pub fault: Option<UaFault>,
@@ -68,8 +68,8 @@ pub struct Heard {
     pub lost: u64,
 }
 
-/// Posts each datagram that comes in, until it is told to stop, and ends the line. A datagram for
-/// which the line has no room is lost.
+/// Posts each datagram that comes in until it is told to stop, and then ends the line. If the line
+/// has no room for a datagram, the datagram is lost.
 pub fn hear<I: Inlet + Drop>(
     alloc: Global,
     mut inlet: I,
@@ -119,7 +119,7 @@ fn post_all<I: Inlet>(
     Ok(())
 }
 
-// Posts a datagram, where there is room, and says whether there was.
+// Posts a datagram if there is room, and says whether there was.
 fn post(
     alloc: Global,
     line: &mut Poster<Event>,

@@ -1,4 +1,4 @@
-//! Writes what the user is told of the outputs of a round.
+//! Writes what the user is told about the outputs of a round.
 
 ghost use Rattle.std.specs.Prelude.{◌≡◌, IfOk, List, OnOk, Some, ℕ};
 ghost use Rattle.std.specs.List.{flat_map};
@@ -18,18 +18,18 @@ use sip_transactions::DropReason;
 use std::alloc::{AllocError, Global};
 use std::io::{self, Write};
 
-/// What the user is told of.
+/// What the user is told.
 #[derive(Clone, Copy)]
 pub(crate) struct Telling {
-    /// In a session a notice has before it the header lines of the datagram that it tells of.
+    /// In a session, a notice comes after the header lines of the datagram that it is about.
     pub(crate) kind: FileKind,
-    /// The number of the round, where drops are told.
+    /// The number of the round, if drops are told.
     pub(crate) drops: Option<u64>,
 }
 
-/// Writes the line of each notice as it stands in an output file, and flushes after each; and where
-/// drops are told a line of each but those of keep-alives. In a session the header lines of the
-/// datagram that a notice tells of stand before its line.
+/// Writes the line of each notice as it stands in an output file, and flushes after each. If drops
+/// are told, it writes a line for each, except those of keep-alives. In a session, the header lines
+/// of the datagram that a notice is about stand before the notice's line.
 pub(crate) fn write_notices<W: Write>(
     alloc: Global,
     writer: &mut W,
@@ -140,7 +140,7 @@ fn tell_line<W: Write>(
     }
 }
 
-// Tells a drop with this id and reason, of this event.
+// Tells of a drop with this reason, for this event.
 fn tell_drop<W: Write>(
     alloc: Global,
     writer: &mut W,
@@ -181,11 +181,11 @@ fn put_line<W: Write>(writer: &mut W, line: &[u8]) -> Result<(), UaFault>
     }
 }
 
-/// Writes all of this, and flushes.
+/// Writes all bytes, and flushes.
 ///
 /// # Errors
 ///
-/// What the writer has against it; a front of this may be written.
+/// The writer's own error. A front of the bytes may have been written.
 pub(crate) fn put<W: Write>(writer: &mut W, text: &[u8]) -> io::Result<()>
     ensures { OnOk result (Appends (W.contents writer.old) (W.contents writer.new) text.now) }
 {

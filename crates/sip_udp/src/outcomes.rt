@@ -7,7 +7,7 @@ use std::alloc::{AllocError, Global};
 use std::collections::BTreeSet;
 use std::fmt;
 
-/// What comes after a CANCEL (RFC 3261, section 9.2).
+/// The final response to an INVITE that was cancelled (RFC 3261, section 9.2).
 const REQUEST_TERMINATED: u16 = 487;
 
 /// How a call went.
@@ -22,11 +22,11 @@ enum Outcome {
     Unanswered,
 }
 
-/// How many calls went how.
+/// How many calls had each outcome.
 #[derive(Drop)]
 pub(crate) struct Outcomes {
     alloc: Global,
-    // The INVITEs that have no outcome yet.
+    // The INVITEs that have no outcome so far.
     open: BTreeSet<Id>,
     invites: u64,
     answered: u64,
@@ -36,7 +36,7 @@ pub(crate) struct Outcomes {
 }
 
 impl Outcomes {
-    /// No call.
+    /// No calls so far.
     pub(crate) fn new(alloc: Global) -> Outcomes {
         Outcomes {
             alloc,
@@ -49,11 +49,11 @@ impl Outcomes {
         }
     }
 
-    /// Counts what the round of this number adds.
+    /// Counts what the round with this number adds.
     ///
     /// # Errors
     ///
-    /// Want of memory.
+    /// Memory ran out.
     pub(crate) fn add(
         &mut self,
         round: u64,
@@ -113,7 +113,7 @@ impl Outcomes {
         Ok(())
     }
 
-    // The outcome of a request, where it is an INVITE that has none yet.
+    // The outcome of a request, if it is an INVITE that has none so far.
     fn end(&mut self, id: Id, outcome: Outcome) {
         if !self.open.remove(&id) {
             return;
@@ -144,7 +144,7 @@ impl fmt::Display for Outcomes {
     }
 }
 
-// What a final response of this status makes of a call.
+// The outcome that a final response with this status gives a call.
 fn outcome_of(status: u16) -> Outcome {
     match status {
         200..=299 => Outcome::Answered,

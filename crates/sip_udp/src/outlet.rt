@@ -8,7 +8,7 @@ use sip_message::Addr;
 use sip_text::Text;
 use std::net::{Ipv4Addr, SocketAddrV4, UdpSocket};
 
-/// What an outlet was asked once: to send these bytes to this address; and whether it did.
+/// One request to an outlet: to send these bytes to this address, and whether it did.
 #[derive(Drop)]
 pub struct Asked {
     pub to: Addr,
@@ -18,7 +18,7 @@ pub struct Asked {
 
 /// A way out for datagrams.
 pub trait Outlet {
-    // All that it was asked, in order, where it tells.
+    // All that it was asked to send, in order, if it tells.
     ghost asked: { Self → Option (List Asked) };
 
     /// Sends a datagram, and says whether it could.
@@ -27,7 +27,7 @@ pub trait Outlet {
             (record { to = to; bytes = bytes.now; is_sent = result } ∷ []) };
 }
 
-/// A socket tells nothing of what it was asked.
+/// A socket doesn't tell what it was asked to send.
 impl Outlet for UdpSocket {
     ghost asked = { λ _. None };
 
@@ -46,7 +46,7 @@ pub(crate) struct CountedSocket {
     pub(crate) failed: u64,
 }
 
-/// It tells nothing of what it was asked.
+/// It doesn't tell what it was asked to send.
 impl Outlet for CountedSocket {
     ghost asked = { λ _. None };
 

@@ -1,5 +1,5 @@
-//! The pipe: commands that a user writes, a line each, and their header lines. They are read on a
-//! thread of their own and posted.
+//! The pipe: commands that a user writes, one on each line, and their header lines. They are read
+//! on a thread of their own, and posted.
 
 ghost use Rattle.std.specs.Prelude.{◌≡◌, true, false, IfOk, IfSome};
 ghost use Rattle.sip_desk.specs.Lines.{posted, Pushes};
@@ -20,10 +20,10 @@ use std::thread;
 /// A line of the pipe.
 #[derive(Drop)]
 pub struct PipeLine {
-    /// Lines are numbered from 1.
+    /// The number of the line, from 1.
     pub number: u64,
     pub said: Said,
-    /// What is wrong with it, where it is no command.
+    /// What is wrong with it, if it isn't a command.
     pub wrong: Option<WrongWord>,
 }
 
@@ -34,21 +34,21 @@ pub enum Said {
     Comment,
     /// A command in the form of an event file.
     Command(UserCommand),
-    /// It is no command.
+    /// It isn't a command.
     NoCommand,
     /// A header of the command that follows, in the form of a session file.
     Header(GivenHeader),
-    /// It begins as a header line does, and is none.
+    /// It begins like a header line, but isn't one.
     NoHeader,
 }
 
-/// Posts what each line of the input says, and waits where there is no room, until the input ends
-/// or it is told to stop. It answers whether the input ended. Header lines are taken where the kind
-/// of file that the lines are those of has them.
+/// Posts what each line of the input says, and waits while there is no room, until the input ends
+/// or it is told to stop. Answers whether the input ended. Header lines are taken if the kind of
+/// file whose lines these are has them.
 ///
 /// # Errors
 ///
-/// A read that failed, and want of memory.
+/// A read failed, or memory ran out.
 pub fn feed<I: BufRead + Drop>(
     alloc: Global,
     kind: FileKind,
@@ -94,7 +94,7 @@ fn post_lines<I: BufRead>(
     Ok(false)
 }
 
-// The line of this number, of its text with its end.
+// The line with this number and this text, which has its end.
 fn said_by(alloc: Global, kind: FileKind, number: u64, text: &[u8]) -> Result<PipeLine, AllocError>
     ensures { IfOk result (SaysRead kind number text.now) }
 {
@@ -111,7 +111,7 @@ fn said_by(alloc: Global, kind: FileKind, number: u64, text: &[u8]) -> Result<Pi
     })
 }
 
-// A line without its end, LF or CR LF; the last line may have none.
+// A line without its end, LF or CR LF. The last line may have none.
 fn without_end(text: &[u8]) -> &[u8]
     ensures { result.now ≡ line_of text.now }
 {
@@ -156,7 +156,7 @@ fn is_comment(line: &[u8]) -> bool
     }
 }
 
-// Where there are header lines, these begin with a space, and no command does.
+// In a kind of file with header lines, these begin with a space, and no command does.
 fn is_for_header(kind: FileKind, line: &[u8]) -> bool
     ensures { result ≡ is_for_header kind line.now }
 {
@@ -169,7 +169,7 @@ fn is_for_header(kind: FileKind, line: &[u8]) -> bool
     }
 }
 
-// Posts this as soon as there is room, unless it is told to stop.
+// Posts the line as soon as there is room, unless it is told to stop.
 fn post_in_time(line: &mut Poster<PipeLine>, said: PipeLine, stop: &AtomicBool) -> bool
     ensures posted { result ≡ true → Pushes line.old line.new said }
     ensures unposted { result ≡ false → posted line.new ≡ posted line.old }

@@ -1,4 +1,4 @@
-//! The user of `agent`: it asks for what comes over the pipe.
+//! The user of `agent`: it asks for what the pipe says.
 
 ghost use Rattle.std.specs.Prelude.{◌≡◌, ◌++◌, OnOk};
 ghost use Rattle.sip_udp.specs.Piping as piping;
@@ -17,8 +17,8 @@ use std::io::Write;
 use std::sync::Arc;
 use std::sync::atomic::Ordering;
 
-/// Asks for what comes over the pipe. After the end of the pipe it is over once nothing is held, or
-/// so many ms later.
+/// Asks for what the pipe says. After the end of the pipe it is done as soon as nothing is held, or
+/// `linger` ms later.
 #[derive(Drop)]
 pub(crate) struct Piped {
     pipe: Desk<PipeLine>,
@@ -26,7 +26,7 @@ pub(crate) struct Piped {
     waiting: Waiting,
     flags: Arc<Flags>,
     linger: u32,
-    // The moment at which all that came over the pipe was taken.
+    // The moment at which everything from the pipe had been taken.
     ended_at: Option<u64>,
 }
 

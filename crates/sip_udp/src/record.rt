@@ -10,7 +10,7 @@ use sip_round::{Config, Round};
 use std::alloc::{AllocError, Global};
 use std::io::Write;
 
-/// Where a run is recorded, as long as that goes well.
+/// Where a run is recorded, as long as no write fails.
 #[derive(Drop)]
 pub(crate) struct Record<F> {
     file: Option<F>,
@@ -18,7 +18,7 @@ pub(crate) struct Record<F> {
 }
 
 impl<F: Write + Drop> Record<F> {
-    /// A record of this kind of file, in this one if there is one.
+    /// A record in this kind of file, if there is a file.
     pub(crate) fn new(kind: FileKind, file: Option<F>) -> Record<F> {
         Record { file, kind }
     }
@@ -27,7 +27,7 @@ impl<F: Write + Drop> Record<F> {
     ///
     /// # Errors
     ///
-    /// Want of memory.
+    /// Memory ran out.
     pub(crate) fn begin<E: Write>(
         &mut self,
         alloc: Global,
@@ -48,7 +48,7 @@ impl<F: Write + Drop> Record<F> {
     ///
     /// # Errors
     ///
-    /// Want of memory.
+    /// Memory ran out.
     pub(crate) fn add<E: Write>(
         &mut self,
         alloc: Global,
@@ -65,7 +65,7 @@ impl<F: Write + Drop> Record<F> {
         Ok(())
     }
 
-    // Writes this, or gives the recording up with a word on it.
+    // Writes the text. If that fails, it says so and gives up recording.
     fn write<E: Write>(&mut self, text: &[u8], errors: &mut E)
         ensures { Records F.contents self.old.file self.new.file text.now }
     {

@@ -1,25 +1,25 @@
-//! Session descriptions whose streams are inactive: what a phone gets from a program that has no
-//! media (RFC 4566; RFC 3264, section 6).
+//! Session descriptions with inactive streams: what a phone gets from a program without media (RFC
+//! 4566; RFC 3264, section 6).
 
 use crate::pipe::without;
 use sip_message::ip_text;
 use sip_text::{Text, cut};
 use std::alloc::{AllocError, Global};
 
-/// A stream of audio, for an offer.
+/// An audio stream, for an offer.
 const AUDIO: &[u8] = b"m=audio 9 RTP/AVP 0 8";
 
-/// The protocols of the streams that an answer takes (RFC 3551; RFC 4585).
+/// The protocols of the streams that an answer accepts (RFC 3551; RFC 4585).
 const TAKEN: [&[u8]; 2] = [b"RTP/AVP", b"RTP/AVPF"];
 
-/// The answer to the description of an offer: each of its streams over RTP is inactive, and each
-/// other one is refused. To a body that is no description it is an offer of one inactive stream of
-/// audio. The version is that of the description in its session: a later one has a greater one
-/// (RFC 3264, section 8).
+/// The answer to the description in an offer: each of its streams over RTP is inactive, and all
+/// others are refused. If the body isn't a description, it is an offer of one inactive audio
+/// stream. The version is that of the description in its session; a later description has a higher
+/// one (RFC 3264, section 8).
 ///
 /// # Errors
 ///
-/// Want of memory.
+/// Memory ran out.
 pub(crate) fn inactive(
     alloc: Global,
     ip: [u8; 4],
@@ -44,7 +44,7 @@ pub(crate) fn inactive(
     Ok(text)
 }
 
-// The lines before the times and streams.
+// The lines before those of times and streams.
 fn head(alloc: Global, ip: [u8; 4], version: u32) -> Result<Text, AllocError> {
     let [_a, _b, _c, _d] = ip;
     let ip = ip_text(ip);
@@ -58,12 +58,12 @@ fn head(alloc: Global, ip: [u8; 4], version: u32) -> Result<Text, AllocError> {
     Ok(text)
 }
 
-// What a format is, which an answer repeats (RFC 3264, section 6.1).
+// Whether the line describes a format. An answer repeats such a line (RFC 3264, section 6.1).
 fn is_of_format(line: &[u8]) -> bool {
     line.starts_with(b"a=rtpmap:") || line.starts_with(b"a=fmtp:")
 }
 
-// Writes the stream of this line, and gives whether it is taken.
+// Writes the stream for this line, and says whether it is accepted.
 fn put_stream(text: &mut Text, line: &[u8]) -> Result<bool, AllocError> {
     let Some((media, after)) = cut(b' ', line) else {
         return Ok(false);
@@ -72,7 +72,7 @@ fn put_stream(text: &mut Text, line: &[u8]) -> Result<bool, AllocError> {
         return Ok(false);
     };
     let is_taken = is_stream_taken(port, after);
-    // The port of no use, discard, or that of a stream that is refused.
+    // The discard port, since no port is used, or that of a refused stream.
     let own_port = if is_taken { b" 9 ".as_slice() } else { b" 0 " };
     text.extend_from_slice(media)?;
     text.extend_from_slice(own_port)?;
@@ -83,7 +83,7 @@ fn put_stream(text: &mut Text, line: &[u8]) -> Result<bool, AllocError> {
     Ok(is_taken)
 }
 
-// Whether a stream with this port is taken, where its protocol and formats stand behind.
+// Whether a stream with this port is accepted; `after` is its protocol and formats.
 fn is_stream_taken(port: &[u8], after: &[u8]) -> bool {
     match cut(b' ', after) {
         Some((protocol, _)) => {

@@ -10,12 +10,12 @@ use sip_message::Key;
 use sip_round::{Event, Output, PlacedOutput};
 use std::alloc::{AllocError, Global};
 
-/// Sends each Send of the outputs, in order, also after one that failed, and gives a failed event
-/// for each that failed and has a key, in that order.
+/// Sends each Send of the outputs, in order, even after one failed. Gives a failed event for each
+/// that failed and has a key, in the same order.
 ///
 /// # Errors
 ///
-/// Want of memory, and then nothing was sent: all memory is taken before the first sending.
+/// Memory ran out. Then nothing was sent: all memory is taken before the first send.
 pub fn send_all<O: Outlet>(
     alloc: Global,
     outlet: &mut O,
@@ -38,7 +38,7 @@ pub fn send_all<O: Outlet>(
     Ok(failed)
 }
 
-// For each output the event that tells its failure.
+// For each output, the event that reports its failure.
 fn prepared(alloc: Global, outputs: &[PlacedOutput]) -> Result<Vec<Option<Event>>, AllocError>
     ensures { IfOk result (λ failures. failures.items
         ≡ map (λ placed. spec.prepared placed.output) outputs.now) }
@@ -59,7 +59,7 @@ fn failure_of(output: &Output) -> Result<Option<Event>, AllocError>
     }
 }
 
-// Sends one output where it is a Send, and adds its failure where it wasn't sent.
+// Sends one output, if it is a Send, and adds its failure if it wasn't sent.
 fn send_one<O: Outlet>(
     outlet: &mut O,
     output: &Output,

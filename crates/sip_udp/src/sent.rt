@@ -5,11 +5,11 @@ use std::alloc::{AllocError, Global};
 use std::collections::BTreeSet;
 use std::mem;
 
-/// How long a datagram is remembered at least, in ms. What a transaction sends again it sends
-/// sooner (RFC 3261, section 17: T2 is 4 s, and after 64 times T1 it is over).
+/// How long a datagram is remembered at least, in ms. A transaction retransmits sooner than that
+/// (RFC 3261, section 17: T2 is 4 s, and it is over after 64 times T1).
 const MEMORY: u64 = 64_000;
 
-/// The first value and the factor of the FNV-1a hash of 64 bits.
+/// The start value and the factor of the 64-bit FNV-1a hash.
 const OFFSET: u64 = 0xcbf2_9ce4_8422_2325;
 
 const PRIME: u64 = 0x0100_0000_01b3;
@@ -20,7 +20,7 @@ pub(crate) struct Sent {
     alloc: Global,
     recent: BTreeSet<u64>,
     former: BTreeSet<u64>,
-    // The moment from which on the recent ones are the former ones, in ms.
+    // The moment, in ms, at which the recent ones become the former ones.
     until: u64,
 }
 
@@ -39,7 +39,7 @@ impl Sent {
     ///
     /// # Errors
     ///
-    /// Want of memory.
+    /// Memory ran out.
     pub(crate) fn add(
         &mut self,
         now: u64,
@@ -59,7 +59,7 @@ impl Sent {
     }
 }
 
-// The hash goes on with these bytes.
+// Continues the hash with these bytes.
 fn hash_of(hash: u64, bytes: &[u8]) -> u64 {
     let mut hash = hash;
     for byte in bytes {

@@ -1,4 +1,4 @@
-//! The user agents: one that listens, one that calls, and one that does what a pipe asks for.
+//! The user agents: one that listens, one that calls, and one that does what a pipe says.
 
 ghost use Rattle.std.specs.Prelude.{◌≡◌, IfOk, IfSome, OnOk};
 ghost use Rattle.sip_desk.specs.Lines.{IsEndOfLine, IsPosterOf, IsEndOf, all_posted, taken};
@@ -34,15 +34,15 @@ use std::time::{Clock, Duration};
 /// How long the listener waits for a datagram, in ms.
 const READ_TIMEOUT: u64 = 50;
 
-/// One more than the bytes of the longest datagram that is read.
+/// One more than the length of the longest datagram that is read, in bytes.
 const BUFFER: usize = 65_536;
 
-/// Takes part in calls for so many turns of 10 ms: INVITE, BYE and OPTIONS are answered with 200,
-/// all else with 501. Each notice is written as a line of an output file.
+/// Takes part in calls for `turns` turns of 10 ms: it answers INVITE, BYE and OPTIONS with 200, and
+/// all other requests with 501. Each notice is written as a line of an output file.
 ///
 /// # Errors
 ///
-/// The first fault. All is joined then, too.
+/// The first fault. All threads are joined then, too.
 pub fn listen<R: Threads + Clock + Sync, W: Write>(
     rt: &R,
     alloc: Global,
@@ -59,13 +59,13 @@ pub fn listen<R: Threads + Clock + Sync, W: Write>(
     listen_at(rt, alloc, endpoint, plan, turns, notices, &mut errors)
 }
 
-/// Does what [`listen`] does, at an endpoint, and answers INVITEs by a plan. Once the input of the
-/// endpoint has ended, calls that aren't answered get 480 and those that are up a BYE, and a second
-/// later the turns are over. That a record was given up is told on `errors`.
+/// Does what [`listen`] does, at an endpoint, and answers INVITEs by a plan. When the input of the
+/// endpoint has ended, calls that aren't answered get 480, and those that are up get a BYE; the
+/// turns end a second later. If recording is given up, `errors` says so.
 ///
 /// # Errors
 ///
-/// The first fault. All is joined then, too.
+/// The first fault. All threads are joined then, too.
 pub fn listen_at<R: Threads + Clock + Sync, F: Write + Drop, W: Write, E: Write>(
     rt: &R,
     alloc: Global,
@@ -79,12 +79,12 @@ pub fn listen_at<R: Threads + Clock + Sync, F: Write + Drop, W: Write, E: Write>
     talk(rt, alloc, endpoint, user, None, turns, notices, errors)
 }
 
-/// Calls a URI at an address, ends each dialog that a 2xx confirms, and takes so many turns of 10
+/// Calls a URI at an address, ends each dialog that a 2xx confirms, and takes `turns` turns of 10
 /// ms. Each notice is written as a line of an output file.
 ///
 /// # Errors
 ///
-/// The first fault. All is joined then, too.
+/// The first fault. All threads are joined then, too.
 pub fn call<R: Threads + Clock + Sync, W: Write>(
     rt: &R,
     alloc: Global,
@@ -104,13 +104,13 @@ pub fn call<R: Threads + Clock + Sync, W: Write>(
     call_from(rt, alloc, endpoint, plan, turns, notices, &mut errors)
 }
 
-/// Does what [`call`] does, from an endpoint and by a plan. Once the input of the endpoint has
-/// ended, the call is cancelled or ended, and at the latest a second later the turns are over. That
-/// a record was given up is told on `errors`.
+/// Does what [`call`] does, from an endpoint and by a plan. When the input of the endpoint has
+/// ended, the call is cancelled or ended, and the turns end at most a second later. If recording is
+/// given up, `errors` says so.
 ///
 /// # Errors
 ///
-/// The first fault. All is joined then, too.
+/// The first fault. All threads are joined then, too.
 pub fn call_from<R: Threads + Clock + Sync, F: Write + Drop, W: Write, E: Write>(
     rt: &R,
     alloc: Global,
@@ -125,14 +125,14 @@ pub fn call_from<R: Threads + Clock + Sync, F: Write + Drop, W: Write, E: Write>
     talk(rt, alloc, endpoint, user, None, turns, notices, errors)
 }
 
-/// Does what the lines of the input ask for, each the command of an event file, or of a session
-/// with header lines before it, as the endpoint says. It writes each notice and each drop as a line
-/// of an output file. A line that has no part in a command is told on `errors` with its number.
-/// After the end of the input it goes on until nothing is held or so many ms are over.
+/// Does what the lines of the input say. Each is a command as in an event file, or in a session
+/// with header lines before it, as the endpoint says. Each notice and each drop is written as a
+/// line of an output file. A line that has no part in a command is reported on `errors` with its
+/// number. After the end of the input it goes on until nothing is held, or for `linger` ms.
 ///
 /// # Errors
 ///
-/// The first fault; the input may not have ended then.
+/// The first fault. The input may not have ended then.
 pub fn agent<
     R: Threads + Clock + Net + Sync,
     F: Write + Drop,
@@ -175,7 +175,7 @@ fn own_uri(alloc: Global, local: Addr) -> Result<Uri, AllocError> {
     Ok(Uri::from_text(text))
 }
 
-/// The end of the listener's line is that of its poster.
+/// The end of the listener's line belongs to its poster.
 #[derive(Drop)]
 struct OfLine(Snapshot<Poster<Event>>);
 

@@ -1,4 +1,4 @@
-//! The turns of a user agent: a round each.
+//! The turns of a user agent. Each turn is a round.
 
 ghost use Rattle.std.specs.Prelude.{◌≡◌, ◌++◌, List, OnOk, map};
 ghost use Rattle.sip_desk.specs.Lines.{KeepsLines};
@@ -30,10 +30,10 @@ use std::time::{Clock, Duration, Instant};
 /// How many events the line of the listener has room for.
 pub(crate) const LINE_CAPACITY: usize = 1024;
 
-/// How long a turn sleeps at its end, in ms, or waits at its bell at most.
+/// How long a turn sleeps at its end, in ms; at its bell it waits at most that long.
 const PAUSE: u64 = 10;
 
-/// The gate of the agent: it holds no piece of work up.
+/// The gate of the agent. It holds up no piece of work.
 struct Open;
 
 impl Gate for Open {
@@ -53,18 +53,18 @@ pub(crate) struct Turns<U, F> {
     limit: Limit,
     // Whether drops are told.
     drops: bool,
-    // Where it is told at the end what was counted.
+    // The counts, if they are told at the end.
     counts: Option<Counts>,
     start: Instant,
-    // The moment of the last round, in ms since the start, and the number of the next.
+    // The moment of the last round, in ms since the start, and the number of the next round.
     moment: u64,
     number: u64,
-    // What the next rounds are given.
+    // The events of the next rounds.
     waiting: Vec<Event>,
 }
 
 impl<U: User, F: Write + Drop> Turns<U, F> {
-    /// Before the first turn. The head of the record is written.
+    /// The turns before the first one. The head of the record is written.
     pub(crate) fn new<R: Clock, E: Write>(
         rt: &R,
         alloc: Global,
@@ -102,7 +102,7 @@ impl<U: User, F: Write + Drop> Turns<U, F> {
         })
     }
 
-    /// Takes so many turns, or fewer where the time is over, the user wants no more or the listener
+    /// Takes `turns` turns, or fewer if the time is over, the user wants no more, or the listener
     /// has ended.
     pub(crate) fn take<R: Threads + Clock + Sync, O: Outlet, W: Write, E: Write>(
         &mut self,
@@ -133,11 +133,11 @@ impl<U: User, F: Write + Drop> Turns<U, F> {
         Ok(())
     }
 
-    /// Whether the user has had what it was to have at least.
+    /// Whether the user got the least that it had to get.
     ///
     /// # Errors
     ///
-    /// `NotAnswered`, where it hasn't.
+    /// `NotAnswered` if it didn't.
     pub(crate) fn verdict(&self) -> Result<(), UaFault> {
         if self.user.is_satisfied() {
             Ok(())
@@ -146,8 +146,8 @@ impl<U: User, F: Write + Drop> Turns<U, F> {
         }
     }
 
-    /// Tells what was counted, where it is to, after so many sends have failed and the listener has
-    /// lost so many datagrams.
+    /// Writes the counts, if that was asked for, when `failed` sends have failed and the listener
+    /// has lost `lost` datagrams.
     pub(crate) fn tell_counts<E: Write>(&mut self, failed: u64, lost: u64, errors: &mut E) {
         if let Some(counts) = &mut self.counts {
             counts.failed = failed;
@@ -156,7 +156,7 @@ impl<U: User, F: Write + Drop> Turns<U, F> {
         }
     }
 
-    // What the user asks for by itself, and what was posted.
+    // Gathers what the user asks for by itself, and what was posted.
     fn gather<R: Clock, E: Write>(
         &mut self,
         rt: &R,
@@ -174,12 +174,13 @@ impl<U: User, F: Write + Drop> Turns<U, F> {
         self.collect(desk)
     }
 
-    // Whether something waits or is held.
+    // Whether an event waits, or anything is held.
     fn holds(&self) -> bool {
         !self.waiting.is_empty() || self.agent.live() != (0, 0)
     }
 
-    // Whether a round is run now: an eager user's only where it may give or change something.
+    // Whether a round is run now. For an eager user that is only if it may give or change
+    // something.
     fn is_due(&self, now: u64) -> bool {
         let has_cause = match self.agent.next_due() {
             Some(due) if due <= now => true,
@@ -209,7 +210,7 @@ impl<U: User, F: Write + Drop> Turns<U, F> {
         write_notices(self.alloc, notices, telling, events, &outputs)
     }
 
-    // Sends the outputs; what failed waits for the next round.
+    // Sends the outputs. What failed waits for the next round.
     fn send<O: Outlet>(
         &mut self,
         outlet: &mut O,
@@ -225,7 +226,7 @@ impl<U: User, F: Write + Drop> Turns<U, F> {
         Ok(())
     }
 
-    // Sleeps, or waits at the bell for the first event, no longer than nothing is due.
+    // Sleeps, or waits at the bell for the first event, until the next key is due at most.
     fn pause<R: Clock>(&self, rt: &R) -> Result<(), UaFault> {
         let Some(bell) = &self.bell else {
             thread::sleep(rt, Duration::from_millis(PAUSE));
@@ -252,8 +253,8 @@ impl<U: User, F: Write + Drop> Turns<U, F> {
         Ok(())
     }
 
-    // Runs a round of what waits, records it, and gives it with its outputs; what is above its
-    // limit waits on.
+    // Runs a round with the waiting events, records it, and gives it with its outputs. Events above
+    // its limit go on waiting.
     fn run_round<R: Threads + Clock + Sync, E: Write>(
         &mut self,
         rt: &R,
@@ -283,7 +284,7 @@ impl<U: User, F: Write + Drop> Turns<U, F> {
         Ok(Series::from_vec(events))
     }
 
-    // The clock's ms since the start; it doesn't go back.
+    // The ms since the start, by the clock. They don't go back.
     fn moment_now<R: Clock>(&self, rt: &R) -> Result<u64, UaFault> {
         let Ok(now) = Instant::now(rt) else {
             return Err(UaFault::Socket);

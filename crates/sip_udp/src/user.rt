@@ -6,20 +6,20 @@ use sip_served::Notice;
 use std::alloc::{AllocError, Global};
 use std::io::Write;
 
-/// Asks things of the agent's calls, and is told of them. Moments are in ms since the start.
+/// Asks the agent's calls for things, and is told about them. Moments are in ms since the start.
 pub(crate) trait User: Drop {
     /// Adds what the user asks for before it is told anything.
     ///
     /// # Errors
     ///
-    /// Want of memory.
+    /// Memory ran out.
     fn begin(&mut self, alloc: Global, events: &mut Vec<Event>) -> Result<(), AllocError>;
 
-    /// Adds what the user asks for when it is told this at the moment `now`.
+    /// Adds what the user asks for when it is told this notice at the moment `now`.
     ///
     /// # Errors
     ///
-    /// Want of memory.
+    /// Memory ran out.
     fn told(
         &mut self,
         alloc: Global,
@@ -28,12 +28,12 @@ pub(crate) trait User: Drop {
         events: &mut Vec<Event>,
     ) -> Result<(), AllocError>;
 
-    /// Adds what the user asks for by itself at the moment `now`, where so much time is left.
-    /// What it has against its own orders goes to `errors`.
+    /// Adds what the user asks for by itself at the moment `now`, when this much time is left. What
+    /// is wrong with its own commands is written to `errors`.
     ///
     /// # Errors
     ///
-    /// Want of memory.
+    /// Memory ran out.
     fn turn<E: Write>(
         &mut self,
         alloc: Global,
@@ -43,13 +43,13 @@ pub(crate) trait User: Drop {
         errors: &mut E,
     ) -> Result<(), AllocError>;
 
-    /// Whether it wants no more turns, where the agent holds something or nothing.
+    /// Whether it wants no more turns, when the agent holds something or nothing.
     fn is_over(&self, now: u64, holds: bool) -> bool;
 
-    /// Whether a turn begins as soon as there is an event, and is left out where there is nothing
-    /// to do.
+    /// Whether a turn begins as soon as there is an event, and is left out if there is nothing to
+    /// do.
     fn is_eager(&self) -> bool;
 
-    /// Whether it has had what it was to have at least, at the end.
+    /// Whether, at the end, it got the least that it had to get.
     fn is_satisfied(&self) -> bool;
 }

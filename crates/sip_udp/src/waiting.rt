@@ -21,10 +21,10 @@ struct Line {
     wrong: Option<Wrong>,
 }
 
-/// What is wrong with a line by itself.
+/// What is wrong with a line, taken by itself.
 #[derive(Clone, Copy)]
 enum Wrong {
-    /// A word of what isn't a command.
+    /// A word of a line that isn't a command.
     Word(WrongWord),
     /// It isn't a header line that a user may give.
     Header,
@@ -34,7 +34,7 @@ enum Wrong {
 #[derive(Drop)]
 pub(crate) struct Waiting {
     lines: Vec<Line>,
-    /// What they say, where each is a header line.
+    /// What they say, if each of them is a header line.
     pub headers: Option<Series<GivenHeader>>,
 }
 
@@ -49,12 +49,12 @@ impl Waiting {
         }
     }
 
-    /// Takes the next line. A command is asked for with the header lines before it; lines that have
-    /// no part in one are told on `errors`.
+    /// Takes the next line. A command is asked for with the header lines before it. Lines that have
+    /// no part in one are reported on `errors`.
     ///
     /// # Errors
     ///
-    /// Want of memory.
+    /// Memory ran out.
     pub(crate) fn take<E: Write>(
         &mut self,
         alloc: Global,
@@ -95,7 +95,7 @@ impl Waiting {
         }
     }
 
-    /// Tells these lines with their numbers and what is wrong with each, and has none then.
+    /// Reports these lines with their numbers and what is wrong with each. Then it has none.
     pub(crate) fn refuse<E: Write>(&mut self, alloc: Global, errors: &mut E)
         ensures { self.new.headers ≡ Some [] }
     {
@@ -103,7 +103,7 @@ impl Waiting {
         tell(lines.lines, errors);
     }
 
-    // A header line more.
+    // Adds one more header line.
     fn add(&mut self, header: GivenHeader) -> Result<(), AllocError>
         ensures { OnOk result (self.new.headers
             ≡ piping.headers_after self.old.headers (said.Header header)) }
@@ -114,7 +114,7 @@ impl Waiting {
         }
     }
 
-    // Asks for a command, which is the last of these lines.
+    // Asks for a command. Its line is the last of these lines.
     fn ask<E: Write>(
         &mut self,
         alloc: Global,
@@ -135,7 +135,7 @@ impl Waiting {
     }
 }
 
-// The command with the header lines before it, where they are such and it takes them.
+// The command with the lines before it, if they are header lines and the command takes them.
 fn command_with(
     alloc: Global,
     headers: Option<Series<GivenHeader>>,

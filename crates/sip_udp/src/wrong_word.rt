@@ -1,13 +1,13 @@
-//! What is wrong with a line of the pipe that is no command.
+//! What is wrong with a line of the pipe that isn't a command.
 
 use sip_files::read_command_line;
 use sip_text::cut;
 use std::alloc::{AllocError, Global};
 
-/// The first word of a line with which no command goes on.
+/// The first word of a line with which it can't become a command.
 #[derive(Clone, Copy)]
 pub struct WrongWord {
-    /// Words are numbered from 1. It may be the one that is missing at the end.
+    /// The number of the word, from 1. The word may be the one that is missing at the end.
     pub number: u64,
     /// What has to stand there.
     pub expected: &'static str,
@@ -34,7 +34,7 @@ enum Field {
 }
 
 impl Field {
-    // What it is.
+    // The name of the field.
     fn name(self) -> &'static str {
         match self {
             Field::CallId => "a Call-ID",
@@ -54,7 +54,7 @@ impl Field {
         }
     }
 
-    // A text that has its form.
+    // A text in the form of the field.
     fn sample(self) -> &'static str {
         match self {
             Field::CallId => "c",
@@ -78,14 +78,14 @@ impl Field {
     }
 }
 
-/// What a line begins with.
+/// The words with which a line may begin.
 const COMMANDS: &str = "invite, plain, request, respond, ack, prack or cancel";
 
-/// What is wrong with a line, without its end, that is the line of no command.
+/// What is wrong with a line that isn't a command's. The line stands without its end.
 ///
 /// # Errors
 ///
-/// Want of memory.
+/// Memory ran out.
 pub(crate) fn wrong_word(alloc: Global, line: &[u8]) -> Result<WrongWord, AllocError> {
     let (keyword, mut left) = first_word(line);
     let fields = fields_of(alloc, keyword)?;
@@ -120,7 +120,7 @@ pub(crate) fn wrong_word(alloc: Global, line: &[u8]) -> Result<WrongWord, AllocE
     })
 }
 
-// The first word of a text, and what stands behind the space after it.
+// The first word of a text, and what stands behind the space after that word.
 fn first_word(text: &[u8]) -> (&[u8], Option<&[u8]>) {
     match cut(b' ', text) {
         Some((word, rest)) => (word, Some(rest)),
@@ -128,7 +128,7 @@ fn first_word(text: &[u8]) -> (&[u8], Option<&[u8]>) {
     }
 }
 
-// The fields of the command of this name; none where there is no such command.
+// The fields of the command with this name; none if there is no such command.
 fn fields_of(alloc: Global, keyword: &[u8]) -> Result<Vec<Field>, AllocError> {
     match str::from_utf8(keyword) {
         Ok("invite") => Vec::from_slice(
@@ -192,7 +192,7 @@ fn fields_of(alloc: Global, keyword: &[u8]) -> Result<Vec<Field>, AllocError> {
     }
 }
 
-// Whether some command goes on from this text with such fields.
+// Whether this text, with these fields behind it, is a command.
 fn goes_on(alloc: Global, text: &[u8], fields: &[Field]) -> Result<bool, AllocError> {
     let mut line = Vec::from_slice(alloc, text)?;
     for field in fields {

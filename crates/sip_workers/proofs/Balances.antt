@@ -13,7 +13,7 @@ use Rattle.sip_workers.specs.Balance.{log, all_parts, all_put, all_taken, IsIdle
 use Rattle.sip_workers.proofs.Permutations.{same_order, joined, exchange, put_more, take_front, take_back}
 
 module _ {J : Type 0} where
-  -- ---- one view and the others
+  -- ---- one pass's view and the others
 
   abbrev others : List (Log J) → ℕ → List (Log J)
   others [] port = []
@@ -109,7 +109,7 @@ module _ {J : Type 0} where
         ap (λ (xs : List (Piece J)). xs ++ all_taken vs) mine.1 ∙ rest.1,
       )
 
-  -- who has every part knows the whole
+  -- whoever has every part knows the whole
   whole : (items : List (Piece J)) (views : List (Log J)) (port : ℕ) (v : Log J) → v.parts ≡ 64
       → get_elem? views port ≡ some v → Balanced items views
       → IsPermutation v.put (items ++ v.taken)
@@ -147,7 +147,7 @@ module _ {J : Type 0} where
         refl,
       )
 
-  -- where one more was taken, no more was taken than put
+  -- if one more was taken, no more were taken than put in
   counted : (v : Log J) (xs items : List (Piece J)) → IsPermutation v.put ((xs ++ items) ++ v.taken)
       → length (v.taken ++ xs) ≤ length v.put
   counted v xs items p = omega (

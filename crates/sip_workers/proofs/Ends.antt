@@ -1,4 +1,4 @@
--- The seats as they begin, and as their results come back.
+-- The seats as they begin, and their results as they come back.
 use Rattle.std.proofs.Common.{◌≡◌, ℕ, zero, suc, ◌+◌, ◌-◌, ◌<◌, get_or, All, Vec, Err, arith, List, [], ◌∷◌, ◌++◌, length, Result, Ok, sym, subst, ap, ◌∙◌, refl}
 use Rattle.std.specs.List.{AllByRecursion, AllZip}
 use Rattle.std.proofs.lemmas.List.{get_or_default}
@@ -28,7 +28,7 @@ pub all_but_last : {X : Type 0} (P : X → Type 0) (xs : List X) (x : X)
 all_but_last P [] x all = (tt, all.0)
 all_but_last P (y ∷ ys) x all = let rest = all_but_last P ys x all.1 in ((all.0, rest.0), rest.1)
 
--- the last result of a list is a thief's
+-- if all results are thieves', so are the last one and those before it
 pub thiefs_last : {J D : Type 0} (gives : J → D → Type 0) (deque : OwnerOf J)
     (all rest : List (Result (Served J D) NoMemory)) (result : Result (Served J D) NoMemory)
     (served : Served J D)
@@ -43,7 +43,7 @@ thiefs_last {J} {D} gives deque all rest result served good is was =
 
 -- ---- lists
 
--- what holds at each place holds pair by pair
+-- what is true at each place is true pair by pair
 pub zip_at : {A B : Type 0} (R : A → B → Type 0) (xs : List A) (ys : List B) → length ys ≡ length xs
     → ((i : ℕ) (d : B) → i < length xs
     → (a : A) × ((e : A) → get_or xs i e ≡ a) × R a (get_or ys i d)) → AllZip R xs ys
@@ -172,7 +172,7 @@ module _ {J D : Type 0} (gives : J → D → Type 0) where
   same_deques a b [] same all = tt
   same_deques a b (r ∷ rs) same all = (same_deque a b r same all.0, same_deques a b rs same all.1)
 
-  -- what is known of the owner that comes back last, and of the results before it
+  -- what is known of the owner, which comes back last, and of the results before it
   pub record ComesBack (put : List (Piece J)) (owner : OwnerOf J) (dones : Vec (ℕ × D) Global)
       (rest : List (Result (Served J D) NoMemory)) : Type 0 where
     pub parts : (worker_view owner).parts + length rest ≡ 64

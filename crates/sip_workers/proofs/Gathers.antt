@@ -26,7 +26,7 @@ numbers_rise {X} f (x ∷ xs) up = λ i j d le below.
     let b = get_or-map f (x ∷ xs) j x d inside in
     omega (arith, a, b, up i j x le inside)
 
--- numbers that differ, brought into order
+-- dones with different numbers, sorted, rise
 pub rising : {D : Type 0} (dones sorted : List (ℕ × D)) → IsPermutation dones sorted
     → IsDistinct nat_eq (map (λ d. d.0) dones) → IsNonDecreasingBy (λ d. d.0) sorted
     → IsStrictlyIncreasing (map (λ d. d.0) sorted)
@@ -47,7 +47,7 @@ most xs n up counted small zero k at = omega (arith, small k 0 (omega arith))
 most xs n up counted small (suc j) k at =
     omega (arith, up k (omega arith), most xs n up counted small j (k + 1) (omega arith))
 
--- numbers below n that rise, n of them, are their places
+-- if n rising numbers are below n, each is its own place
 places : (xs : List ℕ) (n : ℕ) → IsStrictlyIncreasing xs → length xs ≡ n → All (λ x. x < n) xs
     → (k : ℕ) → k < n → slice_index xs k ≡ k
 places xs n up counted small k below =
@@ -69,12 +69,12 @@ zip_by R (x ∷ xs) (y ∷ ys) same each = (
 )
 
 module _ {J D : Type 0} (gives : J → D → Type 0) (pieces : List (Piece J)) where
-  -- the piece stands at its number
+  -- the piece stands at the place of its number
   abbrev Stands : Piece J → Type 0
   Stands piece = (piece.shard < length pieces)
       × ((e : Piece J) → get_or pieces piece.shard e ≡ piece)
 
-  -- the done is one of the piece at its number
+  -- the done is one of the piece at the place of its number
   abbrev Given : ℕ × D → Type 0
   Given done = (done.0 < length pieces)
       × ((e : Piece J) → gives (get_or pieces done.0 e).job done.1)
@@ -120,7 +120,7 @@ module _ {J D : Type 0} (gives : J → D → Type 0) (pieces : List (Piece J)) w
   numbers_of (o ∷ os) (d ∷ ds) ran =
       ap (λ n. n ∷ map (λ d. d.0) ds) ran.0.0 ∙ ap (λ ns. o.shard ∷ ns) (numbers_of os ds ran.1)
 
-  -- dones of pieces whose numbers differ have numbers that differ
+  -- the dones of pieces with different numbers have different numbers
   pub distinct_done : (dones : List (ℕ × D)) → AllRan gives pieces dones
       → IsDistinct nat_eq (map (λ p. p.shard) pieces) → IsDistinct nat_eq (map (λ d. d.0) dones)
   distinct_done dones (order, same, ran) distinct =
@@ -155,7 +155,7 @@ module _ {J D : Type 0} (gives : J → D → Type 0) (pieces : List (Piece J)) w
       get_or-map made sorted i (0, b) b (omega arith) in
       rw here (subst (λ (n : ℕ). gives (get_or pieces n a).job s.1) at (g.1 a))))
 
--- pieces that are numbered have numbers that differ
+-- numbered pieces have different numbers
 pub distinct_numbered : {J : Type 0} (pieces : List (Piece J)) → IsNumbered pieces
     → IsDistinct nat_eq (map (λ p. p.shard) pieces)
 distinct_numbered {J} pieces numbered =
@@ -167,7 +167,7 @@ distinct_numbered {J} pieces numbered =
     ne_eqb (get_or (map shard pieces) i d) (get_or (map shard pieces) j d)
     (λ same. absurd (omega (arith, numbered i (omega arith), numbered j (omega arith)))))
 
--- one piece more
+-- one more piece
 pub numbered_more : {J : Type 0} (pieces : List (Piece J)) (piece : Piece J) → IsNumbered pieces
     → piece.shard ≡ length pieces → IsNumbered (pieces ++ piece ∷ [])
 numbered_more {J} pieces piece numbered next = λ k below.

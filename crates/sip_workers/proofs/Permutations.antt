@@ -10,14 +10,14 @@ module _ {X : Type 0} where
   pub joined : (a b c : List X) → IsPermutation a b → IsPermutation b c → IsPermutation a c
   joined a b c p q = IsPermutation-trans a b c p q
 
-  -- the first two of three change places
+  -- the first two of three parts change places
   pub exchange : (a b c : List X) → IsPermutation (a ++ (b ++ c)) (b ++ (a ++ c))
   exchange a b c =
       joined _ _ _ (same_order _ ((a ++ b) ++ c) (sym (append_assoc a b c)))
       (joined _ _ _ (IsPermutation-append_left c (a ++ b) (b ++ a) (IsPermutation-append_comm a b))
       (same_order ((b ++ a) ++ c) _ (append_assoc b a c)))
 
-  -- what is put at the end of a part, before others
+  -- more is put at the end of one part, which others follow
   pub put_more : (put xs puts items taken takens : List X)
       → IsPermutation (put ++ puts) (items ++ (taken ++ takens))
       → IsPermutation ((put ++ xs) ++ puts) ((items ++ xs) ++ (taken ++ takens))
@@ -30,7 +30,7 @@ module _ {X : Type 0} where
       (joined _ (items ++ (xs ++ (taken ++ takens))) _ (exchange xs items (taken ++ takens))
       (same_order _ _ (sym (append_assoc items xs (taken ++ takens))))))
 
-  -- what leaves at the front goes to the end of what one took
+  -- what leaves at the front is put at the end of what one pass took
   pub take_front : (all xs items taken takens : List X)
       → IsPermutation all ((xs ++ items) ++ (taken ++ takens))
       → IsPermutation all (items ++ ((taken ++ xs) ++ takens))
@@ -43,7 +43,7 @@ module _ {X : Type 0} where
       (joined _ (taken ++ (xs ++ takens)) _ (exchange xs taken takens)
       (same_order _ _ (sym (append_assoc taken xs takens)))))))
 
-  -- the same at the back
+  -- the same, leaving at the back
   pub take_back : (all xs items taken takens : List X)
       → IsPermutation all ((items ++ xs) ++ (taken ++ takens))
       → IsPermutation all (items ++ ((taken ++ xs) ++ takens))

@@ -14,7 +14,7 @@ zip_append R (x ∷ xs) [] us vs p q = absurd p
 zip_append R (x ∷ xs) (y ∷ ys) us vs p q = (p.0, zip_append R xs ys us vs p.1 q)
 
 module _ {J D : Type 0} (gives : J → D → Type 0) where
-  -- a piece more was run
+  -- one more piece was run
   pub ran_then : (pieces : List (Piece J)) (piece : Piece J) (done : ℕ × D)
       (dones more : List (ℕ × D)) → more ≡ dones ++ done ∷ [] → IsDoneOf gives piece done
       → Ran gives pieces dones → Ran gives (pieces ++ piece ∷ []) more
@@ -22,7 +22,7 @@ module _ {J D : Type 0} (gives : J → D → Type 0) where
       subst (λ (ds : List (ℕ × D)). Ran gives (pieces ++ piece ∷ []) ds) (sym pushed)
       (zip_append (IsDoneOf gives) pieces dones (piece ∷ []) (done ∷ []) ran (given, tt))
 
-  -- a piece more was taken and run
+  -- one more piece was taken and run
   pub ran_more : (v w : Log J) (piece : Piece J) (done : ℕ × D) (dones more : List (ℕ × D))
       → w ≡ log v.parts v.put (v.taken ++ piece ∷ []) → more ≡ dones ++ done ∷ []
       → IsDoneOf gives piece done → Ran gives v.taken dones → Ran gives w.taken more
@@ -30,7 +30,7 @@ module _ {J D : Type 0} (gives : J → D → Type 0) where
       subst (λ (xs : List (Piece J)). Ran gives xs more) (sym (ap (λ (u : Log J). u.taken) took))
       (ran_then v.taken piece done dones more pushed given ran)
 
-  -- the dones of a pass that is joined stand after the others
+  -- the dones of a pass that is joined stand behind the others
   pub ran_joined : (v w u : Log J) (dones theirs more : List (ℕ × D))
       → u ≡ log (v.parts + w.parts) (v.put ++ w.put) (v.taken ++ w.taken) → more ≡ dones ++ theirs
       → Ran gives v.taken dones → Ran gives w.taken theirs → Ran gives u.taken more

@@ -1,6 +1,5 @@
--- The rule of the deque: what was put in is, in some order, what it holds and what was taken from
--- it.
--- It relates what the passes know, and names no value of a run.
+-- The rule of the deque: the pieces put in are, in some order, those that it holds and those that
+-- were taken from it. It relates what the passes know. No value in a run stands for it.
 use Rattle.std.specs.Prelude.{◌≡◌, ℕ, ◌+◌, List, [], ◌∷◌, ◌++◌}
 use Rattle.std.specs.List.{flat_map, AllByRecursion}
 use Rattle.std.specs.List.Sorted.{IsPermutation}
@@ -25,7 +24,7 @@ module _ {J : Type 0} where
   abbrev pub IsIdle : Log J → Type 0
   IsIdle v = v.parts ≡ 0 → (v.put ≡ []) × (v.taken ≡ [])
 
-  -- the passes share 64 parts, as many as there may be workers
+  -- the passes share 64 parts, since there are at most 64 workers
   pub record Balanced (items : List (Piece J)) (views : List (Log J)) : Type 0 where
     pub parts : all_parts views ≡ 64
     pub balance : IsPermutation (all_put views) (items ++ all_taken views)

@@ -1,4 +1,4 @@
--- What each seat of the parallel map begins with, and what it gives back.
+-- How each seat of the parallel map begins, and what it gives back.
 use Rattle.std.specs.Prelude.{◌≡◌, ℕ, ◌-◌, ◌<◌, ◌≤◌, List, [], ◌∷◌, ◌++◌, length, Result, Ok, Err, ⊤}
 use Rattle.std.specs.List.{AllByRecursion, AllZip}
 use Rattle.std.specs.declared.alloc.Global.{Global}
@@ -15,7 +15,7 @@ use Rattle.sip_workers.specs.declared.seat.Served.TheVariants as ended
 use Rattle.sip_workers.specs.Balance.{log}
 use Rattle.sip_workers.specs.Ran.{Ran}
 
--- a worker, whose deque is meant
+-- the owner of a deque
 abbrev pub OwnerOf : Type 0 → Type 0
 OwnerOf J = Worker (Piece J) Global (Log J) Fair
 
@@ -38,7 +38,7 @@ module _ {J : Type 0} where
       (worker_deque owner ≡ worker_deque deque) × (worker_view owner ≡ log parts put [])
   IsOwnerOf deque parts put (begun.Thief thief pass) = ⊥
 
-  -- thieves, and then the owner; each thief has one part of the 64, and the owner has the others
+  -- thieves, and then the owner; each thief has one of the 64 parts, and the owner has the others
   pub record AreSeats (put : List (Piece J)) (count : ℕ) (seats : List (Seat J)) : Type 0 where
     pub deque : OwnerOf J
     pub thieves : List (Seat J)
@@ -50,7 +50,7 @@ module _ {J : Type 0} where
     pub owner : IsOwnerOf deque (64 - count) put last
 
 module _ {J D : Type 0} (gives : J → D → Type 0) where
-  -- a thief's pass of this deque comes back, with the dones of what it took
+  -- a thief's pass of this deque comes back, with the dones of the pieces that it took
   abbrev pub IsThiefsResult : OwnerOf J → Result (Served J D) NoMemory → Type 0
   IsThiefsResult deque (Ok (ended.Owner owner dones)) = ⊥
   IsThiefsResult deque (Ok (ended.Thief pass dones)) =
@@ -58,7 +58,7 @@ module _ {J D : Type 0} (gives : J → D → Type 0) where
       × Ran gives (view pass).taken dones.items
   IsThiefsResult deque (Err e) = ⊤
 
-  -- the owner comes back, with the dones of what it took
+  -- the owner comes back, with the dones of the pieces that it took
   abbrev pub IsOwnersResult : OwnerOf J → ℕ → List (Piece J) → Result (Served J D) NoMemory → Type 0
   IsOwnersResult deque parts put (Ok (ended.Owner owner dones)) =
       (worker_deque owner ≡ worker_deque deque) × ((worker_view owner).parts ≡ parts)
@@ -72,7 +72,7 @@ module _ {J D : Type 0} (gives : J → D → Type 0) where
     pub owner : (deque : OwnerOf J) (parts : ℕ) (put : List (Piece J))
         → IsOwnerOf deque parts put seat → IsOwnersResult deque parts put result
 
-  -- what the seats give back, of a deque into which these pieces were put
+  -- what all seats give back, for a deque into which these pieces were put
   pub record AreResults (put : List (Piece J))
       (results : List (Result (Served J D) NoMemory)) : Type 0 where
     pub count : ℕ

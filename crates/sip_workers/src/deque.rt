@@ -8,15 +8,15 @@ use crossbeam_deque::{Pass, Stealer, Worker};
 use std::alloc::Global;
 use std::collections::LinkedList;
 
-// What a pass has put into the deque and taken from it, and its parts of the right to know the
-// whole. No value of it is made.
+// What a pass has put into the deque and taken from it, and how many of the 64 parts it holds; only
+// the holder of all parts knows the whole. It exists in contracts only: no value of it is made.
 pub struct Log<J> {
     pub parts: u64,
     pub put: LinkedList<Piece<J>>,
     pub taken: LinkedList<Piece<J>>,
 }
 
-// What was put is what is held and what was taken.
+// The rule of the deque: what was put in is what it holds and what was taken.
 pub struct Fair;
 
 impl<J> Protocol<Piece<J>, Log<J>> for Fair {
@@ -64,7 +64,7 @@ impl<J> Outcome<Piece<J>, Log<J>> for Puts {
     ghost then = { λ v xs w. w ≡ log v.parts (v.put ++ xs) v.taken };
 }
 
-// The owner pops a piece. Who has every part learns that all was taken where there is none.
+// The owner pops a piece. If it has every part and finds none, it knows that all were taken.
 pub struct Pops;
 
 impl<J> Outcome<Piece<J>, Log<J>> for Pops {

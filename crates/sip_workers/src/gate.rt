@@ -1,6 +1,6 @@
-//! What is told when a piece begins.
+//! A gate is called when a piece begins.
 
-/// Is told as a piece begins, on the thread that runs it.
+/// It is called as a piece begins, on the thread that runs the piece.
 pub trait Gate: Sync {
     fn begin(&self, shard: usize);
 }

@@ -1,4 +1,4 @@
-//! What the pieces gave, in the order of their numbers.
+//! The results of the pieces, in the order of their numbers.
 
 ghost use Rattle.std.specs.Prelude.{◌≡◌, ℕ, List, map, nat_eq, IfOk};
 ghost use Rattle.std.specs.List.{AllZip, IsDistinct};
@@ -8,7 +8,7 @@ ghost use Rattle.sip_workers.specs.Ran.{AllRan, IsGathered, IsNumbered};
 use crate::{Job, NoMemory};
 use std::alloc::Global;
 
-/// The dones in the order of their numbers, which differ.
+/// The dones in the order of their numbers. The numbers must differ.
 ///
 /// # Errors
 ///
@@ -27,8 +27,8 @@ fn without_numbers<D: Drop>(alloc: Global, dones: Vec<(usize, D)>) -> Result<Vec
     Ok(dones.into_iter().map(|done| done.1).collect(alloc)?)
 }
 
-/// Laws: where the pieces are numbered from 0 on, their numbers differ, and what is gathered of
-/// their dones has a done of each piece at its place.
+/// Laws: if the pieces are numbered from 0 on, their numbers differ, and gathering their dones
+/// gives a done of each piece at its place.
 pub fn dones_in_order<J: Job>()
     ensures differ { (pieces : List (Piece J)) → IsNumbered pieces
         → IsDistinct nat_eq (map (λ p. p.shard) pieces) }

@@ -1,4 +1,4 @@
-//! Pieces of work on several threads: an owner that takes from a deque, and thieves that steal from
+//! Pieces of work on several threads: an owner takes pieces from a deque, and thieves steal from
 //! it.
 #![tactic(auto)]
 

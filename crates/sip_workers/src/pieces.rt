@@ -15,14 +15,14 @@ use std::alloc::Global;
 use std::thread;
 use std::thread::Threads;
 
-/// Runs each piece once, on up to `workers` threads, and gives each done with its piece's shard
-/// number, in any order. One worker, or one piece, starts no thread.
+/// Runs each piece once, on up to `workers` threads, and gives each done with the shard number of
+/// its piece, in any order. With one worker, or one piece, it starts no thread.
 ///
-/// `gate` is told of each piece as it begins.
+/// `gate` is called for each piece as it begins.
 ///
 /// # Errors
 ///
-/// `NoMemory`, and then some pieces may not have run.
+/// `NoMemory`; then some pieces may not have run.
 pub fn run_pieces<R: Threads + Sync, J: Job + Send + Drop, G: Gate>(
     rt: &R,
     alloc: Global,
@@ -41,14 +41,14 @@ where
     dones_of(rt, alloc, pieces, workers, gate)
 }
 
-/// Runs each piece once and in turn, on the thread that asks for it, as `run_pieces` with one
-/// worker does. It starts no thread, and needs no handle.
+/// Runs each piece once, one after another, on the calling thread, as `run_pieces` does with one
+/// worker. It starts no thread, and needs no handle.
 ///
-/// `gate` is told of each piece as it begins.
+/// `gate` is called for each piece as it begins.
 ///
 /// # Errors
 ///
-/// `NoMemory`, and then some pieces may not have run.
+/// `NoMemory`; then some pieces may not have run.
 pub fn run_alone<J: Job + Drop, G: Gate>(
     alloc: Global,
     pieces: Vec<Piece<J>>,
@@ -63,7 +63,7 @@ where
     in_turn(alloc, pieces, gate)
 }
 
-// Where there is nothing to share, no thread is started.
+// If there is nothing to share, no thread is started.
 fn dones_of<R: Threads + Sync, J: Job + Send + Drop, G: Gate>(
     rt: &R,
     alloc: Global,
@@ -84,7 +84,7 @@ where
     }
 }
 
-// Each piece in its turn, on the thread that asks for it.
+// The pieces one after another, on the calling thread.
 fn in_turn<J: Job + Drop, G: Gate>(
     alloc: Global,
     pieces: Vec<Piece<J>>,
@@ -101,7 +101,7 @@ where
     Ok(dones)
 }
 
-// The pieces in a deque, from which the owner and the thieves take them.
+// Puts the pieces into a deque, from which the owner and the thieves take them.
 fn shared_out<R: Threads + Sync, J: Job + Send + Drop, G: Gate>(
     rt: &R,
     alloc: Global,
@@ -122,7 +122,7 @@ where
     finished(results, gate)
 }
 
-// A deque with room for all pieces, and all of them in it.
+// A deque with room for all pieces, with all of them in it.
 fn filled<J: Drop>(alloc: Global, pieces: Vec<Piece<J>>) -> Result<Owner<J>, NoMemory>
     ensures { IfOk result (λ owner. worker_view owner ≡ log 64 pieces.items []) }
 {
@@ -136,7 +136,7 @@ fn filled<J: Drop>(alloc: Global, pieces: Vec<Piece<J>>) -> Result<Owner<J>, NoM
     Ok(owner)
 }
 
-// The seats of the map: the thieves, each with a pass that is split off, and the owner last.
+// The seats for the threads: the thieves, each with a pass that was split off, and the owner last.
 fn seated<J: Drop>(
     alloc: Global,
     mut owner: Owner<J>,
@@ -157,7 +157,7 @@ fn seated<J: Drop>(
     Ok(seats)
 }
 
-// Each seat on a thread of its own.
+// Runs each seat on a thread of its own.
 fn served<R: Threads + Sync, J: Job + Send + Drop, G: Gate>(
     rt: &R,
     alloc: Global,
@@ -181,7 +181,7 @@ where
     Ok(results)
 }
 
-// The owner's result is the last. It gets every pass back, and takes what is left.
+// The owner's result is the last one. The owner gets every pass back, and takes the pieces left.
 fn finished<J: Job + Drop, G: Gate>(
     mut results: Vec<Result<Served<J, J::Done>, NoMemory>>,
     gate: &G,
@@ -197,7 +197,7 @@ where
     drained(owner, dones, gate)
 }
 
-// The owner gets every pass back, and the dones of the thieves go behind its own.
+// The owner gets every pass back. The dones of the thieves are put behind its own.
 fn joined<J: Job + Drop>(
     mut owner: Owner<J>,
     mut dones: Vec<(usize, J::Done)>,
@@ -220,7 +220,7 @@ where
     Ok((owner, dones))
 }
 
-// What no seat took, the owner takes now: after it nothing is left.
+// The owner takes the pieces that no seat took. After that none is left.
 fn drained<J: Job + Drop, G: Gate>(
     mut owner: Owner<J>,
     mut dones: Vec<(usize, J::Done)>,

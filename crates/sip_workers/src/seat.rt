@@ -1,4 +1,4 @@
-//! The seat of a worker at the deque: the owner, or a thief.
+//! A worker's seat at the deque: the owner's, or a thief's.
 
 ghost use Rattle.std.specs.Prelude.{◌≡◌, ◌<◌, [], ◌∷◌, ◌++◌, Some, Ok, IfOk, IfSome, IfNone, IsOk};
 ghost use Rattle.crossbeam_deque.specs.Handles.{view, IsPassOf, worker_deque, worker_view, stealer_deque};
@@ -12,7 +12,7 @@ use crate::{Gate, Job, NoMemory, Piece};
 use crossbeam_deque::Steal;
 use std::alloc::Global;
 
-// How often in a row a thief that is told to retry looks again for one piece.
+// How often in a row a thief looks again for one piece when it is told to retry.
 const MOST_RETRIES: usize = 1000;
 
 // A seat of the parallel map.
@@ -49,7 +49,7 @@ where
     }
 }
 
-// What a seat gives back, with the dones of the pieces that it took.
+// What a seat gives back, and the dones of the pieces that it took.
 #[derive(Drop)]
 pub enum Served<J, D> {
     Owner(Owner<J>, Vec<(usize, D)>),
@@ -57,7 +57,7 @@ pub enum Served<J, D> {
 }
 
 impl<J: Drop, D: Drop> Served<J, D> {
-    // The owner and its dones, where the owner's seat gave them back.
+    // The owner and its dones, if the owner's seat gave them back.
     pub fn owner(
         seat: Option<Result<Served<J, D>, NoMemory>>,
     ) -> Result<(Owner<J>, Vec<(usize, D)>), NoMemory>
@@ -69,7 +69,7 @@ impl<J: Drop, D: Drop> Served<J, D> {
         }
     }
 
-    // A thief's pass and its dones, where the thief's seat gave them back.
+    // A thief's pass and its dones, if the thief's seat gave them back.
     pub fn thief(
         seat: Result<Served<J, D>, NoMemory>,
     ) -> Result<(ThiefPass<J>, Vec<(usize, D)>), NoMemory>
@@ -90,7 +90,7 @@ pub fn run_piece<J: Job, G: Gate>(piece: Piece<J>, gate: &G) -> (usize, J::Done)
     (shard, job.run())
 }
 
-// The owner takes until the deque is empty. It holds at most `most` pieces.
+// The owner takes pieces until the deque is empty, at most `most` of them.
 fn own<J: Job + Drop, G: Gate>(
     alloc: Global,
     mut owner: Owner<J>,
@@ -135,7 +135,7 @@ fn steal<J>(thief: &Thief<J>, pass: &mut ThiefPass<J>) -> Option<Piece<J>>
     None
 }
 
-// A thief steals one piece at a time, until it finds none.
+// A thief steals one piece at a time until it finds none, at most `most` of them.
 fn thieve<J: Job + Drop, G: Gate>(
     alloc: Global,
     thief: &Thief<J>,

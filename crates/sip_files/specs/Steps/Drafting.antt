@@ -1,4 +1,4 @@
--- Reading the lines of a file one after the other, each where it may stand.
+-- Reading the lines of a file one after another, each where it may stand.
 use Rattle.std.specs.Prelude.{ℕ, Bool, true, false, ◌&&◌, ◌==◌, List, [], ◌∷◌, ◌++◌, length, Option, Some, None, replicate}
 use Rattle.std.specs.Option.{option_map}
 use Rattle.sip_text.specs.Options.{◌>>=◌}
@@ -66,7 +66,7 @@ round_taken stage.Seed draft moment = Some (begun_round draft moment)
 round_taken stage.First draft moment = Some (begun_round draft moment)
 round_taken stage.Rounds draft moment = Some (begun_round draft moment)
 
--- the last round gets the event
+-- the event is put into the last round
 abbrev pub with_event : List Round → Event → Option (List Round)
 with_event [] event = None
 with_event (round ∷ []) event = Some ((record round { events = round.events ++ event ∷ [] }) ∷ [])
@@ -77,7 +77,7 @@ abbrev pub event_drafted : Draft → Event → Option Draft
 event_drafted draft event =
     option_map (λ rounds. record draft { rounds = rounds }) (with_event draft.rounds event)
 
--- a header line is taken with the line that follows it
+-- a header line is taken together with the line that follows it
 abbrev pub taken : Draft → EventLine → Option Draft
 taken draft (line.Local local) = local_taken draft.stage draft local
 taken draft (line.Seed seed) = seed_taken draft.stage draft seed
@@ -86,7 +86,7 @@ taken draft (line.Round moment) = round_taken draft.stage draft moment
 taken draft (line.Event event) = event_drafted draft event
 taken draft (line.Header header) = None
 
--- one step after the other, where each may be gone
+-- one step after another, each of which may fail
 unfoldable pub all_gone : {S I : Type 0} → (S → I → Option S) → S → List I → Option S
 all_gone step start [] = Some start
 all_gone step start (item ∷ items) = step start item >>= λ next. all_gone step next items
@@ -94,7 +94,7 @@ all_gone step start (item ∷ items) = step start item >>= λ next. all_gone ste
 abbrev pub drafted : Draft → List EventLine → Option Draft
 drafted = all_gone taken
 
--- ---- header lines, and the lines that they stand before
+-- ---- header lines, and the lines before which they stand
 
 abbrev pub no_lines : Progress
 no_lines = record { draft = nothing_read; headers = [] }
@@ -103,7 +103,7 @@ no_lines = record { draft = nothing_read; headers = [] }
 abbrev pub is_whole : Progress → Bool
 is_whole progress = is_begun progress.draft.stage && (length progress.headers == 0)
 
--- header lines stand in a round
+-- header lines may stand only in a round
 abbrev pub header_in_round : List Round → Progress → GivenHeader → Option Progress
 header_in_round [] progress header = None
 header_in_round (round ∷ rounds) progress header =

@@ -1,4 +1,4 @@
--- Which bytes stand for themselves in a field of either form.
+-- Which bytes stand for themselves in a field of each form.
 use Rattle.std.specs.Prelude.{ℕ, Bool}
 use Rattle.sip_files.specs.declared.words.Form.{Form}
 use Rattle.sip_files.specs.declared.words.Form.TheVariants.{Word, Rest}

@@ -1,4 +1,4 @@
--- What the steps of reading a file tell.
+-- What the steps of reading a file say.
 use Rattle.std.specs.Prelude.{◌≡◌, ℕ, ◌+◌, false, List, [], ◌∷◌, ◌++◌, length, Option, Some, None, IsTrue, if◌then◌else◌}
 use Rattle.std.specs.List.{AllZip}
 use Rattle.std.specs.Str.{bytes_eq}
@@ -23,7 +23,7 @@ version_at line =
     else if bytes_eq line (version_line SessionOne) then Some SessionOne
     else None
 
--- the same, where a file of the kind may have it
+-- the same, if a file of the kind may have it
 abbrev pub version_in : FileKind → List ℕ → Option Version
 version_in kind line =
     version_at line >>= λ version. if is_of_kind kind version then Some version else None
@@ -43,7 +43,7 @@ TellsVersion kind (BadLine number) text =
     × (text ≡ version_line version)
 TellsVersion kind NoMemory text = ⊥
 
--- what the lines of the text say gives the draft, which is begun, and no header line is left
+-- what the lines of the text say gives the draft, which has begun, and no header line is left
 pub record Drafts (version : Version) (draft : Draft) (text : List ℕ) : Type 0 where
   pub lines : List (List ℕ)
   pub said : List EventLine
@@ -52,8 +52,8 @@ pub record Drafts (version : Version) (draft : Draft) (text : List ℕ) : Type 0
   pub gives : gone no_lines said ≡ Some (record { draft = draft; headers = [] })
   pub begun : IsTrue (is_begun draft.stage)
 
--- What the lines before this one say gives a progress, and what a line that stands next says may
--- not follow it; where no line stands next, something has to follow.
+-- What the lines so far say gives a progress. What the next line says may not follow; if there is
+-- no next line, something is missing.
 pub record Stuck (version : Version) (number : ℕ) (text : List ℕ) : Type 0 where
   pub progress : Progress
   pub before : List (List ℕ)

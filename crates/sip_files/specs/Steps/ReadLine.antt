@@ -1,4 +1,4 @@
--- Reading a line of a file, by its version, from left to right. What is read is said by the
+-- Reading a line of a file, by its version, from left to right. What a line means is defined by the
 -- lines' texts.
 use Rattle.std.specs.Prelude.{ℕ, ◌^◌, ◌-◌, ◌==◌, List, [], length, Option, Some, None, codes, if◌then◌else◌}
 use Rattle.std.specs.Option.{option_map}
@@ -182,7 +182,7 @@ cancel_of read = record { call_id = read.0; id = read.1 }
 unfoldable pub cancel_at : List ℕ → Option Cancel
 cancel_at fields = option_map cancel_of (ended_by (field_at 32 call_id_at) id_at fields)
 
--- version 1 alone doesn't have this line
+-- only version 1 doesn't have this line
 abbrev pub cancel_in : Version → List ℕ → Option Cancel
 cancel_in One fields = None
 cancel_in Two fields = cancel_at fields
@@ -231,7 +231,7 @@ failed_at fields = cut_at 32 fields >>= λ p. key_at p.0 p.1
 unfoldable pub header_at : List ℕ → Option GivenHeader
 header_at fields = rest_at fields >>= given_at
 
--- sessions alone have them
+-- only sessions have them
 abbrev pub header_in : Version → List ℕ → Option GivenHeader
 header_in One fields = None
 header_in Two fields = None

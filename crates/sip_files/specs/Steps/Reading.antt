@@ -1,5 +1,5 @@
--- Reading the fields of a line from left to right, a function for each. What is read is said by the
--- spellings.
+-- Reading the fields of a line from left to right, with a function for each. What a field means is
+-- defined by the spellings.
 use Rattle.std.specs.Prelude.{ℕ, zero, suc, Bool, ◌&&◌, ◌||◌, ◌==◌, ◌+◌, ◌-◌, ◌*◌, nat_le, List, [], ◌∷◌, length, Option, Some, None, is_some, codes, if◌then◌else◌}
 use Rattle.std.specs.Option.{option_map}
 use Rattle.std.specs.Borrow.{Bor}
@@ -37,14 +37,14 @@ hex_value digit =
 unfoldable pub hex_byte : ℕ → ℕ → Option ℕ
 hex_byte high low = hex_value high >>= λ h. hex_value low >>= λ l. Some (h * 16 + l)
 
--- two digits, where their byte has no shorter spelling
+-- two digits, if their byte has no shorter spelling
 unfoldable pub hex_at : (ℕ → Bool) → List ℕ → Option (ℕ × List ℕ)
 hex_at is_itself [] = None
 hex_at is_itself (high ∷ []) = None
 hex_at is_itself (high ∷ low ∷ rest) =
     hex_byte high low >>= λ b. if is_itself b || is_some (letter_of b) then None else Some (b, rest)
 
--- a letter, where its byte doesn't stand for itself
+-- a letter, if its byte doesn't stand for itself
 unfoldable pub letter_at : (ℕ → Bool) → ℕ → List ℕ → Option (ℕ × List ℕ)
 letter_at is_itself letter rest =
     byte_of_letter letter >>= λ b. if is_itself b then None else Some (b, rest)
@@ -62,7 +62,7 @@ byte_at is_itself (b ∷ rest) =
     if b == 92 then escape_at is_itself rest
     else if is_itself b then Some (b, rest) else None
 
--- all bytes, of which there are no more than this number
+-- all bytes, if there are at most this number
 abbrev pub bytes_from : (ℕ → Bool) → ℕ → List ℕ → Option (List ℕ)
 bytes_from is_itself zero [] = Some []
 bytes_from is_itself zero (b ∷ bs) = None

@@ -10,12 +10,12 @@ use Rattle.sip_shards.specs.Parts.{cut_by}
 use Rattle.sip_round.specs.Phases.{transaction_items}
 use Rattle.sip_round.specs.Steps.Waiting.{all_waiting}
 
--- arrivals of consecutive places, from this one on
+-- arrivals at consecutive places, from this one on
 abbrev pub ArePlaced : ℕ → List (Id × Arrival) → Type 0
 ArePlaced place [] = Unit {0}
 ArePlaced place (a ∷ rest) = ((a.0).place ≡ place) × ArePlaced (suc place) rest
 
--- the parts of so many shards, and what waits, are those of these arrivals
+-- the parts of this many shards, and what waits, are those of these arrivals
 pub record IsArrived (owner : Key → ℕ) (shards : ℕ) (arrivals : List (Id × Arrival))
     (parts : List (List (Item Key Input))) (waiting : List (Id × Waiting)) : Type 0 where
   pub placed : ArePlaced 1 arrivals

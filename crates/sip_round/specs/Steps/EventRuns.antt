@@ -1,4 +1,4 @@
--- Steps before the first phase: a round's events in runs.
+-- Steps before the first phase: a round's events, cut into runs.
 use Rattle.std.specs.Prelude.{◌+◌, List}
 use Rattle.sip_message.specs.declared.id.Id.{Id}
 use Rattle.sip_round.specs.Arrivals.{Arrival, arrivals_from}

@@ -1,5 +1,5 @@
--- What each of the three phases does to the shards and gives, whatever phases they were led through
--- before.
+-- What each of the three phases does to the shards and gives, whatever phases the shards went
+-- through before.
 use Rattle.std.specs.Prelude.{◌≡◌, ℕ, zero, List, [], ◌∷◌, ◌++◌, length}
 use Rattle.std.specs.List.{flat_map}
 use Rattle.sip_model.specs.Machine.{Timed, tick_at}
@@ -66,8 +66,8 @@ module _ (shared : Calls) (owner : List ℕ → ℕ) (old new : List (Held (List
         → commands ≡ flat_map command_of
         (all_said (said_by_calls shared past (second_phase now items)))
 
--- a round of this number leads the shards, and answers: whatever past they held, they hold it with
--- the phases of this round, and the outputs are its answer, each with its place
+-- a round with this number leads the shards and answers: whatever past they held, they now hold it
+-- with the phases of this round, and the outputs are its answer, each with its place
 pub record Deals (shared : Calls) (shard_of : List ℕ → ℕ → ℕ) (number : ℕ) (round : Round)
     (old new : ShardTables) (outputs : List PlacedOutput) : Type 0 where
   pub count : length new.transactions ≡ length old.transactions
@@ -81,7 +81,7 @@ pub record Deals (shared : Calls) (shard_of : List ℕ → ℕ → ℕ) (number 
       → HoldTransactions shard_of old past.transactions → HoldCalls shared shard_of old past.calls
       → outputs ≡ placed_answer config number past round
 
--- the same, where the outputs are given in a form
+-- the same, with the outputs in a form
 abbrev pub DealsInForm : {F : Type 0} → (ℕ → Output → F) → Calls → (List ℕ → ℕ → ℕ) → ℕ → Round
     → ShardTables → ShardTables → List F → Type 0
 DealsInForm form shared shard_of number round old new given =

@@ -1,4 +1,4 @@
--- Steps of an agent: one round more.
+-- Steps of an agent: one more round.
 use Rattle.std.specs.Prelude.{◌≡◌, ℕ, List, [], ◌∷◌, ◌++◌, map}
 use Rattle.sip_round.specs.declared.config.Config.{Config}
 use Rattle.sip_round.specs.declared.output.Output.{Output}
@@ -19,7 +19,7 @@ pub record StandsLonger {C : Type 0} (shard_of : C → List ℕ → ℕ → ℕ)
       ≡ answers config rounds ++ map (λ placed. placed.output) outputs ∷ []
 
 -- whatever rounds the old agent stood for, the new one stands for these and this one, whose outputs
--- are given so
+-- are given in this form
 abbrev pub GivesOneMore : {C F : Type 0} → (C → List ℕ → ℕ → ℕ) → (ℕ → Output → F)
     → AgentState C → AgentState C → Round → List F → Type 0
 GivesOneMore shard_of form old new round given =

@@ -1,5 +1,5 @@
--- Steps of the first phase: what waits for the answers of the transactions, and how these are
--- woven in.
+-- Steps of the first phase: what waits for the answers of the transactions, and how these are put
+-- in between.
 use Rattle.std.specs.Prelude.{ℕ, List, [], ◌∷◌, map}
 use Rattle.sip_message.specs.declared.id.Id.{Id}
 use Rattle.sip_transactions.specs.declared.output.Out.{Out}
@@ -11,7 +11,7 @@ use Rattle.sip_round.specs.Arrivals as arrival
 use Rattle.sip_round.specs.declared.waiting.Waiting.{Waiting}
 use Rattle.sip_round.specs.declared.waiting.Waiting.TheVariants as waiting
 
--- what is left of an arrival when its input is on its way
+-- what is left of an arrival after its input was set out
 abbrev pub waiting_of : Arrival → Waiting
 waiting_of (arrival.Transaction key input) = waiting.Transaction
 waiting_of (arrival.Dropped why) = waiting.Dropped why
@@ -20,7 +20,7 @@ waiting_of (arrival.User command) = waiting.User command
 abbrev pub all_waiting : List (Id × Arrival) → List (Id × Waiting)
 all_waiting arrivals = map (λ a. (a.0, waiting_of a.1)) arrivals
 
--- what comes of it: the next answer is that of the next transaction
+-- its outputs; the next answer is that of the next transaction
 abbrev pub outs_next : Id → Waiting → List (ℕ × List Out) → List Out
 outs_next id waiting.Transaction [] = []
 outs_next id waiting.Transaction (s ∷ said) = s.1
@@ -38,7 +38,7 @@ items_waiting id waiting.Transaction = []
 items_waiting id (waiting.Dropped why) = []
 items_waiting id (waiting.User command) = (id, item.User command) ∷ []
 
--- for each id what comes of it, and the user's command
+-- for each id, the outputs and the user's command
 abbrev pub by_event : List (Id × Waiting) → List (ℕ × List Out)
     → List (Id × List Out × List (Id × Item))
 by_event [] said = []

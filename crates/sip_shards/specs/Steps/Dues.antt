@@ -1,10 +1,10 @@
--- Something is due in one of several tables.
+-- A key in one of several tables is due.
 use Rattle.std.specs.Prelude.{◌≡◌, ◌⊎◌, ℕ, List, [], ◌∷◌, Option, Some}
 use Rattle.std.specs.declared.cmp.Ordering.{Ordering}
 use Rattle.sip_model.specs.Machine.{due_of}
 use Rattle.sip_model.specs.Table.{Held, state_at}
 
--- a key that one of the tables holds has something due at this moment
+-- a key that one of the tables holds is due at this moment
 abbrev pub IsDueIn : {K S : Type 0} → (K → K → Ordering) → (S → Option ℕ) → ℕ → List (Held K S)
     → Type 0
 IsDueIn {K} cmp due at [] = ⊥

@@ -1,4 +1,4 @@
--- Tables of shards, each with the keys that it owns and no other.
+-- Tables of shards, each with keys that it owns and no other.
 use Rattle.std.specs.Prelude.{◌≡◌, ◌<◌, ℕ, false, List, Option, None, IsSome, length, get_or}
 use Rattle.std.specs.declared.cmp.Ordering.{Ordering}
 use Rattle.sip_model.specs.Shards.{is_owned}

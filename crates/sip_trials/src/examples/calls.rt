@@ -1,4 +1,4 @@
-//! Calls of one shard.
+//! The calls of one shard.
 
 ghost use Rattle.std.specs.Prelude.{◌≤◌, ◌^◌};
 
@@ -27,11 +27,11 @@ CSeq: 1 INVITE\r
 \r
 ";
 
-/// What the user is told of it.
+/// The line that tells the user of it.
 const TOLD_SUCCESS: &[u8] =
     b"notice c2 response 0.1 200 0000000000000000000000000000000117a385155 x -\n";
 
-// What a shard says; where it was refused memory, it has to be broken.
+// What a shard says. If it ran out of memory, it has to be broken.
 fn said(
     shard: &mut CallShard,
     outs: Result<Vec<CallOut>, ShardFault>,
@@ -47,7 +47,7 @@ fn is_broken(shard: &mut CallShard) -> bool {
     shard.live() == 0 && matches!(shard.tick(0), Err(ShardFault::Broken))
 }
 
-// What an item gives.
+// What an item adds.
 fn given(shard: &mut CallShard, id: Id, item: Item, now: u64) -> Result<Vec<CallOut>, Stop>
     requires { now ≤ 2 ^ 62 }
 {
@@ -55,7 +55,7 @@ fn given(shard: &mut CallShard, id: Id, item: Item, now: u64) -> Result<Vec<Call
     said(shard, outs)
 }
 
-// Nothing comes of a tick, and so many calls are held then.
+// A tick does nothing, and `live` calls are held after it.
 fn is_quiet(shard: &mut CallShard, now: u64, live: usize) -> Result<(), Stop>
     requires { now ≤ 2 ^ 62 }
 {
@@ -74,7 +74,7 @@ fn is_answer(outs: &[CallOut]) -> bool {
     matches!(outs, [CallOut::Command(ID, Command::Answer { .. })])
 }
 
-// The INVITE goes out, its 200 is told and acknowledged; and 64 T1 later its dialog is still there.
+// The INVITE goes out, and its 200 is told and acknowledged; 64 T1 later its dialog is still held.
 pub fn a_call_is_set_up(alloc: Global, shard: &mut CallShard) -> Result<(), Stop> {
     check(is_started(&given(shard, ID, asked(alloc, INVITE)?, 0)?))?;
     is_acknowledged(alloc, given(shard, LATER, up(alloc, SUCCESS)?, 100)?)?;
@@ -89,7 +89,7 @@ fn is_started(outs: &[CallOut]) -> bool {
     }
 }
 
-// The 200 is told, and an ACK goes to the peer.
+// The user is told of the 200, and an ACK goes to the peer.
 fn is_acknowledged(alloc: Global, mut outs: Vec<CallOut>) -> Result<(), Stop> {
     check(ends_in_ack(&outs))?;
     outs.truncate(1);

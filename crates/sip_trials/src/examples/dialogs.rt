@@ -1,4 +1,4 @@
-//! Dialogs of both sides, and the messages that they make.
+//! Dialogs of both sides, and the messages made in them.
 
 use crate::examples::messages::is_written;
 use crate::examples::worked::{LOCAL, PEER};
@@ -9,7 +9,7 @@ use sip_message::{Addr, Content, Message, StatusCode, Uri};
 use sip_text::Text;
 use std::alloc::Global;
 
-/// An INVITE that goes out.
+/// An INVITE that is sent.
 const INVITE: &[u8] = b"INVITE sip:b@192.0.2.9 SIP/2.0\r
 Via: SIP/2.0/UDP 192.0.2.1:5060;rport;branch=z9hG4bKi\r
 From: <sip:a@192.0.2.1>;tag=l1\r
@@ -31,7 +31,7 @@ Record-Route: <sip:192.0.2.7;lr>, <sip:192.0.2.8:5062;lr>\r
 \r
 ";
 
-/// Its 180, over none.
+/// Its 180, without routes.
 const RINGING: &[u8] = b"SIP/2.0 180 X\r
 Via: SIP/2.0/UDP 192.0.2.1:5060;rport;branch=z9hG4bKi\r
 From: <sip:a@192.0.2.1>;tag=l1\r
@@ -68,7 +68,7 @@ Content-Length: 0\r
 \r
 ";
 
-/// An INVITE that comes.
+/// An INVITE that comes in.
 const COMING: &[u8] = b"INVITE sip:b@192.0.2.1 SIP/2.0\r
 Via: SIP/2.0/UDP 192.0.2.9;branch=z9hG4bKa1\r
 From: <sip:a@192.0.2.9>;tag=f1\r
@@ -79,7 +79,7 @@ Contact: <sip:a@10.0.0.6>\r
 \r
 ";
 
-/// A response to what its callee sent, which names another target.
+/// A response to what its callee sent. It names another target.
 const ANSWER: &[u8] = b"SIP/2.0 200 OK\r
 Via: SIP/2.0/UDP 192.0.2.1:5060;rport;branch=z9hG4bKb\r
 From: <sip:b@192.0.2.1>;tag=t1\r
@@ -91,7 +91,7 @@ Record-Route: <sip:p>\r
 \r
 ";
 
-/// The first hop of the 200's routes.
+/// The first hop of the routes in the 200.
 const HOP: Addr = Addr {
     ip: [192, 0, 2, 8],
     port: 5062,
@@ -106,7 +106,7 @@ fn called(alloc: Global, request: &Message, response: &[u8]) -> Result<Dialog, S
     Ok(Dialog::from_response(alloc, request, &message(alloc, response)?)?)
 }
 
-// The dialog of the INVITE that comes.
+// The dialog of the INVITE that comes in.
 fn callee(alloc: Global) -> Result<Dialog, Stop> {
     opened(alloc, &message(alloc, COMING)?)
 }
@@ -122,7 +122,7 @@ fn branch(alloc: Global) -> Result<Branch, Stop> {
     Branch::new(token(alloc, b"z9hG4bKb")?).ok_or(Stop::Different)
 }
 
-// The next request. Without memory the dialog stays as it is.
+// The next request. If memory runs out, the dialog stays as it is.
 fn next(alloc: Global, dialog: &mut Dialog, method: &[u8], body: &[u8]) -> Result<Message, Stop> {
     let number = dialog.local_cseq();
     match try_next(alloc, dialog, method, body) {
@@ -145,17 +145,17 @@ fn try_next(
     Ok(dialog.next_request(method, content, branch, LOCAL)?)
 }
 
-// The next request has this number.
+// Checks that the next request has this number.
 fn is_next(alloc: Global, dialog: &mut Dialog, method: &[u8], number: u32) -> Result<(), Stop> {
     check(next(alloc, dialog, method, b"")?.cseq.number == number)
 }
 
-// Confirms it.
+// Confirms the dialog.
 fn confirm(alloc: Global, dialog: &mut Dialog, response: &[u8]) -> Result<(), Stop> {
     is_confirmed(dialog, &message(alloc, response)?)
 }
 
-// Without memory the dialog stays early.
+// Checks that the dialog is confirmed. If memory runs out, it stays early.
 fn is_confirmed(dialog: &mut Dialog, response: &Message) -> Result<(), Stop> {
     if dialog.confirm(response).is_err() {
         check(dialog.state() == DialogState::Early)?;
@@ -187,7 +187,7 @@ pub fn an_early_dialog_is_confirmed(alloc: Global) -> Result<(), Stop> {
     becomes_confirmed(alloc, &mut caller(alloc, RINGING)?)
 }
 
-// An early dialog makes no INVITE; a confirmed one does, with routes and target of its 200.
+// An early dialog makes no INVITE; a confirmed one does, with the routes and target from its 200.
 fn becomes_confirmed(alloc: Global, dialog: &mut Dialog) -> Result<(), Stop> {
     check(try_next(alloc, dialog, b"INVITE", b"").is_err())?;
     confirm(alloc, dialog, SUCCESS)?;
@@ -209,7 +209,7 @@ fn keeps_its_target(alloc: Global, dialog: &mut Dialog) -> Result<(), Stop> {
     check(dialog.route_set().is_empty() && has_target(dialog, b"sip:a@10.0.0.6"))
 }
 
-// A request of this number comes too late.
+// Whether a request with this number comes too late.
 fn is_refused(dialog: &mut Dialog, number: u32) -> bool {
     matches!(dialog.accept(number), Err(DialogFault::OutOfOrder))
 }
@@ -218,7 +218,7 @@ pub fn a_target_is_refreshed(alloc: Global) -> Result<(), Stop> {
     is_refreshed(alloc, &mut caller(alloc, RINGING)?)
 }
 
-// Where the next hop has no address, requests go where it is said.
+// If the next hop has no address, requests go to the given address.
 fn is_refreshed(alloc: Global, dialog: &mut Dialog) -> Result<(), Stop> {
     refresh(alloc, dialog, b"sip:n@10.0.0.6")?;
     check(has_target(dialog, b"sip:n@10.0.0.6") && dialog.hop(PEER).ip == [10, 0, 0, 6])?;

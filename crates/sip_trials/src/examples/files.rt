@@ -1,4 +1,4 @@
-//! Event files and output files, and what is sent.
+//! Event files, output files, and what is sent.
 
 use crate::examples::worked::{CONFIG, EVENTS, OUTPUTS, PEER};
 use crate::messages::token;
@@ -40,7 +40,7 @@ pub fn a_file_is_replayed<R: Threads + Sync>(rt: &R, alloc: Global) -> Result<()
     check(output.as_slice() == OUTPUTS)
 }
 
-// What was read is written as it stood.
+// What was read is written again as it stood.
 pub fn a_round_is_written(alloc: Global) -> Result<(), Stop> {
     check(write_head(alloc, &CONFIG)?.as_slice() == HEAD)?;
     let (_, rounds) = read_events(alloc, EVENTS)?;
@@ -72,7 +72,7 @@ fn is_cancel(command: &Option<UserCommand>) -> bool {
     }
 }
 
-/// An outlet whose first send fails, and which counts what it is asked.
+/// An outlet whose first send fails. It counts how often it is asked.
 #[derive(Default, Drop)]
 pub struct FirstFails {
     asked: u64,
@@ -89,7 +89,7 @@ impl Outlet for FirstFails {
     }
 }
 
-// Sends a datagram of a transaction.
+// A Send with the datagram of a transaction.
 fn send(alloc: Global) -> Result<PlacedOutput, Stop> {
     let key = Key::client(alloc, b"z9hG4bKi", token(alloc, b"INVITE")?)?;
     let output = Output::Send {
@@ -105,7 +105,7 @@ pub fn a_failed_send_is_told(alloc: Global, outlet: &mut FirstFails) -> Result<(
     check(outlet.asked == 2 && is_of_branch(&failed, b"z9hg4bki"))
 }
 
-// Without memory nothing is sent.
+// If memory runs out, nothing is sent.
 fn sent(
     alloc: Global,
     outlet: &mut FirstFails,

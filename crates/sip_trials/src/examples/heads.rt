@@ -1,4 +1,4 @@
-//! The heads of texts, whether they spell a message or not; what a host reads of a datagram.
+//! The heads of texts, whether they spell a message or not, and what a host reads from a datagram.
 
 use crate::examples::worked::{CONFIG, PEER};
 use crate::stop::{Stop, broken_where, check};
@@ -10,7 +10,7 @@ use sip_round::{Event, RoundFault};
 use sip_text::Text;
 use std::alloc::Global;
 
-/// No message: it has no Via, and a line that is no header line.
+/// It isn't a message: it has no Via, and one of its lines isn't a header line.
 const TEXT: &[u8] =
     b"\r\nINFO sip:a@b SIP/2.0\r\nf: <sip:c@d>\r\nno header line\r\nSubject: one\r\n \
 two\r\nFROM:\t<sip:e@f> \r\n\r\nFrom: body";
@@ -18,7 +18,7 @@ two\r\nFROM:\t<sip:e@f> \r\n\r\nFrom: body";
 /// Its header lines as a session file has them.
 const HEADERS: &[u8] = b" f: <sip:c@d>\n Subject: one two\n FROM: <sip:e@f>\n";
 
-/// How many shards the agent of the host has.
+/// The number of shards of the host's agent.
 const SHARDS: usize = 4;
 
 /// The moment of the first round, in ms.
@@ -38,7 +38,7 @@ fn is_info(first: &Option<FirstLine<Token>>) -> bool {
     }
 }
 
-// Under its long name and its compact one, in any case.
+// By its long name and its compact name, in any case.
 pub fn the_values_of_a_header(alloc: Global) -> Result<(), Stop> {
     check(are_both_of_from(header_values(alloc, TEXT, b"from")?.as_slice()))?;
     check(header_values(alloc, TEXT, b"To")?.is_empty())
@@ -58,7 +58,7 @@ pub fn header_lines_in_order(alloc: Global) -> Result<(), Stop> {
     are_all_three(alloc, header_lines(alloc, TEXT)?.as_slice())
 }
 
-// As a session file spells them.
+// They are spelled as in a session file.
 fn are_all_three(alloc: Global, headers: &[HeaderLine]) -> Result<(), Stop> {
     let mut text = Vec::new(alloc);
     for header in headers {
@@ -79,12 +79,12 @@ pub fn a_host_reads_a_datagram(alloc: Global) -> Result<(), Stop> {
     reads_the_headers(alloc, &host)
 }
 
-// Of the first event of the first round.
+// Whether it is the id of the first event of the first round.
 fn is_first(id: Id) -> bool {
     id.round == 0 && id.place == 1
 }
 
-// It came in as the one event of the last round.
+// Whether the datagram came in as the only event of the last round.
 fn keeps_the_datagram(host: &Host) -> bool {
     host.last_id().is_none() && is_from_peer(host.event(1)) && host.event(2).is_none()
 }
@@ -101,7 +101,7 @@ fn reads_the_headers(alloc: Global, host: &Host) -> Result<(), Stop> {
     are_all_three(alloc, host.header_lines(1)?.as_slice())
 }
 
-// Where the round is refused memory and the agent stands, the same round is run again.
+// If the round runs out of memory and the agent isn't broken, the same round is run again.
 fn runs(host: &mut Host) -> Result<(), Stop> {
     match host.run(MOMENT) {
         Ok(()) => Ok(()),

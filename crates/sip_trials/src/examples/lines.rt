@@ -19,7 +19,7 @@ fn one_line(alloc: Global) -> Result<(Desk<u8>, Poster<u8>), NoMemory>
     Ok((desk, poster))
 }
 
-// The events that are collected are these. Without memory none is taken.
+// Checks that these events are collected. If memory runs out, none is taken.
 fn collects(desk: &mut Desk<u8>, events: &[u8]) -> Result<(), Stop>
     ensures { KeepsLines desk.old desk.new }
 {

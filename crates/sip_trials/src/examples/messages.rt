@@ -1,4 +1,4 @@
-//! Messages: what is made of them, and their text.
+//! Messages: what is made from them, and their text.
 
 use crate::examples::worked::{OK, OPTIONS, key_in};
 use crate::messages::{TAG, message, success_to, token};
@@ -9,8 +9,8 @@ use sip_message::{
 };
 use std::alloc::{AllocError, Global};
 
-/// A request with two hops, two routes and two options of each kind, its headers in another order
-/// than they are written, some under their compact names.
+/// A request with two hops, two routes and two options of each kind. Its headers stand in another
+/// order than they are written in, some with their compact names.
 const SCRAMBLED: &[u8] = b"INVITE sip:b@192.0.2.9 SIP/2.0\r
 Supported: y\r
 k: z\r
@@ -57,7 +57,7 @@ Content-Length: 2\r
 \r
 ab";
 
-/// A message whose headers and body the user puts into another.
+/// A message whose headers and body the user puts into another message.
 const GIVEN: &[u8] = b"OPTIONS sip:192.0.2.1 SIP/2.0\r
 Via: SIP/2.0/UDP 192.0.2.9;branch=z9hG4bKa2\r
 From: <sip:a@192.0.2.9>;tag=f2\r
@@ -73,7 +73,7 @@ Content-Length: 2\r
 \r
 hi";
 
-/// The request of the examples with them.
+/// The request of the examples with these headers and this body.
 const WITH_CONTENT: &[u8] = b"OPTIONS sip:192.0.2.1 SIP/2.0\r
 Via: SIP/2.0/UDP 192.0.2.9;branch=z9hG4bKa1\r
 From: <sip:a@192.0.2.9>;tag=f1\r
@@ -89,7 +89,7 @@ Content-Length: 2\r
 \r
 hi";
 
-/// The names and values of the headers that are kept of it as they stand.
+/// The names and values of its headers that are kept as they stand.
 const KEPT: [(&[u8], &[u8]); 5] = [
     (b"Subject", b"s"),
     (b"Content-Type", b"gzip"),
@@ -98,7 +98,7 @@ const KEPT: [(&[u8], &[u8]); 5] = [
     (b"x", b"gzip"),
 ];
 
-/// A response that rejects it.
+/// A response that rejects the request.
 const REJECTION: &[u8] = b"SIP/2.0 486 X\r
 Via: SIP/2.0/UDP 192.0.2.1:5060;rport;branch=z9hG4bKi\r
 Via: SIP/2.0/UDP h;branch=z9hG4bKo\r
@@ -135,7 +135,7 @@ Content-Length: 0\r
 \r
 ";
 
-/// A request whose sender asks for its port.
+/// A request whose sender asks for `rport`.
 const ASKING: &[u8] = b"OPTIONS sip:192.0.2.1 SIP/2.0\r
 Via: SIP/2.0/UDP 10.0.0.1;rport;branch=z9hG4bKa1\r
 From: <sip:a@192.0.2.9>;tag=f1\r
@@ -156,13 +156,13 @@ Content-Length: 0\r
 \r
 ";
 
-/// Where it comes from.
+/// The address that it comes from.
 const SOURCE: Addr = Addr {
     ip: [192, 0, 2, 9],
     port: 7000,
 };
 
-// A message has this text.
+// Checks that a message has this text.
 pub fn is_written(alloc: Global, message: &Message, text: &[u8]) -> Result<(), Stop> {
     check(write(alloc, message)?.as_slice() == text)
 }
@@ -176,7 +176,7 @@ fn are_in_order(alloc: Global, request: &Message) -> Result<(), Stop> {
     is_written(alloc, request, WRITTEN)
 }
 
-// What is read of the headers with compact names that have fields of their own.
+// Whether the headers with compact names that have their own fields were read.
 fn has_fields(request: &Message) -> bool {
     match (
         request.vias.as_slice(),
@@ -197,7 +197,7 @@ fn has_fields(request: &Message) -> bool {
     }
 }
 
-// A compact name has become the long one.
+// Whether the compact name has become the long one.
 fn are_kept(headers: &[Header]) -> bool {
     for (header, (name, value)) in headers.iter().zip(KEPT) {
         if header.name.as_slice() != name || header.value.as_slice() != value {
@@ -251,7 +251,7 @@ pub fn the_source_is_noted(alloc: Global) -> Result<(), Stop> {
     is_stamped(alloc, &mut message(alloc, ASKING)?)
 }
 
-// Without memory the request stays as it is.
+// If memory runs out, the request stays as it is.
 fn is_stamped(alloc: Global, request: &mut Message) -> Result<(), Stop> {
     let address = match stamp_source(alloc, request, SOURCE) {
         Ok(address) => address,
@@ -264,7 +264,7 @@ fn is_stamped(alloc: Global, request: &mut Message) -> Result<(), Stop> {
     is_written(alloc, request, STAMPED)
 }
 
-// A branch is compared without case, and a response has its client's key.
+// A branch is compared whatever its case, and a response has the key of its client.
 pub fn keys(alloc: Global) -> Result<(), Stop> {
     check(key_in(alloc, OPTIONS)? == asked_key(alloc)?)?;
     check(key_in(alloc, REJECTION)? == rejected_key(alloc)?)
@@ -279,7 +279,7 @@ fn rejected_key(alloc: Global) -> Result<Key, Stop> {
     Ok(Key::client(alloc, b"z9hG4bKi", token(alloc, b"INVITE")?)?)
 }
 
-// 97 and 98 are 195, and 6 above 27 times 7.
+// 97 and 98 are 195, which is 6 more than 27 times 7.
 pub fn names_are_cut() -> Result<(), Stop> {
     check(
         Spread.shard(b"ab", 7) == 6
@@ -295,7 +295,7 @@ pub fn a_content_of_the_user(alloc: Global) -> Result<(), Stop> {
     check(write(alloc, &made)?.as_slice() == WITH_CONTENT)
 }
 
-// The headers of a message that a content may have, and its body.
+// The headers of a message that a content may have, with the message's body.
 fn content_of(alloc: Global, given: &Message) -> Result<Content, Stop> {
     let headers = ContentHeaders {
         contacts: given.contacts.clone()?,

@@ -14,7 +14,7 @@ const PIECES: u32 = 16;
 
 const WORKERS: usize = 2;
 
-/// The square of a number, which any thread makes.
+/// The square of a number. Any thread may calculate it.
 #[derive(Drop)]
 struct Square(u32);
 
@@ -30,7 +30,7 @@ impl Job for Square {
     }
 }
 
-// Pieces with the numbers from 0 on.
+// Pieces, numbered from 0 on.
 fn squares(alloc: Global) -> Result<Vec<Piece<Square>>, NoMemory>
     ensures { IfOk result (λ pieces. IsNumbered pieces.items) }
 {
@@ -50,7 +50,7 @@ pub fn squares_in_order<R: Threads + Sync>(rt: &R, alloc: Global) -> Result<(), 
     are_squares(&gather(alloc, dones)?)
 }
 
-// All squares from 0 on.
+// Checks that these are the squares from 0 on.
 fn are_squares(dones: &[u64]) -> Result<(), Stop> {
     let mut number: u64 = 0;
     for square in dones {

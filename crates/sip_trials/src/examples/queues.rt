@@ -9,7 +9,7 @@ const B: u8 = b'b';
 
 const C: u8 = b'c';
 
-// Arms keys. Where memory is refused nothing changes, and the second try does it.
+// Arms keys. If memory runs out, nothing changes, and the second try succeeds.
 fn arm(queue: &mut Queue<u8>, keys: &[(u8, u64)]) -> Result<(), Stop> {
     for (key, due) in keys {
         let before = (queue.next_due(), queue.moment(key));
@@ -21,7 +21,7 @@ fn arm(queue: &mut Queue<u8>, keys: &[(u8, u64)]) -> Result<(), Stop> {
     Ok(())
 }
 
-// The keys that are due are these. Where memory is refused nothing changes.
+// Checks that these keys are due. If memory runs out, nothing changes.
 fn takes(queue: &mut Queue<u8>, now: u64, keys: &[u8]) -> Result<(), Stop> {
     let next = queue.next_due();
     let due = match queue.take_due(now) {
@@ -54,7 +54,7 @@ pub fn at_one_moment_in_the_order_of_keys(queue: &mut Queue<u8>) -> Result<(), S
     check(queue.next_due().is_none())
 }
 
-// A key that isn't there is disarmed without an effect.
+// Disarming a key that isn't there has no effect.
 pub fn what_is_disarmed_is_not_due(queue: &mut Queue<u8>) -> Result<(), Stop> {
     arm(queue, &[(A, 5), (B, 6)])?;
     queue.disarm(&A);

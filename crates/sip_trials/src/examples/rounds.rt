@@ -1,4 +1,4 @@
-//! Agents: rounds, moves to other numbers of shards, and what they do without memory.
+//! Agents: rounds, moves to other numbers of shards, and what they do when memory runs out.
 
 ghost use Rattle.std.specs.Prelude.{◌<◌, ◌≤◌};
 
@@ -29,7 +29,7 @@ round 10
 failed client z9hG4bK000000000000000000000000000000010bee7079f INVITE
 ";
 
-/// The moments at which the INVITE goes out again.
+/// The moments at which the INVITE is retransmitted.
 const REPEATS: [u64; 6] = [500, 1_500, 3_500, 7_500, 15_500, 31_500];
 
 pub fn rounds_are_run<R: Threads + Sync>(rt: &R, alloc: Global) -> Result<(), Stop> {
@@ -41,7 +41,7 @@ pub fn rounds_are_run<R: Threads + Sync>(rt: &R, alloc: Global) -> Result<(), St
     }
 }
 
-// The outputs of these rounds are those of the output file.
+// Checks that the outputs of these rounds are those of the output file.
 fn are_written(alloc: Global, rounds: &[Round], made: Vec<Vec<Output>>) -> Result<(), Stop> {
     let mut told = Vec::with_capacity(alloc, rounds.len())?;
     for (round, outputs) in rounds.iter().zip(made) {
@@ -50,8 +50,8 @@ fn are_written(alloc: Global, rounds: &[Round], made: Vec<Vec<Output>>) -> Resul
     check(write_outputs(alloc, &told)?.as_slice() == OUTPUTS)
 }
 
-// Moves all to so many shards. Where that was refused memory and the agent stands, it holds as much
-// as before, and the same move succeeds.
+// Moves everything to `shards` shards. If that runs out of memory and the agent isn't broken, it
+// holds as much as before, and the same move succeeds.
 fn moves(agent: &mut Agent<Spread>, shards: usize) -> Result<(), Stop>
     requires some { 0 < shards }
     requires most { shards ≤ 256 }
@@ -68,13 +68,13 @@ fn moves(agent: &mut Agent<Spread>, shards: usize) -> Result<(), Stop>
     }
 }
 
-// An agent that holds nothing is moved.
+// Moves an agent that holds nothing.
 pub fn nothing_is_moved(agent: &mut Agent<Spread>) -> Result<(), Stop> {
     moves(agent, 7)?;
     check(agent.live() == (0, 0) && agent.next_due().is_none())
 }
 
-// A round of one datagram.
+// A round with one datagram.
 fn datagram(alloc: Global) -> Result<Round, Stop> {
     let bytes = Text::copy_of(alloc, OPTIONS)?;
     let mut events = Series::new(alloc);
@@ -90,13 +90,13 @@ fn quiet(alloc: Global, moment: u64) -> Round {
     }
 }
 
-// A round sends once, and does nothing more.
+// Checks that a round sends one datagram, and does nothing else.
 fn sends<R: Threads + Sync>(rt: &R, agent: &mut Agent<Spread>, round: &Round) -> Result<(), Stop> {
     let outputs = outputs_of(rt, agent, round)?;
     check(matches!(outputs.as_slice(), [Output::Send { .. }]))
 }
 
-// A round gives one notice, and does nothing more.
+// Checks that a round gives one notice, and does nothing else.
 fn tells<R: Threads + Sync>(rt: &R, agent: &mut Agent<Spread>, round: &Round) -> Result<(), Stop> {
     let outputs = outputs_of(rt, agent, round)?;
     check(matches!(outputs.as_slice(), [Output::Notice(_)]))
@@ -120,7 +120,7 @@ pub fn moved_while_a_timer_runs<R: Threads + Sync>(
     times_out(rt, alloc, agent, rounds.first().ok_or(Stop::Different)?)
 }
 
-// The INVITE goes out at each of its moments, and then times out.
+// The INVITE is retransmitted at each of its moments, and then times out.
 fn times_out<R: Threads + Sync>(
     rt: &R,
     alloc: Global,
@@ -137,7 +137,7 @@ fn times_out<R: Threads + Sync>(
     check(agent.live() == (0, 0))
 }
 
-// At two of its moments all is moved.
+// Moves everything at two of its moments.
 fn moves_at(agent: &mut Agent<Spread>, moment: u64) -> Result<(), Stop> {
     match moment {
         500 => moves(agent, 64),
@@ -158,8 +158,8 @@ pub fn a_failed_client_is_gone<R: Threads + Sync>(
     check(agent.live() == (0, 0))
 }
 
-// The outputs of a round with their places. Where it was refused memory and the agent stands, the
-// same round gives them.
+// The outputs of a round with their places. If it runs out of memory and the agent isn't broken,
+// the same round gives them.
 fn placed<R: Threads + Sync>(
     rt: &R,
     agent: &mut Agent<Spread>,
@@ -175,7 +175,7 @@ fn placed<R: Threads + Sync>(
     }
 }
 
-// A datagram that is no message is the first event, a request the second.
+// A datagram that isn't a message is the first event, and a request is the second.
 pub fn outputs_have_the_places_of_their_events<R: Threads + Sync>(
     rt: &R,
     alloc: Global,

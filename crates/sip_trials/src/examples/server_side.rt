@@ -9,10 +9,10 @@ use sip_served::{CallOut, Item, Served};
 use sip_transactions::ShardFault;
 use std::alloc::Global;
 
-/// A tick at this moment does nothing more: the request has ended.
+/// A tick at this moment does nothing more, because the request has ended.
 const LATE: u64 = 99_000;
 
-// What it says; where it was refused memory, it has to be broken.
+// What it says. If it ran out of memory, it has to be broken.
 fn said(served: &mut Served, outs: Result<Vec<CallOut>, ShardFault>) -> Result<Vec<CallOut>, Stop> {
     match outs {
         Ok(outs) => Ok(outs),
@@ -27,7 +27,7 @@ fn is_broken(served: &mut Served) -> bool {
         && matches!(served.tick(0), Err(ShardFault::Broken))
 }
 
-// What an item of the first event gives.
+// What an item of the first event adds.
 fn given(alloc: Global, served: &mut Served, item: Item, now: u64) -> Result<Vec<CallOut>, Stop>
     requires { now ≤ 2 ^ 62 }
 {

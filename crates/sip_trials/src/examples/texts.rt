@@ -12,7 +12,7 @@ pub fn a_fold_is_one_space(alloc: Global) -> Result<(), Stop> {
     check(unfold(alloc, b"a\r\n b")?.as_slice() == b"a b".as_slice())
 }
 
-// The last line has no end of its own, or has one.
+// Once the last line has no end, and once it has one.
 pub fn two_lines(alloc: Global) -> Result<(), Stop> {
     let found = lines(alloc, b"a\r\nb\n")?;
     check(found.as_slice() == [b"a".as_slice(), b"b".as_slice()].as_slice())
@@ -57,7 +57,7 @@ pub fn tokens_without_case() -> Result<(), Stop> {
     )
 }
 
-// A difference in the second word, a text that begins the other, and equal texts.
+// A difference in the second word, a text that begins with the other, and equal texts.
 pub fn texts_in_order() -> Result<(), Stop> {
     check(
         byte_order(b"z9hG4bK-ay", b"z9hG4bK-bx") == Ordering::Less
@@ -70,7 +70,7 @@ pub fn a_text_grows(alloc: Global) -> Result<(), Stop> {
     grows(&mut Text::copy_of(alloc, b"ab")?)
 }
 
-// A text that is refused memory stays as it is.
+// If memory runs out, the text stays as it is.
 fn grows(text: &mut Text) -> Result<(), Stop> {
     if text.extend_from_slice(b"cd").is_err() {
         check(text.as_slice() == b"ab".as_slice())?;
@@ -79,7 +79,7 @@ fn grows(text: &mut Text) -> Result<(), Stop> {
     check(text.as_slice() == b"abcd".as_slice())
 }
 
-// A list that is refused memory stays as it is.
+// If memory runs out, the list stays as it is.
 pub fn a_series_grows(alloc: Global, series: &mut Series<u32>) -> Result<(), Stop> {
     if series.push(7).is_err() {
         check(series.is_empty())?;

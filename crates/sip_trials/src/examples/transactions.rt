@@ -1,4 +1,4 @@
-//! Transactions of one shard.
+//! The transactions of one shard.
 
 ghost use Rattle.std.specs.Prelude.{◌≤◌, ◌^◌};
 
@@ -10,7 +10,7 @@ use sip_text::Boxed;
 use sip_transactions::{Command, Kind, Out, Shard, ShardFault, State, Up};
 use std::alloc::Global;
 
-/// A request that goes out.
+/// A request that is sent.
 const GOING: &[u8] = b"OPTIONS sip:b@192.0.2.9 SIP/2.0\r
 Via: SIP/2.0/UDP 192.0.2.1:5060;rport;branch=z9hG4bKc1\r
 From: <sip:a@192.0.2.1>;tag=l1\r
@@ -31,7 +31,7 @@ CSeq: 1 OPTIONS\r
 \r
 ";
 
-// What a shard says; where it was refused memory, it has to be broken.
+// What a shard says. If it ran out of memory, it has to be broken.
 fn said(shard: &mut Shard, outs: Result<Vec<Out>, ShardFault>) -> Result<Vec<Out>, Stop> {
     match outs {
         Ok(outs) => Ok(outs),
@@ -44,7 +44,7 @@ fn is_broken(shard: &mut Shard) -> bool {
     shard.live() == 0 && matches!(shard.tick(0), Err(ShardFault::Broken))
 }
 
-// What a message that comes gives.
+// What a message that comes in adds.
 fn received(alloc: Global, shard: &mut Shard, text: &[u8], now: u64) -> Result<Vec<Out>, Stop>
     requires { now ≤ 2 ^ 62 }
 {
@@ -52,7 +52,7 @@ fn received(alloc: Global, shard: &mut Shard, text: &[u8], now: u64) -> Result<V
     said(shard, outs)
 }
 
-// Nothing comes of a tick, and so many transactions are held then.
+// A tick does nothing, and `live` transactions are held after it.
 fn is_quiet(shard: &mut Shard, now: u64, live: usize) -> Result<(), Stop>
     requires { now ≤ 2 ^ 62 }
 {
@@ -60,7 +60,7 @@ fn is_quiet(shard: &mut Shard, now: u64, live: usize) -> Result<(), Stop>
     check(said(shard, outs)?.is_empty() && shard.live() == live)
 }
 
-// What the one thing is that is handed up, under the id of the event.
+// The one thing that is handed up, under the id of the event.
 fn told(outs: &[Out]) -> Option<&Kind> {
     match outs {
         [Out::Up(up)] if up.id == ID => Some(&up.kind),
@@ -68,7 +68,7 @@ fn told(outs: &[Out]) -> Option<&Kind> {
     }
 }
 
-// Whether just these bytes are sent to the peer.
+// Whether exactly these bytes are sent to the peer.
 fn sends(outs: &[Out], text: &[u8]) -> bool {
     match outs {
         [Out::Send { to, bytes, .. }] => *to == PEER && bytes.as_slice() == text,
@@ -91,13 +91,13 @@ pub fn a_request_is_answered(alloc: Global, shard: &mut Shard) -> Result<(), Sto
     is_completed(alloc, shard)
 }
 
-// A command of the first event sends just this.
+// Checks that a command of the first event sends exactly this.
 fn is_commanded(shard: &mut Shard, command: Command, text: &[u8]) -> Result<(), Stop> {
     let outs = shard.command(ID, command, 10);
     check(sends(&said(shard, outs)?, text))
 }
 
-// The answer is sent again, until 64 T1 have passed.
+// The answer is retransmitted, until 64 T1 have passed.
 fn is_completed(alloc: Global, shard: &mut Shard) -> Result<(), Stop> {
     check(shard.state_of(&key_in(alloc, OPTIONS)?) == Some(State::Completed))?;
     check(sends(&received(alloc, shard, OPTIONS, 20)?, OK))?;
@@ -109,7 +109,7 @@ fn started_key(alloc: Global) -> Result<Key, Stop> {
     Ok(Key::client(alloc, b"z9hG4bKc1", token(alloc, b"OPTIONS")?)?)
 }
 
-// The request that goes out, as a command.
+// The request that is sent, as a command.
 fn start(alloc: Global) -> Result<Command, Stop> {
     let message = Boxed::new(alloc, message(alloc, GOING)?)?;
     Ok(Command::Start {
@@ -120,7 +120,7 @@ fn start(alloc: Global) -> Result<Command, Stop> {
     })
 }
 
-// It goes out again, until its response comes.
+// It is retransmitted until its response comes.
 pub fn a_request_goes_out(alloc: Global, shard: &mut Shard) -> Result<(), Stop> {
     is_commanded(shard, start(alloc)?, GOING)?;
     is_sent_again(shard, 510)?;
@@ -129,7 +129,7 @@ pub fn a_request_goes_out(alloc: Global, shard: &mut Shard) -> Result<(), Stop> 
     check(shard.state_of(&started_key(alloc)?) == Some(State::Completed))
 }
 
-// A tick sends the request.
+// Checks that a tick sends the request.
 fn is_sent_again(shard: &mut Shard, now: u64) -> Result<(), Stop>
     requires { now ≤ 2 ^ 62 }
 {

@@ -52,7 +52,7 @@ Content-Length: 0\r
 \r
 ";
 
-/// What the user is told of it, as a line of an output file.
+/// The line of an output file that tells the user of it.
 pub const TOLD: &[u8] =
     b"notice c1 request 0.1 OPTIONS 000000000000000000000000000000010bee7079f f1 -\n";
 
@@ -86,7 +86,7 @@ pub fn key_in(alloc: Global, text: &[u8]) -> Result<Key, Stop> {
     Ok(key_of(alloc, &message(alloc, text)?)?)
 }
 
-/// What a transaction of the first event hands up: a request, or a response.
+/// What a transaction of the first event hands up: a request or a response.
 pub fn up(alloc: Global, text: &[u8]) -> Result<Item, Stop> {
     let message = Boxed::new(alloc, message(alloc, text)?)?;
     Ok(Item::Up(Up {
@@ -105,7 +105,7 @@ fn kind_of(message: Boxed<Message>) -> Kind {
     }
 }
 
-/// What the user asks for by a line of an event file.
+/// What the user asks for with a line of an event file.
 pub fn asked(alloc: Global, line: &[u8]) -> Result<Item, Stop> {
     match read_command_line(alloc, line)? {
         Some(command) => Ok(Item::User(command)),
@@ -113,7 +113,7 @@ pub fn asked(alloc: Global, line: &[u8]) -> Result<Item, Stop> {
     }
 }
 
-/// That a call gives one thing, and the line of an output file that says it is this.
+/// Checks that a call gives one thing, and that its line in an output file is this one.
 pub fn is_line(alloc: Global, mut outs: Vec<CallOut>, line: &[u8]) -> Result<(), Stop> {
     check(outs.len() == 1)?;
     match outs.pop() {

@@ -33,7 +33,7 @@ fn two_lines(
     Ok((desk, first, second))
 }
 
-// The events that are collected are these.
+// Checks that these events are collected.
 fn collects(
     rt: &impl Abort,
     desk: &mut Desk<Event>,
@@ -47,7 +47,7 @@ fn collects(
     Ok(())
 }
 
-// The line isn't settled, for this reason, and the end comes back.
+// Checks that the line isn't settled, for this reason, and that the end comes back.
 fn refuses(
     rt: &impl Abort,
     desk: &mut Desk<Event>,
@@ -67,7 +67,7 @@ fn refuses(
     ended
 }
 
-// The line is settled.
+// Checks that the line is settled.
 fn settles(rt: &impl Abort, desk: &mut Desk<Event>, line: usize, ended: Ended<Event>)
     requires { IsEndOf desk.old ended }
     ensures { KeepsLines desk.old desk.new }
@@ -133,7 +133,7 @@ fn a_poster_whose_desk_is_gone(rt: HostRuntime) -> Result<(), Fail> {
     Ok(())
 }
 
-// Posts the numbers from 1 on, each again where the line gives it back, and ends the line.
+// Posts the numbers from 1 on, each again if the line gives it back, and ends the line.
 fn post_numbers(line: usize, mut poster: Poster<Event>) -> Result<Ended<Event>, Unfinished>
     ensures { IfOk result (λ ended. IsEndOfLine poster ended) }
 {
@@ -153,7 +153,7 @@ fn post_numbers(line: usize, mut poster: Poster<Event>) -> Result<Ended<Event>, 
     poster.finish()
 }
 
-// Collects until all events of two lines are there.
+// Collects until all events of both lines are there.
 fn collect_numbers(
     alloc: Global,
     mut desk: Desk<Event>,
@@ -176,7 +176,7 @@ fn collect_numbers(
     (desk, Ok(all))
 }
 
-// Whether the numbers of this line are those from 1 on, in order and each once.
+// Whether the numbers of this line are those from 1 on, in order, and each once.
 fn are_whole(events: &[Event], line: usize) -> bool {
     let mut next = 1u64;
     for (of, number) in events {
@@ -190,7 +190,7 @@ fn are_whole(events: &[Event], line: usize) -> bool {
     next == EVENTS + 1
 }
 
-/// What came of two posters on threads of their own.
+/// What two posters did, each on a thread of its own.
 #[derive(Drop)]
 struct Ran {
     desk: Desk<Event>,

@@ -1,5 +1,4 @@
-//! What dialogs refuse, where no event file reaches it: numbers that end, and the first of two
-//! faults.
+//! What dialogs refuse and no event file can reach: used-up numbers, and the first of two faults.
 
 use sip_dialog::{Branch, Dialog, DialogFault, DialogState};
 use sip_message::{Addr, Content, Message, Token, Uri};
@@ -8,26 +7,26 @@ use sip_text::Text;
 use std::alloc::Global;
 use std::test::Fail;
 
-// One's own address.
+// The agent's own address.
 const LOCAL: Addr = Addr {
     ip: [192, 0, 2, 1],
     port: 5060,
 };
 
-// The greatest number of a request.
+// The highest number of a request.
 const LAST: u32 = 2_147_483_647;
 
-// What the INVITE and its answers begin with.
+// The beginnings of the INVITE and its answers.
 const INVITE: &str = "INVITE sip:b@192.0.2.9 SIP/2.0\r\nTo: <sip:b@192.0.2.9>\r\n";
 
 const RINGING: &str = "SIP/2.0 180 X\r\nTo: <sip:b@192.0.2.9>;tag=x\r\n";
 
 const SUCCESS: &str = "SIP/2.0 200 X\r\nTo: <sip:b@192.0.2.9>;tag=x\r\n";
 
-// A header that leads over a strict route.
+// A header that adds a strict route.
 const STRICT: &str = "Record-Route: <sip:p>\r\n";
 
-// The message that begins so, an INVITE or its answer, of this number, with this header.
+// The message with this beginning, an INVITE or an answer to it, with this number and this header.
 fn message(alloc: Global, start: &str, cseq: u32, header: &str) -> Result<Message, Fail> {
     let text = format!(in alloc;
         "{start}Via: SIP/2.0/UDP 192.0.2.1:5060;rport;branch=z9hG4bKi\r\n\
@@ -36,7 +35,7 @@ fn message(alloc: Global, start: &str, cseq: u32, header: &str) -> Result<Messag
     Ok(read(alloc, text.as_bytes()).ok().ok_or("a message")?)
 }
 
-// The dialog of an INVITE of this number that one sent and its answer, with this header.
+// The dialog of an INVITE with this number that the agent sent and its answer, with this header.
 fn dialog_of(alloc: Global, answer: &str, cseq: u32, header: &str) -> Result<Dialog, Fail> {
     let request = message(alloc, INVITE, cseq, "")?;
     let response = message(alloc, answer, cseq, header)?;
@@ -51,7 +50,7 @@ fn branch(alloc: Global) -> Result<Branch, Fail> {
     Ok(Branch::new(token(alloc, "z9hG4bKb")?).ok_or("a branch")?)
 }
 
-// Why the request that comes next isn't made.
+// Why the next request isn't made.
 fn next_fault(
     alloc: Global,
     dialog: &mut Dialog,
@@ -82,8 +81,8 @@ fn refresh_fault(alloc: Global, dialog: &mut Dialog) -> Result<Option<DialogFaul
     Ok(dialog.refresh(target).err())
 }
 
-// Numbers end, and none follows the last; a strict router is told before that, and an early dialog
-// before a strict router.
+// The numbers end, and none follows the last. A strict router is told before that, and an early
+// dialog before a strict router.
 #[test]
 fn the_first_fault_is_told(rt: HostRuntime) -> Result<(), Fail> {
     let cases = [

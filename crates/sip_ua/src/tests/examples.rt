@@ -1,4 +1,4 @@
-//! The examples of the helps: what they show is what the program prints.
+//! The examples in the help texts: what they show is what the program prints.
 
 use super::loopback::bound;
 use super::{Ended, run_on};
@@ -8,7 +8,7 @@ use std::io;
 use std::test::Fail;
 use std::thread::{self, Threads};
 
-/// How long a tag is at least that the program makes.
+/// The minimum length of a tag that the program makes.
 const TAG_LENGTH: usize = 41;
 
 // The program with these words, which stand with a space between each two.
@@ -17,7 +17,7 @@ fn ua_with<T: Threads + Host>(rt: &T, alloc: Global, words: &str) -> io::Result<
     run_on(rt, alloc, words.as_slice(), &mut b"".as_slice())
 }
 
-// A word of a notice, where ids are alike, tags are alike, and session descriptions are alike.
+// A word of a notice; all ids become alike, all tags, and all session descriptions.
 fn alike(word: &str) -> &str {
     let is_id = word.contains(".") && word.bytes().all(|b| b == b'.' || b.is_ascii_digit());
     if is_id {
@@ -31,7 +31,7 @@ fn alike(word: &str) -> &str {
     }
 }
 
-// The notices among the lines of a text, with such words alike. A 100 comes only where the peer
+// The notices among the lines of a text, with such words made alike. A 100 comes only if the peer
 // is slow.
 fn notices_in(alloc: Global, text: &[u8]) -> Result<String, Fail> {
     let mut found = String::new(alloc);
@@ -48,7 +48,7 @@ fn notices_in(alloc: Global, text: &[u8]) -> Result<String, Fail> {
     Ok(found)
 }
 
-// What the help of a command shows.
+// The notices that the help of a command shows.
 fn shown<T: Threads + Host>(rt: &T, alloc: Global, words: &str) -> Result<String, Fail> {
     let help = ua_with(rt, alloc, words)?;
     notices_in(alloc, &help.output)

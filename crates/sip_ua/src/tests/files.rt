@@ -38,8 +38,8 @@ fn want_of_memory_is_named(rt: HostRuntime) -> Result<(), Fail> {
     Ok(())
 }
 
-/// A reader or a writer that tells how often it was read, and how often that failed, as long as it
-/// can count so far.
+/// A reader or writer that tells how often it was read and how often that failed, as long as it can
+/// count that far.
 #[derive(Drop)]
 struct Counting<D> {
     device: D,
@@ -102,7 +102,7 @@ impl<W: Write> CountedWrite for Counting<W> {
     }
 }
 
-// None where it is too much to count.
+// None if the count gets too high.
 fn one_more(count: Option<u64>) -> Option<u64>
     ensures { Counts count result 1 }
 {
@@ -112,7 +112,7 @@ fn one_more(count: Option<u64>) -> Option<u64>
     }
 }
 
-/// The event file of no round.
+/// An event file without rounds.
 const EVENTS: &[u8] = b"sip-events 1\nlocal 192.0.2.1:5060\n";
 
 fn replayed<T: Threads + Sync, W: CountedWrite>(
@@ -125,7 +125,7 @@ fn replayed<T: Threads + Sync, W: CountedWrite>(
     replay(rt, alloc, kind, reader, writer, 1, 1, Spread, &Open)
 }
 
-// There is a read for what the file has, and one for its end.
+// There is one read for what the file has, and one for its end.
 #[test]
 fn reads_are_counted(rt: HostRuntime) {
     let mut reader = Counting::new(EVENTS);
@@ -136,7 +136,7 @@ fn reads_are_counted(rt: HostRuntime) {
     assert!(rt; writer.is_flushed);
 }
 
-/// A writer that takes all and can't flush it.
+/// A writer that takes all bytes and can't flush them.
 #[derive(Drop)]
 struct Unflushed;
 

@@ -1,4 +1,4 @@
-//! Agents on loopback: what they tell, how they end, and their records.
+//! Agents on loopback: what they tell, how they end, and what they record.
 
 use super::Flushed;
 use sip_message::{Addr, CallId, Uri};
@@ -11,7 +11,7 @@ use std::test::Fail;
 use std::thread::Threads;
 use std::time::{Clock, Duration};
 
-/// What a run told, its record, and how it ended.
+/// What a run told, what it recorded, and how it ended.
 #[derive(Drop)]
 pub(super) struct Run {
     pub(super) notices: Flushed,
@@ -23,18 +23,18 @@ pub(super) struct Run {
 #[derive(Clone, Copy)]
 pub(super) enum Answers {
     Usually,
-    /// It rings for so many ms.
+    /// It rings for this many ms.
     Rings(u32),
-    /// It answers reliably, and then that it is busy.
+    /// It answers with a reliable response, and then says that it is busy.
     Busy,
 }
 
 /// How a caller calls.
 #[derive(Clone, Copy)]
 pub(super) enum Calls {
-    /// It has to be answered, and holds the call for so many ms.
+    /// It has to be answered, and holds the call for this many ms.
     Holds(u32),
-    /// It gives the call up before its last turns.
+    /// It gives up the call before its last turns.
     Leaves,
 }
 
@@ -60,7 +60,7 @@ fn listen_plan(answers: Answers) -> ListenPlan {
     plan
 }
 
-// A listener that takes so many turns, and whose notices can't be flushed where that fails.
+// A listener that takes `turns` turns. If `fails`, its notices can't be flushed.
 pub(super) fn listened<R: Threads + Clock + Sync>(
     rt: &R,
     alloc: Global,
@@ -111,7 +111,7 @@ fn call_plan(alloc: Global, to: Addr, calls: Calls) -> Result<CallPlan, Fail> {
     Ok(plan)
 }
 
-// A caller that takes so many turns.
+// A caller that takes `turns` turns.
 pub(super) fn called<R: Threads + Clock + Sync>(
     rt: &R,
     alloc: Global,
@@ -142,7 +142,7 @@ pub(super) fn called<R: Threads + Clock + Sync>(
     })
 }
 
-// Whether these stand in the text in this order.
+// Whether these parts stand in the text, in this order.
 pub(super) fn stand_in_order(text: &[u8], parts: &[&str]) -> bool {
     let Ok(mut left) = str::from_utf8(text) else {
         return false;

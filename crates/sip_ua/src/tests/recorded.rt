@@ -1,4 +1,4 @@
-//! Runs over UDP that are recorded: the replay of the record sends and tells what the run did.
+//! Runs over UDP that are recorded. The replay of a record sends and tells what the run did.
 
 use super::loopback::{Answers, Calls, bound, called, listened, stand_in_order};
 use super::run_on;
@@ -13,7 +13,7 @@ use std::test::Fail;
 use std::thread::{self, Threads};
 use std::time::Clock;
 
-// The lines of a text that begin so, without these beginnings.
+// The lines of a text with this beginning, without the beginning.
 fn lines_after(alloc: Global, text: &[u8], beginning: &str) -> Result<Vec<u8>, Fail> {
     let mut found = Vec::new(alloc);
     for line in str::from_utf8(text).ok().ok_or("a text")?.lines() {
@@ -30,12 +30,12 @@ fn lines(text: &[u8]) -> usize {
     text.iter().filter(|byte| **byte == b'\n').count()
 }
 
-// What `ua replay` answers to a record.
+// What `ua replay` answers for a record.
 fn replayed<T: Threads + Host>(rt: &T, alloc: Global, record: &[u8]) -> Result<Vec<u8>, Fail> {
     replayed_by(rt, alloc, ["replay"].as_slice(), record)
 }
 
-// What `ua` answers to a record by these words.
+// What `ua` answers for a record, with these words.
 fn replayed_by<T: Threads + Host>(
     rt: &T,
     alloc: Global,
@@ -51,13 +51,14 @@ fn replayed_by<T: Threads + Host>(
     }
 }
 
-// Whether two texts have the same lines that begin so.
+// Whether two texts have the same lines with this beginning.
 fn have_same_lines(alloc: Global, beginning: &str, one: &[u8], other: &[u8]) -> Result<bool, Fail> {
     let lines = lines_after(alloc, one, beginning)?;
     Ok(lines_after(alloc, other, beginning)?.as_slice() == lines.as_slice())
 }
 
-// Whether what an output file sends from one to another is what came there first, and is long.
+// Whether what arrived at one agent is the first of what the other's output file sends it, and
+// long.
 fn comes_as_it_was_sent(
     alloc: Global,
     source: Addr,
@@ -72,7 +73,7 @@ fn comes_as_it_was_sent(
     Ok(arrived.len() > 1000 && sent.starts_with(arrived.as_slice()))
 }
 
-// Each told what its replay tells, and what the one sent to the other came there.
+// Each agent told what its replay tells, and got what the other's replay sends.
 #[test]
 fn a_recorded_call_is_replayed_as_it_was(rt: HostRuntime) -> Result<(), Fail> {
     let alloc = rt.alloc();
@@ -98,8 +99,8 @@ fn a_recorded_call_is_replayed_as_it_was(rt: HostRuntime) -> Result<(), Fail> {
     Ok(())
 }
 
-/// The other side of an agent on a pipe: it writes the commands, reads the notices, and takes part
-/// in the calls as it likes.
+/// The other side of an agent on a pipe. It writes the commands, reads the notices, and takes part
+/// in calls as it likes.
 #[derive(Drop)]
 struct Script {
     commands: PipeWriter,
@@ -107,11 +108,11 @@ struct Script {
     socket: UdpSocket,
     /// All notices that were read.
     told: Vec<u8>,
-    /// All datagrams that came, a line each, as an event file spells them.
+    /// All datagrams that came, one on each line, as an event file spells them.
     came: Vec<u8>,
 }
 
-/// The tag with which an agent of the seed 0 begins its first call.
+/// The tag with which an agent with seed 0 begins its first call.
 const TAG: &str = "0000000000000000000000000000000117a385155";
 
 impl Script {
@@ -120,7 +121,7 @@ impl Script {
         self.commands.write_all(b"\n")
     }
 
-    // Reads notices up to one that has these words, and gives it.
+    // Reads notices up to one with these words, and gives that one.
     fn notice(&mut self, alloc: Global, words: &str) -> Result<String, Fail> {
         for _ in 0..100 {
             let mut line = Vec::new(alloc);
@@ -136,7 +137,7 @@ impl Script {
         Err(Fail::from("a notice"))
     }
 
-    // The next datagram that begins so; those before it are repeats.
+    // The next datagram with this beginning. Those before it are retransmissions.
     fn datagram(&mut self, alloc: Global, beginning: &str) -> Result<Vec<u8>, Fail> {
         let mut buffer = vec![in alloc; 0u8; 4096]?;
         for _ in 0..20 {
@@ -150,7 +151,7 @@ impl Script {
         Err(Fail::from("a datagram"))
     }
 
-    // Answers a request with this status line, and this tag in To where it has none.
+    // Answers a request with this status line, and with this tag in To if it has none.
     fn answer(
         &mut self,
         alloc: Global,
@@ -169,7 +170,7 @@ impl Script {
         Ok(())
     }
 
-    // Has the agent call this address, and gives its INVITE.
+    // Makes the agent call this address, and gives its INVITE.
     fn invited(&mut self, alloc: Global, call: &str, to: Addr) -> Result<Vec<u8>, Fail> {
         let line = format!(in alloc;
             "invite {call} {to} sip:b@{to} sip:a@127.0.0.1 sip:b@{to} none -"
@@ -178,7 +179,7 @@ impl Script {
         self.datagram(alloc, "INVITE ")
     }
 
-    // Has the agent end the dialog with this tag, and answers its BYE.
+    // Makes the agent end the dialog with this tag, and answers its BYE.
     fn hung_up(&mut self, alloc: Global, from: Addr, tag: &str) -> Result<(), Fail> {
         let line = format!(in alloc; "request c1 {TAG} {tag} BYE -")?;
         self.command(line.as_str())?;
@@ -186,7 +187,7 @@ impl Script {
         self.answer(alloc, from, &request, "200 OK", tag)
     }
 
-    // Has the agent cancel the call that rings, and answers its CANCEL.
+    // Makes the agent cancel the ringing call, and answers its CANCEL.
     fn cancelled(&mut self, alloc: Global, from: Addr) -> Result<(), Fail> {
         let ringing = self.notice(alloc, "notice c2 response ")?;
         let id = ringing.as_str().split(' ').nth(3).ok_or("an id")?;
@@ -197,7 +198,7 @@ impl Script {
     }
 }
 
-// Adds a line of a request that its answer has, too, with this tag where it is a To without one.
+// Adds a line of a request that its answer also has. A To without a tag gets this one.
 fn push_copied(text: &mut String, line: &str, tag: &str) -> Result<(), AllocError> {
     let is_to = line.starts_with("To: ");
     let is_copied = line.starts_with("Via: ")
@@ -215,7 +216,7 @@ fn push_copied(text: &mut String, line: &str, tag: &str) -> Result<(), AllocErro
     text.push_str("\r\n")
 }
 
-// A datagram as an event file spells it, and a line's end.
+// A datagram as an event file spells it, and a line end.
 fn spelled(alloc: Global, bytes: &[u8]) -> Result<Vec<u8>, AllocError> {
     let mut line = Vec::new(alloc);
     for byte in bytes {
@@ -230,7 +231,7 @@ fn spelled(alloc: Global, bytes: &[u8]) -> Result<Vec<u8>, AllocError> {
 }
 
 impl Script {
-    // Ends the commands and reads the notices to their end; gives both texts.
+    // Ends the commands, and reads the notices to their end. Gives all notices and datagrams.
     fn finish(self) -> Result<Heard, Fail> {
         let Script {
             commands,
@@ -252,7 +253,7 @@ struct Heard {
     came: Vec<u8>,
 }
 
-// A call that is answered by two and ended with both, and one that is cancelled while it rings.
+// A call that two peers answer, ended with both, and one that is cancelled while it rings.
 fn forked_and_cancelled(
     alloc: Global,
     mut script: Script,
@@ -286,7 +287,7 @@ fn is_cancelled(alloc: Global, script: &mut Script, from: Addr, to: Addr) -> Res
     Ok(())
 }
 
-/// The record of an agent, and what it said of its commands.
+/// The record of an agent, and what it wrote about its commands.
 #[derive(Drop)]
 struct PipedRun {
     record: Vec<u8>,
@@ -384,7 +385,7 @@ fn headed(alloc: Global, mut script: Script, from: Addr, to: Addr) -> Result<Hea
     script.finish()
 }
 
-// A command goes with all its header lines or not at all, and the record is a session.
+// A command takes all its header lines or isn't asked for, and the record is a session.
 #[test]
 fn headers_on_a_pipe_are_recorded_as_a_session(rt: HostRuntime) -> Result<(), Fail> {
     let alloc = rt.alloc();
@@ -466,7 +467,7 @@ fn is_asked(alloc: Global, script: &mut Script, to: Addr) -> Result<(), Fail> {
     Ok(())
 }
 
-// The 183 is acknowledged before the 486 comes, and an OPTIONS is served.
+// The 183 is acknowledged before the 486 comes, and an OPTIONS is answered.
 #[test]
 fn a_listener_answers_reliably_and_as_it_is_told(rt: HostRuntime) -> Result<(), Fail> {
     let alloc = rt.alloc();

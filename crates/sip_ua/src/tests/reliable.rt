@@ -3,7 +3,7 @@
 use sip_reliable::{Inbound, NoMatch, Offer, Outbound, SendFault, Tick, taken_in_order};
 use std::process::Abort;
 
-// What a ledger says to responses of these numbers.
+// Offers the responses with these numbers, and checks what the ledger says.
 fn offers(rt: &impl Abort, answers: &[(u32, Offer)]) {
     let mut inbound = Inbound::new();
     for (rseq, offer) in answers {
@@ -11,7 +11,7 @@ fn offers(rt: &impl Abort, answers: &[(u32, Offer)]) {
     }
 }
 
-// The first is taken, and then each next; nothing follows the last number.
+// The first number is taken, and then each next one. None follows the last number.
 #[test]
 fn takes_the_first_and_then_each_next(rt: HostRuntime) {
     offers(
@@ -37,15 +37,15 @@ fn takes_the_first_and_then_each_next(rt: HostRuntime) {
     taken_in_order();
 }
 
-/// What is done with a ledger of responses that are sent, and what it says.
+/// One thing that is done with a ledger of sent responses, and what it says.
 #[derive(Clone, Copy)]
 enum Step {
     /// One is sent at a moment, with a body or without.
     Send(u32, bool, Result<u32, SendFault>),
     Acknowledge(u32, Result<(), NoMatch>),
-    /// Nothing comes of a tick.
+    /// A tick does nothing.
     Quiet(u32),
-    /// At a tick those of these numbers are to be sent again.
+    /// At a tick the responses with these numbers are to be sent again.
     Again(u32, &'static [u32]),
     GivenUp(u32),
     Due(Option<u64>),
@@ -53,7 +53,7 @@ enum Step {
     Close,
 }
 
-// Does a step, and says whether the ledger says what it is to say.
+// Does a step, and says whether the ledger says what it should.
 fn does(outbound: &mut Outbound, step: Step) -> bool {
     match step {
         Step::Send(now, has_body, said) => outbound.send(u64::from(now), has_body) == said,
@@ -112,7 +112,7 @@ fn sends_again_until_it_is_given_up(rt: HostRuntime) {
     runs(&rt, Outbound::new(1, true), &steps);
 }
 
-// After the first was acknowledged several wait, each with its own repeats, until one was given up.
+// After the first is acknowledged, several wait, each with its own repeats, until one is given up.
 #[test]
 fn several_wait(rt: HostRuntime) {
     let steps = [

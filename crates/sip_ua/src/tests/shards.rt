@@ -28,7 +28,7 @@ const CONFIG: Config = Config {
     first: 0,
 };
 
-/// The event file of an OPTIONS that comes and is answered.
+/// The event file of an OPTIONS that comes in and is answered.
 const ANSWERED: &[u8] = b"sip-events 1
 local 192.0.2.1:5060
 round 0
@@ -38,7 +38,7 @@ Call-ID: c0\\r\\nCSeq: 7 OPTIONS\\r\\n\\r\\n
 respond c0 0.1 200 plain - OK
 ";
 
-/// A gate at which two pieces of a phase wait for each other; it counts those that waited in vain.
+/// A gate at which two pieces of a phase wait for each other. It counts those that waited in vain.
 #[derive(Drop)]
 struct Meeting {
     looks: u32,
@@ -46,10 +46,10 @@ struct Meeting {
     alone: AtomicU64,
 }
 
-/// How many times at most a piece looks whether the other has begun, where another worker is there.
+/// How often a piece looks whether the other has begun, at most, if there is another worker.
 const MOST_LOOKS: u32 = 100_000_000;
 
-/// The same, where no other worker is there.
+/// The same if there is no other worker.
 const FEW_LOOKS: u32 = 1_000;
 
 impl Gate for Meeting {
@@ -65,7 +65,7 @@ impl Gate for Meeting {
     }
 }
 
-// How many pieces of a round without events, in two shards, waited for the other in vain.
+// How many pieces of a round without events waited for the other in vain, in two shards.
 fn alone<T: Threads + Sync>(rt: &T, alloc: Global, workers: usize, looks: u32) -> Result<u64, Fail>
     requires some { 0 < workers }
     requires most { workers ≤ 64 }
@@ -88,7 +88,7 @@ fn two_shards_are_dealt_with_at_the_same_time(rt: HostRuntime) -> Result<(), Fai
     Ok(())
 }
 
-// A round of so many datagrams without a byte.
+// A round of `datagrams` datagrams without bytes.
 fn round_of(alloc: Global, moment: u64, datagrams: u32) -> Result<Round, Fail> {
     let mut events = Series::new(alloc);
     for _ in 0..datagrams {
@@ -98,7 +98,7 @@ fn round_of(alloc: Global, moment: u64, datagrams: u32) -> Result<Round, Fail> {
     Ok(Round { moment, events })
 }
 
-// A round that is refused leaves moment, transaction and call as they were.
+// A round that is refused leaves the moment, the transaction and the call as they were.
 #[test]
 fn a_refused_round_leaves_the_agent_as_it_was(rt: HostRuntime) -> Result<(), Fail> {
     let alloc = rt.alloc();

@@ -1,4 +1,4 @@
-//! Two agents that call each other over a network that loses, doubles and delays datagrams.
+//! Two agents that call each other over a network that loses, duplicates and delays datagrams.
 
 ghost use Rattle.std.specs.Prelude.{◌<◌};
 
@@ -14,7 +14,7 @@ use std::thread::Threads;
 const INVITE: &str =
     "invite c 192.0.2.9:5060 sip:b@192.0.2.9 sip:a@192.0.2.1 sip:b@h supported -\n";
 
-/// A network that loses so many of eight datagrams, and doubles one.
+/// A network that loses `lost` of eight datagrams, and duplicates one.
 #[derive(Drop)]
 struct Network {
     random: u32,
@@ -39,7 +39,7 @@ impl Network {
     }
 }
 
-/// One of the two: its events to come, each with its round, and the responses it was shown.
+/// One side: its future events, each with its round, and the responses that its user was told of.
 #[derive(Drop)]
 struct Side {
     agent: Agent<Spread>,
@@ -64,9 +64,10 @@ fn is_over(side: &Side) -> bool {
     side.agent.live() == (0, 0) && side.events.is_empty()
 }
 
-// What a user says to a notice. A reliable provisional response answers an INVITE; once it is
-// acknowledged two more follow at once, and after the PRACK of the last a 200. That and the last
-// have a body, so their ACK and PRACK wait for the caller, who then says BYE.
+// What a user does about a notice. It answers an INVITE with a reliable provisional response. After
+// the PRACK of that, two more follow at once, and after the PRACK of the last a 200. The last of
+// these and the 200 have a body, so their PRACK and ACK wait for the caller, which then sends a
+// BYE.
 fn said(alloc: Global, notice: &str) -> Result<String, Fail> {
     let words: Vec<&str> = notice.split(' ').collect(alloc)?;
     Ok(match words.as_slice() {
@@ -102,7 +103,7 @@ fn file<T: Threads + Sync>(rt: &T, alloc: Global, me: &mut Side, at: u32) -> Res
     Ok(write_outputs(alloc, &[(moment, outputs)])?)
 }
 
-// A round of one side: its user is told, and what is sent is on its way to the peer.
+// A round of one side. Its user is told, and what is sent is on its way to the peer.
 fn turn<T: Threads + Sync>(
     rt: &T,
     alloc: Global,
@@ -132,8 +133,8 @@ fn turn<T: Threads + Sync>(
     Ok(())
 }
 
-// Each reliable provisional response is shown once and in order, and nothing is held at the end.
-// How many calls come about, and how many datagrams are sent, another program worked out.
+// The user is told of each reliable provisional response once and in order, and nothing is held at
+// the end. Another program calculated how many calls are made, and how many datagrams are sent.
 #[test]
 fn calls_over_a_network_that_loses_datagrams(rt: HostRuntime) -> Result<(), Fail> {
     let (alloc, mut whole, mut sent) = (rt.alloc(), 0u32, 0u32);

@@ -30,7 +30,7 @@ const PEER: Addr = Addr {
     port: 5060,
 };
 
-/// An outlet over memory, which tells what it was asked. It fails at one call.
+/// An outlet in memory that tells what it was asked to send. One of its calls fails.
 #[derive(Drop)]
 struct Told<'a, R: Abort> {
     rt: &'a R,
@@ -51,7 +51,7 @@ impl<'a, R: Abort> Outlet for Told<'a, R> {
     }
 }
 
-// A Send of these bytes, with a key of this branch, where it isn't empty.
+// A Send of these bytes; its key has this branch, and is missing if the branch is empty.
 fn output(alloc: Global, branch: &[u8], bytes: &[u8]) -> Result<PlacedOutput, Fail> {
     let options = Token::new(Text::copy_of(alloc, b"OPTIONS")?).ok_or("a method")?;
     let key = Key::client(alloc, branch, options)?;
@@ -75,7 +75,7 @@ fn branches(alloc: Global, failed: &[Event]) -> Result<Vec<u8>, Fail> {
     Ok(branches)
 }
 
-// All that an outlet was asked, with `+` before what was sent and `-` before what wasn't.
+// All that an outlet was asked to send, with `+` before what was sent and `-` before what wasn't.
 fn asked_text(alloc: Global, asked: &[Asked]) -> Result<Vec<u8>, Fail> {
     let mut text = Vec::new(alloc);
     for one in asked {
@@ -85,8 +85,8 @@ fn asked_text(alloc: Global, asked: &[Asked]) -> Result<Vec<u8>, Fail> {
     Ok(text)
 }
 
-// Each Send is asked for once, in order, also after one that fails; a failure without a key is told
-// to nobody.
+// Each Send is asked for once, in order, even after one failed. Nobody is told of a failure without
+// a key.
 #[test]
 fn an_outlet_that_fails_each_of_its_sends(rt: HostRuntime) -> Result<(), Fail> {
     let alloc = rt.alloc();
@@ -123,7 +123,7 @@ fn an_outlet_that_fails_each_of_its_sends(rt: HostRuntime) -> Result<(), Fail> {
     Ok(())
 }
 
-/// An inlet that fails so many times in a row before each of these, and then only fails.
+/// An inlet that fails this often in a row before each of its results, and then only fails.
 #[derive(Drop)]
 struct Broken {
     failures: u32,
@@ -160,8 +160,8 @@ fn one_line(alloc: Global) -> Result<(Desk<Event>, Poster<Event>), NoMemory> {
     Ok((desk, line))
 }
 
-// How many of two datagrams come before the listener gives up, where so many receives fail before
-// each of them and before each of so many quiet ones, which come first.
+// How many of two datagrams come before the listener gives up. This many receives fail before each
+// of them, and before each of the quiet ones, which come first.
 fn heard_after(
     rt: &impl Abort,
     alloc: Global,
@@ -193,7 +193,7 @@ fn a_listener_gives_up_after_a_hundred_failures_in_a_row(rt: HostRuntime) -> Res
     Ok(())
 }
 
-// How a listener ends that takes so many turns, and its notices.
+// How a listener ends that takes `turns` turns, and its notices.
 fn plainly_listened<R: Threads + Clock + Sync>(
     rt: &R,
     alloc: Global,
@@ -206,7 +206,7 @@ fn plainly_listened<R: Threads + Clock + Sync>(
     (ended, notices)
 }
 
-// The notices of a caller that does what is usual.
+// The notices of a caller with the usual plan.
 fn plainly_called<R: Threads + Clock + Sync>(
     rt: &R,
     alloc: Global,
@@ -285,12 +285,12 @@ fn a_call_that_is_given_up_while_it_rings(rt: HostRuntime) -> Result<(), Fail> {
     Ok(())
 }
 
-/// A request for which a listener has no service.
+/// A request that a listener doesn't serve.
 const INFO: &[u8] =
     b"INFO sip:b@127.0.0.1 SIP/2.0\r\nVia: SIP/2.0/UDP 127.0.0.1;rport;branch=z9hG4bKn1\r\n\
     From: <sip:a@127.0.0.1>;tag=f\r\nTo: <sip:b@127.0.0.1>\r\nCall-ID: c1\r\nCSeq: 1 INFO\r\n\r\n";
 
-// The first bytes of what a listener answers to it.
+// Whether the listener answers it with a 501.
 fn answer_to_info(alloc: Global, socket: &UdpSocket, to: Addr) -> Option<bool> {
     let address = SocketAddrV4::new(Ipv4Addr::from_octets(to.ip), to.port);
     socket.send_to(INFO, address).ok()?;
@@ -299,7 +299,7 @@ fn answer_to_info(alloc: Global, socket: &UdpSocket, to: Addr) -> Option<bool> {
     Some(buffer.get(..length)?.starts_with(b"SIP/2.0 501 "))
 }
 
-// Each notice is flushed; an INFO is told and answered.
+// Each notice is flushed. The user is told of an INFO, which is answered.
 #[test]
 fn a_listener_flushes_each_notice(rt: HostRuntime) -> Result<(), Fail> {
     let alloc = rt.alloc();
@@ -319,7 +319,7 @@ fn a_listener_flushes_each_notice(rt: HostRuntime) -> Result<(), Fail> {
     Ok(())
 }
 
-// A socket of which no datagram comes in time is quiet, and hasn't failed.
+// A socket that gets no datagram in time is quiet, and hasn't failed.
 #[test]
 fn a_socket_without_a_datagram_is_quiet(rt: HostRuntime) -> Result<(), Fail> {
     let (mut socket, _) = bound(&rt)?;
@@ -329,7 +329,7 @@ fn a_socket_without_a_datagram_is_quiet(rt: HostRuntime) -> Result<(), Fail> {
     Ok(())
 }
 
-// Sends so many datagrams, one each millisecond; a failure is passed over.
+// Sends `datagrams` datagrams, one each millisecond. A failure is ignored.
 fn blast<R: Clock>(rt: &R, socket: &UdpSocket, to: Addr, datagrams: u32) {
     let address = SocketAddrV4::new(Ipv4Addr::from_octets(to.ip), to.port);
     for _ in 0..datagrams {
@@ -338,7 +338,7 @@ fn blast<R: Clock>(rt: &R, socket: &UdpSocket, to: Addr, datagrams: u32) {
     }
 }
 
-// How a listener ends that takes so many turns, while so many datagrams are sent to an address.
+// How a listener ends that takes `turns` turns, while `datagrams` datagrams are sent to an address.
 fn end_of_listener<R: Threads + Clock + Sync>(
     rt: &R,
     alloc: Global,
@@ -357,7 +357,7 @@ fn end_of_listener<R: Threads + Clock + Sync>(
     ended
 }
 
-// What comes after the last turn is collected, so that the line is settled.
+// What comes after the last turn is collected, so the line can be settled.
 #[test]
 fn a_listener_ends_well_while_datagrams_come(rt: HostRuntime) -> Result<(), Fail> {
     let (theirs, to) = bound(&rt)?;
@@ -366,7 +366,7 @@ fn a_listener_ends_well_while_datagrams_come(rt: HostRuntime) -> Result<(), Fail
     Ok(())
 }
 
-// A socket that is connected to a port where nobody is fails at a receive after each of its sends.
+// A socket connected to a port where nobody listens fails to receive after each of its sends.
 #[test]
 fn a_listener_whose_socket_fails_tells_so(rt: HostRuntime) -> Result<(), Fail> {
     let (nobody, to) = bound(&rt)?;
@@ -385,7 +385,7 @@ fn ua_with<T: Threads + Host>(rt: &T, alloc: Global, words: &str) -> io::Result<
     run_on(rt, alloc, words.as_slice(), &mut b"".as_slice())
 }
 
-// A send that fails reaches the agent, and a record that can't be written ends alone.
+// The agent is told of a failed send. If a record can't be written, only recording ends.
 #[test]
 fn a_call_that_cannot_be_sent_fails(rt: HostRuntime) -> Result<(), Fail> {
     let words = "call --local 127.0.0.1:0 --to 255.255.255.255:5060 --uri sip:b@127.0.0.1 \
@@ -399,7 +399,7 @@ fn a_call_that_cannot_be_sent_fails(rt: HostRuntime) -> Result<(), Fail> {
     Ok(())
 }
 
-// What stands between two texts, the first of each.
+// The text between two others, at the first place of each.
 fn between<'a>(text: &'a [u8], before: &str, after: &str) -> Result<&'a str, Fail> {
     let text = str::from_utf8(text).ok().ok_or("a text")?;
     let (_, rest) = text.split_once(before).ok_or("what stands before it")?;
@@ -407,7 +407,7 @@ fn between<'a>(text: &'a [u8], before: &str, after: &str) -> Result<&'a str, Fai
     Ok(found)
 }
 
-// An INVITE that nobody answers is sent again, and so it is counted.
+// An INVITE that nobody answers is retransmitted, and counted that way.
 #[test]
 fn what_is_sent_again_is_counted(rt: HostRuntime) -> Result<(), Fail> {
     let alloc = rt.alloc();
@@ -428,10 +428,10 @@ fn what_is_sent_again_is_counted(rt: HostRuntime) -> Result<(), Fail> {
     Ok(())
 }
 
-/// What a 2xx carries.
+/// The body of a 2xx.
 const BODY: &[u8] = b"v=0\r\n";
 
-// The moment of the round that the first datagram with these words was in.
+// The moment of the round with the first datagram that has these words.
 fn moment_of(record: &[u8], words: &str) -> Result<u64, Fail> {
     let text = str::from_utf8(record).ok().ok_or("a text")?;
     let mut moment = 0;
@@ -446,7 +446,7 @@ fn moment_of(record: &[u8], words: &str) -> Result<u64, Fail> {
     Err(Fail::from("a datagram"))
 }
 
-/// What came of a listener and a caller, and the listener's record.
+/// How a listener and a caller ended, and the listener's record.
 #[derive(Drop)]
 struct Talked {
     served: Ended,
@@ -454,7 +454,7 @@ struct Talked {
     events: Vec<u8>,
 }
 
-// The words of the listener, with the files of its body and of its record.
+// The words of the listener, with the files for its body and its record.
 fn listener_words(alloc: Global, to: Addr, body: &str, record: &str) -> Result<String, AllocError> {
     format!(in alloc;
         "listen --local {to} --turns 250 --ring 100 --reliable \
@@ -498,7 +498,7 @@ fn a_call_is_as_the_words_of_both_say(rt: HostRuntime) -> Result<(), Fail> {
     )
 }
 
-// The listener rings and answers with a body; the caller acknowledges it, stays for a while, and
+// The listener rings, and answers with a body. The caller acknowledges that, stays for a while, and
 // ends each dialog once. What is sent names the port that the socket got.
 fn are_as_said(rt: &impl Abort, talked: &Talked) -> Result<(), Fail> {
     let Talked {
@@ -538,7 +538,7 @@ fn are_as_said(rt: &impl Abort, talked: &Talked) -> Result<(), Fail> {
     Ok(())
 }
 
-// Datagrams that are dropped: three keep-alives and one that is none.
+// Datagrams that are dropped: three keep-alives, and one that isn't a keep-alive.
 const DROPPED: [&[u8]; 4] = [
     b"\r\n\r\n",
     b"\0\0",
@@ -546,7 +546,7 @@ const DROPPED: [&[u8]; 4] = [
     b"INVITE sip:b@127.0.0.1 SIP/2.0\r\nSubject: x\r\n\r\n",
 ];
 
-// Sends what is dropped to a listener, again and again while it is there.
+// Sends the dropped datagrams to a listener, again and again, while it runs.
 fn drop_on<R: Clock>(rt: &R, socket: &UdpSocket, to: Addr) {
     let address = SocketAddrV4::new(Ipv4Addr::from_octets(to.ip), to.port);
     for _ in 0..40 {
@@ -581,7 +581,7 @@ fn drops_are_told_and_keep_alives_counted(rt: HostRuntime) -> Result<(), Fail> {
     Ok(())
 }
 
-// A URI without a scheme says so, and help is no fault.
+// The fault of a URI without a scheme says so, and help isn't a fault.
 #[test]
 fn causes_and_help(rt: HostRuntime) -> Result<(), Fail> {
     let alloc = rt.alloc();
@@ -618,7 +618,7 @@ fn causes_and_help(rt: HostRuntime) -> Result<(), Fail> {
     Ok(())
 }
 
-// The notices of a listener, or of a caller by a plan, that goes on until its input ends.
+// The notices of a listener, or of a caller with a plan, that goes on until its input ends.
 fn until_input_ends<T: Threads + Clock + Sync>(
     rt: &T,
     alloc: Global,
@@ -642,7 +642,7 @@ fn until_input_ends<T: Threads + Clock + Sync>(
     Ok(told)
 }
 
-// Ends the one input, and then the other.
+// Ends one input, and then the other.
 fn end_inputs<R: Clock>(rt: &R, first: PipeWriter, second: PipeWriter) {
     thread::sleep(rt, Duration::from_millis(4_000));
     drop(first);
@@ -650,8 +650,8 @@ fn end_inputs<R: Clock>(rt: &R, first: PipeWriter, second: PipeWriter) {
     drop(second);
 }
 
-// The end of a listener's input ends the call that is up, and then the listener; that of the
-// caller's the caller.
+// The end of a listener's input ends the call that is up, and then the listener. The end of a
+// caller's input ends the caller.
 #[test]
 fn the_end_of_the_input_ends_a_call(rt: HostRuntime) -> Result<(), Fail> {
     let alloc = rt.alloc();

@@ -9,10 +9,10 @@ use std::sync::atomic::{AtomicU64, Ordering};
 use std::test::Fail;
 use std::thread;
 
-// How often a job looks before it gives up waiting for the others.
+// How often a job looks before it stops waiting for the others.
 const MOST_TURNS: u32 = 10_000_000;
 
-// How often a job that counts the others lets them go on.
+// How often a job that counts the others lets them run on.
 const FEW_TURNS: u32 = 1_000;
 
 // Adds up the bits of the shards whose pieces have begun.
@@ -24,7 +24,7 @@ impl Begun {
         Begun(AtomicU64::new(0))
     }
 
-    // Whether each of so many shards has begun once, from 0 on.
+    // Whether each of `count` shards has begun once, from 0 on.
     fn is_all(&self, count: u32) -> bool {
         let bits = u64::MAX
             .checked_shr(64u32.saturating_sub(count))
@@ -42,7 +42,7 @@ impl Gate for Begun {
     }
 }
 
-// Waits in `run` until as many jobs run as it waits for, and says whether they did.
+// Waits in `run` until enough jobs run, and says whether they did.
 #[derive(Drop)]
 struct Waits<'a> {
     running: &'a AtomicU64,
@@ -66,7 +66,7 @@ impl<'a> Job for Waits<'a> {
     }
 }
 
-// Says how many jobs run as it runs, itself among them.
+// Says how many jobs run while it runs, including itself.
 #[derive(Drop)]
 struct Counts<'a> {
     running: &'a AtomicU64,
@@ -87,7 +87,7 @@ impl<'a> Job for Counts<'a> {
     }
 }
 
-// The square of a number, which any thread makes.
+// The square of a number. Any thread may calculate it.
 #[derive(Drop)]
 struct Square(u32);
 
@@ -143,7 +143,7 @@ fn all_met(dones: &[(usize, bool)]) -> bool {
     dones.iter().all(|done| done.1)
 }
 
-// Two workers run two pieces at the same time, and one runs one at a time.
+// Two workers run two pieces at the same time; one worker runs one at a time.
 #[test]
 fn as_many_pieces_run_as_there_are_workers(rt: HostRuntime) -> Result<(), Fail> {
     for workers in 1..3 {
@@ -188,7 +188,7 @@ fn a_piece_that_waits_holds_up_no_other(rt: HostRuntime) -> Result<(), Fail> {
     Ok(())
 }
 
-// The numbers are the squares of 0 and what follows, so many.
+// Whether the numbers are the squares of the `count` numbers from 0 on.
 fn are_squares(numbers: &[u64], count: u32) -> bool {
     let mut next: u64 = 0;
     for number in numbers {
@@ -200,7 +200,7 @@ fn are_squares(numbers: &[u64], count: u32) -> bool {
     next == u64::from(count)
 }
 
-// Also with more workers than pieces, and without a piece.
+// The same with more workers than pieces, and without pieces.
 #[test]
 fn gathers_the_same_each_time(rt: HostRuntime) -> Result<(), Fail> {
     dones_in_order::<Square>();

@@ -1,3 +1,4 @@
+-- `sip_ua_raw_next_due` tells the first moment at which something is due, or that there is none.
 use Rattle.std.proofs.Common.{◌≡◌, ℕ, List, Option, None, ap, refl, sym, subst, ◌∙◌}
 use Rattle.std.specs.Prelude.{IfSome}
 use Rattle.sip_round.specs.Answers.{StandsFor}

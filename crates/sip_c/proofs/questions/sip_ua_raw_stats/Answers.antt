@@ -1,3 +1,4 @@
+-- `sip_ua_raw_stats` tells what the agent holds and what waits in it.
 use Rattle.std.proofs.Common.{◌≡◌, ℕ, Some, refl, sym, subst}
 use Rattle.std.specs.Prelude.{IfSome}
 use Rattle.sip_host.specs.Hosting.{HoldsSo}

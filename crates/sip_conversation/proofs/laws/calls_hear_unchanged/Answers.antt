@@ -1,3 +1,5 @@
+-- The law `calls_hear_unchanged`: a message that comes up to a call is one that the other side
+-- said.
 use Rattle.sip_message.specs.Addr.{IsAddr}
 use Rattle.sip_conversation.specs.Conversation.{of_sides}
 use Rattle.sip_conversation.proofs.Sides.{each_side}

@@ -1,3 +1,4 @@
+-- The law `datagrams_are_texts_said`: a datagram is the text of a message that the other side said.
 use Rattle.sip_message.specs.Addr.{IsAddr}
 use Rattle.sip_conversation.specs.Conversation.{of_sides}
 use Rattle.sip_conversation.proofs.Sides.{each_side}

@@ -1,3 +1,4 @@
+-- The law `messages_come_unchanged`: a message that comes is one that the other side said.
 use Rattle.sip_message.specs.Addr.{IsAddr}
 use Rattle.sip_conversation.specs.Conversation.{of_sides}
 use Rattle.sip_conversation.proofs.Sides.{each_side}

@@ -1,3 +1,4 @@
+-- `numbers_fit`: each number of an address is an octet.
 use Rattle.std.proofs.Common.{arith}
 use Rattle.sip_conversation.proofs.Addresses.{four_octets}
 use Rattle.sip_conversation.proofs.laws.numbers_fit.Goals as goal

@@ -1,3 +1,4 @@
+-- The law `provisionals_told_were_said`: the other side said those that a user is told of.
 use Rattle.std.specs.Prelude.{List}
 use Rattle.sip_message.specs.Addr.{IsAddr}
 use Rattle.sip_model.specs.Laws.{EachKeyAlone}

@@ -1,3 +1,4 @@
+-- The law `responses_told_were_said`: the other side said each response that a user is told of.
 use Rattle.sip_model.specs.Laws.{EachKeyAlone}
 use Rattle.sip_model.specs.Machine.{tick_at}
 use Rattle.sip_calls.specs.Call.{call_machine}

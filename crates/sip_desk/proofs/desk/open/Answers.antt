@@ -1,3 +1,4 @@
+-- `open`: each turn of the loop adds one more line, with its poster.
 use Rattle.std.proofs.Common.{refl}
 use Rattle.sip_desk.proofs.Rings.{opened_more}
 use Rattle.sip_desk.proofs.desk.open.Goals as goal

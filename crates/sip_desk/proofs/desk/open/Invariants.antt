@@ -1,3 +1,4 @@
+-- The loop of `open`: the lines so far are open, each with its poster.
 use Rattle.sip_desk.specs.Lines.{IsOpened}
 use Rattle.sip_desk.proofs.desk.open.Given as goal
 

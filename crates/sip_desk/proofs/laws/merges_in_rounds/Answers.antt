@@ -1,3 +1,4 @@
+-- The law `merges_in_rounds`: how collected events are cut into rounds and joined.
 use Rattle.std.proofs.Common.{[], refl, sym, ◌∙◌, append-nil}
 use Rattle.sip_desk.specs.Lines.{taken}
 use Rattle.sip_desk.proofs.Parts.{holds_parts, collects_then, holds_taken}

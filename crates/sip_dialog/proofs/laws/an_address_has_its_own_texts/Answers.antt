@@ -1,3 +1,4 @@
+-- The law `an_address_has_its_own_texts`: its texts are read as the address, and no others are.
 use Rattle.sip_dialog.proofs.Addresses.{address_again, address_took}
 use Rattle.sip_dialog.proofs.laws.an_address_has_its_own_texts.Goals as goal
 

@@ -1,3 +1,4 @@
+-- `own_host`: the text of an IPv4 address may stand as a host.
 use Rattle.std.proofs.Common.{arith}
 use Rattle.sip_dialog.proofs.Requests.{ip_is_host}
 use Rattle.sip_dialog.proofs.own_headers.own_host.Goals as goal

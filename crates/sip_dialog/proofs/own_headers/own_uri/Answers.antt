@@ -1,3 +1,4 @@
+-- `own_uri`: the text `sip:` with an address may stand as a URI.
 use Rattle.std.proofs.Common.{◌≡◌, ◌++◌, codes, decimal, arith, rules}
 use Rattle.sip_message.specs.Ip.{ip_text}
 use Rattle.sip_dialog.proofs.Requests.{own_uri}

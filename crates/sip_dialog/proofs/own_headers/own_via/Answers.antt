@@ -1,3 +1,4 @@
+-- `own_via`: a list of one Via may stand as the Vias of a message.
 use Rattle.std.proofs.Common.{◌≡◌, rules, ◌∷◌, []}
 use Rattle.sip_dialog.specs.Request.{agent_via}
 use Rattle.sip_dialog.proofs.Requests.{own_are_vias}

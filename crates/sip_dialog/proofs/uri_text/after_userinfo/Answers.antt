@@ -1,3 +1,4 @@
+-- `after_userinfo` gives what follows the last `@`, or what follows the scheme if there is no `@`.
 use Rattle.std.proofs.Common.{sym, ◌∙◌}
 use Rattle.sip_dialog.proofs.UriTexts.{without_at_sign, at_the_last}
 use Rattle.sip_dialog.proofs.uri_text.after_userinfo.Goals as goal

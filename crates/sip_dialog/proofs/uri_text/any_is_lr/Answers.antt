@@ -1,3 +1,4 @@
+-- `any_is_lr` says whether one of the parameters, split at `;`, is `lr`.
 use Rattle.std.proofs.Common.{rules, tests}
 use Rattle.std.proofs.lemmas.Iterator.Search.{any_from_yields_List}
 use Rattle.std.proofs.lemmas.Iterator.Splits.{YieldsList-from_slice_split}

@@ -1,3 +1,4 @@
+-- `in_last` puts the event into the last round.
 use Rattle.std.proofs.Common.{◌≡◌, List, ◌++◌, ◌∷◌, [], Some, ap, sym, ◌∙◌}
 use Rattle.sip_round.specs.declared.round.Event.{Event}
 use Rattle.sip_round.specs.declared.round.Round.{Round}

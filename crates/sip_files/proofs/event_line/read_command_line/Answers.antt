@@ -1,3 +1,4 @@
+-- `read_command_line` gives the command of a line, or None if it isn't the line of a command.
 use Rattle.sip_round.specs.declared.round.Event.TheVariants.{Command}
 use Rattle.sip_files.proofs.WrittenLaws.{is_command, is_no_command}
 use Rattle.sip_files.proofs.event_line.read_command_line.Goals as goal

@@ -1,3 +1,4 @@
+-- `read_event_line` gives the event of a line, or None if it isn't the line of an event.
 use Rattle.sip_files.proofs.WrittenLaws.{says_event, says_no_event, says_nothing}
 use Rattle.sip_files.proofs.event_line.read_event_line.Goals as goal
 

@@ -1,3 +1,4 @@
+-- `read_header_line` gives the header of a line, or None if it isn't a header line.
 use Rattle.sip_files.proofs.WrittenLaws.{says_header, says_no_header, says_nothing_in_session}
 use Rattle.sip_files.proofs.event_line.read_header_line.Goals as goal
 

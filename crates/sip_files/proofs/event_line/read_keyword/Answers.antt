@@ -1,10 +1,11 @@
+-- `read_keyword` reads what a line says by its keyword.
 use Rattle.std.proofs.Common.{◌≡◌, Option, Some, None, ap, sym, ◌∙◌, MatchOption, IsSomeAnd}
 use Rattle.std.specs.Option.{option_map}
 use Rattle.sip_files.specs.declared.event_line.EventLine.TheVariants as line
 use Rattle.sip_files.specs.Steps.ReadLine.{keyword_line}
 use Rattle.sip_files.proofs.event_line.read_keyword.Goals as goal
 
--- what `map` gives by a function that gives `f`
+-- what `map` gives with a function that gives `f`
 mapped : {A B : Type 0} (f : A → B) (o : Option A) (r : Option B)
     → MatchOption o (r ≡ None) (λ x. IsSomeAnd r (λ y. y ≡ f x)) → r ≡ option_map f o
 mapped f None r e = e

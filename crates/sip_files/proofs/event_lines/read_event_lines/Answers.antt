@@ -1,3 +1,4 @@
+-- `read_event_lines` gives the event that the lines spell, or None if they spell no single event.
 use Rattle.std.proofs.Common.{rules}
 use Rattle.sip_files.proofs.OneEvent.{event_found, no_event_found, none_unread, some_unread}
 use Rattle.sip_files.specs.EventLines.{SpellsLines}

@@ -1,3 +1,4 @@
+-- `after_version` gives the version that the first line names, and what follows that line.
 use Rattle.std.proofs.Common.{◌++◌, ◌∷◌, List, ℕ, ap, sym, ◌∙◌}
 use Rattle.sip_text.proofs.Cuts.{cut_took}
 use Rattle.sip_files.proofs.FileFaults.{version_found}

@@ -1,3 +1,4 @@
+-- `read_file` gives what the text spells, and the first fault that fits if it spells nothing.
 use Rattle.std.proofs.Common.{arith}
 use Rattle.std.proofs.lemmas.Result.{err_from_is_err_and}
 use Rattle.sip_files.proofs.FileFaults.{found, version_only, version_tells, line_only, line_tells}

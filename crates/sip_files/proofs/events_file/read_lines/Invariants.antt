@@ -1,3 +1,4 @@
+-- The loop of `read_lines`: what the lines so far say, and what is left.
 use Rattle.std.proofs.Common.{◌+◌, ◌≤◌, length}
 use Rattle.sip_files.proofs.ReadSoFar.{SoFar}
 use Rattle.sip_files.proofs.events_file.read_lines.Given as goal

@@ -1,3 +1,4 @@
+-- `push_events` writes the lines of all events.
 use Rattle.std.proofs.lemmas.List.{take_all}
 use Rattle.sip_files.specs.Written.{event_lines}
 use Rattle.sip_files.proofs.Pushed.{one_more, taken}

@@ -1,3 +1,4 @@
+-- The loop of `push_events`: the lines of the events so far are written.
 use Rattle.std.proofs.Common.{◌≡◌, ◌++◌, take}
 use Rattle.std.specs.List.{flat_map}
 use Rattle.sip_files.specs.Written.{event_lines}

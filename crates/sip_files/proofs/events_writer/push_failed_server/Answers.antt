@@ -1,3 +1,4 @@
+-- `push_failed_server` writes the line of a failed send with a server's key.
 use Rattle.std.proofs.Common.{rules, codes}
 use Rattle.sip_files.specs.Field.{number_field, plain_field, word_field}
 use Rattle.sip_files.proofs.Pushed.{after_two}

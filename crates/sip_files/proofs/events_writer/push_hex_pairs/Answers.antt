@@ -1,3 +1,4 @@
+-- `push_hex_pairs` writes two digits for each byte.
 use Rattle.std.proofs.lemmas.List.{take_more, take_all}
 use Rattle.sip_files.specs.Word.{hex_pair}
 use Rattle.sip_files.proofs.Pushed.{one_more}

@@ -1,3 +1,4 @@
+-- The loop of `push_hex_pairs`: the digits of the bytes so far are written.
 use Rattle.std.proofs.Common.{◌≡◌, ◌++◌, take}
 use Rattle.std.specs.List.{flat_map}
 use Rattle.sip_files.specs.Word.{hex_pair}

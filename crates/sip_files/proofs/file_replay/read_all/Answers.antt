@@ -1,3 +1,4 @@
+-- `read_all` counts its reads: at most one for each byte that a file may have, and two more.
 use Rattle.std.proofs.Common.{arith}
 use Rattle.sip_files.proofs.Streams.{counts_within}
 use Rattle.sip_files.proofs.file_replay.read_all.Goals as goal

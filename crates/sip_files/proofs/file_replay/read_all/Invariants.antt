@@ -1,3 +1,4 @@
+-- The loop of `read_all`: the text so far, and how many reads it took.
 use Rattle.sip_files.proofs.Streams.{ReadSoFar}
 use Rattle.sip_files.proofs.file_replay.read_all.Given as goal
 

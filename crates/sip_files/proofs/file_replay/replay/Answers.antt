@@ -1,10 +1,12 @@
+-- `replay`: with another fault than `Output` nothing was written, and a file has no fault of its
+-- text.
 use Rattle.std.proofs.Common.{◌≡◌, ◌≢◌, refl, rules, Result, Ok, Err, IfErr}
 use Rattle.sip_files.specs.declared.file_replay.ReplayFault.{ReplayFault}
 use Rattle.sip_files.specs.declared.file_replay.ReplayFault.TheVariants as replay_fault
 use Rattle.sip_files.proofs.Streams.{only_memory_known}
 use Rattle.sip_files.proofs.file_replay.replay.Goals as goal
 
--- a writer that nobody touched is as it was
+-- a writer that nobody used is as it was
 untouched : {T W : Type 0} (result : Result T ReplayFault) (writer : W)
     → IfErr result (λ fault. fault ≢ replay_fault.Output → writer ≡ writer)
 untouched (Ok value) writer = tt

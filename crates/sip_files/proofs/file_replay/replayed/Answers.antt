@@ -1,3 +1,4 @@
+-- `replayed` gives the output file of the rounds that the text spells.
 use Rattle.std.proofs.Common.{rules}
 use Rattle.sip_files.proofs.Streams.{replays_read}
 use Rattle.sip_files.proofs.file_replay.replayed.Goals as goal

@@ -1,3 +1,4 @@
+-- The loop of `with_moments`: the pairs made so far, and the rounds and answers that are left.
 use Rattle.std.specs.Vec.Iter.{into_iter_items}
 use Rattle.sip_files.proofs.Streams.{BesideSoFar}
 use Rattle.sip_files.proofs.file_replay.with_moments.Given as goal

@@ -1,3 +1,4 @@
+-- `write_whole`: each turn of the loop writes the front of what is left.
 use Rattle.std.proofs.Common.{◌<◌, arith}
 use Rattle.sip_files.proofs.Streams.{took_some, written_more}
 use Rattle.sip_files.proofs.file_replay.write_whole.Goals as goal

@@ -1,3 +1,4 @@
+-- The loop of `write_whole`: the bytes written so far, and those that are left.
 use Rattle.std.proofs.Common.{length}
 use Rattle.sip_files.proofs.Streams.{WrittenSoFar}
 use Rattle.sip_files.proofs.file_replay.write_whole.Given as goal

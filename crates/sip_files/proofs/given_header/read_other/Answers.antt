@@ -1,3 +1,4 @@
+-- `read_other` gives the other header that one line adds to a draft.
 use Rattle.std.proofs.Common.{length, ap, sym, ◌∙◌}
 use Rattle.std.proofs.lemmas.List.{nil_from_length}
 use Rattle.sip_headers.specs.Draft.{with_line}

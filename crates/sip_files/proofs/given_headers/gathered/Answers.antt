@@ -1,3 +1,4 @@
+-- `gathered` gives all values of each header, in the order of the lines.
 use Rattle.std.proofs.Common.{sym, ap, ◌∙◌}
 use Rattle.std.specs.Prelude.{fold}
 use Rattle.std.proofs.lemmas.List.{nil_from_length}

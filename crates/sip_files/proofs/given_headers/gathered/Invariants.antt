@@ -1,3 +1,4 @@
+-- The loop of `gathered`: the headers so far, with those left added, are all headers.
 use Rattle.std.proofs.Common.{◌≡◌, []}
 use Rattle.std.specs.Prelude.{fold}
 use Rattle.std.specs.Vec.Iter.{into_iter_items}

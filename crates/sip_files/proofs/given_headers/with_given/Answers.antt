@@ -1,3 +1,4 @@
+-- `with_given` gives the command its headers, if there are any.
 use Rattle.std.proofs.Common.{sym, ◌∙◌}
 use Rattle.sip_files.proofs.GatheredHeaders.{given_by}
 use Rattle.sip_files.proofs.given_headers.with_given.Goals as goal

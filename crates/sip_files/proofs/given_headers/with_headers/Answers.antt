@@ -1,3 +1,4 @@
+-- `with_headers` gives the line of a command the header lines before it.
 use Rattle.std.proofs.Common.{rules, sym, ◌∙◌}
 use Rattle.sip_files.proofs.GatheredHeaders.{headed_command}
 use Rattle.sip_files.proofs.given_headers.with_headers.Goals as goal

@@ -1,3 +1,4 @@
+-- `read_seed` reads 32 pairs of digits, and nothing may follow them.
 use Rattle.std.proofs.Common.{sym, ◌∙◌, arith, rules}
 use Rattle.sip_files.specs.Steps.Reading.{seed_at}
 use Rattle.sip_files.proofs.Pairs.{seed_goes_on, seed_stops, seed_ends}

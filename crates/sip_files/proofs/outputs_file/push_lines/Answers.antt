@@ -1,3 +1,4 @@
+-- `push_lines` writes the line of each output.
 use Rattle.std.proofs.lemmas.List.{take_all}
 use Rattle.sip_files.specs.Outputs.{output_line}
 use Rattle.sip_files.proofs.Pushed.{one_more, taken}

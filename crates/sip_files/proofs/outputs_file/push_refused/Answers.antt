@@ -1,3 +1,4 @@
+-- `push_refused` writes the notice of a refused command, with the number of its refusal.
 use Rattle.std.proofs.Common.{append_assoc}
 use Rattle.sip_files.proofs.outputs_file.push_refused.Goals as goal
 

@@ -1,3 +1,4 @@
+-- `push_rounds` writes the moment and the outputs of each round.
 use Rattle.std.proofs.Common.{◌≡◌, ◌+◌, ◌++◌, ◌∷◌, [], take, ap, sym, ◌∙◌}
 use Rattle.std.proofs.lemmas.List.{map_more, take_all}
 use Rattle.sip_files.specs.Outputs.{round_outputs_text, told}

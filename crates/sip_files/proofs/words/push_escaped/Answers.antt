@@ -1,3 +1,4 @@
+-- `push_escaped` writes each byte as itself or as its escape.
 use Rattle.std.proofs.lemmas.List.{take_more, take_all}
 use Rattle.sip_files.specs.Steps.Form.{itself_in}
 use Rattle.sip_files.specs.Word.{spelled_byte}

@@ -1,3 +1,4 @@
+-- The loop of `push_escaped`: the bytes so far are written.
 use Rattle.std.proofs.Common.{◌≡◌, ◌++◌, take}
 use Rattle.sip_files.specs.Word as word
 use Rattle.sip_files.specs.Steps.Form.{itself_in}

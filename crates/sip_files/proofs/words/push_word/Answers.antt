@@ -1,3 +1,4 @@
+-- `push_word` escapes a text that is one hyphen.
 use Rattle.std.proofs.Common.{◌≡◌, ℕ, List, Result, Ok, Err, cond, sym, ◌∙◌}
 use Rattle.std.specs.Result.{OnOk, is_ok}
 use Rattle.sip_files.specs.Word.{spelled_word}

@@ -1,3 +1,4 @@
+-- `read_escaped` reads one byte after another, or finds one that isn't spelled.
 use Rattle.std.proofs.Common.{◌≡◌, ◌<◌, length, arith}
 use Rattle.std.proofs.lemmas.Bool.Decides.{nat_tests}
 use Rattle.sip_files.specs.Steps.Form.{itself_in}

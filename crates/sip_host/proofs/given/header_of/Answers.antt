@@ -1,3 +1,4 @@
+-- `header_of` gives the header that the line says, or None if it says none.
 use Rattle.std.proofs.Common.{◌∙◌, rules}
 use Rattle.sip_host.proofs.SaidHeaders.{none_said, some_said}
 use Rattle.sip_host.proofs.given.header_of.Goals as goal

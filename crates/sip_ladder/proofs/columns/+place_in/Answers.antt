@@ -1,3 +1,4 @@
+-- `place_in` gives the number of peers that stand before this one.
 use Rattle.std.proofs.Common.{rules}
 use Rattle.std.proofs.lemmas.List.{nil_from_length}
 use Rattle.sip_ladder.proofs.Places.{place_none, place_first, place_later}

@@ -1,3 +1,4 @@
+-- `add_peer` adds a peer that is new, if there is room for it.
 use Rattle.std.proofs.Common.{◌≡◌, ap, inl, inr, arith}
 use Rattle.sip_ladder.specs.Row.{place_of}
 use Rattle.sip_ladder.proofs.Distinct.{kept_as_is, kept_more}

@@ -1,3 +1,4 @@
+-- `drawn` gives the ladder of the rounds that the text spells.
 use Rattle.std.proofs.Common.{rules}
 use Rattle.sip_ladder.proofs.Drawn.{draws_file}
 use Rattle.sip_ladder.proofs.drawing.drawn.Goals as goal

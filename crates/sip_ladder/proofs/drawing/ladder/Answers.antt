@@ -1,3 +1,4 @@
+-- `ladder`: without a picture nothing is written; with `Output` a front of the ladder may be.
 use Rattle.std.proofs.Common.{rules}
 use Rattle.sip_ladder.proofs.Drawn.{draws_front, of_fault, untouched}
 use Rattle.sip_ladder.proofs.drawing.ladder.Goals as goal

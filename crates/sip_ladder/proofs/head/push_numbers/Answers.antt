@@ -1,3 +1,4 @@
+-- `push_numbers`: each turn of the loop writes the number above one more column.
 use Rattle.sip_ladder.proofs.Legend.{number_more}
 use Rattle.sip_ladder.proofs.head.push_numbers.Goals as goal
 

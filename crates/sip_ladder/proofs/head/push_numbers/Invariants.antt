@@ -1,3 +1,4 @@
+-- The loop of `push_numbers`: the numbers of the columns so far are written.
 use Rattle.std.proofs.Common.{◌≡◌, ◌++◌}
 use Rattle.std.specs.List.{flat_map, range_with_len}
 use Rattle.sip_ladder.specs.Head.{column_name}

@@ -1,3 +1,4 @@
+-- `push_peers`: each turn of the loop writes the line of one more peer.
 use Rattle.sip_ladder.proofs.Legend.{peer_more}
 use Rattle.sip_ladder.proofs.head.push_peers.Goals as goal
 

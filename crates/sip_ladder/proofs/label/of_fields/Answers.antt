@@ -1,3 +1,4 @@
+-- `of_fields`: the label has a word for each field, and is printable.
 use Rattle.std.proofs.Common.{[], sym, rules, subst}
 use Rattle.sip_ladder.proofs.Fields.{fields_is, last_of, next_of}
 use Rattle.sip_ladder.proofs.Printable.{AreShown}

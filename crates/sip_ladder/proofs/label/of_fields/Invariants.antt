@@ -1,3 +1,4 @@
+-- The loop of `of_fields`: the label so far, with that of the rest, is the label of the line.
 use Rattle.std.proofs.Common.{◌≡◌, ◌++◌, length}
 use Rattle.sip_ladder.specs.Label.{fields_label}
 use Rattle.sip_ladder.proofs.label.of_fields.Given as goal

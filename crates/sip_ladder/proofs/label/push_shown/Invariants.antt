@@ -1,3 +1,4 @@
+-- The loop of `push_shown`: the bytes so far are shown.
 use Rattle.std.proofs.Common.{◌≡◌, ◌++◌, take}
 use Rattle.sip_ladder.specs.Label.{shown}
 use Rattle.sip_ladder.proofs.label.push_shown.Given as goal

@@ -1,3 +1,4 @@
+-- `read_datagram` gives the message that the bytes spell, or a fault.
 use Rattle.sip_reader.proofs.Exactly.{exactly}
 use Rattle.sip_ladder.proofs.label.read_datagram.Goals as goal
 

@@ -1,3 +1,4 @@
+-- The loop of `add_events`: the lines of the events so far were added.
 use Rattle.std.proofs.Common.{map, take}
 use Rattle.sip_ladder.specs.Shapes.{Comes, Shows}
 use Rattle.sip_ladder.proofs.lines.add_events.Given as goal

@@ -1,3 +1,4 @@
+-- `add_outputs` adds a line for each output.
 use Rattle.std.proofs.Common.{rules}
 use Rattle.std.proofs.lemmas.List.{take_all}
 use Rattle.sip_ladder.specs.Shapes.{IsGiven}

@@ -1,3 +1,4 @@
+-- The loop of `add_outputs`: the lines of the outputs so far were added.
 use Rattle.std.proofs.Common.{map, take}
 use Rattle.sip_ladder.specs.Shapes.{IsGiven, Shows}
 use Rattle.sip_ladder.proofs.lines.add_outputs.Given as goal

@@ -1,3 +1,4 @@
+-- `add_round` adds the lines of a round's events, and then those of its outputs.
 use Rattle.std.proofs.Common.{map}
 use Rattle.sip_ladder.specs.Shapes.{Comes, IsGiven}
 use Rattle.sip_ladder.proofs.Shown.{both_ok}

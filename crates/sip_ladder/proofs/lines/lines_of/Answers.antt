@@ -1,3 +1,4 @@
+-- `lines_of`: each turn of the loop adds the lines of one more round.
 use Rattle.std.proofs.Common.{List, ap, map}
 use Rattle.std.specs.Global.{Vec}
 use Rattle.sip_round.specs.declared.output.Output.{Output}

@@ -1,3 +1,4 @@
+-- The loop of `lines_of`: what was shown, and what is left to show.
 use Rattle.std.proofs.Common.{length, map}
 use Rattle.sip_ladder.specs.Shapes.{happenings}
 use Rattle.sip_ladder.proofs.Shown.{Left}

@@ -1,3 +1,4 @@
+-- `push_rows` writes the row of each line.
 use Rattle.std.proofs.lemmas.List.{take_all}
 use Rattle.sip_ladder.specs.Row.{row_line}
 use Rattle.sip_files.proofs.Pushed.{one_more, taken}

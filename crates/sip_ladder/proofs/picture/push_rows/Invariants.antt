@@ -1,3 +1,4 @@
+-- The loop of `push_rows`: the rows of the lines so far are written.
 use Rattle.std.proofs.Common.{◌≡◌, ◌++◌, take}
 use Rattle.std.specs.List.{flat_map}
 use Rattle.sip_ladder.specs.Row.{row_line}

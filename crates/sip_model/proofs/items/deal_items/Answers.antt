@@ -1,3 +1,4 @@
+-- `deal_items`: each turn of the loop gives one more item to its key.
 use Rattle.std.proofs.Common.{◌∷◌, subst}
 use Rattle.std.proofs.lemmas.List.{map-append}
 use Rattle.std.specs.BTreeMap.{get}

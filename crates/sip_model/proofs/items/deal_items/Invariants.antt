@@ -1,3 +1,4 @@
+-- The loop of `deal_items`: the items dealt so far, and those that are left.
 use Rattle.std.specs.BTreeMap.{get}
 use Rattle.std.specs.Vec.Iter.{into_iter_items}
 use Rattle.sip_model.specs.Phase.{timed_items}

@@ -1,3 +1,5 @@
+-- The law `laws_of_phases`: each key is alone in its outputs, shards work apart, and outputs are
+-- sorted.
 use Rattle.sip_model.specs.Machine.{tick_at}
 use Rattle.sip_model.proofs.Alone.{in_order, said_alone}
 use Rattle.sip_model.proofs.Apart.{owned_states, works_apart}

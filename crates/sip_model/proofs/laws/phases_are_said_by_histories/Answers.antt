@@ -1,3 +1,4 @@
+-- The law `phases_are_said_by_histories`, for one phase and for one key.
 use Rattle.sip_model.specs.Machine.{tick_at}
 use Rattle.sip_model.proofs.Rules.{said_by_a_key, said_by_histories}
 use Rattle.sip_model.proofs.laws.phases_are_said_by_histories.Goals as goal

@@ -1,3 +1,4 @@
+-- `by_label` gives the groups in the order of their labels, which is the only one.
 use Rattle.std.proofs.Common.{rules}
 use Rattle.std.specs.Ordering.{is_lt}
 use Rattle.std.proofs.lemmas.List.MinMax.{ranks_by}

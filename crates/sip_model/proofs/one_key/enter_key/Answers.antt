@@ -1,3 +1,4 @@
+-- `enter_key`: the states after the step, with each key due at its state's moment.
 use Rattle.std.proofs.Common.{◌≡◌, None, refl, rules}
 use Rattle.std.specs.BTreeMap.{get}
 use Rattle.std.specs.declared.cmp.Ordering.TheVariants.{Equal}

@@ -1,3 +1,4 @@
+-- `hold_key`: after it each key is due at its state's moment.
 use Rattle.std.proofs.Common.{◌≡◌, Some, refl, rules}
 use Rattle.std.specs.BTreeMap.{get}
 use Rattle.sip_model.specs.Machine.{due_of}

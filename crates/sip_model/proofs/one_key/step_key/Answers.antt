@@ -1,3 +1,4 @@
+-- `step_key`: the states after the step, with each key due at its state's moment.
 use Rattle.std.proofs.Common.{◌≡◌, rules}
 use Rattle.std.specs.BTreeMap.{get}
 use Rattle.sip_model.specs.Machine.{due_of, given_at, next}

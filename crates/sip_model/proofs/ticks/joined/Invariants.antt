@@ -1,3 +1,5 @@
+-- The loop of `joined`: the outputs so far, with those of the groups that are left, are all
+-- outputs.
 use Rattle.std.proofs.Common.{◌≡◌, ◌++◌}
 use Rattle.std.specs.List.{flat_map}
 use Rattle.std.specs.Vec.Iter.{into_iter_items}

@@ -1,3 +1,4 @@
+-- `tick_due` gives the outputs that all held keys have to the tick.
 use Rattle.std.proofs.Common.{◌≡◌, [], ◌∷◌, subst, sym, ap, ◌∙◌, append-nil}
 use Rattle.std.proofs.lemmas.List.{nil_from_length}
 use Rattle.std.specs.BTreeMap.{get, is_at}

@@ -1,3 +1,4 @@
+-- The loop of `tick_due`: the keys ticked so far, and those that are left.
 use Rattle.std.specs.BTreeMap.{get}
 use Rattle.std.specs.Vec.Iter.{into_iter_items}
 use Rattle.sip_model.specs.Machine.{tick_at}

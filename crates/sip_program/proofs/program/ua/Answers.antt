@@ -1,3 +1,4 @@
+-- `ua`: a replay never ends in status 1 if its input is a file of the kind.
 use Rattle.std.proofs.Common.{subst}
 use Rattle.std.specs.Prelude.{◌≢◌, ◌≤◌, ◌^◌, IfErr, IfSome, length}
 use Rattle.sip_files.specs.EventFile.{IsFile}

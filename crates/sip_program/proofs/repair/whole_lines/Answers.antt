@@ -1,3 +1,4 @@
+-- `whole_lines` takes off all bytes after the last LF, and no others.
 use Rattle.std.proofs.Common.{sym, ◌∙◌}
 use Rattle.sip_program.proofs.WholeLines.{last_cut_off, last_kept}
 use Rattle.sip_program.proofs.repair.whole_lines.Goals as goal

@@ -1,3 +1,4 @@
+-- The loop of `whole_lines`: the whole lines of what is left are those of the text.
 use Rattle.std.proofs.Common.{◌≡◌, length}
 use Rattle.sip_program.specs.Repair.{whole_lines}
 use Rattle.sip_program.proofs.repair.whole_lines.Given as goal

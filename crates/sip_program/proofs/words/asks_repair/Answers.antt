@@ -1,3 +1,4 @@
+-- `has_repair_option`: a word asks for a repair exactly if its text does.
 use Rattle.std.proofs.Common.{sym, ◌∙◌}
 use Rattle.sip_program.specs.Words.{is_repair_option}
 use Rattle.sip_program.proofs.SessionOption.{any_mapped}

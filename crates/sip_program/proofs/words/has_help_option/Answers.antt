@@ -1,3 +1,4 @@
+-- `has_help_option`: a word asks for help exactly if its text does.
 use Rattle.std.proofs.Common.{sym, ◌∙◌}
 use Rattle.sip_program.specs.Words.{is_help_option}
 use Rattle.sip_program.proofs.SessionOption.{any_mapped}

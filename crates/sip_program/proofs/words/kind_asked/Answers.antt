@@ -1,3 +1,4 @@
+-- `kind_asked` gives a session exactly if the text of one of the words is its option.
 use Rattle.std.proofs.Common.{true, false, sym, ◌∙◌}
 use Rattle.sip_program.proofs.SessionOption.{kind_of_words}
 use Rattle.sip_program.proofs.words.kind_asked.Goals as goal

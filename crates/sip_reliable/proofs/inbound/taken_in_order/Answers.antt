@@ -1,3 +1,4 @@
+-- The law `taken_in_order`: the numbers taken are consecutive, and none is taken twice.
 use Rattle.sip_reliable.proofs.InOrder.{consecutive, once}
 use Rattle.sip_reliable.proofs.inbound.taken_in_order.Goals as goal
 

@@ -1,3 +1,4 @@
+-- `due_numbers`: there is room for each number.
 use Rattle.std.proofs.Common.{◌≡◌, ℕ, ◌<◌, ◌≤◌, List, filter, length, take, ap, arith, lit<, length-take-le}
 use Rattle.std.proofs.lemmas.List.{length-map}
 use Rattle.sip_reliable.specs.declared.provisional.TheConstants.{MOST_WAITING}

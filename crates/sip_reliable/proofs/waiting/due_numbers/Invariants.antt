@@ -1,3 +1,4 @@
+-- The loop of `due_numbers`: the numbers so far are those of the due responses seen so far.
 use Rattle.std.proofs.Common.{◌≡◌, take}
 use Rattle.sip_reliable.specs.Ledger.{due_numbers}
 use Rattle.sip_reliable.proofs.waiting.due_numbers.Given as goal

@@ -1,3 +1,4 @@
+-- `give_up`: each turn of the loop gives up one more response.
 use Rattle.std.proofs.Common.{sym, ap, ◌∙◌}
 use Rattle.std.specs.List.{slice_set}
 use Rattle.std.proofs.lemmas.List.Edits.{map_over_more}

@@ -1,3 +1,4 @@
+-- `repeat`: each turn of the loop repeats one more response, if it is due.
 use Rattle.std.proofs.Common.{sym, ap, ◌∙◌}
 use Rattle.std.specs.List.{slice_set}
 use Rattle.std.proofs.lemmas.List.Edits.{map_over_more}

@@ -1,3 +1,5 @@
+-- The loop of `repeat`: the due responses before the index are sent again, the others are as
+-- before.
 use Rattle.std.proofs.Common.{◌≡◌, ◌++◌, map, take, drop}
 use Rattle.sip_reliable.specs.Provisional.{after_repeat}
 use Rattle.sip_reliable.proofs.waiting.repeat.Given as goal

@@ -1,3 +1,4 @@
+-- The law `each_dialog_holds_its_history`, with the numbers of what each input sends next.
 use Rattle.sip_round.proofs.CallsHeld.{dialogs_have_their_history, inputs_number_on}
 use Rattle.sip_round.proofs.laws.each_dialog_holds_its_history.Goals as goal
 

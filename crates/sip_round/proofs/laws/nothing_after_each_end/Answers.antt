@@ -1,3 +1,4 @@
+-- The law `nothing_after_each_end`: nothing is handed up under the id of a life that has ended.
 use Rattle.sip_round.specs.Laws.{inputs_of}
 use Rattle.sip_round.proofs.NamesRise.{names_differ}
 use Rattle.sip_round.proofs.laws.nothing_after_each_end.Goals as goal

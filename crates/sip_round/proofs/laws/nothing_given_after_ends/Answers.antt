@@ -1,3 +1,4 @@
+-- The law `nothing_given_after_ends`: nothing comes from a life that has ended.
 use Rattle.std.proofs.Common.{sym, subst}
 use Rattle.sip_round.specs.Answers.{answers}
 use Rattle.sip_round.specs.Given.{NoneComesFrom}

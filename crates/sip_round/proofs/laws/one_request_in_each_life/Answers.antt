@@ -1,3 +1,4 @@
+-- The law `one_request_in_each_life`: a server transaction hands its request up once in each life.
 use Rattle.std.proofs.Common.{[], ◌∙◌}
 use Rattle.sip_transactions.specs.Machine.{transaction_machine}
 use Rattle.sip_round.specs.Answers.{past_of}

@@ -1,3 +1,4 @@
+-- The law `provisionals_given_in_order`: the user is told of them in order, and of each once.
 use Rattle.std.proofs.Common.{◌∙◌, ap}
 use Rattle.std.specs.List.{flat_map}
 use Rattle.sip_round.specs.Given.{notice_in}

@@ -1,3 +1,4 @@
+-- The law `provisionals_in_each_life`: those that are told have consecutive RSeqs.
 use Rattle.std.specs.Prelude.{[]}
 use Rattle.sip_round.specs.Answers.{calls_of, past_of}
 use Rattle.sip_round.specs.Laws.{call_inputs_of}

@@ -1,3 +1,4 @@
+-- The law `requests_given_once`: at most one notice `request` has a given id.
 use Rattle.sip_round.proofs.RequestsOnce.{requests_once}
 use Rattle.sip_round.proofs.laws.requests_given_once.Goals as goal
 

@@ -1,3 +1,5 @@
+-- The law `started_requests_given`: a client transaction's life begins with a request that goes
+-- out.
 use Rattle.sip_round.proofs.StartedRequests.{started_requests}
 use Rattle.sip_round.proofs.laws.started_requests_given.Goals as goal
 

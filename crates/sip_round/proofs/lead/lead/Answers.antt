@@ -1,3 +1,4 @@
+-- `lead` takes a round through its three phases on workers, and gives its answer.
 use Rattle.std.proofs.Common.{◌≡◌, ◌<◌, true, false, ℕ, List, ◌++◌, length, map, refl, sym, subst, arith}
 use Rattle.std.specs.List.{AllByRecursion}
 use Rattle.sip_calls.specs.Call.{call_machine}

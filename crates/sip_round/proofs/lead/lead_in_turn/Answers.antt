@@ -1,3 +1,5 @@
+-- `lead_in_turn` takes a round through its three phases on the calling thread, and gives its
+-- answer.
 use Rattle.std.proofs.Common.{◌≡◌, ◌<◌, true, false, ℕ, List, ◌++◌, length, map, refl, sym, subst, arith}
 use Rattle.std.specs.List.{AllByRecursion}
 use Rattle.sip_calls.specs.Call.{call_machine}

@@ -1,3 +1,4 @@
+-- The loop of `part_ticks`: outputs and commands so far, with those of the groups left.
 use Rattle.std.proofs.Common.{◌≡◌, ◌++◌}
 use Rattle.std.specs.List.{flat_map}
 use Rattle.std.specs.Vec.Iter.{into_iter_items}

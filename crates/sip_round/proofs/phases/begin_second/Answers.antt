@@ -1,3 +1,4 @@
+-- `begin_second`: each turn of the loop puts one more item into the part of its call's shard.
 use Rattle.std.proofs.Common.{◌≡◌, ℕ, ◌+◌, suc, [], length, map, ap, arith, refl, subst, sym, ◌∙◌}
 use Rattle.std.proofs.lemmas.List.{nil_from_length}
 use Rattle.std.specs.Vec.Iter.{into_iter_items}

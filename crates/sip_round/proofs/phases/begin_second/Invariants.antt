@@ -1,3 +1,4 @@
+-- The loop of `begin_second`: the parts so far, and the items that are left.
 use Rattle.std.proofs.Common.{◌≡◌, ◌+◌, length, map}
 use Rattle.std.specs.Vec.Iter.{into_iter_items}
 use Rattle.sip_shards.specs.Parts.{owner_of}

@@ -1,3 +1,4 @@
+-- `begin_third`: each turn of the loop puts one more command into the part of its shard.
 use Rattle.std.proofs.Common.{◌≡◌, ℕ, ◌+◌, suc, [], length, map, ap, arith, refl, subst, sym, ◌∙◌}
 use Rattle.std.proofs.lemmas.List.{nil_from_length}
 use Rattle.std.specs.Vec.Iter.{into_iter_items}

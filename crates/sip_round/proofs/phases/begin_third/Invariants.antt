@@ -1,3 +1,4 @@
+-- The loop of `begin_third`: the parts so far, and the commands that are left.
 use Rattle.std.proofs.Common.{◌≡◌, ◌+◌, length, map}
 use Rattle.std.specs.Vec.Iter.{into_iter_items}
 use Rattle.sip_message.specs.Key.{branch_in}

@@ -1,3 +1,4 @@
+-- `end_first` gives the outputs of the first phase, and the items of the calls.
 use Rattle.std.proofs.Common.{sym, ◌∙◌}
 use Rattle.sip_model.specs.Groups.{groups}
 use Rattle.sip_round.specs.Outputs.{joined, sent_of}

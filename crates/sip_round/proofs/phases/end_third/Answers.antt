@@ -1,3 +1,4 @@
+-- `end_third` adds the outputs of the third phase.
 use Rattle.std.proofs.Common.{◌++◌}
 use Rattle.std.specs.List.{flat_map}
 use Rattle.sip_model.specs.Groups.{groups}

@@ -1,3 +1,4 @@
+-- The loop of `joined`: what was joined so far, with the runs left, is everything.
 use Rattle.std.specs.Prelude.{List}
 use Rattle.std.specs.List.{AllZip}
 use Rattle.std.specs.Vec.Iter.{into_iter_items}

@@ -1,3 +1,4 @@
+-- `runs_of`: each turn of the loop adds one more run of events.
 use Rattle.std.proofs.Common.{length, refl, sym, ap, subst, ◌∙◌, arith, rules, length-append}
 use Rattle.std.specs.Slice.Iter.{chunks_rest}
 use Rattle.sip_workers.specs.Ran.{IsNumbered}

@@ -1,3 +1,4 @@
+-- The loop of `runs_of`: the runs so far are numbered, and are the arrivals of the events so far.
 use Rattle.std.proofs.Common.{◌≡◌, ◌+◌, ◌++◌, length}
 use Rattle.std.specs.List.{flat_map}
 use Rattle.std.specs.Slice.Iter.{chunks_rest}

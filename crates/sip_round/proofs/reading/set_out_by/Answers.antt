@@ -1,3 +1,4 @@
+-- `set_out_by` sets out all events of the round, whichever worker reads a run.
 use Rattle.std.proofs.Common.{map}
 use Rattle.sip_round.specs.Arrivals.{arrivals_from}
 use Rattle.sip_round.specs.Steps.EventRuns.{arrivals_of_run}

@@ -1,3 +1,4 @@
+-- The loop of `empty_transactions`: as many shards as turns so far, which hold nothing.
 use Rattle.std.proofs.Common.{◌≡◌, Some, [], vec_len, All}
 use Rattle.sip_round.proofs.shards.empty_transactions.Given as goal
 

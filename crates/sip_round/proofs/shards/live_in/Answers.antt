@@ -1,3 +1,4 @@
+-- `live_in`: each turn of the loop adds the number of keys of one more shard.
 use Rattle.std.proofs.Common.{◌≤◌, ◌+◌, length, is_some, ap, ◌∙◌, refl, sym, subst, arith}
 use Rattle.std.specs.Prelude.{count_by, sum_by}
 use Rattle.std.proofs.lemmas.List.{take_all}

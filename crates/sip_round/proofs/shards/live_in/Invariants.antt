@@ -1,3 +1,4 @@
+-- The loop of `live_in`: the number of keys in the shards so far.
 use Rattle.std.proofs.Common.{◌≡◌, ◌≤◌, ◌*◌, ◌^◌, List, take, All, is_some}
 use Rattle.std.specs.Prelude.{count_by, sum_by}
 use Rattle.sip_model.specs.Table.{Covers, state_at}

@@ -1,3 +1,4 @@
+-- `first_outputs` gives the outputs and items of the ticks, and then the others by place.
 use Rattle.std.proofs.Common.{◌++◌, ap, ◌∙◌}
 use Rattle.std.specs.List.{flat_map}
 use Rattle.sip_model.specs.Groups.{groups}

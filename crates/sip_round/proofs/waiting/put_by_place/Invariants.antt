@@ -1,3 +1,4 @@
+-- The loop of `put_by_place`: outputs and items so far, with those of the events left.
 use Rattle.std.proofs.Common.{◌≡◌, ◌++◌}
 use Rattle.std.specs.List.{flat_map}
 use Rattle.std.specs.Vec.Iter.{into_iter_items}

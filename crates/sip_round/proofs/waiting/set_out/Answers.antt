@@ -1,3 +1,4 @@
+-- `set_out`: each turn of the loop sets out one more event.
 use Rattle.std.proofs.Common.{◌+◌, [], ◌∷◌, ◌++◌, ◌∙◌, ap, refl, arith}
 use Rattle.sip_message.specs.declared.id.Id.{Id}
 use Rattle.sip_round.specs.Arrivals.{arrival_of, arrivals_from}

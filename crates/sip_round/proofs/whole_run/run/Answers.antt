@@ -1,3 +1,4 @@
+-- `run`: the outputs of all rounds, which round is refused, and the laws about what is given.
 use Rattle.std.proofs.Common.{◌≤◌, ◌∙◌, true, refl, sym, ap, subst, inl, inr, length, arith}
 use Rattle.std.proofs.lemmas.List.{take_all}
 use Rattle.sip_round.specs.Answers.{answers, refused}

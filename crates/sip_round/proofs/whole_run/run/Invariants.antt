@@ -1,3 +1,4 @@
+-- The loop of `run`: the agent stands for the rounds so far, whose answers were made.
 use Rattle.sip_round.proofs.SoFar.{RunsSoFar}
 use Rattle.sip_round.proofs.whole_run.run.Given as goal
 

@@ -1,3 +1,4 @@
+-- `next_due_in` gives the first moment at which a key is due, over all shards.
 use Rattle.std.proofs.Common.{◌≡◌, ℕ, true, false, ap, map, sym, subst, ◌∙◌}
 use Rattle.std.specs.List.{AllByRecursion}
 use Rattle.std.specs.Prelude.{IfSome, IsSome, drop}

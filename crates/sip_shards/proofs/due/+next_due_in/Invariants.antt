@@ -1,3 +1,4 @@
+-- The recursion of `next_due_in` ends, since the list of shards gets shorter.
 use Rattle.std.proofs.Common.{length}
 use Rattle.sip_shards.proofs.due.+next_due_in.Given as goal
 

@@ -1,3 +1,4 @@
+-- The loop of `empty_parts`: there are as many parts as turns so far, and all are empty.
 use Rattle.std.proofs.Common.{◌≡◌, [], vec_len, All}
 use Rattle.sip_shards.proofs.parts.empty_parts.Given as goal
 

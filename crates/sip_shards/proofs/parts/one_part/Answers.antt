@@ -1,3 +1,4 @@
+-- `one_part`: a single shard has all items.
 use Rattle.std.proofs.Common.{[], ◌∷◌, sym, ap}
 use Rattle.sip_shards.proofs.Cutting.{all_in_one}
 use Rattle.sip_shards.proofs.parts.one_part.Goals as goal

@@ -1,3 +1,4 @@
+-- `parts_by_name`: each turn of the loop puts one more item into its part.
 use Rattle.std.proofs.Common.{◌≡◌, [], map, sym, ◌∙◌, subst, arith}
 use Rattle.std.proofs.lemmas.List.{nil_from_length}
 use Rattle.std.specs.Vec.Iter.{into_iter_items}

@@ -1,3 +1,5 @@
+-- The loop of `parts_by_name`: the parts so far, with those of the items left, are the parts of
+-- all.
 use Rattle.std.proofs.Common.{map}
 use Rattle.std.specs.Vec.Iter.{into_iter_items}
 use Rattle.sip_shards.specs.Parts.{owner_of}

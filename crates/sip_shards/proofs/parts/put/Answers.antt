@@ -1,3 +1,4 @@
+-- `put` adds the item at the end of its owner's part.
 use Rattle.std.proofs.Common.{◌≡◌, ◌<◌, [], ◌∷◌, ◌++◌, map, sym, ◌∙◌, ap, arith, length, slice_set}
 use Rattle.std.specs.Prelude.{get_or}
 use Rattle.std.proofs.lemmas.List.{map-set, get_or-map}

@@ -1,3 +1,4 @@
+-- The recursion of `are_idle` ends, since the list of shards gets shorter.
 use Rattle.std.proofs.Common.{length}
 use Rattle.sip_shards.proofs.phase.+are_idle.Given as goal
 

@@ -1,3 +1,4 @@
+-- The recursion of `have_no_items` ends, since the list of parts gets shorter.
 use Rattle.std.proofs.Common.{length}
 use Rattle.sip_shards.proofs.phase.+have_no_items.Given as goal
 

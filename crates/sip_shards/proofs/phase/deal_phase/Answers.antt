@@ -1,3 +1,4 @@
+-- `deal_phase` does the phase of all shards, whichever worker runs a piece.
 use Rattle.std.proofs.Common.{[], length, map, subst, sym}
 use Rattle.std.proofs.lemmas.Result.{IfOk-weaker}
 use Rattle.sip_model.specs.Groups.{groups}

@@ -1,3 +1,4 @@
+-- `end_phase` gives the shards in order, and sorts the outputs.
 use Rattle.sip_model.specs.Groups.{groups}
 use Rattle.sip_shards.proofs.phase.end_phase.Goals as goal
 

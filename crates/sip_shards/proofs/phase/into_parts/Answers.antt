@@ -1,3 +1,4 @@
+-- `into_parts`: each turn of the loop takes one more done apart.
 use Rattle.std.proofs.Common.{◌≡◌, [], ◌∷◌, refl, sym, ◌∙◌, ap}
 use Rattle.std.proofs.lemmas.List.{nil_from_length, map-append}
 use Rattle.std.specs.Vec.Iter.{into_iter_items}

@@ -1,3 +1,4 @@
+-- The loop of `into_parts`: the dones taken apart so far, and those that are left.
 use Rattle.std.specs.Vec.Iter.{into_iter_items}
 use Rattle.sip_model.specs.Groups.{groups}
 use Rattle.sip_shards.proofs.Piled.{DonesLeft}

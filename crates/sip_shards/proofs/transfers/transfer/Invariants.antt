@@ -1,3 +1,4 @@
+-- The loop of `transfer`: the shards that are left, and the keys moved from those before them.
 use Rattle.std.specs.Vec.Iter.{into_iter_items}
 use Rattle.std.proofs.Common.{◌≡◌, length, map}
 use Rattle.sip_model.specs.Machine.{tick_at}

@@ -1,3 +1,4 @@
+-- `transfer_shard`: each turn of the loop moves one more key to its new owner.
 use Rattle.std.proofs.Common.{◌≡◌, ◌<◌, None, Some, cond, sym, ◌∙◌, ap, arith, get_or, length, map, subst}
 use Rattle.std.proofs.Math.Seq.{map-set_same}
 use Rattle.std.specs.BTreeMap.{get, is_at}

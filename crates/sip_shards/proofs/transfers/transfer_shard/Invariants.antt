@@ -1,3 +1,4 @@
+-- The loop of `transfer_shard`: the keys that are left, and those moved so far.
 use Rattle.std.proofs.Common.{◌≡◌, length, map}
 use Rattle.std.specs.BTreeMap.{get}
 use Rattle.sip_model.specs.Table.{state_at}

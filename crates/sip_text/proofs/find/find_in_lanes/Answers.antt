@@ -1,3 +1,4 @@
+-- `find_in_lanes`: the lowest bit set is the first place of either byte among the sixteen.
 use Rattle.std.proofs.Common.{sym, ◌∙◌, arith}
 use Rattle.std.proofs.lemmas.Simd.{length-chunk}
 use Rattle.memchr.specs.Find.{is_byte2}

@@ -1,3 +1,4 @@
+-- `find_two` gives the first place of either byte in the whole text, or None if there is none.
 use Rattle.std.proofs.Common.{◌≡◌, ◌+◌, ◌-◌, length, subst, arith}
 use Rattle.memchr.specs.Find.{IsFirst, Passes, is_byte2}
 use Rattle.sip_text.proofs.Lanes.{first_of_all, found_later, none_further}

@@ -1,3 +1,4 @@
+-- The loop of `find_two`: neither byte stands before the place reached.
 use Rattle.std.proofs.Common.{◌-◌, ◌≤◌, length}
 use Rattle.memchr.specs.Find.{Nowhere, Passes, is_byte2}
 use Rattle.sip_text.proofs.find.find_two.Given as goal

@@ -1,3 +1,4 @@
+-- `lines` gives all lines of the text that have an end.
 use Rattle.std.proofs.Common.{◌≡◌, ◌++◌, ◌∷◌, [], List, ℕ, sym, subst, refl}
 use Rattle.std.proofs.lemmas.List.{append-nil, map_push}
 use Rattle.sip_text.specs.Lines.{IsLines}

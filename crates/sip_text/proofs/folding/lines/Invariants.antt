@@ -1,3 +1,4 @@
+-- The loop of `lines`: the lines found so far are those that the text begins with.
 use Rattle.std.proofs.Common.{length}
 use Rattle.sip_text.specs.Pieces.{all_now}
 use Rattle.sip_text.proofs.LineParts.{HasBefore}

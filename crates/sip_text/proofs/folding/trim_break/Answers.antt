@@ -1,3 +1,4 @@
+-- `trim_break` takes off a carriage return and the white space before it.
 use Rattle.sip_text.proofs.LineParts.{kept_front}
 use Rattle.sip_text.proofs.folding.trim_break.Goals as goal
 

@@ -1,3 +1,4 @@
+-- `unfolded` gives the text with each fold as one space.
 use Rattle.std.proofs.Common.{sym, refl, ◌∙◌, arith}
 use Rattle.sip_text.specs.Unfolded.{unfolded}
 use Rattle.sip_text.proofs.LineParts.{goes_on, begins_anew, last_line, length-trimmed_start-le}

@@ -1,3 +1,4 @@
+-- The loop of `unfolded`: the text so far, with the rest unfolded behind it, is the unfolded text.
 use Rattle.std.proofs.Common.{◌≡◌, length}
 use Rattle.sip_text.specs.Unfolded.{unfolded}
 use Rattle.sip_text.proofs.LineParts.{folded_behind}

@@ -1,3 +1,4 @@
+-- The law `one_cut`: reading from left to right finds the one cut of a text.
 use Rattle.std.proofs.Common.{MatchOption}
 use Rattle.sip_text.specs.Separator.{cut_from, IsCut, IsWhole}
 use Rattle.sip_text.specs.declared.separator.Place.TheVariants.{Plain}

@@ -1,3 +1,4 @@
+-- The law `one_split`: a text can be split into its pieces in one way only.
 use Rattle.std.proofs.Common.{sym, ◌∙◌}
 use Rattle.sip_text.specs.declared.separator.Place.TheVariants.{Plain}
 use Rattle.sip_text.proofs.Splits.{splits, split_again}

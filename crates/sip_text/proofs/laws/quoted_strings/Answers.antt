@@ -1,3 +1,4 @@
+-- The law `quoted_strings`: the test passes exactly the quoted strings.
 use Rattle.sip_text.proofs.QuotedStrings.{quoted_takes, quoted_again}
 use Rattle.sip_text.proofs.laws.quoted_strings.Goals as goal
 

@@ -1,3 +1,4 @@
+-- `value_of` gives the number that the digits stand for, or None above the maximum.
 use Rattle.std.proofs.Common.{◌+◌, arith}
 use Rattle.std.proofs.lemmas.Str.Parse.{digits_value-take-le}
 use Rattle.sip_text.proofs.Digits.{one_more}

@@ -1,3 +1,4 @@
+-- The loop of `value_of`: the value of the digits read so far, which isn't above the maximum.
 use Rattle.std.proofs.Common.{◌≡◌, ◌≤◌, take}
 use Rattle.std.specs.Str.Parse.{digits_value}
 use Rattle.sip_text.proofs.number.value_of.Given as goal

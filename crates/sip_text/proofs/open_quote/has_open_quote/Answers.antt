@@ -1,3 +1,4 @@
+-- `has_open_quote` is false if the text has no quote at all.
 use Rattle.std.proofs.Common.{◌∙◌, sym}
 use Rattle.sip_text.proofs.OpenQuotes.{no_quote}
 use Rattle.sip_text.proofs.open_quote.has_open_quote.Goals as goal

@@ -1,3 +1,4 @@
+-- `byte_order`, which compares words of eight bytes, gives the order of the two texts.
 use Rattle.std.proofs.Common.{◌+◌, ◌-◌, ◌≡◌, ◌∙◌, refl, arith}
 use Rattle.std.specs.declared.cmp.Ordering.TheVariants.{Equal}
 use Rattle.sip_text.proofs.WordOrder.{order_to, equal_before, lengths_decide, words_agree, words_differ}

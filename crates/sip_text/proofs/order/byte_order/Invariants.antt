@@ -1,3 +1,4 @@
+-- The loop of `byte_order`: the texts agree up to the place reached.
 use Rattle.std.proofs.Common.{◌≡◌, ◌≤◌, ◌-◌}
 use Rattle.std.specs.declared.cmp.Ordering.TheVariants.{Equal}
 use Rattle.sip_text.proofs.WordOrder.{order_to}

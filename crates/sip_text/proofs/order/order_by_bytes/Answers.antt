@@ -1,3 +1,4 @@
+-- `order_by_bytes`, which compares byte by byte, gives the order of the two texts.
 use Rattle.std.proofs.Common.{refl, arith, ◌∙◌}
 use Rattle.sip_text.proofs.WordOrder.{bytes_agree, bytes_differ, lengths_decide}
 use Rattle.sip_text.proofs.order.order_by_bytes.Goals as goal

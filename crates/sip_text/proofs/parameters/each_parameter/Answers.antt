@@ -1,3 +1,4 @@
+-- `each_parameter` reads each piece between semicolons, or fails if one isn't a parameter.
 use Rattle.std.proofs.Common.{◌≡◌, ◌++◌, ◌∷◌, [], map, sym}
 use Rattle.std.proofs.lemmas.List.{map_push}
 use Rattle.sip_text.specs.Parameter.{parameter_from}

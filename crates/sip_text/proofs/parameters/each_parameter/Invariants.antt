@@ -1,3 +1,4 @@
+-- The loop of `each_parameter`: the parameters so far and those of the rest are those of the text.
 use Rattle.std.proofs.Common.{◌≡◌, length, map}
 use Rattle.sip_text.specs.Forms.{split}
 use Rattle.sip_text.specs.Parameter.{parameter_from}

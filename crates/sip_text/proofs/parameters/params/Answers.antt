@@ -1,3 +1,4 @@
+-- `params` gives the parameters of the text; it fails if they can't be read.
 use Rattle.std.proofs.Common.{map, sym, ◌∙◌}
 use Rattle.sip_text.specs.Pieces.{parameter_now}
 use Rattle.sip_text.proofs.ParameterForms.{parameter_reads, parameters_reads}

@@ -1,3 +1,4 @@
+-- `cut` gives the parts before and after the first such byte.
 use Rattle.std.proofs.Common.{◌≡◌, ◌==◌, ◌+◌, ◌-◌, length, take, drop, add-one, sym, arith}
 use Rattle.std.proofs.lemmas.List.{take_all, length-drop}
 use Rattle.sip_text.proofs.Cutting.{cut_where-none, cut_where-some}

@@ -1,3 +1,4 @@
+-- `cut_blank` gives the parts before and after the first space or tab.
 use Rattle.std.proofs.Common.{◌≡◌, ◌+◌, ◌-◌, length, take, drop, add-one, sym, arith}
 use Rattle.std.proofs.lemmas.List.{take_all, length-drop}
 use Rattle.sip_text.specs.Character.{is_blank}

@@ -1,3 +1,4 @@
+-- The loop of `ends_in_quote`: the rest of the text decides what the whole text does.
 use Rattle.std.proofs.Common.{◌≡◌, false, length}
 use Rattle.sip_text.specs.Quoted as quoted
 use Rattle.sip_text.proofs.quoted.ends_in_quote.Given as goal

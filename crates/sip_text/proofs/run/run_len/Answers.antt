@@ -1,3 +1,4 @@
+-- `run_len` gives the length of the run, with four tests in each turn.
 use Rattle.std.proofs.Common.{◌+◌, sym, arith}
 use Rattle.sip_text.proofs.Runs.{one_further, two_further, three_further, four_further, run_ends_at, run_is_all}
 use Rattle.sip_text.proofs.run.run_len.Goals as goal

@@ -1,3 +1,4 @@
+-- The loops of `run_len`: all bytes before the index belong to the class.
 use Rattle.std.proofs.Common.{length, ◌-◌}
 use Rattle.sip_text.proofs.Runs.{PassesTo}
 use Rattle.sip_text.proofs.run.run_len.Given as goal

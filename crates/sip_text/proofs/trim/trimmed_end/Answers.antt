@@ -1,3 +1,4 @@
+-- `trimmed_end` takes off the spaces and tabs at the end, and no other byte.
 use Rattle.std.proofs.Common.{sym, ◌∙◌}
 use Rattle.sip_text.proofs.Ends.{blank_last, other_last}
 use Rattle.sip_text.proofs.trim.trimmed_end.Goals as goal

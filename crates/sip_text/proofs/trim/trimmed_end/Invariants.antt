@@ -1,3 +1,4 @@
+-- The loop of `trimmed_end`: trimming what is left gives what trimming the text gives.
 use Rattle.std.proofs.Common.{◌≡◌, length}
 use Rattle.sip_text.specs.Trimmed as trims
 use Rattle.sip_text.proofs.trim.trimmed_end.Given as goal

@@ -1,3 +1,4 @@
+-- The loop of `trimmed_start`: trimming what is left gives what trimming the text gives.
 use Rattle.std.proofs.Common.{◌≡◌, length}
 use Rattle.sip_text.specs.Trimmed as trims
 use Rattle.sip_text.proofs.trim.trimmed_start.Given as goal

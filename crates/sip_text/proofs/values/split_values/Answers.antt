@@ -1,3 +1,4 @@
+-- `split_values` gives the values between the commas, if no quoted string is left open.
 use Rattle.std.proofs.Common.{sym, subst, ◌∙◌, List, ℕ}
 use Rattle.std.specs.List.{AllZip}
 use Rattle.sip_text.specs.Pieces.{IsTrimmed}

@@ -1,3 +1,4 @@
+-- `values_in` gives each piece between commas, without the white space around it.
 use Rattle.std.proofs.Common.{◌≡◌, ◌++◌, ◌∷◌, [], sym}
 use Rattle.std.proofs.lemmas.List.{map_push}
 use Rattle.sip_text.specs.Pieces.{all_now}

@@ -1,3 +1,4 @@
+-- The loop of `values_in`: the values so far and those of the rest are those of the text.
 use Rattle.std.proofs.Common.{◌≡◌, ◌++◌, length, map}
 use Rattle.sip_text.specs.Pieces.{all_now}
 use Rattle.sip_text.specs.Separator.{split_from}

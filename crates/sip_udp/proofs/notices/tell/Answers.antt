@@ -1,3 +1,4 @@
+-- `tell` writes the header lines and the line of one output.
 use Rattle.std.proofs.Common.{subst}
 use Rattle.std.specs.List.{flat_map}
 use Rattle.std.specs.Io.KnownBytes.{Appends}

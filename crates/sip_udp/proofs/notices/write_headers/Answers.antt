@@ -1,3 +1,4 @@
+-- `write_headers` writes the line of each header.
 use Rattle.std.proofs.Common.{rules}
 use Rattle.std.proofs.lemmas.List.{take_all}
 use Rattle.sip_files.proofs.Pushed.{taken}

@@ -1,3 +1,4 @@
+-- The loop of `write_headers`: the lines of the headers so far are written.
 use Rattle.std.proofs.Common.{take}
 use Rattle.std.specs.List.{flat_map}
 use Rattle.std.specs.Io.KnownBytes.{Appends}

@@ -1,3 +1,4 @@
+-- `write_notices` tells all outputs, in order.
 use Rattle.std.proofs.lemmas.List.{take_all}
 use Rattle.sip_files.proofs.Pushed.{taken}
 use Rattle.sip_udp.proofs.Told.{none_told, output_told}

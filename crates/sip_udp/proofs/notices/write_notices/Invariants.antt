@@ -1,3 +1,4 @@
+-- The loop of `write_notices`: the outputs so far were told.
 use Rattle.std.proofs.Common.{take}
 use Rattle.sip_udp.proofs.Told.{ToldSoFar}
 use Rattle.sip_udp.proofs.notices.write_notices.Given as goal

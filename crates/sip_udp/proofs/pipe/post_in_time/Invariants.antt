@@ -1,3 +1,4 @@
+-- The loop of `post_in_time`: nothing was posted so far, and the line is still to be posted.
 use Rattle.std.proofs.Common.{◌≡◌}
 use Rattle.sip_desk.specs.Lines.{posted}
 use Rattle.sip_udp.proofs.pipe.post_in_time.Given as goal

@@ -1,3 +1,4 @@
+-- `post_lines`: each turn of the loop posts one more line of the pipe.
 use Rattle.std.proofs.Common.{ℕ, List, IfSome, length, sym, subst, ap, arith}
 use Rattle.sip_desk.specs.Lines.{posted}
 use Rattle.sip_udp.specs.Piping.{SaysRead, PostsFront}

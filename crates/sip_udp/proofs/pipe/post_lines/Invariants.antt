@@ -1,3 +1,4 @@
+-- The loop of `post_lines`: the lines read so far were posted.
 use Rattle.std.proofs.Common.{IfSome}
 use Rattle.sip_desk.specs.Lines.{posted}
 use Rattle.sip_udp.proofs.Fed.{FedSoFar}

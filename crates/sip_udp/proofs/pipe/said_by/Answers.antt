@@ -1,3 +1,4 @@
+-- `said_by` gives what a line says, without its end.
 use Rattle.std.proofs.Common.{refl, subst}
 use Rattle.sip_udp.specs.Piping.{Says}
 use Rattle.sip_udp.proofs.pipe.said_by.Goals as goal

@@ -1,3 +1,4 @@
+-- The loop of `ask_for`: what was asked for, and what the lines that are left ask for.
 use Rattle.std.proofs.Common.{◌≡◌, ◌++◌}
 use Rattle.std.specs.Vec.Iter.{into_iter_items}
 use Rattle.sip_udp.specs.Piping.{all_asked, headers_at_end}

@@ -1,3 +1,4 @@
+-- The loop of `prepared`: the failures of the outputs so far.
 use Rattle.std.proofs.Common.{◌≡◌, map, take}
 use Rattle.sip_udp.specs.Prepared as spec
 use Rattle.sip_udp.proofs.sending.prepared.Given as goal

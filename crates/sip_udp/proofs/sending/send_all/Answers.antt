@@ -1,3 +1,4 @@
+-- `send_all`: each turn of the loop sends one more output, and adds its failure if that failed.
 use Rattle.std.proofs.Common.{rules}
 use Rattle.sip_udp.proofs.Sendings.{begun, goes_on}
 use Rattle.sip_udp.proofs.sending.send_all.Goals as goal

@@ -1,3 +1,4 @@
+-- The loop of `send_all`: the outputs sent so far, and those that are left with their failures.
 use Rattle.std.specs.Vec.{vec_capacity}
 use Rattle.std.specs.Vec.Iter.{into_iter_items}
 use Rattle.sip_udp.proofs.Sendings.{SoFar}

@@ -1,3 +1,4 @@
+-- `own_uri`: the text `sip:ua@` with an IP address may stand as a URI.
 use Rattle.std.proofs.Common.{◌≡◌, ◌++◌, codes, arith, rules}
 use Rattle.sip_message.specs.Ip.{ip_text}
 use Rattle.sip_udp.proofs.OwnUri.{own_uri}

@@ -1,3 +1,4 @@
+-- `talk`: the end that is settled belongs to the line of the desk.
 use Rattle.std.proofs.Common.{IfSome, rules}
 use Rattle.sip_desk.specs.Lines.{IsEndOfLine}
 use Rattle.sip_udp.proofs.Ends.{end_of_desk}

@@ -1,3 +1,5 @@
+-- The law `dones_in_order`: numbered pieces have different numbers, and each done stands in its
+-- place.
 use Rattle.sip_workers.proofs.Gathers.{in_order, distinct_numbered}
 use Rattle.sip_workers.proofs.gathered.dones_in_order.Goals as goal
 

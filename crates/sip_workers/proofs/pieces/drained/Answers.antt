@@ -1,3 +1,4 @@
+-- `drained`: each turn of the loop runs one more piece, and ends only when all were taken.
 use Rattle.std.proofs.Common.{[], ◌∷◌, length, length-append, arith, ap, ◌∙◌}
 use Rattle.crossbeam_deque.specs.Handles.{worker_view}
 use Rattle.sip_workers.proofs.Balances.{takes, pops, drained}

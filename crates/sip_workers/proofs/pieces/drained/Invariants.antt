@@ -1,3 +1,4 @@
+-- The loop of `drained`: the owner has every part, and a done for each piece taken so far.
 use Rattle.std.proofs.Common.{◌≡◌, ◌-◌, length}
 use Rattle.crossbeam_deque.specs.Handles.{worker_view}
 use Rattle.sip_workers.specs.Ran.{Ran}

@@ -1,3 +1,4 @@
+-- `filled`: a new deque keeps the rule, and so does each piece put in.
 use Rattle.std.proofs.Common.{arith, ap}
 use Rattle.sip_workers.proofs.Balances.{begins, puts}
 use Rattle.sip_workers.proofs.pieces.filled.Goals as goal

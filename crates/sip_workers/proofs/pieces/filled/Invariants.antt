@@ -1,3 +1,4 @@
+-- The loop of `filled`: the pieces put in are those seen so far.
 use Rattle.std.proofs.Common.{◌≡◌, []}
 use Rattle.crossbeam_deque.specs.Handles.{worker_view}
 use Rattle.sip_workers.specs.Balance.{log}

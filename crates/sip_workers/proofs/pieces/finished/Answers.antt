@@ -1,3 +1,4 @@
+-- `finished` gives one done for each piece, whichever seat took it.
 use Rattle.std.proofs.Common.{◌≡◌, arith, ◌∙◌}
 use Rattle.crossbeam_deque.specs.Handles.{worker_view}
 use Rattle.sip_workers.proofs.Ends.{comes_back}

@@ -1,3 +1,4 @@
+-- `in_turn`: each turn of the loop runs one more piece.
 use Rattle.sip_workers.proofs.Runs.{ran_then}
 use Rattle.sip_workers.proofs.pieces.in_turn.Goals as goal
 

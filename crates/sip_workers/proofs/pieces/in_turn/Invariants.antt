@@ -1,3 +1,4 @@
+-- The loop of `in_turn`: there is a done for each piece seen so far.
 use Rattle.sip_workers.specs.Ran.{Ran}
 use Rattle.sip_workers.proofs.pieces.in_turn.Given as goal
 

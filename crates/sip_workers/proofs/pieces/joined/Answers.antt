@@ -1,3 +1,5 @@
+-- `joined`: each thief's pass belongs to the owner's deque, and its dones are put behind the
+-- others.
 use Rattle.std.proofs.Common.{◌++◌, arith, ap, subst, sym, ◌∙◌, append-nil}
 use Rattle.crossbeam_deque.specs.Handles.{view, IsPassOf, worker_view}
 use Rattle.sip_workers.proofs.Balances.{merges}

@@ -1,3 +1,4 @@
+-- The loop of `joined`: the parts of the owner and of the thieves left are 64 in all.
 use Rattle.std.proofs.Common.{◌≡◌, ◌+◌, vec_len}
 use Rattle.std.specs.List.{AllByRecursion}
 use Rattle.crossbeam_deque.specs.Handles.{worker_deque, worker_view}

@@ -1,3 +1,4 @@
+-- `run_alone` gives one done for each piece; if the numbers of the pieces differ, so do theirs.
 use Rattle.std.proofs.lemmas.Result.{IfOk-weaker}
 use Rattle.sip_workers.proofs.Gathers.{distinct_done}
 use Rattle.sip_workers.proofs.pieces.run_alone.Goals as goal

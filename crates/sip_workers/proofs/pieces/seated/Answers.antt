@@ -1,3 +1,4 @@
+-- `seated` gives thieves with one part each, and the owner with the other parts.
 use Rattle.std.proofs.Common.{◌≡◌, [], ◌∷◌, length, length-append, arith, ap, subst, sym, ◌∙◌}
 use Rattle.crossbeam_deque.specs.Handles.{IsPassOf, worker_view}
 use Rattle.std.specs.List.{AllByRecursion}

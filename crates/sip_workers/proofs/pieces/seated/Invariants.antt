@@ -1,3 +1,4 @@
+-- The loop of `seated`: each seat so far is a thief with one part, and the owner has the others.
 use Rattle.std.proofs.Common.{◌≡◌, ◌+◌, length}
 use Rattle.std.specs.List.{AllByRecursion}
 use Rattle.crossbeam_deque.specs.Handles.{worker_deque, worker_view}

@@ -1,3 +1,4 @@
+-- `served`: what each seat gives back is what its contract says.
 use Rattle.std.proofs.Common.{arith}
 use Rattle.sip_workers.specs.Seats.{Serves}
 use Rattle.sip_workers.proofs.Ends.{zip_at}

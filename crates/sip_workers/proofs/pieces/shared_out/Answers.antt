@@ -1,3 +1,4 @@
+-- `shared_out`: each seat can begin, and together they give one done for each piece.
 use Rattle.std.proofs.Common.{◌≡◌, ap}
 use Rattle.crossbeam_deque.specs.Handles.{worker_view}
 use Rattle.sip_workers.proofs.Ends.{seats_ready, come_back}

@@ -1,3 +1,4 @@
+-- `own`: each turn of the loop runs one more piece of the owner's.
 use Rattle.std.proofs.Common.{◌≡◌, arith, ap, subst, sym, ◌∙◌}
 use Rattle.crossbeam_deque.specs.Handles.{worker_deque, worker_view}
 use Rattle.sip_workers.proofs.Balances.{takes, pops, drained}

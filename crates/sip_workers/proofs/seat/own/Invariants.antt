@@ -1,3 +1,4 @@
+-- The loop of `own`: the owner has the same deque and parts, and a done for each piece it took.
 use Rattle.std.proofs.Common.{◌≡◌}
 use Rattle.crossbeam_deque.specs.Handles.{worker_deque, worker_view}
 use Rattle.sip_workers.specs.Ran.{Ran}

@@ -1,3 +1,4 @@
+-- `steal`: a stolen piece is added to what the pass took.
 use Rattle.std.proofs.Common.{arith, ap}
 use Rattle.sip_workers.proofs.Balances.{steals}
 use Rattle.sip_workers.proofs.seat.steal.Goals as goal

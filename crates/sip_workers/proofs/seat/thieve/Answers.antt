@@ -1,3 +1,4 @@
+-- `thieve`: each turn of the loop runs one more stolen piece.
 use Rattle.std.proofs.Common.{◌≡◌, ap, subst, sym, ◌∙◌}
 use Rattle.crossbeam_deque.specs.Handles.{view, IsPassOf, stealer_deque}
 use Rattle.sip_workers.proofs.Runs.{ran_more}

@@ -1,3 +1,4 @@
+-- The loop of `thieve`: the thief has its one part, and a done for each piece it stole.
 use Rattle.std.proofs.Common.{◌≡◌, []}
 use Rattle.crossbeam_deque.specs.Handles.{view, IsPassOf, stealer_deque}
 use Rattle.sip_workers.specs.Ran.{Ran}

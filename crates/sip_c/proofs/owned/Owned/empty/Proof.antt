@@ -1,4 +1,4 @@
--- An owner of none is the null address beside the handle that it is given.
+-- An owner of no host is the null address and the handle that it is given.
 use Rattle.std.proofs.Common.{[], ◌∷◌, refl}
 use Rattle.std.specs.Prelude.{None}
 use Rattle.std.proofs.raw_atomic.Walks.{proved}
@@ -45,7 +45,7 @@ empty_spec 𝓤 𝓛 𝓜 𝓡 wired =
     sets ! (agg ! (and_then ! (get ! refl) (and_then ! (get ! refl) (no_more !)))) refl
     (pair_fits null_ptr) $
     returns ! (look_at ! 0 refl) $ free_all ! refl $ keep ! (0 ∷ []) $
-    -- the handle is the fields', and at null nothing lies
+    -- the handle is that of the fields, and there is nothing at null
     use1 𝓛 (‵ (Fields.own_val (to Owner.the_type owned) (pair null_ptr ∷ []))) (pair_of 𝓛 owned) $
     nothing ! $ move ! (1 ∷ 0 ∷ []) $ fjoin ! $
     suffices ! _ (ends_at 𝓛 f.ended stayed c y (pair null_ptr) owned (tt, tt) (tt, tt)) $

@@ -1,4 +1,4 @@
--- The box of a host is made again of its address and its handle.
+-- The box of a host is made again from its address and its handle.
 use Rattle.std.proofs.Common.{◌≡◌, List, [], ◌∷◌, refl, sym, ap, ◌∙◌, T}
 use Rattle.std.specs.Prelude.{Option, Some, IsSome}
 use Rattle.std.proofs.raw_atomic.Walks.{proved}
@@ -94,7 +94,7 @@ into_box_spec {M} 𝓤 𝓛 𝓜 𝓡 wired =
       ),
       host,
     ) in
-    -- [the lifetimes; the host; the handle; nothing]: the arguments, then what is asked of the call
+    -- [the lifetimes; the host; the handle; nothing]: the arguments, then what the call requires
     move ! (2 ∷ []) $ nothing ! $ feq_i ! (List Val) (ptr_val at ∷ []) (ptr_val at ∷ []) refl $
     fjoin ! $ move ! (1 ∷ 0 ∷ []) $ fjoin ! $
     move ! (1 ∷ 0 ∷ []) $ join ! $ move ! (1 ∷ []) $ within_both ! κ ν $ move ! (1 ∷ 0 ∷ []) $

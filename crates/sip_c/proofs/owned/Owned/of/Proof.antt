@@ -1,4 +1,4 @@
--- The box of a host is taken in two, and what it owned goes to the owner.
+-- The box of a host is taken apart, and the owner gets what the box owned.
 use Rattle.std.proofs.Common.{◌≡◌, List, [], ◌∷◌, refl, sym, ap}
 use Rattle.std.specs.Prelude.{Some}
 use Rattle.std.proofs.raw_atomic.Walks.{proved}
@@ -53,11 +53,11 @@ use Rattle.sip_c.proofs.HostStored.{only_result, pair, kinds, address_fits, hand
 abbrev stayed : Stays f.ended.signature.params f.ended.kept
 stayed = (stay_dropped _ yes, tt)
 
--- a host is let go by its own glue
+-- a host is dropped by its own glue
 abbrev host_drops : Dict
 host_drops = impl ("sip_c::sip_host++host++Host+Destruct::drop" ∷ []) tnil dnil
 
--- the glue asks nothing and says nothing
+-- the glue requires nothing and promises nothing
 lets_host_go : {M : Type 1} (𝓤 : Ura M) (𝓛 : Logic 𝓤) (𝓜 : Model 𝓤 𝓛.H) (𝓡 : Running 𝓤 𝓛.H 𝓜)
     → Wired 𝓡.env ended_symbol.code → glue.Met 𝓛 𝓜 𝓡 𝓡.env Host host_drops
 lets_host_go 𝓤 𝓛 𝓜 𝓡 wired =

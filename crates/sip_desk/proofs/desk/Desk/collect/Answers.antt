@@ -1,3 +1,4 @@
+-- `Desk::collect`: each turn of the loop gathers more events, and all of them are a merge.
 use Rattle.std.proofs.Common.{◌≡◌, ◌≤◌, [], subst, sym, arith}
 use Rattle.std.specs.Vec.{vec_len, vec_capacity}
 use Rattle.sip_desk.specs.Collected.{Gathers}

@@ -1,3 +1,4 @@
+-- The loop of `Desk::collect`: the events so far were collected, and the lines are the same.
 use Rattle.std.proofs.Common.{◌≡◌, ◌≤◌, ◌-◌, []}
 use Rattle.std.specs.Vec.{vec_len, vec_capacity}
 use Rattle.sip_desk.specs.Lines.{KeepsLines}

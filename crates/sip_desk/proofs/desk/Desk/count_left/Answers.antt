@@ -1,3 +1,4 @@
+-- `Desk::count_left` takes nothing from any line, and the lines stay the same.
 use Rattle.std.proofs.Common.{◌<◌, length, refl}
 use Rattle.rtrb.specs.Ring.{received, known_items, IsFinishedOf}
 use Rattle.sip_desk.proofs.Rings.{within, element_at, nothing_more, keeps_lines}

@@ -1,3 +1,5 @@
+-- `Desk::pass` takes at most one event of each line. If it has room and takes none, nothing that
+-- was seen is left.
 use Rattle.std.proofs.Common.{◌≡◌, ℕ, ◌+◌, ◌≤◌, ◌<◌, [], ◌∙◌, arith}
 use Rattle.std.proofs.lemmas.Bool.{ltb-false}
 use Rattle.std.specs.Vec.{vec_len, vec_capacity}

@@ -1,3 +1,5 @@
+-- The loop of `Desk::pass`: the events so far were collected; without one, the lines so far are
+-- dry.
 use Rattle.std.proofs.Common.{◌≡◌, ℕ, ◌<◌, ◌≤◌, []}
 use Rattle.std.specs.Vec.{vec_len, vec_capacity}
 use Rattle.sip_desk.specs.Lines.{seen, KeepsLines}

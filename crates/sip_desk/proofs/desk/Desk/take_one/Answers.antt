@@ -1,3 +1,4 @@
+-- `Desk::take_one` takes the next event of one line, or none; the other lines stay as they were.
 use Rattle.std.proofs.Common.{[], refl, sym, ◌∙◌}
 use Rattle.rtrb.specs.Ring.{received, known_items}
 use Rattle.sip_desk.proofs.Rings.{ok_part, err_part, err_both, none_seen, prefix_of_none, element_at, map_or_set, map_or_set_other, one_more, nothing_more, keeps_lines}

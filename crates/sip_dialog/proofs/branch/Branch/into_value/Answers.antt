@@ -1,3 +1,4 @@
+-- `Branch::into_value`: a branch may stand as the value of a parameter.
 use Rattle.sip_parts.proofs.Bytes.{token_is_value}
 use Rattle.sip_dialog.proofs.branch.Branch.into_value.Goals as goal
 

@@ -1,3 +1,4 @@
+-- `Dialog::accept`: the dialog stands for all that happened and the request accepted.
 use Rattle.sip_dialog.proofs.Lives.{accept_stands}
 use Rattle.sip_dialog.proofs.dialog.Dialog.accept.Goals as goal
 

@@ -1,3 +1,4 @@
+-- `Dialog::ack`: the dialog stands for all that happened and the ACK.
 use Rattle.sip_dialog.proofs.Lives.{ack_stands}
 use Rattle.sip_dialog.proofs.dialog.Dialog.ack.Goals as goal
 

@@ -1,3 +1,4 @@
+-- `Dialog::confirm`: the dialog stands for all that happened and the response that confirms it.
 use Rattle.sip_dialog.proofs.Lives.{confirm_stands}
 use Rattle.sip_dialog.proofs.dialog.Dialog.confirm.Goals as goal
 

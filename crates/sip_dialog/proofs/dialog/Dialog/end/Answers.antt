@@ -1,3 +1,4 @@
+-- `Dialog::end`: the dialog stands for all that happened and its end.
 use Rattle.sip_dialog.proofs.Lives.{end_stands}
 use Rattle.sip_dialog.proofs.dialog.Dialog.end.Goals as goal
 

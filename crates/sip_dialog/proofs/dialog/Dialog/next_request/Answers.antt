@@ -1,3 +1,4 @@
+-- `Dialog::next_request`: the dialog stands for all that happened and the request made.
 use Rattle.sip_dialog.proofs.Lives.{request_stands}
 use Rattle.sip_dialog.proofs.dialog.Dialog.next_request.Goals as goal
 

@@ -1,3 +1,4 @@
+-- `Dialog::refresh`: the dialog stands for all that happened and the new target.
 use Rattle.sip_dialog.proofs.Lives.{refresh_stands}
 use Rattle.sip_dialog.proofs.dialog.Dialog.refresh.Goals as goal
 

@@ -1,3 +1,4 @@
+-- `Before::add` says whether the set already had the name.
 use Rattle.std.proofs.Common.{◌≡◌, Bool, subst, sym}
 use Rattle.std.specs.Prelude.{IfOk}
 use Rattle.sip_ladder.specs.Shapes.{is_among}

@@ -1,3 +1,4 @@
+-- `Columns::of` makes a column for each of the first peers of the lines.
 use Rattle.std.proofs.Common.{◌/◌, ap, map, min, take, ◌∙◌, arith}
 use Rattle.std.proofs.lemmas.List.{take_all}
 use Rattle.sip_ladder.specs.Columns.{distinct}

@@ -1,3 +1,4 @@
+-- The loop of `Columns::of`: the first twelve distinct peers of the lines so far.
 use Rattle.std.proofs.Common.{◌≡◌, take}
 use Rattle.sip_ladder.specs.Columns.{distinct}
 use Rattle.sip_ladder.proofs.Arrows.{arrows}

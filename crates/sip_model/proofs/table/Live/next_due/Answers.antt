@@ -1,3 +1,4 @@
+-- `Live::next_due` gives the first moment at which a key is due.
 use Rattle.std.proofs.Common.{◌≡◌, ℕ, false, subst}
 use Rattle.std.specs.Prelude.{IfSome, Some}
 use Rattle.sip_timers.specs.Queue.{is_due}

@@ -1,3 +1,4 @@
+-- `Table::deal` does a phase: its tick, then its items; the table stands for one more phase.
 use Rattle.std.proofs.Common.{◌≡◌, rules, sym, subst, Some}
 use Rattle.sip_model.specs.Machine.{tick_at}
 use Rattle.sip_model.specs.Phase.{DealsPhase, phase_at}

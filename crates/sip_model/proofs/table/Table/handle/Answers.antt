@@ -1,3 +1,4 @@
+-- `Table::handle`: the table stands for the histories with one more input of the key.
 use Rattle.std.proofs.Common.{rules, Some}
 use Rattle.sip_model.specs.Machine.{given_at}
 use Rattle.sip_model.specs.Table.{StepsKey}

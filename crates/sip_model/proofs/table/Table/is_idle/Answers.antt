@@ -1,3 +1,4 @@
+-- `Table::is_idle`: if it says so, a phase without items changes nothing and says nothing.
 use Rattle.std.proofs.Common.{◌≡◌, Some, [], rules, subst, sym}
 use Rattle.sip_model.specs.Machine.{tick_at}
 use Rattle.sip_model.specs.Phase.{AddsPhase, phase_at}

@@ -1,3 +1,4 @@
+-- `Table::live` is the number of keys that have a state.
 use Rattle.std.proofs.Common.{Some, None, ◌∙◌, sym, ap}
 use Rattle.sip_model.proofs.Held.{count_live}
 use Rattle.sip_model.proofs.Ordered.{ordered_nil}

@@ -1,3 +1,4 @@
+-- `Table::next_due`: before that moment a phase without items changes nothing and says nothing.
 use Rattle.std.proofs.Common.{◌≡◌, Some, [], rules, subst, sym}
 use Rattle.sip_model.specs.Machine.{tick_at}
 use Rattle.sip_model.specs.Phase.{AddsPhase, phase_at}

@@ -1,3 +1,4 @@
+-- `Table::tick`: the table stands for the histories with one more input of every key.
 use Rattle.std.proofs.Common.{◌≡◌, rules, refl, sym, subst, Some}
 use Rattle.sip_model.specs.Machine.{tick_at}
 use Rattle.sip_model.specs.Table.{Held, StepsAll, state_at}

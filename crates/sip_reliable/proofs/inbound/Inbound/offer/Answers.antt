@@ -1,3 +1,4 @@
+-- `Inbound::offer`: the numbers taken are the ones in order of all that came.
 use Rattle.sip_reliable.proofs.InOrder.{stays, takes}
 use Rattle.sip_reliable.proofs.inbound.Inbound.offer.Goals as goal
 

@@ -1,3 +1,4 @@
+-- `Outbound::acknowledge`: the ledger stands for all that happened and this PRACK.
 use Rattle.sip_reliable.proofs.Ledgers.{acknowledge_stands}
 use Rattle.sip_reliable.proofs.outbound.Outbound.acknowledge.Goals as goal
 

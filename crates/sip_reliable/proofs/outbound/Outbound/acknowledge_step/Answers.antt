@@ -1,3 +1,4 @@
+-- `Outbound::acknowledge_step` takes out the response with this number, and keeps the invariant.
 use Rattle.std.proofs.Common.{◌==◌, not, ap, ◌∙◌, rules}
 use Rattle.sip_reliable.specs.Ledger.{Ledger, acknowledged}
 use Rattle.sip_reliable.proofs.Sounds.{retained, sound_kept}

@@ -1,3 +1,4 @@
+-- `Outbound::close`: the ledger stands for all that happened and the final response.
 use Rattle.std.proofs.Common.{ap}
 use Rattle.sip_reliable.specs.Ledger.{closed_now}
 use Rattle.sip_reliable.proofs.Ledgers.{close_stands}

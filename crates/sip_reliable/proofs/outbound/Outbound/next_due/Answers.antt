@@ -1,3 +1,4 @@
+-- `Outbound::next_due` gives the earliest moment at which a tick isn't nothing.
 use Rattle.sip_reliable.proofs.Dues.{next_is_earliest}
 use Rattle.sip_reliable.proofs.outbound.Outbound.next_due.Goals as goal
 

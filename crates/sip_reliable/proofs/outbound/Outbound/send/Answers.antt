@@ -1,3 +1,4 @@
+-- `Outbound::send`: the ledger stands for all that happened and the response sent.
 use Rattle.sip_reliable.proofs.Ledgers.{send_stands}
 use Rattle.sip_reliable.proofs.outbound.Outbound.send.Goals as goal
 

@@ -1,3 +1,4 @@
+-- `Outbound::send_step` keeps the invariant, and few responses wait after it.
 use Rattle.std.proofs.Common.{sym, ap, ◌∙◌, arith}
 use Rattle.sip_reliable.proofs.Sounds.{sent_sound}
 use Rattle.sip_reliable.proofs.outbound.Outbound.send_step.Goals as goal

@@ -1,3 +1,4 @@
+-- `Outbound::tick`: the ledger stands for all that happened and this tick; the numbers rise.
 use Rattle.sip_reliable.proofs.Ledgers.{numbers_due, tick_stands}
 use Rattle.sip_reliable.proofs.Repeats.{due_rise}
 use Rattle.sip_reliable.proofs.outbound.Outbound.tick.Goals as goal

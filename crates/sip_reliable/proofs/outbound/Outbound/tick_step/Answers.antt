@@ -1,3 +1,4 @@
+-- `Outbound::tick_step` keeps the invariant, also if responses are sent again.
 use Rattle.std.proofs.Common.{map, ap, ◌∙◌}
 use Rattle.sip_reliable.specs.Provisional.{after_repeat, given_up}
 use Rattle.sip_reliable.proofs.Sounds.{refilled, sound_given_up, sound_repeated}

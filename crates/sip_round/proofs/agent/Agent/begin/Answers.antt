@@ -1,3 +1,4 @@
+-- `Agent::begin` cuts what arrived into the parts of the shards.
 use Rattle.std.proofs.Common.{◌≡◌, length, map, subst}
 use Rattle.std.specs.Prelude.{IfSome}
 use Rattle.sip_message.specs.Key.{branch_in}

@@ -1,3 +1,4 @@
+-- `Agent::is_idle`: if it says so, the round changes nothing and gives nothing.
 use Rattle.std.proofs.Common.{true, [], length, sym, ◌∙◌, subst}
 use Rattle.std.specs.Prelude.{IfSome}
 use Rattle.std.proofs.lemmas.Bool.{eqb-true}

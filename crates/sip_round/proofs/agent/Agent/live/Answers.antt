@@ -1,3 +1,4 @@
+-- `Agent::live` counts the transactions and calls that have begun and haven't ended.
 use Rattle.std.proofs.Common.{sym, ◌∙◌, ap}
 use Rattle.sip_round.proofs.LiveShards.{live_shards}
 use Rattle.sip_round.proofs.agent.Agent.live.Goals as goal

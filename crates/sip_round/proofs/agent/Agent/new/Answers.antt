@@ -1,3 +1,4 @@
+-- `Agent::new`: the agent stands for no rounds.
 use Rattle.sip_round.proofs.Beginning.{begins}
 use Rattle.sip_round.proofs.agent.Agent.new.Goals as goal
 

@@ -1,3 +1,4 @@
+-- `Agent::next_due`: before that moment a round without events is quiet; at it something is due.
 use Rattle.std.proofs.Common.{◌≡◌, false, true, ap, sym, subst, ◌∙◌}
 use Rattle.std.specs.Prelude.{Some}
 use Rattle.std.proofs.lemmas.Bool.{false≢true}

@@ -1,3 +1,4 @@
+-- `Agent::run_in_form`: if its shards go one by one, the agent stands for one more round too.
 use Rattle.sip_round.proofs.Runs.{passed_longer}
 use Rattle.sip_round.proofs.agent.Agent.run_in_form.Goals as goal
 

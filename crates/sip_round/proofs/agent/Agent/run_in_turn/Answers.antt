@@ -1,3 +1,4 @@
+-- `Agent::run_in_turn`: the agent stands for one more round, also if that is idle.
 use Rattle.std.proofs.Common.{subst}
 use Rattle.std.specs.Prelude.{IfOk}
 use Rattle.std.proofs.lemmas.Result.{IfOk-weaker}

@@ -1,3 +1,4 @@
+-- `Agent::run_phases`: the agent stands for one more round, led over its workers.
 use Rattle.std.proofs.Common.{subst}
 use Rattle.std.specs.Prelude.{IfOk}
 use Rattle.std.proofs.lemmas.Result.{IfOk-weaker}

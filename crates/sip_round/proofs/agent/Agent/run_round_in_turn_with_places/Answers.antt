@@ -1,3 +1,4 @@
+-- `Agent::run_round_in_turn_with_places` gives the round's outputs with their places.
 use Rattle.std.proofs.lemmas.Result.{IfOk-weaker}
 use Rattle.sip_round.proofs.Runs.{placed_longer}
 use Rattle.sip_round.proofs.agent.Agent.run_round_in_turn_with_places.Goals as goal

@@ -1,3 +1,4 @@
+-- The loop of `places_of`, for outputs with places: the places of the items so far.
 use Rattle.std.proofs.Common.{◌≡◌, map, take}
 use Rattle.sip_round.proofs.form.PlacedOutputForm.places_of.Given as goal
 

@@ -1,3 +1,4 @@
+-- `Shards::are_idle`: no shard is due, so a phase without items changes nothing in any.
 use Rattle.std.proofs.Common.{true, false, ap, ◌∙◌, map, sym, subst}
 use Rattle.std.specs.List.{AllByRecursion}
 use Rattle.std.proofs.lemmas.Bool.{false≢true}

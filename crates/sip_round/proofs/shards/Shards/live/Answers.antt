@@ -1,3 +1,4 @@
+-- `Shards::live` counts the keys that all shards hold.
 use Rattle.std.proofs.Common.{ℕ, List, All, is_some, ap, ◌∙◌, map, sym, subst}
 use Rattle.std.specs.Prelude.{count_by, sum_by}
 use Rattle.sip_calls.specs.CallShard.{HeldCalls, call_cmp}

@@ -1,3 +1,4 @@
+-- `Shards::next_due` gives the first moment at which a key in any shard is due.
 use Rattle.std.proofs.Common.{ap, ◌∙◌, map, sym, subst}
 use Rattle.std.specs.Prelude.{IsSome}
 use Rattle.std.specs.List.{AllByRecursion}

@@ -1,3 +1,4 @@
+-- `Shards::transfer`: the other shards hold what these held.
 use Rattle.std.proofs.Common.{◌≡◌, ℕ, ◌<◌, ◌∙◌, List, length, map, subst, sym}
 use Rattle.std.specs.List.{AllByRecursion}
 use Rattle.sip_message.specs.Key.{branch_in, key_cmp}

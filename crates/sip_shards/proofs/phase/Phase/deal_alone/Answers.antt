@@ -1,3 +1,4 @@
+-- `Phase::deal_alone`: the phase of a single shard is the phase of all shards.
 use Rattle.std.proofs.Common.{◌≡◌, [], ◌∷◌, map, length, ◌∙◌, ap, arith, subst}
 use Rattle.std.proofs.lemmas.List.{map-append, length-map}
 use Rattle.std.specs.List.{AllByRecursion}

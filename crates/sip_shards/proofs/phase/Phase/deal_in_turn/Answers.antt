@@ -1,3 +1,4 @@
+-- `Phase::deal_in_turn` does the phase of all shards, on the calling thread.
 use Rattle.std.proofs.Common.{[], length, map, subst, sym}
 use Rattle.std.proofs.lemmas.Result.{IfOk-weaker}
 use Rattle.sip_model.specs.Groups.{groups}

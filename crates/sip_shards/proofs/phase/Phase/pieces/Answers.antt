@@ -1,3 +1,4 @@
+-- `Phase::pieces`: each turn of the loop makes one more piece, of a shard and its part.
 use Rattle.std.proofs.Common.{◌≡◌, map, refl, sym, ap, subst, arith}
 use Rattle.std.specs.Vec.Iter.{into_iter_items}
 use Rattle.sip_workers.specs.Ran.{IsNumbered}

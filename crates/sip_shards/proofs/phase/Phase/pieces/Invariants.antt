@@ -1,3 +1,4 @@
+-- The loop of `Phase::pieces`: the pieces so far, and the shards and parts that are left.
 use Rattle.std.proofs.Common.{◌≡◌, map}
 use Rattle.std.specs.Vec.Iter.{into_iter_items}
 use Rattle.sip_workers.specs.Ran.{IsNumbered}

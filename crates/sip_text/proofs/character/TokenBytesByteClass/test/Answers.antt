@@ -1,3 +1,4 @@
+-- `TokenBytes::test`: the table has an x for exactly the bytes of a token.
 use Rattle.std.proofs.Common.{◌==◌, get_or, refl, arith}
 use Rattle.std.proofs.lemmas.Bool.{agree_below_at}
 use Rattle.sip_text.specs.Character.{is_token_byte}

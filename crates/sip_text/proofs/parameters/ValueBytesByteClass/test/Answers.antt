@@ -1,3 +1,4 @@
+-- `ValueBytes::test`: the table has an x for exactly the bytes of a value without quotes.
 use Rattle.std.proofs.Common.{◌==◌, get_or, refl, arith}
 use Rattle.std.proofs.lemmas.Bool.{agree_below_at}
 use Rattle.sip_text.specs.Parameter.{is_value_byte}

@@ -1,3 +1,4 @@
+-- `Separator::cut`: the first byte that may separate does so, or the text has no separator.
 use Rattle.std.proofs.Common.{◌≡◌, ◌+◌, ◌-◌, length, take, drop, add-one, sym, arith}
 use Rattle.std.proofs.lemmas.List.{take_all, length-drop}
 use Rattle.sip_text.specs.declared.separator.Place.TheVariants.{Plain}

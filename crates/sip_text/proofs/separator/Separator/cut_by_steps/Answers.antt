@@ -1,3 +1,4 @@
+-- `Separator::cut_by_steps`, byte by byte, gives the cut at the first separator that counts.
 use Rattle.std.proofs.Common.{◌≡◌, ◌+◌, ◌-◌, length, take, drop, add-one, sym, ap, ◌∙◌, arith}
 use Rattle.std.proofs.lemmas.List.{take_all, length-drop}
 use Rattle.sip_text.specs.Separator.{place_after}

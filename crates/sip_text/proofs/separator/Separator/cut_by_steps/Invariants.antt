@@ -1,3 +1,4 @@
+-- The loop of `Separator::cut_by_steps`: no separator counted so far, and where the reader stands.
 use Rattle.std.proofs.Common.{◌≡◌, Some, take}
 use Rattle.sip_text.specs.Separator.{place_after}
 use Rattle.sip_text.specs.declared.separator.Place.TheVariants.{Plain}

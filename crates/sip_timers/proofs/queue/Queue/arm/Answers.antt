@@ -1,3 +1,4 @@
+-- `Queue::arm`: if the key is already due at that moment, the entries stay the same.
 use Rattle.std.proofs.Common.{Some, sym, ◌∙◌, ap, ℕ}
 use Rattle.std.specs.Map.{keys_of}
 use Rattle.std.specs.List.Sorted.{IsStrictlySortedBy}

@@ -1,3 +1,4 @@
+-- `Queue::disarm`: the schedule is still the index of the entries after a key is taken out.
 use Rattle.std.proofs.Common.{◌≡◌, Some, None, cond, sym, ap, ◌∙◌}
 use Rattle.std.specs.Ordering.{is_eq}
 use Rattle.sip_timers.specs.Queue.{moment}

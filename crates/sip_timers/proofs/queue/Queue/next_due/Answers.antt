@@ -1,3 +1,4 @@
+-- `Queue::next_due` gives the earliest moment: that of a key, with none before it.
 use Rattle.std.specs.List.Sorted.{IsStrictlySortedBy}
 use Rattle.std.specs.Map.{keys_of}
 use Rattle.sip_timers.specs.Queue.{moment}

@@ -1,3 +1,4 @@
+-- `Queue::rearm`: the schedule is still the index of the entries, also if memory runs out.
 use Rattle.std.proofs.Common.{◌≡◌, Some, None, cond, sym, ap, subst, ◌∙◌}
 use Rattle.std.specs.BTreeMap.{is_at}
 use Rattle.std.specs.Ordering.{is_eq}

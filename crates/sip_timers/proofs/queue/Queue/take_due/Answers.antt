@@ -1,3 +1,4 @@
+-- `Queue::take_due` gives the keys that are due, in order, and leaves the later entries.
 use Rattle.std.proofs.Common.{◌++◌, length, take, refl, sym, ap, subst, ◌∙◌, arith}
 use Rattle.std.specs.Prelude.{nat_lt}
 use Rattle.std.specs.BTreeMap.{is_at}

@@ -1,3 +1,4 @@
+-- The loop of `Queue::take_due`: the keys replaced so far and those still to find are the due keys.
 use Rattle.std.proofs.Common.{◌≡◌, ◌++◌, take, drop}
 use Rattle.sip_timers.specs.Queue.{due_keys, later}
 use Rattle.sip_timers.proofs.Taking.{own_keys, without}

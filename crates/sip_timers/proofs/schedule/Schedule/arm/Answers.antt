@@ -1,3 +1,4 @@
+-- `Schedule::arm`: the schedule is the index of the moments with that key's added.
 use Rattle.std.proofs.Common.{sym, subst}
 use Rattle.sip_timers.specs.Index.{IsIndexOf}
 use Rattle.sip_timers.proofs.Schedules.{armed}

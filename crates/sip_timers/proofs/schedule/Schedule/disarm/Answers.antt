@@ -1,3 +1,4 @@
+-- `Schedule::disarm`: the schedule is the index of the moments without that key's.
 use Rattle.std.proofs.Common.{sym, subst}
 use Rattle.sip_timers.specs.Index.{IsIndexOf}
 use Rattle.sip_timers.proofs.Schedules.{disarmed}

@@ -1,3 +1,4 @@
+-- `Schedule::next_due` gives the moment of a key, with none before it, or nothing if none is armed.
 use Rattle.std.proofs.Common.{◌≡◌, ℕ, Option, None, length, sym, subst}
 use Rattle.std.specs.Prelude.{IfNone}
 use Rattle.sip_timers.specs.Index.{IsIndexOf}

@@ -1,3 +1,4 @@
+-- `Schedule::rearm` moves a key to its new moment. If memory runs out, the key is gone.
 use Rattle.std.proofs.Common.{◌≡◌, ℕ, Option, Some, None, Result, Ok, Err, OnErr, sym, subst}
 use Rattle.sip_timers.specs.Index.{IsIndexOf, with_moment}
 use Rattle.sip_timers.proofs.Schedules.{rearmed, disarmed}

@@ -1,3 +1,4 @@
+-- `Schedule::replace`: the schedule is the index of the moments with that key's changed.
 use Rattle.std.proofs.Common.{◌≡◌, ℕ, Some, true, sym, ap, subst, ◌∙◌}
 use Rattle.sip_timers.specs.Index.{IsIndexOf}
 use Rattle.sip_timers.proofs.Dues.{Puts}

@@ -1,3 +1,4 @@
+-- `Schedule::take_due` gives the keys that are due, in order, and leaves the later ones.
 use Rattle.std.proofs.Common.{◌≡◌, [], ◌∷◌, ◌++◌, map, take, drop, sym, ap, subst, ◌∙◌, arith}
 use Rattle.sip_timers.specs.Index.{IsIndexOf}
 use Rattle.sip_timers.proofs.Dues.{due_count}

@@ -1,3 +1,4 @@
+-- The loop of `Schedule::take_due`: the keys taken so far are the first ones of the index.
 use Rattle.std.proofs.Common.{◌≡◌, map, take, drop}
 use Rattle.std.specs.Vec.{vec_len, vec_capacity}
 use Rattle.sip_timers.proofs.schedule.Schedule.take_due.Given as goal

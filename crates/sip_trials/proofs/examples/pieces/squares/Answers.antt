@@ -1,3 +1,4 @@
+-- `squares`: each turn of the loop adds a piece with the next number.
 use Rattle.std.proofs.Common.{refl}
 use Rattle.sip_workers.proofs.Gathers.{numbered_grown}
 use Rattle.sip_trials.proofs.examples.pieces.squares.Goals as goal

@@ -1,3 +1,4 @@
+-- The loop of `collect_numbers`: the desk has the same lines.
 use Rattle.sip_desk.specs.Lines.{KeepsLines}
 use Rattle.sip_ua.proofs.tests.desk.collect_numbers.Given as goal
 

@@ -1,3 +1,4 @@
+-- The loop of `post_numbers`: the line is the same.
 use Rattle.sip_desk.specs.Lines.{SameLine}
 use Rattle.sip_ua.proofs.tests.desk.post_numbers.Given as goal
 

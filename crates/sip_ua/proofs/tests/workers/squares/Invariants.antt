@@ -1,3 +1,4 @@
+-- The loop of `squares`: the pieces so far are numbered from 0 on.
 use Rattle.std.proofs.Common.{◌≡◌, length}
 use Rattle.sip_workers.specs.Ran.{IsNumbered}
 use Rattle.sip_ua.proofs.tests.workers.squares.Given as goal

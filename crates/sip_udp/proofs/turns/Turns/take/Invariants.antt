@@ -1,3 +1,4 @@
+-- The loop of `Turns::take`: the desk has the same lines.
 use Rattle.sip_desk.specs.Lines.{KeepsLines}
 use Rattle.sip_udp.proofs.turns.Turns.take.Given as goal
 

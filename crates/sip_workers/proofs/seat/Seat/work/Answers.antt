@@ -1,3 +1,4 @@
+-- `Seat::work`: an owner and a thief each give back what they began with, and their dones.
 use Rattle.sip_workers.proofs.Ends.{owner_serves, thief_serves}
 use Rattle.sip_workers.proofs.seat.Seat.work.Goals as goal
 
