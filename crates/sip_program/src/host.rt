@@ -1,6 +1,6 @@
 //! The system that the program runs on.
 
-use std::io::{BufRead, Input, IsTerminal}
+use std::io::{BufRead, Input, IsTerminal};
 use std::net::Net;
 use std::random::RandomSource;
 use std::rt::Files;
@@ -9,7 +9,6 @@ use std::time::Clock;
 /// A clock, sockets, random bytes, files, and a pipe of commands.
 pub trait Host: Clock + Net + RandomSource + Files + Sync {
     type Commands: BufRead + Send + Drop + 'static;
-
 
     /// The pipe from which `ua agent` reads its commands.
     fn commands(&self) -> Self::Commands;
@@ -21,7 +20,6 @@ pub trait Host: Clock + Net + RandomSource + Files + Sync {
 /// The pipe is standard input.
 impl Host for HostRuntime {
     type Commands = <HostRuntime as Input>::Reader;
-
 
     fn commands(&self) -> Self::Commands {
         self.reader()

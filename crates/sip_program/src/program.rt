@@ -37,13 +37,13 @@ impl Gate for Open {
 /// All that the program does, from its words to its status. The words don't include the program's
 /// own name.
 ///
-/// `ua replay` reads an event file from `input` and writes its output file to `output`, and `ua
-/// ladder` writes its ladder there. With `--session` both also take a session file. With `--repair`
-/// `ua replay` takes the input up to its last LF. `ua listen`, `ua call` and `ua agent` write to
-/// `notices`, on a thread of their own, and `ua agent` reads commands from the pipe of `rt`. Help and the version
-/// are written to `output`. A fault is reported on `errors` after `ua: `, with what is known of its
-/// cause on a second line, and a fault of the words as `clap` reports it. A write to `errors` that
-/// fails is ignored.
+/// `ua replay` reads an event file from `input` and writes its output file to `output`. `ua ladder`
+/// writes the ladder of that file there. With `--session` both also read a session file. With
+/// `--repair`, `ua replay` reads the input only up to its last LF. `ua listen`, `ua call` and `ua
+/// agent` write to `notices`, on a thread of their own. `ua agent` reads its commands from the pipe
+/// of `rt`. If help or the version is asked for, it is written to `output`. A fault is written to
+/// `errors` after `ua: `, and what is known about its cause on a line after it. A fault of the words
+/// is written as `clap` says it. A failed write to `errors` is ignored.
 pub fn ua<
     T: Threads + Host,
     S: AsStr,
@@ -151,7 +151,7 @@ fn finish_file<E: Write>(
     status
 }
 
-// Replays the input, or with a repair its whole lines; tells how many bytes a repair leaves out.
+// Replays the input, or only its whole lines. It then says how many bytes are left out.
 fn replay_by<T: Threads + Sync, R: Read, W: Write, E: Write>(
     rt: &T,
     alloc: Global,

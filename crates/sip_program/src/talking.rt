@@ -28,7 +28,7 @@ use std::rt::Files;
 use std::sync::Arc;
 use std::thread::Threads;
 
-/// Listens, calls, or does what a pipe asks for, as the words say. Notices are written to `stream`.
+/// Listens, calls, or does what a pipe says, as the words ask for. Notices go to `stream`.
 pub(crate) fn talk_by<'a, T: Threads + Host, N: Write + Send + Drop + 'static, E: Write>(
     rt: &T,
     alloc: Global,

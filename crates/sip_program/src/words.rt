@@ -180,14 +180,14 @@ pub(crate) fn asks_help<S: AsStr>(words: &[S]) -> bool
     asks_command(words, "help") || has_help_option(words)
 }
 
-/// Whether the command that is asked for is `replay`.
+/// Whether the command is `replay`.
 pub(crate) fn asks_replay<S: AsStr>(words: &[S]) -> bool
     ensures { result ≡ spec.asks_replay (map S.text words.now) }
 {
     !asks_help(words) && asks_command(words, "replay")
 }
 
-/// Whether only the whole lines of the input are to be replayed.
+/// Whether only the whole lines of the input are replayed.
 pub(crate) fn asks_repair<S: AsStr>(words: &[S]) -> bool
     ensures { result ≡ spec.asks_repair (map S.text words.now) }
 {

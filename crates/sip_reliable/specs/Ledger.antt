@@ -24,7 +24,7 @@ pub record Ledger : Type 0 where
 abbrev pub waits_for : ℕ → Ledger → Bool
 waits_for number l = list_any (λ p. p.number == number) l.waiting
 
--- None may be sent yet: the first has no PRACK, or 8 have none, or one without was given up.
+-- None may be sent yet: the first waits for its PRACK, or 8 do, or one that was given up does.
 abbrev pub must_wait : Ledger → Bool
 must_wait l =
     waits_for l.first l || (length l.waiting == MOST_WAITING) || list_any is_given_up l.waiting
