@@ -1,9 +1,10 @@
 //! The user of `listen`.
 
 use crate::answer::{answer, contact, progress, respond, ringing, unavailable};
-use crate::hang_up::{bye, nothing};
+use crate::hang_up::nothing;
 use crate::limit::TimeLeft;
 use crate::listen_plan::ListenPlan;
+use crate::made_dialogs::MadeDialogs;
 use crate::user::User;
 use sip_message::{CallId, Content, Id};
 use sip_round::Event;
@@ -26,19 +27,6 @@ struct Unanswered {
     due: Option<u64>,
 }
 
-/// A dialog that an INVITE makes.
-#[derive(Drop)]
-struct Made {
-    call_id: CallId,
-    id: Id,
-    local_tag: Text,
-    remote_tag: Text,
-    /// How many re-INVITEs came.
-    re_invites: u32,
-    /// Whether the ACK of its 2xx came; before that no BYE may end it (RFC 3261, section 15).
-    is_confirmed: bool,
-}
-
 /// Answers INVITEs by its plan, re-INVITEs at once, BYE and OPTIONS with 200, and every other
 /// request with 501. When the input has ended, INVITEs that aren't answered yet get 480, and each
 /// dialog gets a BYE.
@@ -48,7 +36,7 @@ pub(crate) struct Answering {
     ip: [u8; 4],
     plan: ListenPlan,
     unanswered: Vec<Unanswered>,
-    dialogs: Vec<Made>,
+    dialogs: MadeDialogs,
     is_leaving: bool,
 }
 
@@ -58,7 +46,7 @@ impl Answering {
             ip,
             plan,
             unanswered: Vec::new(alloc),
-            dialogs: Vec::new(alloc),
+            dialogs: MadeDialogs::new(alloc),
             is_leaving: false,
         }
     }
@@ -78,12 +66,14 @@ impl Answering {
             events.push(unavailable(alloc, call_id, *id)?)?;
             return Ok(());
         }
-        if let Some(before) = self.re_invited(call_id, tags) {
+        if let Some(before) = self.dialogs.re_invited(call_id, tags) {
             invite.before = before;
             events.push(self.final_answer(alloc, &invite)?)?;
             return Ok(());
         }
-        self.remember(call_id, *id, tags)?;
+        if self.plan.makes_dialogs() {
+            self.dialogs.add(alloc, call_id, *id, tags)?;
+        }
         if !self.plan.reliable {
             return self.alert(alloc, now, invite, events);
         }
@@ -110,67 +100,17 @@ impl Answering {
         Ok(())
     }
 
-    // Counts one more INVITE in the dialog with these tags. Gives how many came before it.
-    fn re_invited(&mut self, call_id: &CallId, tags: (&Text, &Text)) -> Option<u32> {
-        for made in self.dialogs.iter_mut() {
-            if made.has(call_id, tags) {
-                made.re_invites = made.re_invites.saturating_add(1);
-                return Some(made.re_invites);
-            }
-        }
-        None
-    }
-
-    // Remembers the dialog of an INVITE, if its answer makes one.
-    fn remember(
-        &mut self,
-        call_id: &CallId,
-        id: Id,
-        tags: (&Text, &Text),
-    ) -> Result<(), AllocError> {
-        let (local_tag, remote_tag) = tags;
-        if !self.plan.makes_dialogs() {
-            return Ok(());
-        }
-        let made = Made {
-            call_id: call_id.clone()?,
-            id,
-            local_tag: local_tag.clone()?,
-            remote_tag: remote_tag.clone()?,
-            re_invites: 0,
-            is_confirmed: false,
-        };
-        self.dialogs.push(made)?;
-        Ok(())
-    }
-
     // The ACK of an INVITE came.
     fn confirm(
         &mut self,
         alloc: Global,
+        call_id: &CallId,
         id: Id,
         events: &mut Vec<Event>,
     ) -> Result<(), AllocError> {
-        for made in self.dialogs.iter_mut() {
-            if made.id == id {
-                made.is_confirmed = true;
-            }
-        }
+        self.dialogs.confirm(call_id, id);
         if self.is_leaving {
-            self.hang_up(alloc, events)?;
-        }
-        Ok(())
-    }
-
-    // Sends a BYE in each confirmed dialog.
-    fn hang_up(&mut self, alloc: Global, events: &mut Vec<Event>) -> Result<(), AllocError> {
-        for made in mem::replace(&mut self.dialogs, Vec::new(alloc)) {
-            if made.is_confirmed {
-                let event = bye(alloc, &made.call_id, &made.local_tag, &made.remote_tag)?;
-                events.push(event)?;
-            } else {
-                self.dialogs.push(made)?;
-            }
+            self.dialogs.hang_up(alloc, events)?;
         }
         Ok(())
     }
@@ -181,7 +121,7 @@ impl Answering {
         for one in mem::replace(&mut self.unanswered, Vec::new(alloc)) {
             events.push(unavailable(alloc, &one.call_id, one.id)?)?;
         }
-        self.hang_up(alloc, events)
+        self.dialogs.hang_up(alloc, events)
     }
 
     fn final_answer(&self, alloc: Global, invite: &Unanswered) -> Result<Event, AllocError> {
@@ -221,13 +161,6 @@ impl Answering {
             }
         }
         Ok(())
-    }
-}
-
-impl Made {
-    fn has(&self, call_id: &CallId, tags: (&Text, &Text)) -> bool {
-        let (local_tag, remote_tag) = tags;
-        self.call_id == *call_id && self.local_tag == *local_tag && self.remote_tag == *remote_tag
     }
 }
 
@@ -284,19 +217,18 @@ impl User for Answering {
                 refusal: Refusal::NotSupported,
                 ..
             } => self.go_on(alloc, now, call_id, None, events),
-            Notice::Cancel { id, .. } => {
+            Notice::Cancel { call_id, id } => {
                 self.unanswered.retain(|one| one.id != *id);
-                self.dialogs.retain(|made| made.id != *id);
+                self.dialogs.remove_of(call_id, *id);
                 Ok(())
             }
-            Notice::Ack { id, .. } => self.confirm(alloc, *id, events),
+            Notice::Ack { call_id, id, .. } => self.confirm(alloc, call_id, *id, events),
             Notice::Ended {
                 call_id,
                 local_tag,
                 remote_tag,
             } => {
-                let tags = (local_tag, remote_tag);
-                self.dialogs.retain(|made| !made.has(call_id, tags));
+                self.dialogs.remove(call_id, (local_tag, remote_tag));
                 Ok(())
             }
             _ => Ok(()),

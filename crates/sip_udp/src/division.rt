@@ -2,6 +2,9 @@
 
 ghost use Rattle.std.specs.Prelude.{◌<◌, ◌≤◌};
 
+/// The fewest events of a round that several threads share.
+const SHARED: usize = 64;
+
 /// How many shards transactions and calls are cut into, and how many threads work on a round.
 #[derive(Clone, Copy)]
 pub struct Division {
@@ -19,4 +22,13 @@ impl Division {
         shards: 4,
         workers: 2,
     };
+
+    /// How many threads a round of so many events takes. To start one takes longer than to run a
+    /// round of a few.
+    pub(crate) fn workers_of(self, events: usize) -> usize
+        ensures some { 0 < result }
+        ensures most { result ≤ 64 }
+    {
+        if events < SHARED { 1 } else { self.workers }
+    }
 }

@@ -18,6 +18,7 @@ mod input_end;
 mod limit;
 mod listen_plan;
 mod listener;
+mod made_dialogs;
 mod notice_writer;
 mod notices;
 mod outcomes;

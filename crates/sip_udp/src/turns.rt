@@ -263,7 +263,7 @@ impl<U: User, F: Write + Drop> Turns<U, F> {
         let moment = self.moment_now(rt)?;
         let events = self.events_of_round()?;
         let round = Round { moment, events };
-        let workers = self.division.workers;
+        let workers = self.division.workers_of(round.events.len());
         match self.agent.run_round_with_places(rt, &round, workers, &Open) {
             Ok(outputs) => {
                 self.moment = moment;
