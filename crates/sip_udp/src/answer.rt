@@ -33,27 +33,12 @@ pub(crate) fn answer(
     } else {
         NOT_IMPLEMENTED
     };
-    respond(
-        alloc,
-        call_id,
-        id,
-        status,
-        Reliability::Plain,
-        nothing(alloc),
-    )
+    plain(alloc, call_id, id, status)
 }
 
 /// 180 Ringing.
 pub(crate) fn ringing(alloc: Global, call_id: &CallId, id: Id) -> Result<Event, AllocError> {
-    let status = RINGING_STATUS;
-    respond(
-        alloc,
-        call_id,
-        id,
-        status,
-        Reliability::Plain,
-        nothing(alloc),
-    )
+    plain(alloc, call_id, id, RINGING_STATUS)
 }
 
 /// 183 Session Progress, which its caller has to acknowledge (RFC 3262, section 3).
@@ -71,7 +56,11 @@ pub(crate) fn progress(alloc: Global, call_id: &CallId, id: Id) -> Result<Event,
 
 /// 480 Temporarily Unavailable.
 pub(crate) fn unavailable(alloc: Global, call_id: &CallId, id: Id) -> Result<Event, AllocError> {
-    let status = TEMPORARILY_UNAVAILABLE;
+    plain(alloc, call_id, id, TEMPORARILY_UNAVAILABLE)
+}
+
+// A plain response with this status and no body.
+fn plain(alloc: Global, call_id: &CallId, id: Id, status: u16) -> Result<Event, AllocError> {
     respond(
         alloc,
         call_id,
