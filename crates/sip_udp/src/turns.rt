@@ -128,7 +128,7 @@ impl<U: User, F: Write + Drop> Turns<U, F> {
             if self.is_due(now) {
                 self.turn(rt, outlet, notices, errors)?;
             }
-            self.pause(rt)?;
+            self.pause(rt, now)?;
         }
         Ok(())
     }
