@@ -30,7 +30,7 @@ use std::time::{Clock, Duration, Instant};
 /// How many events the line of the listener has room for.
 pub(crate) const LINE_CAPACITY: usize = 1024;
 
-/// How long a turn sleeps at its end, in ms; at its bell it waits at most that long.
+/// How long a turn takes at least, in ms; at its bell it waits at most that long.
 const PAUSE: u64 = 10;
 
 /// The gate of the agent. It holds up no piece of work.
@@ -226,10 +226,12 @@ impl<U: User, F: Write + Drop> Turns<U, F> {
         Ok(())
     }
 
-    // Sleeps, or waits at the bell for the first event, until the next key is due at most.
-    fn pause<R: Clock>(&self, rt: &R) -> Result<(), UaFault> {
+    // Sleeps until the turn that started at this moment is over, or waits at the bell for the first
+    // event, until the next key is due at most.
+    fn pause<R: Clock>(&self, rt: &R, start: u64) -> Result<(), UaFault> {
         let Some(bell) = &self.bell else {
-            thread::sleep(rt, Duration::from_millis(PAUSE));
+            let passed = self.moment_now(rt)?.saturating_sub(start);
+            thread::sleep(rt, Duration::from_millis(PAUSE.saturating_sub(passed)));
             return Ok(());
         };
         if !self.waiting.is_empty() {
