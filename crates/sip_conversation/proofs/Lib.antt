@@ -20,3 +20,5 @@ pub mod Unstamped
 pub mod Ups
 pub mod StartedFor
 pub mod StartedUps
+pub mod AckTexts
+pub mod OnceOnly
