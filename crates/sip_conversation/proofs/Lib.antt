@@ -22,3 +22,6 @@ pub mod StartedFor
 pub mod StartedUps
 pub mod AckTexts
 pub mod OnceOnly
+pub mod Branches
+pub mod BranchSteps
+pub mod CallBranches
