@@ -25,3 +25,6 @@ pub mod OnceOnly
 pub mod Branches
 pub mod BranchSteps
 pub mod CallBranches
+pub mod Origins
+pub mod OneCallId
+pub mod ToldCallId
