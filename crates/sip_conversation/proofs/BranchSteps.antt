@@ -1,7 +1,7 @@
 -- Each step of a call keeps what it starts of its own call, with the branches of its own events.
-use Rattle.std.proofs.Common.{◌≡◌, ℕ, ◌+◌, Bool, true, false, ◌||◌, ◌&&◌, List, [], ◌∷◌, ◌++◌, map, refl, sym, ap, ◌∙◌, subst}
-use Rattle.std.specs.Prelude.{Option, None, Some, IfSome, codes, ◌==◌, filter, find, fold, is_some, length, not, unwrap_or, if◌then◌else◌}
-use Rattle.std.specs.List.{AllByRecursion, flat_map}
+use Rattle.std.proofs.Common.{◌≡◌, ℕ, ◌+◌, Bool, true, ◌||◌, ◌&&◌, List, [], ◌∷◌, ◌++◌, refl, ◌∙◌, subst}
+use Rattle.std.specs.Prelude.{Option, None, Some, IfSome, codes, ◌==◌, filter, find, is_some, not, unwrap_or, if◌then◌else◌}
+use Rattle.std.specs.List.{AllByRecursion}
 use Rattle.std.specs.Map.{lookup, remove_entry, set_value}
 use Rattle.std.specs.Option.{option_map_or}
 use Rattle.std.specs.Str.{bytes_eq}
@@ -23,25 +23,24 @@ use Rattle.sip_common.specs.declared.command.Cancel.{Cancel}
 use Rattle.sip_common.specs.declared.command.DialogBody.{DialogBody}
 use Rattle.sip_common.specs.declared.command.DialogRequest.{DialogRequest}
 use Rattle.sip_common.specs.declared.held_dialog.DialogId.{DialogId}
-use Rattle.sip_common.specs.declared.held_dialog.DialogReference.{DialogReference}
 use Rattle.sip_common.specs.declared.held_dialog.HeldDialog.{HeldDialog}
 use Rattle.sip_common.specs.declared.item.CallOut.{CallOut}
 use Rattle.sip_common.specs.declared.pending_request.PendingRequest.{PendingRequest}
 use Rattle.sip_common.specs.declared.pending_request.PendingRequest.TheVariants.{Ack, Prack}
 use Rattle.sip_common.specs.declared.refusal.Refusal.{Refusal}
 use Rattle.sip_common.specs.declared.refusal.Refusal.TheVariants.{AlreadyFinal, BadMethod, NoSuchRequest, NothingToAck, NothingToPrack}
-use Rattle.sip_common.proofs.Each.{each_but_one, each_changed, each_left, each_set, found_one}
+use Rattle.sip_common.proofs.Each.{each_but_one, each_changed, each_set, found_one}
 use Rattle.sip_common.proofs.Starts.{early_starts, ended_starts, none_of_both, starts}
 use Rattle.sip_clients.specs.Client.{Clients, ClientTaken, Side}
 use Rattle.sip_clients.specs.Rules.Ends.{request_is_lost, request_over}
-use Rattle.sip_clients.specs.Rules.Requests.{PendingOutcome, ack_command, ack_kept, cancel_command, cancel_of_request, cancel_request, dialog_of_kind, has_command, is_asked, is_invite_kind, is_same_pending, method_of, oldest_pending, pending_by_user, pending_command, pending_outcome, prack_command, refusals_in, refuse, request_command, request_in_dialog, request_with_next_number, start, with_number}
+use Rattle.sip_clients.specs.Rules.Requests.{ack_command, ack_kept, cancel_command, cancel_of_request, cancel_request, dialog_of_kind, has_command, is_asked, is_invite_kind, is_same_pending, method_of, oldest_pending, pending_by_user, pending_command, pending_outcome, prack_command, refusals_in, refuse, request_command, request_in_dialog, request_with_next_number, start, with_number}
 use Rattle.sip_clients.specs.Rules.Responses.{Outcome, accepted, asks_for, dialog_made_by, dialog_response, first_success, has_dialog, is_initial, kept, last_response, notice_of, outcome_of, reliable_response, response_received, response_to, status_of, success_again, success_in, waiting_cancel}
 use Rattle.sip_clients.specs.declared.answers.SentAck.{SentAck}
 use Rattle.sip_clients.specs.declared.client.Cancelling.{Cancelling}
 use Rattle.sip_clients.specs.declared.client.Cancelling.TheVariants.{NotAsked, Sent, Waits}
 use Rattle.sip_clients.specs.declared.client.Client.{Client}
 use Rattle.sip_clients.specs.declared.event.Event.{Event}
-use Rattle.sip_conversation.proofs.Branches.{AreOwn, Comes, Done, IsPaid, Own, Say, cancel_own, either, first_holds, found_or, next_own, no_command, outcome_own, silent_say, start_own, starts_own}
+use Rattle.sip_conversation.proofs.Branches.{AreOwn, Comes, Done, Own, Say, cancel_own, either, first_holds, found_or, next_own, no_command, outcome_own, silent_say, start_own, starts_own}
 
 -- the type of what a response is with all that comes up with it
 abbrev Domain : {A B : Type 0} → (A → B) → Type 0
@@ -401,12 +400,14 @@ module _ (seed call_id : List ℕ) (Came : Id → Type 0) where
       let clients : Clients = option_map_or (set_value (is_id id) side.clients) done.request
       (remove_entry (is_id id) side.clients) in
       let so = outcome_so reply after side.dialogs comes its dialogs in
-      starts_own seed call_id Came (done.prack ++ cancels) (clients, done.outs)
-      (found_or OwnClients (set_value (is_id id) side.clients) done.request
-      (remove_entry (is_id id) side.clients)
-      (λ after is. each_set OwnRequest (is_id id) side.clients after
-      (subst (λ o. IfSome o OwnRequest) is so.request) own)
-      (λ over. each_but_one OwnRequest (is_id id) side.clients own), so.outs)
+      starts_own seed call_id Came (done.prack ++ cancels) (clients, done.outs) (
+        found_or OwnClients (set_value (is_id id) side.clients) done.request
+            (remove_entry (is_id id) side.clients)
+            (λ after is. each_set OwnRequest (is_id id) side.clients after
+            (subst (λ o. IfSome o OwnRequest) is so.request) own)
+            (λ over. each_but_one OwnRequest (is_id id) side.clients own),
+        so.outs,
+      )
       (both_own done.prack cancels so.prack
       (either (AllByRecursion OwnRequest) final []
       (option_map_or (λ asked_by. cancel_request asked_by client ∷ []) waiting [])

@@ -1,14 +1,12 @@
 -- What the client side starts has the Call-ID of its call and a branch that an event of the call
 -- made, and is no ACK.
-use Rattle.std.proofs.Common.{◌≡◌, ℕ, ◌+◌, Bool, true, false, ◌||◌, List, [], ◌∷◌, ◌++◌, refl, sym, ap, ◌∙◌, subst}
-use Rattle.std.specs.Prelude.{Option, None, Some, IfSome, codes, filter, find, fold, is_some, not, take, if◌then◌else◌}
-use Rattle.std.specs.List.{AllByRecursion, flat_map, slice_get}
-use Rattle.std.specs.Map.{lookup, remove_entry, set_value}
+use Rattle.std.proofs.Common.{◌≡◌, ℕ, Bool, true, false, ◌||◌, List, [], ◌∷◌, ◌++◌, refl, sym, ap, ◌∙◌, subst}
+use Rattle.std.specs.Prelude.{Option, None, Some, codes, fold, take, if◌then◌else◌}
+use Rattle.std.specs.List.{AllByRecursion, slice_get}
 use Rattle.std.specs.Option.{option_map_or}
 use Rattle.std.specs.Str.{bytes_eq}
 use Rattle.std.proofs.lemmas.Bool.{false≢true}
 use Rattle.sip_message.specs.Content.{Content, with_content_of}
-use Rattle.sip_message.specs.HopByHop.{cancel_of}
 use Rattle.sip_message.specs.Key.{client_key}
 use Rattle.sip_message.specs.TopVia.{top_branch}
 use Rattle.sip_message.specs.Via.{branch_of as branch_in}
@@ -23,9 +21,8 @@ use Rattle.sip_parts.specs.Parameters.{value_named}
 use Rattle.sip_dialog.specs.Request.{agent_via}
 use Rattle.sip_transactions.specs.declared.input.Command.{Command}
 use Rattle.sip_transactions.specs.declared.input.Command.TheVariants as order
-use Rattle.sip_common.specs.Dialogs.{Dialogs, is_dialog_id}
 use Rattle.sip_common.specs.Ids.{is_id}
-use Rattle.sip_common.specs.OwnCall.{AreDialogsOf, IsDialogOf}
+use Rattle.sip_common.specs.OwnCall.{IsDialogOf}
 use Rattle.sip_common.specs.Refusal.{first_refusal}
 use Rattle.sip_common.specs.declared.command.Invite.{Invite}
 use Rattle.sip_common.specs.declared.command.Plain.{Plain}
@@ -40,7 +37,7 @@ use Rattle.sip_common.specs.declared.pending_request.PendingRequest.TheVariants.
 use Rattle.sip_common.specs.declared.refusal.Refusal.{Refusal}
 use Rattle.sip_common.proofs.Each.{each_inserted}
 use Rattle.sip_common.proofs.Starts.{starts}
-use Rattle.sip_clients.specs.Client.{Clients, client_for}
+use Rattle.sip_clients.specs.Client.{Clients}
 use Rattle.sip_clients.specs.Event.{branch_of}
 use Rattle.sip_clients.specs.Name.{name_of}
 use Rattle.sip_clients.specs.Rules.Requests.{PendingOutcome, cancel_request, has_command, invite_command, method_of, pending_outcome, pending_sent, pending_with, plain_command, refusals_in, request_outside, request_with_next_number, start, with_100rel}

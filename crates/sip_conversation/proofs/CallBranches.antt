@@ -1,5 +1,5 @@
 -- What a call starts has its Call-ID and a branch that an event of its own made, and is no ACK.
-use Rattle.std.proofs.Common.{◌≡◌, ℕ, Bool, true, false, cond, List, [], ◌∷◌, ◌++◌, refl, sym, ap, ◌∙◌, subst}
+use Rattle.std.proofs.Common.{◌≡◌, ℕ, Bool, true, false, cond, List, [], ◌∷◌, refl, ap, ◌∙◌}
 use Rattle.std.specs.Prelude.{Option, None, Some, IfSome}
 use Rattle.std.specs.List.{AllByRecursion}
 use Rattle.sip_message.specs.declared.addr.Addr.{Addr}
@@ -9,7 +9,6 @@ use Rattle.sip_transactions.specs.declared.output.Kind.{Kind}
 use Rattle.sip_transactions.specs.declared.output.Kind.TheVariants as kind
 use Rattle.sip_transactions.specs.declared.output.Up.{Up as AnUp}
 use Rattle.sip_common.specs.Command.{call_of_command}
-use Rattle.sip_common.specs.OwnCall.{IsItemOf}
 use Rattle.sip_common.specs.declared.command.UserCommand.{UserCommand}
 use Rattle.sip_common.specs.declared.command.UserCommand.TheVariants as user
 use Rattle.sip_common.specs.declared.item.CallOut.{CallOut}
@@ -31,7 +30,7 @@ use Rattle.sip_calls.specs.declared.call.Call.{Call}
 use Rattle.sip_calls.specs.declared.calls.Calls.{Calls}
 use Rattle.sip_calls.proofs.CallStarts.{tick_silent}
 use Rattle.sip_calls.proofs.OwnCall.{each_notice_is_own}
-use Rattle.sip_conversation.proofs.Branches.{AreOwn, Comes, Own, OutSays, Say, invite_own, plain_own, silent_say}
+use Rattle.sip_conversation.proofs.Branches.{AreOwn, Comes, Own, OutSays, invite_own, plain_own, silent_say}
 use Rattle.sip_conversation.proofs.BranchSteps.{ack_own, cancel_taken, lost_own, prack_own, received_own, request_own}
 
 module _ (calls : Calls) (call_id : List ℕ) (Came : Id → Type 0) where

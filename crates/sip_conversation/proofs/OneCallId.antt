@@ -1,7 +1,7 @@
 -- A request that was said, and a transaction that was started with its branch and its method, have
 -- one Call-ID.
-use Rattle.std.proofs.Common.{◌≡◌, ℕ, suc, zero, ◌/◌, ◌%◌, true, false, List, [], ◌∷◌, ◌++◌, length, map, drop, refl, sym, ap, ◌∙◌, subst, arith, codes}
-use Rattle.std.specs.Prelude.{Contains, IfSome, Option, None, Some, IsTrue}
+use Rattle.std.proofs.Common.{◌≡◌, ℕ, suc, zero, ◌/◌, ◌%◌, true, false, List, [], ◌∷◌, ◌++◌, drop, refl, sym, ap, ◌∙◌, subst, arith, codes}
+use Rattle.std.specs.Prelude.{Option, None, Some, IsTrue}
 use Rattle.std.specs.Char.{to_ascii_lowercase}
 use Rattle.std.specs.List.{AllByRecursion}
 use Rattle.std.specs.Str.{str_to_ascii_lowercase}
@@ -10,7 +10,7 @@ use Rattle.std.proofs.lemmas.Bool.Decides.{nat_tests}
 use Rattle.std.proofs.lemmas.List.{map-append}
 use Rattle.sip_text.specs.Number.{hex_digit}
 use Rattle.sip_text.specs.Token.{is_token}
-use Rattle.sip_message.specs.Key.{branch_in, client_key, key_cmp, method_in}
+use Rattle.sip_message.specs.Key.{branch_in, client_key, method_in}
 use Rattle.sip_message.specs.Message.{is_request_line, is_request_message}
 use Rattle.sip_message.specs.TopVia.{top_branch}
 use Rattle.sip_message.specs.Written.{written}
@@ -19,24 +19,21 @@ use Rattle.sip_message.specs.declared.id.Id.{Id}
 use Rattle.sip_message.specs.declared.key.Key.{Key}
 use Rattle.sip_message.specs.declared.message.Message.{Message}
 use Rattle.sip_model.specs.Laws.{EachKeyAlone}
-use Rattle.sip_model.specs.Machine.{Timed, given_at, outputs_from, tick_at}
+use Rattle.sip_model.specs.Machine.{Timed, given_at, tick_at}
 use Rattle.sip_transactions.specs.declared.input.Command.TheVariants as order
 use Rattle.sip_transactions.specs.declared.input.Input.{Input}
 use Rattle.sip_transactions.specs.declared.input.Input.TheVariants as input
 use Rattle.sip_transactions.specs.declared.output.Kind.{Kind}
 use Rattle.sip_transactions.specs.declared.output.Kind.TheVariants as kind
-use Rattle.sip_common.specs.declared.command.Respond.{Respond}
 use Rattle.sip_common.specs.declared.command.UserCommand.{UserCommand}
 use Rattle.sip_common.specs.declared.command.UserCommand.TheVariants as user
 use Rattle.sip_common.specs.declared.item.CallOut.{CallOut}
 use Rattle.sip_common.specs.declared.item.CallOut.TheVariants as call_out
 use Rattle.sip_common.specs.declared.item.Item.TheVariants.{Up, User}
-use Rattle.sip_served.specs.declared.held_request.HeldRequest.{HeldRequest}
-use Rattle.sip_served.specs.Respond.{answer_to}
 use Rattle.sip_served.proofs.Rseqs.{answer_start}
 use Rattle.sip_served.proofs.ServedAnswers.{KindGiven, OwnAnswers}
 use Rattle.sip_clients.specs.Name.{hex, name_of, word_of_name}
-use Rattle.sip_clients.proofs.ClientAsks.{IsAckText, OutSays}
+use Rattle.sip_clients.proofs.ClientAsks.{OutSays}
 use Rattle.sip_clients.proofs.Names.{names_differ}
 use Rattle.sip_calls.specs.Call.{CallItem, call_machine}
 use Rattle.sip_calls.specs.CallShard.{call_cmp}
@@ -52,12 +49,11 @@ use Rattle.sip_conversation.specs.Replies.{AreCounted}
 use Rattle.sip_conversation.proofs.AckTexts.{is_ack}
 use Rattle.sip_conversation.proofs.Among.{all_of, each_of}
 use Rattle.sip_conversation.proofs.Branches.{HasBranch, IsStarted}
-use Rattle.sip_conversation.proofs.Branches as branches
 use Rattle.sip_conversation.proofs.Bridge.{any_arrival}
 use Rattle.sip_conversation.proofs.CallBranches.{OutIsOwn, all_own}
 use Rattle.sip_conversation.proofs.CallSays.{InputGives, UserGives, all_say}
 use Rattle.sip_conversation.proofs.Longer.{says_longer}
-use Rattle.sip_conversation.proofs.Origins.{IsCounted, IsOrigin, counted, inputs_come, one_call}
+use Rattle.sip_conversation.proofs.Origins.{IsOrigin, counted, inputs_come, one_call}
 use Rattle.sip_conversation.proofs.Rounds.{ArrivalFits, OutFits, RoundFits, TimedFits, call_says, calls_give, inputs_fit}
 
 -- ---- branches in lower case

@@ -1,5 +1,5 @@
 -- A response that is told has the Call-ID with which it is told.
-use Rattle.std.proofs.Common.{◌≡◌, ℕ, Bool, true, false, List, [], ◌∷◌, ◌++◌, refl, sym, ap, ◌∙◌, subst}
+use Rattle.std.proofs.Common.{◌≡◌, ℕ, Bool, true, List, [], ◌∷◌, ◌++◌, refl, sym, ap, ◌∙◌, subst}
 use Rattle.std.specs.Prelude.{Some, if◌then◌else◌}
 use Rattle.std.specs.List.{slice_get}
 use Rattle.std.specs.Option.{option_map_or}
@@ -25,9 +25,7 @@ use Rattle.sip_clients.specs.Clients.{status_of}
 use Rattle.sip_calls.specs.Call.{call_machine}
 use Rattle.sip_calls.specs.CallShard.{call_cmp}
 use Rattle.sip_round.specs.declared.config.Config.{Config}
-use Rattle.sip_round.specs.declared.round.Round.{Round}
 use Rattle.sip_round.specs.Answers.{calls_of}
-use Rattle.sip_conversation.specs.Answers.{AnswersARequest}
 use Rattle.sip_conversation.specs.Conversation.{Side, Turn, peer, rounds_of}
 use Rattle.sip_conversation.specs.Conversation as side
 use Rattle.sip_conversation.specs.Messages.{ComesUnchanged, IsGiven, IsSaid, come_from}

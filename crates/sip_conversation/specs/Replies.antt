@@ -33,8 +33,8 @@ pub record SaidResponse (configs : Side → Config) (turns : List Turn) (side : 
   pub answered : IsAnswered (configs (peer side)) (rounds_of (peer side) turns) status body
   pub request : AnswersARequest (ComesUnchanged configs turns (peer side)) original
 
--- The rounds have numbers below 2 ^ 64, and each has fewer than 2 ^ 64 events. The agent makes
--- branches of its numbers of 64 bits, which differ only so far.
+-- the rounds have numbers below 2 ^ 64, and fewer than 2 ^ 64 events each; a branch is made of 64
+-- bits of each number, so it tells these events apart
 pub record AreCounted (config : Config) (rounds : List Round) : Type 0 where
   pub numbers : config.first + length rounds ≤ 2 ^ 64
   pub events : AllByRecursion (λ round. length round.events < 2 ^ 64) rounds
@@ -49,7 +49,8 @@ pub record IsStartedFor (config : Config) (rounds : List Round) (call_id : List 
   pub given : IsGiven config rounds (key_of_message response) (Start id call_id request to)
 
 -- The other side said such a response before a turn, and by its end this side started a transaction
--- for it under the Call-ID of the notice. The response has that Call-ID, in rounds that are counted.
+-- for it under the Call-ID of the notice. That is the Call-ID of the response, where this side's
+-- rounds are counted so.
 pub record ToldResponse (configs : Side → Config) (before : List Turn) (turn : Turn)
     (call_id : List ℕ) (status : ℕ) (local_tag remote_tag body : List ℕ) : Type 0 where
   pub response : SaidResponse configs before turn.side status local_tag remote_tag body
