@@ -20,3 +20,11 @@ pub mod Unstamped
 pub mod Ups
 pub mod StartedFor
 pub mod StartedUps
+pub mod AckTexts
+pub mod OnceOnly
+pub mod Branches
+pub mod BranchSteps
+pub mod CallBranches
+pub mod Origins
+pub mod OneCallId
+pub mod ToldCallId

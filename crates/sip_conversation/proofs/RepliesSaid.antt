@@ -42,6 +42,7 @@ use Rattle.sip_conversation.proofs.Answered.{AllCame, IsAnswer, answered}
 use Rattle.sip_conversation.proofs.Fronts.{carried_before, carried_to, keeps_before, keeps_to, peer_rounds}
 use Rattle.sip_conversation.proofs.OneTransaction.{KindCame}
 use Rattle.sip_conversation.proofs.CallOuts.{InputFits, KindTells, NoticeTells, OutFits, all_fit}
+use Rattle.sip_conversation.proofs.ToldCallId.{own_call}
 use Rattle.sip_conversation.proofs.StartedFor.{KindStarted, UpStarted, responses_started}
 use Rattle.sip_conversation.proofs.Unchanged.{inputs_unchanged, messages_unchanged, ups_unchanged}
 use Rattle.sip_conversation.proofs.Unstamped.{same_response}
@@ -168,11 +169,13 @@ module _ (configs : Side → Config) (fair : IsFair configs) (before : List Turn
   up_said call_id (kind.Ack ack) came started = tt
   up_said call_id (kind.Response response) came started = λ status is.
       let so = response_said response came status is in
+      let begun = subst (IsStartedFor (configs turn.side)
+      (rounds_of turn.side (before ++ turn ∷ [])) call_id) (sym so.whole) (started status is) in
       record {
         response = so.said;
-        started = subst (IsStartedFor (configs turn.side)
-            (rounds_of turn.side (before ++ turn ∷ [])) call_id) (sym so.whole)
-            (started status is);
+        started = begun;
+        own_call = own_call configs fair.calls before turn call_id status (tag_of response.from)
+            (tag_of response.to) response.body so.said begun;
       }
   up_said call_id kind.Timeout came started = tt
   up_said call_id kind.Failed came started = tt

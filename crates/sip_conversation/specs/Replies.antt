@@ -1,6 +1,7 @@
 -- A response that a user is told of is one that the other side said before, to a request that came
 -- to it.
-use Rattle.std.specs.Prelude.{◌≡◌, ℕ, List, [], ◌∷◌, ◌++◌, Contains, Some}
+use Rattle.std.specs.Prelude.{◌≡◌, ◌<◌, ◌≤◌, ◌+◌, ◌^◌, ℕ, List, [], ◌∷◌, ◌++◌, Contains, Some, length}
+use Rattle.std.specs.List.{AllByRecursion}
 use Rattle.sip_message.specs.declared.addr.Addr.{Addr}
 use Rattle.sip_message.specs.declared.id.Id.{Id}
 use Rattle.sip_message.specs.declared.message.Message.{Message}
@@ -32,6 +33,12 @@ pub record SaidResponse (configs : Side → Config) (turns : List Turn) (side : 
   pub answered : IsAnswered (configs (peer side)) (rounds_of (peer side) turns) status body
   pub request : AnswersARequest (ComesUnchanged configs turns (peer side)) original
 
+-- the rounds have numbers below 2 ^ 64, and fewer than 2 ^ 64 events each; a branch is made of 64
+-- bits of each number, so it tells these events apart
+pub record AreCounted (config : Config) (rounds : List Round) : Type 0 where
+  pub numbers : config.first + length rounds ≤ 2 ^ 64
+  pub events : AllByRecursion (λ round. length round.events < 2 ^ 64) rounds
+
 -- in these rounds a transaction with the branch and the method of the response was started under
 -- this Call-ID
 pub record IsStartedFor (config : Config) (rounds : List Round) (call_id : List ℕ)
@@ -41,13 +48,16 @@ pub record IsStartedFor (config : Config) (rounds : List Round) (call_id : List 
   pub to : Addr
   pub given : IsGiven config rounds (key_of_message response) (Start id call_id request to)
 
--- the other side said such a response before a turn, and up to its end this side started a
--- transaction for it, under the Call-ID of the notice
+-- The other side said such a response before a turn, and up to its end this side started a
+-- transaction for it, under the Call-ID of the notice. That is the Call-ID of the response, if the
+-- rounds of this side are counted so.
 pub record ToldResponse (configs : Side → Config) (before : List Turn) (turn : Turn)
     (call_id : List ℕ) (status : ℕ) (local_tag remote_tag body : List ℕ) : Type 0 where
   pub response : SaidResponse configs before turn.side status local_tag remote_tag body
   pub started : IsStartedFor (configs turn.side) (rounds_of turn.side (before ++ turn ∷ []))
       call_id response.original
+  pub own_call : AreCounted (configs turn.side) (rounds_of turn.side (before ++ turn ∷ []))
+      → response.original.call_id ≡ call_id
 
 -- so is each response that the user of a turn's side is told of, up to the turn's end
 abbrev pub ResponsesToldWereSaid : (Side → Config) → List Turn → Type 0

@@ -1,0 +1,189 @@
+-- What a call starts has its Call-ID and a branch that an event of its own made, and is no ACK.
+use Rattle.std.proofs.Common.{◌≡◌, ℕ, Bool, true, false, cond, List, [], ◌∷◌, refl, ap, ◌∙◌}
+use Rattle.std.specs.Prelude.{Option, None, Some, IfSome}
+use Rattle.std.specs.List.{AllByRecursion}
+use Rattle.sip_message.specs.declared.addr.Addr.{Addr}
+use Rattle.sip_message.specs.declared.id.Id.{Id}
+use Rattle.sip_model.specs.Machine.{Timed, outputs_from}
+use Rattle.sip_transactions.specs.declared.output.Kind.{Kind}
+use Rattle.sip_transactions.specs.declared.output.Kind.TheVariants as kind
+use Rattle.sip_transactions.specs.declared.output.Up.{Up as AnUp}
+use Rattle.sip_common.specs.Command.{call_of_command}
+use Rattle.sip_common.specs.declared.command.UserCommand.{UserCommand}
+use Rattle.sip_common.specs.declared.command.UserCommand.TheVariants as user
+use Rattle.sip_common.specs.declared.item.CallOut.{CallOut}
+use Rattle.sip_common.specs.declared.item.Item.TheVariants.{Up, User}
+use Rattle.sip_common.proofs.Each.{both, each_left}
+use Rattle.sip_common.proofs.Starts.{starts}
+use Rattle.sip_served.proofs.ArrivalRules.{kind_same}
+use Rattle.sip_served.proofs.NoStarts.{kind_starts, respond_starts}
+use Rattle.sip_served.proofs.ResponseRules.{respond_same}
+use Rattle.sip_served.proofs.OwnCall.{empty_is}
+use Rattle.sip_served.specs.State.{ServedTaken}
+use Rattle.sip_clients.specs.Rules.Ends.{client_tick}
+use Rattle.sip_clients.specs.declared.event.Event.{Event}
+use Rattle.sip_calls.specs.Call.{CallItem, CallTaken, Taken, call_machine, call_step, call_tick, event_of, item_of_call, kept, made_tag, new_call, received, side_of}
+use Rattle.sip_calls.specs.OwnCall.{AreSidesOf, IsCallOf, IsInputOf}
+use Rattle.sip_calls.specs.Provisionals.{event_in, event_of_kind}
+use Rattle.sip_calls.specs.Sides.{holds_any}
+use Rattle.sip_calls.specs.declared.call.Call.{Call}
+use Rattle.sip_calls.specs.declared.calls.Calls.{Calls}
+use Rattle.sip_calls.proofs.CallStarts.{tick_silent}
+use Rattle.sip_calls.proofs.OwnCall.{each_notice_is_own}
+use Rattle.sip_conversation.proofs.Branches.{AreOwn, Comes, Own, OutSays, invite_own, plain_own, silent_say}
+use Rattle.sip_conversation.proofs.BranchSteps.{ack_own, cancel_taken, lost_own, prack_own, received_own, request_own}
+
+module _ (calls : Calls) (call_id : List ℕ) (Came : Id → Type 0) where
+  abbrev OwnClients : Call → Type 0
+  OwnClients call = AreOwn calls.seed call_id Came call.clients
+
+  abbrev pub OutIsOwn : CallOut → Type 0
+  OutIsOwn = OutSays calls.seed call_id Came
+
+  abbrev Says : List CallOut → Type 0
+  Says outs = AllByRecursion OutIsOwn outs
+
+  abbrev ComesOf : Event → Type 0
+  ComesOf = Comes calls.seed call_id Came
+
+  abbrev Done : CallTaken → Type 0
+  Done taken = OwnClients taken.0 × Says taken.1
+
+  -- an item of that Call-ID, and of an event that came
+  abbrev pub InputComes : Option CallItem → Type 0
+  InputComes input = IsInputOf call_id input × IfSome (event_in input) Came
+
+  says_none : (outs : List CallOut) → starts outs ≡ [] → Says outs
+  says_none outs none = silent_say calls.seed call_id Came outs none
+
+  comes_so : (id : Id) (now : ℕ) → Came id → ComesOf (event_of calls id now)
+  comes_so id now came = record { seed_is = refl; came = came }
+
+  -- ---- what comes up
+
+  up_own : (call : Call) (id : Id) (now : ℕ) (up : AnUp) (k : Kind)
+      → IfSome (event_of_kind id k) Came
+      → AreSidesOf call_id call → OwnClients call
+      → Done (received call (event_of calls id now) up k)
+  up_own call id now up (kind.Request request reply_to) came sides own = (
+    own,
+    says_none _ (ap (λ (taken : ServedTaken). starts taken.1)
+        (kind_same call.served (made_tag (event_of calls id now)) up
+        (kind.Request request reply_to) now)
+        ∙ kind_starts call.served (made_tag (event_of calls id now)) up
+        (kind.Request request reply_to) now),
+  )
+  up_own call id now up (kind.Ack ack) came sides own = (
+    own,
+    says_none _ (ap (λ (taken : ServedTaken). starts taken.1)
+        (kind_same call.served (made_tag (event_of calls id now)) up (kind.Ack ack) now)
+        ∙ kind_starts call.served (made_tag (event_of calls id now)) up (kind.Ack ack) now),
+  )
+  up_own call id now up (kind.Response response) came sides own =
+      received_own calls.seed call_id Came (event_of calls id now) up.id up.call_id response
+      (side_of call) (comes_so id now came) (sides.state).dialogs own
+  up_own call id now up kind.Timeout came sides own =
+      let so = lost_own calls.seed call_id Came up.id true (side_of call) own in
+      (so.0, (tt, so.1))
+  up_own call id now up kind.Failed came sides own =
+      let so = lost_own calls.seed call_id Came up.id false (side_of call) own in
+      (so.0, (tt, so.1))
+
+  -- ---- commands
+
+  first_own : (call : Call) (id : Id) (now : ℕ) (command : UserCommand) → Came id
+      → call_of_command command ≡ call_id → OwnClients call
+      → Done (item_of_call false call (event_of calls id now) (User command))
+  first_own call id now (user.Invite invite) came its own =
+      invite_own calls.seed call_id Came (event_of calls id now) invite call.clients
+      (comes_so id now came) its own
+  first_own call id now (user.Plain plain) came its own =
+      plain_own calls.seed call_id Came (event_of calls id now) plain call.clients
+      (comes_so id now came) its own
+  first_own call id now (user.Request request) came its own = (own, (tt, tt))
+  first_own call id now (user.Respond respond) came its own = (own, (tt, tt))
+  first_own call id now (user.Ack ack) came its own = (own, (tt, tt))
+  first_own call id now (user.Prack prack) came its own = (own, (tt, tt))
+  first_own call id now (user.Cancel cancel) came its own = (own, (tt, tt))
+
+  command_own : (call : Call) (id : Id) (now : ℕ) (command : UserCommand) → Came id
+      → AreSidesOf call_id call → OwnClients call
+      → Done (item_of_call true call (event_of calls id now) (User command))
+  command_own call id now (user.Invite invite) came sides own = (own, (tt, tt))
+  command_own call id now (user.Plain plain) came sides own = (own, (tt, tt))
+  command_own call id now (user.Request request) came sides own =
+      request_own calls.seed call_id Came (event_of calls id now) request (side_of call)
+      (comes_so id now came) (sides.state).dialogs own
+  command_own call id now (user.Respond respond) came sides own = (
+    own,
+    says_none _ (ap (λ (taken : ServedTaken). starts taken.1)
+        (respond_same call.served id respond now) ∙ respond_starts call.served id respond now),
+  )
+  command_own call id now (user.Ack ack) came sides own =
+      ack_own calls.seed call_id Came (event_of calls id now) ack (side_of call)
+      (comes_so id now came) (sides.state).dialogs own
+  command_own call id now (user.Prack prack) came sides own =
+      prack_own calls.seed call_id Came (event_of calls id now) prack (side_of call)
+      (comes_so id now came) (sides.state).dialogs own
+  command_own call id now (user.Cancel cancel) came sides own =
+      cancel_taken calls.seed call_id Came (event_of calls id now) cancel (side_of call)
+      (comes_so id now came) own
+
+  -- ---- one input
+
+  new_sides : (local : Addr) → AreSidesOf call_id (new_call local)
+  new_sides local = record { state = empty_is call_id local; clients = tt }
+
+  abbrev HeldOwn : Option Call → Type 0
+  HeldOwn held = IfSome held OwnClients
+
+  abbrev After : Taken → Type 0
+  After taken = HeldOwn taken.0 × Says taken.1
+
+  kept_by : (b : Bool) (call : Call) → OwnClients call → HeldOwn (cond b (Some call) None)
+  kept_by true call own = own
+  kept_by false call own = tt
+
+  kept_own : (taken : CallTaken) → Done taken → After (kept taken)
+  kept_own taken done = (kept_by (holds_any taken.0) taken.0 done.0, done.1)
+
+  tick_own : (call : Call) (now : ℕ) → OwnClients call → OwnClients (call_tick call now).0
+  unfolding client_tick
+  tick_own call now own = each_left (Own calls.seed call_id Came) _ call.clients own
+
+  step_own : (state : Option Call) (input : Option CallItem) (now : ℕ) → InputComes input
+      → IsCallOf call_id state → HeldOwn state → After (call_step calls state input now)
+  step_own None None now comes of own = (tt, tt)
+  step_own (Some call) None now comes of own = (
+    kept_by (holds_any (call_tick call now).0) (call_tick call now).0 (tick_own call now own),
+    says_none _ (tick_silent calls (Some call) now),
+  )
+  step_own None (Some (id, Up up)) now comes of own =
+      let call = new_call calls.local in
+      kept_own (item_of_call false call (event_of calls id now) (Up up))
+      (up_own call id now up up.kind comes.1 (new_sides calls.local) tt)
+  step_own (Some call) (Some (id, Up up)) now comes of own =
+      kept_own (item_of_call true call (event_of calls id now) (Up up))
+      (up_own call id now up up.kind comes.1 of own)
+  step_own None (Some (id, User command)) now comes of own =
+      let call = new_call calls.local in
+      kept_own (item_of_call false call (event_of calls id now) (User command))
+      (first_own call id now command comes.1 comes.0 tt)
+  step_own (Some call) (Some (id, User command)) now comes of own =
+      kept_own (item_of_call true call (event_of calls id now) (User command))
+      (command_own call id now command comes.1 of own)
+
+  -- ---- all inputs
+
+  pub all_own : (state : Option Call) (inputs : List (Timed CallItem))
+      → AllByRecursion (λ timed. InputComes timed.input) inputs → IsCallOf call_id state
+      → HeldOwn state
+      → AllByRecursion OutIsOwn (outputs_from (call_machine calls) call_id state inputs)
+  all_own state [] comes of own = tt
+  all_own state (timed ∷ inputs) comes of own =
+      let step = call_step calls state timed.input timed.moment in
+      let after = step_own state timed.input timed.moment (comes.0) of own in
+      let later = each_notice_is_own calls call_id state timed.input timed.moment of
+      (comes.0).0 in
+      both OutIsOwn step.1 (outputs_from (call_machine calls) call_id step.0 inputs) after.1
+      (all_own step.0 inputs comes.1 later.0 after.0)

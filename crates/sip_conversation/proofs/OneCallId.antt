@@ -1,0 +1,277 @@
+-- A request that was said, and a transaction that was started with its branch and its method, have
+-- one Call-ID.
+use Rattle.std.proofs.Common.{◌≡◌, ℕ, suc, zero, ◌/◌, ◌%◌, true, false, List, [], ◌∷◌, ◌++◌, drop, refl, sym, ap, ◌∙◌, subst, arith, codes}
+use Rattle.std.specs.Prelude.{Option, None, Some, IsTrue}
+use Rattle.std.specs.Char.{to_ascii_lowercase}
+use Rattle.std.specs.List.{AllByRecursion}
+use Rattle.std.specs.Str.{str_to_ascii_lowercase}
+use Rattle.std.proofs.lemmas.Bool.{false≢true}
+use Rattle.std.proofs.lemmas.Bool.Decides.{nat_tests}
+use Rattle.std.proofs.lemmas.List.{map-append}
+use Rattle.sip_text.specs.Number.{hex_digit}
+use Rattle.sip_text.specs.Token.{is_token}
+use Rattle.sip_message.specs.Key.{branch_in, client_key, method_in}
+use Rattle.sip_message.specs.Message.{is_request_line, is_request_message}
+use Rattle.sip_message.specs.TopVia.{top_branch}
+use Rattle.sip_message.specs.Written.{written}
+use Rattle.sip_message.specs.declared.addr.Addr.{Addr}
+use Rattle.sip_message.specs.declared.id.Id.{Id}
+use Rattle.sip_message.specs.declared.key.Key.{Key}
+use Rattle.sip_message.specs.declared.message.Message.{Message}
+use Rattle.sip_model.specs.Laws.{EachKeyAlone}
+use Rattle.sip_model.specs.Machine.{Timed, given_at, tick_at}
+use Rattle.sip_transactions.specs.declared.input.Command.TheVariants as order
+use Rattle.sip_transactions.specs.declared.input.Input.{Input}
+use Rattle.sip_transactions.specs.declared.input.Input.TheVariants as input
+use Rattle.sip_transactions.specs.declared.output.Kind.{Kind}
+use Rattle.sip_transactions.specs.declared.output.Kind.TheVariants as kind
+use Rattle.sip_common.specs.declared.command.UserCommand.{UserCommand}
+use Rattle.sip_common.specs.declared.command.UserCommand.TheVariants as user
+use Rattle.sip_common.specs.declared.item.CallOut.{CallOut}
+use Rattle.sip_common.specs.declared.item.CallOut.TheVariants as call_out
+use Rattle.sip_common.specs.declared.item.Item.TheVariants.{Up, User}
+use Rattle.sip_served.proofs.Rseqs.{answer_start}
+use Rattle.sip_served.proofs.ServedAnswers.{KindGiven, OwnAnswers}
+use Rattle.sip_clients.specs.Name.{hex, name_of, word_of_name}
+use Rattle.sip_clients.proofs.ClientAsks.{OutSays}
+use Rattle.sip_clients.proofs.Names.{names_differ}
+use Rattle.sip_calls.specs.Call.{CallItem, call_machine}
+use Rattle.sip_calls.specs.CallShard.{call_cmp}
+use Rattle.sip_round.specs.declared.config.Config.{Config}
+use Rattle.sip_round.specs.declared.round.Round.{Round}
+use Rattle.sip_round.specs.Answers.{calls_of, no_past, past_of}
+use Rattle.sip_round.specs.Arrivals.{arrival_of}
+use Rattle.sip_round.specs.Laws.{call_inputs_of, inputs_of, said_of_call}
+use Rattle.sip_round.proofs.Said.{call_alone}
+use Rattle.sip_conversation.specs.Messages.{CallSays, IsGiven, IsSaid}
+use Rattle.sip_conversation.specs.Messages.IsSaid.{Acknowledges, Asked, Direct, Trying}
+use Rattle.sip_conversation.specs.Replies.{AreCounted}
+use Rattle.sip_conversation.proofs.AckTexts.{is_ack}
+use Rattle.sip_conversation.proofs.Among.{all_of, each_of}
+use Rattle.sip_conversation.proofs.Branches.{HasBranch, IsStarted}
+use Rattle.sip_conversation.proofs.Bridge.{any_arrival}
+use Rattle.sip_conversation.proofs.CallBranches.{OutIsOwn, all_own}
+use Rattle.sip_conversation.proofs.CallSays.{InputGives, UserGives, all_say}
+use Rattle.sip_conversation.proofs.Longer.{says_longer}
+use Rattle.sip_conversation.proofs.Origins.{IsOrigin, counted, inputs_come, one_call}
+use Rattle.sip_conversation.proofs.Rounds.{ArrivalFits, OutFits, RoundFits, TimedFits, call_says, calls_give, inputs_fit}
+
+-- ---- branches in lower case
+
+abbrev lower : List ℕ → List ℕ
+lower = str_to_ascii_lowercase
+
+digit_low : (v : ℕ) → to_ascii_lowercase (hex_digit v) ≡ hex_digit v
+digit_low v = grind (arith, nat_tests)
+
+hex_low : (count number : ℕ) → lower (hex count number) ≡ hex count number
+unfolding hex
+hex_low zero number = refl
+hex_low (suc count) number =
+    map-append to_ascii_lowercase (hex count (number / 16)) (hex_digit (number % 16) ∷ [])
+    ∙ (λ i. hex_low count (number / 16) i ++ digit_low (number % 16) i ∷ [])
+
+both_low : (xs ys : List ℕ) → lower xs ≡ xs → lower ys ≡ ys → lower (xs ++ ys) ≡ xs ++ ys
+both_low xs ys one other = map-append to_ascii_lowercase xs ys ∙ (λ i. one i ++ other i)
+
+name_low : (seed : List ℕ) (id : Id) (index : ℕ)
+    → lower (name_of seed id index) ≡ name_of seed id index
+name_low seed id index =
+    let round = hex 16 id.round in
+    let place = hex 16 id.place in
+    let word = word_of_name seed id index in
+    both_low ((round ++ place) ++ hex 1 index) (hex 8 word)
+    (both_low (round ++ place) (hex 1 index)
+    (both_low round place (hex_low 16 id.round) (hex_low 16 id.place)) (hex_low 1 index))
+    (hex_low 8 word)
+
+-- behind the cookie of each branch stands a name
+same_name : (one other : List ℕ) → codes "z9hg4bk" ++ one ≡ codes "z9hg4bk" ++ other → one ≡ other
+same_name one other same = ap (drop 7) same
+
+branch_low : (seed : List ℕ) (id : Id)
+    → lower (codes "z9hG4bK" ++ name_of seed id 0) ≡ codes "z9hg4bk" ++ name_of seed id 0
+branch_low seed id =
+    map-append to_ascii_lowercase (codes "z9hG4bK") (name_of seed id 0)
+    ∙ ap (λ name. codes "z9hg4bk" ++ name) (name_low seed id 0)
+
+-- ---- what a call says is a request or a response
+
+abbrev IsReply : Message → Type 0
+IsReply message = is_request_message message ≡ false
+
+abbrev Any : Message → Type 0
+Any message = Unit {0}
+
+own_replies : OwnAnswers Any IsReply
+own_replies = record {
+  merged = λ request tag came. refl;
+  extension = λ request tag came. refl;
+  no_dialog = λ request tag came. refl;
+  out_of_order = λ request tag came. refl;
+  accepted = λ request tag came. refl;
+  terminated = λ request tag came. refl;
+}
+
+user_gives : (command : UserCommand) → UserGives Any IsReply own_replies command
+user_gives (user.Invite invite) = tt
+user_gives (user.Plain plain) = tt
+user_gives (user.Request request) = tt
+user_gives (user.Respond respond) = λ local held came.
+    ap is_request_line (answer_start local held respond)
+user_gives (user.Ack ack) = tt
+user_gives (user.Prack prack) = tt
+user_gives (user.Cancel cancel) = tt
+
+kind_gives : (k : Kind) → KindGiven Any k
+kind_gives (kind.Request request reply_to) = tt
+kind_gives (kind.Ack ack) = tt
+kind_gives (kind.Response response) = tt
+kind_gives kind.Timeout = tt
+kind_gives kind.Failed = tt
+
+input_gives : (i : Option CallItem) → InputGives Any IsReply own_replies i
+input_gives None = tt
+input_gives (Some (event, Up up)) = kind_gives up.kind
+input_gives (Some (event, User command)) = user_gives command
+
+all_give : (inputs : List (Timed CallItem))
+    → AllByRecursion (λ timed. InputGives Any IsReply own_replies timed.input) inputs
+all_give [] = tt
+all_give (timed ∷ inputs) = (input_gives timed.input, all_give inputs)
+
+module _ (config : Config)
+    (alone : EachKeyAlone call_cmp (call_machine (calls_of config)) tick_at) where
+  out_replies : (rounds : List Round) (out : CallOut) → CallSays config rounds out
+      → OutSays IsReply out
+  out_replies rounds out says =
+      each_of (OutSays IsReply) (said_of_call config rounds says.0) out
+      (subst (AllByRecursion (OutSays IsReply))
+      (sym (call_alone (calls_of config) alone [] (past_of config rounds).calls says.0))
+      (all_say Any IsReply own_replies (calls_of config) says.0 None
+      (call_inputs_of config rounds says.0) (all_give (call_inputs_of config rounds says.0)) tt))
+      says.1
+
+  module _ (early more : List Round) (few : AreCounted config (early ++ more)) where
+    abbrev rounds : List Round
+    rounds = early ++ more
+
+    -- a call starts a transaction with this request, which is of its own
+    abbrev IsStartedBy : List ℕ → Key → List ℕ → Message → Type 0
+    IsStartedBy call_id = IsStarted config.seed call_id (IsOrigin config rounds call_id)
+
+    out_own : (out : CallOut) → (says : CallSays config rounds out)
+        → OutIsOwn (calls_of config) says.0 (IsOrigin config rounds says.0) out
+    out_own out says =
+        let call_id = says.0 in
+        let IsOwn = OutIsOwn (calls_of config) call_id (IsOrigin config rounds call_id) in
+        each_of IsOwn (said_of_call config rounds call_id) out
+        (subst (AllByRecursion IsOwn)
+        (sym (call_alone (calls_of config) alone [] (past_of config rounds).calls call_id))
+        (all_own (calls_of config) call_id (IsOrigin config rounds call_id) None
+        (call_inputs_of config rounds call_id) (inputs_come config rounds call_id) tt tt)) says.1
+
+    -- ---- what a transaction is started with
+
+    abbrev StartFits : Key → Input → Type 0
+    StartFits key (input.Receive id message reply_to) = Unit {0}
+    StartFits key (input.Start id of message to) = (call_id : List ℕ)
+        × IsStartedBy call_id key of message
+    StartFits key (input.Answer id message) = Unit {0}
+    StartFits key (input.Failed id) = Unit {0}
+
+    out_fits : (out : CallOut) → CallSays config rounds out → OutFits config StartFits out
+    out_fits (call_out.Notice notice) says = tt
+    out_fits (call_out.Command id (order.Start key of message to)) says =
+        (says.0, out_own (call_out.Command id (order.Start key of message to)) says)
+    out_fits (call_out.Command id (order.Answer key message)) says = tt
+    out_fits (call_out.Direct to bytes) says = tt
+
+    started_so : (key : Key) (id : Id) (of : List ℕ) (message : Message) (to : Addr)
+        → IsGiven config rounds key (input.Start id of message to)
+        → (call_id : List ℕ) × IsStartedBy call_id key of message
+    started_so key id of message to given =
+        each_of (TimedFits config StartFits key) (inputs_of config rounds key)
+        (given_at given.0 (input.Start id of message to))
+        (inputs_fit config StartFits key rounds
+        (all_of (RoundFits config StartFits) rounds
+        (λ round among. all_of
+        (λ e. (id : Id) → ArrivalFits config StartFits (arrival_of config.local id e)) round.events
+        (λ e has id. any_arrival config StartFits (λ id message reply_to. tt) (λ key id. tt) id
+        e)))
+        (all_of (OutFits config StartFits) (calls_give config config.first no_past rounds)
+        (λ out among. out_fits out (call_says config rounds out among)))) given.1
+
+    -- ---- one branch, one Call-ID
+
+    abbrev IsBranch : List ℕ → List ℕ → Type 0
+    IsBranch call_id = HasBranch config.seed call_id (IsOrigin config rounds call_id)
+
+    one_branch : (call_id other : List ℕ) (one two : List ℕ) → IsBranch call_id one
+        → IsBranch other two → lower one ≡ lower two → call_id ≡ other
+    one_branch call_id other one two has holds same =
+        let here = counted config rounds few call_id has.0 has.1 in
+        let there = counted config rounds few other holds.0 holds.1 in
+        let names : name_of config.seed has.0 0 ≡ name_of config.seed holds.0 0 =
+        same_name (name_of config.seed has.0 0) (name_of config.seed holds.0 0)
+        (sym (branch_low config.seed has.0) ∙ (ap lower (sym has.2) ∙ (same ∙ (ap lower holds.2
+        ∙ branch_low config.seed holds.0)))) in
+        let ids : has.0 ≡ holds.0 =
+        (names_differ config.seed config.seed has.0 holds.0 0 0 here.round there.round here.place
+        there.place (omega arith) (omega arith) names).0 in
+        one_call config rounds call_id other holds.0
+        (subst (IsOrigin config rounds call_id) ids has.1) holds.1
+
+    -- ---- a request that was said
+
+    same_call : (message : Message) (key : Key)
+        → key ≡ client_key (top_branch message) message.cseq.method
+        → (one : List ℕ) (of : List ℕ) (request : Message)
+        → IsBranch one (top_branch message) → message.call_id ≡ one
+        → (call_id : List ℕ) → IsStartedBy call_id key of request → message.call_id ≡ of
+    same_call message key is one of request has own call_id started =
+        let lowered : lower (top_branch message) ≡ lower (top_branch request) =
+        ap branch_in (sym is ∙ started.key_is) in
+        own ∙ (one_branch one call_id (top_branch message) (top_branch request) has
+        started.own.branch lowered ∙ (sym started.own.call ∙ sym started.of_is))
+
+    no_ack : (message : Message) (key : Key)
+        → key ≡ client_key (top_branch message) message.cseq.method
+        → (of : List ℕ) (request : Message) (call_id : List ℕ)
+        → IsStartedBy call_id key of request → message.cseq.method ≡ codes "ACK" → ⊥
+    no_ack message key is of request call_id started ack =
+        started.own.method (ap method_in (sym started.key_is ∙ is) ∙ ack)
+
+    pub one_call_id : (message : Message) → IsSaid config early message
+        → is_request_message message ≡ true → IsTrue (is_token message.cseq.method) → (key : Key)
+        → key ≡ client_key (top_branch message) message.cseq.method
+        → (id : Id) (of : List ℕ) (request : Message) (to : Addr)
+        → IsGiven config rounds key (input.Start id of request to) → message.call_id ≡ of
+    one_call_id message (Asked other (order.Start asked call_id sent at) says same) asks token key
+        is id of request to given =
+        let started = started_so key id of request to given in
+        let longer = says_longer config early more
+        (call_out.Command other (order.Start asked call_id sent at)) says in
+        let own = out_own (call_out.Command other (order.Start asked call_id sent at)) longer in
+        same_call message key is longer.0 of request
+        (subst (λ (m : Message). IsBranch longer.0 (top_branch m)) same own.own.branch)
+        (ap (λ (m : Message). m.call_id) (sym same) ∙ own.own.call) started.0 started.1
+    one_call_id message (Asked other (order.Answer asked sent) says same) asks token key is id of
+        request to given =
+        absurd (false≢true (sym (out_replies early
+        (call_out.Command other (order.Answer asked sent)) says)
+        ∙ (ap is_request_message same ∙ asks)))
+    one_call_id message (Direct at says) asks token key is id of request to given =
+        let started = started_so key id of request to given in
+        let ack = out_replies early (call_out.Direct at (written message)) says in
+        absurd (no_ack message key is of request started.0 started.1
+        (is_ack message ack.0 asks token (ack.2).request (ack.2).method ack.1))
+    one_call_id message (Trying of_key other answered reply_to received asked same) asks token key is
+        id of request to given =
+        absurd (false≢true (sym (ap is_request_message same) ∙ asks))
+    one_call_id message
+        (Acknowledges of_key other answered call_id invite response at reply_to begun heard same)
+        asks token key is id of request to given =
+        let started = started_so key id of request to given in
+        absurd (no_ack message key is of request started.0 started.1
+        (ap (λ (m : Message). m.cseq.method) same))

@@ -1,0 +1,123 @@
+-- A response that is told has the Call-ID with which it is told.
+use Rattle.std.proofs.Common.{◌≡◌, ℕ, Bool, true, List, [], ◌∷◌, ◌++◌, refl, sym, ap, ◌∙◌, subst}
+use Rattle.std.specs.Prelude.{Some, if◌then◌else◌}
+use Rattle.std.specs.List.{slice_get}
+use Rattle.std.specs.Option.{option_map_or}
+use Rattle.std.proofs.lemmas.Bool.{false≢true}
+use Rattle.sip_message.specs.Key.{client_key}
+use Rattle.sip_message.specs.Message.{is_request_message}
+use Rattle.sip_message.specs.MessageKey.{key_at, key_of_message}
+use Rattle.sip_message.specs.Source.{stamped, stamped_vias}
+use Rattle.sip_message.specs.TopVia.{top_branch, top_host, top_port}
+use Rattle.sip_message.specs.Via.{branch_of}
+use Rattle.sip_message.specs.declared.addr.Addr.{Addr}
+use Rattle.sip_message.specs.declared.cseq.CSeq.{CSeq}
+use Rattle.sip_message.specs.declared.message.Message.{Message}
+use Rattle.sip_message.specs.declared.start_line.StartLine.{StartLine}
+use Rattle.sip_message.specs.declared.start_line.StartLine.TheVariants as start
+use Rattle.sip_message.specs.declared.via.Via.{Via}
+use Rattle.sip_message.proofs.Stamps.{stamp_leaves}
+use Rattle.sip_model.specs.Laws.{EachKeyAlone}
+use Rattle.sip_model.specs.Machine.{tick_at}
+use Rattle.sip_model.proofs.Ordered.{by_bool}
+use Rattle.sip_transactions.specs.declared.input.Input.TheVariants.{Start}
+use Rattle.sip_clients.specs.Clients.{status_of}
+use Rattle.sip_calls.specs.Call.{call_machine}
+use Rattle.sip_calls.specs.CallShard.{call_cmp}
+use Rattle.sip_round.specs.declared.config.Config.{Config}
+use Rattle.sip_round.specs.Answers.{calls_of}
+use Rattle.sip_conversation.specs.Conversation.{Side, Turn, peer, rounds_of}
+use Rattle.sip_conversation.specs.Conversation as side
+use Rattle.sip_conversation.specs.Messages.{ComesUnchanged, IsGiven, IsSaid, come_from}
+use Rattle.sip_conversation.specs.Replies.{AreCounted, IsStartedFor, SaidResponse}
+use Rattle.sip_conversation.proofs.Longer.{rounds_of-append}
+use Rattle.sip_conversation.proofs.OneCallId.{one_call_id}
+
+-- ---- a request as it came, and as it was said
+
+stamp_branch : (source : Addr) (vias : List Via)
+    → option_map_or branch_of (slice_get (stamped_vias source vias) 0) []
+    ≡ option_map_or branch_of (slice_get vias 0) []
+stamp_branch source [] = refl
+stamp_branch source (via ∷ vias) = stamp_leaves source (via ∷ vias) via refl
+
+record IsSame (came said : Message) : Type 0 where
+  pub asks : is_request_message said ≡ true
+  pub branch : top_branch came ≡ top_branch said
+  pub method : came.cseq.method ≡ said.cseq.method
+  pub call : came.call_id ≡ said.call_id
+
+stamped_same : (source : Addr) (said : Message) → is_request_message said ≡ true
+    → IsSame (stamped said source) said
+unfolding stamped
+stamped_same source said asks = record {
+  asks = asks;
+  branch = stamp_branch source said.vias;
+  method = refl;
+  call = refl;
+}
+
+came_same : (source : Addr) (came said : Message) → came ≡ come_from source said
+    → is_request_message came ≡ true → IsSame came said
+came_same source came said same asks =
+    let comes : Bool → Message = λ b. if b then stamped said source else said in
+    by_bool (is_request_message said)
+    (λ is. subst (λ m. IsSame m said) (sym (same ∙ ap comes is)) (stamped_same source said is))
+    (λ other. absurd (false≢true (sym other
+    ∙ (ap is_request_message (sym (same ∙ ap comes other)) ∙ asks))))
+
+-- ---- the key of a response
+
+client_parts : (line : StartLine) (branch host : List ℕ) (port : ℕ) (method : List ℕ) (status : ℕ)
+    → status_of line ≡ Some status
+    → key_at line branch host port method ≡ client_key branch method
+client_parts (start.Request uri) branch host port method status is = absurd cc
+client_parts (start.Response code reason) branch host port method status is = refl
+
+response_key : (response : Message) (status : ℕ) → status_of response.start ≡ Some status
+    → key_of_message response ≡ client_key (top_branch response) response.cseq.method
+unfolding key_of_message
+response_key response status is =
+    client_parts response.start (top_branch response) (top_host response) (top_port response)
+    response.cseq.method status is
+
+peer_peer : (s : Side) → peer (peer s) ≡ s
+peer_peer side.One = refl
+peer_peer side.Other = refl
+
+module _ (configs : Side → Config)
+    (alone : (s : Side) → EachKeyAlone call_cmp (call_machine (calls_of (configs s))) tick_at)
+    (before : List Turn) (turn : Turn) where
+  abbrev whole : List Turn
+  whole = before ++ turn ∷ []
+
+  pub own_call : (call_id : List ℕ) (status : ℕ) (local_tag remote_tag body : List ℕ)
+      → (said : SaidResponse configs before turn.side status local_tag remote_tag body)
+      → IsStartedFor (configs turn.side) (rounds_of turn.side whole) call_id said.original
+      → AreCounted (configs turn.side) (rounds_of turn.side whole)
+      → said.original.call_id ≡ call_id
+  own_call call_id status local_tag remote_tag body said started few =
+      let s = turn.side in
+      let response = said.original in
+      let came = said.request.request in
+      let copies = said.request.copies in
+      let comes : ComesUnchanged configs before (peer s) came = said.request.came in
+      let asked = comes.original in
+      let same : IsSame came asked =
+      came_same (configs (peer (peer s))).local came asked comes.same said.request.is_request in
+      let spoken : IsSaid (configs s) (rounds_of s before) asked =
+      subst (λ p. IsSaid (configs p) (rounds_of p before) asked) (peer_peer s) comes.said in
+      let branch : top_branch response ≡ top_branch asked =
+      ap (λ (vias : List Via). option_map_or branch_of (slice_get vias 0) []) copies.vias
+      ∙ same.branch in
+      let method : response.cseq.method ≡ asked.cseq.method =
+      ap (λ (cseq : CSeq). cseq.method) copies.cseq ∙ same.method in
+      let key : key_of_message response ≡ client_key (top_branch asked) asked.cseq.method =
+      response_key response status said.status_is ∙ (λ i. client_key (branch i) (method i)) in
+      let longer = rounds_of-append s before (turn ∷ []) in
+      copies.call_id ∙ (same.call
+      ∙ one_call_id (configs s) (alone s) (rounds_of s before) (rounds_of s (turn ∷ []))
+      (subst (AreCounted (configs s)) longer few) asked spoken same.asks comes.rules.method
+      (key_of_message response) key started.id call_id started.request started.to
+      (subst (λ rounds. IsGiven (configs s) rounds (key_of_message response)
+      (Start started.id call_id started.request started.to)) longer started.given))
