@@ -32,7 +32,7 @@ IsNoInput kind repairs input = (2 ^ 26 < length input) ⊎ IsNoFile kind (replay
 too_long : (size : ℕ) → 2 ^ 26 < size → size ≤ 2 ^ 26 → ⊥
 too_long size long short = omega arith
 
-pub never_ends_in_1 : (kind : FileKind) (repairs : Bool) (known : Option (List ℕ)) (status : ℕ)
+never_ends_in_1 : (kind : FileKind) (repairs : Bool) (known : Option (List ℕ)) (status : ℕ)
     → (status ≡ 1 → IfSome known (IsNoInput kind repairs))
     → IfSome known
     (λ input. length input ≤ 2 ^ 26 → IsFile kind (replayed repairs input) → status ≢ 1)
@@ -64,7 +64,7 @@ a_round round_fault.RoundsUsedUp status is one = three status is one
 a_round (round_fault.NoMemory broken) status is one = five status is one
 
 -- what a replay that ends in status 1 tells of its input
-pub told_in_1 : (kind : FileKind) (repairs : Bool) (known : Option (List ℕ))
+told_in_1 : (kind : FileKind) (repairs : Bool) (known : Option (List ℕ))
     (end : Result (Unit {0}) ReplayFault) (status : ℕ)
     → MatchResult end (λ done. status ≡ 0) (λ fault. status ≡ fault_status fault)
     → IfErr end (λ fault. IfSome known (TellsRepair kind repairs fault))
@@ -97,7 +97,7 @@ out_of_memory : (fault : RoundFault) (broken : Bool) → fault ≡ round_fault.N
 out_of_memory fault broken refl is = omega arith
 
 -- what a replay that ends in status 3 tells of its input
-pub told_in_3 : (kind : FileKind) (repairs : Bool) (known : Option (List ℕ))
+told_in_3 : (kind : FileKind) (repairs : Bool) (known : Option (List ℕ))
     (end : Result (Unit {0}) ReplayFault) (status : ℕ)
     → MatchResult end (λ done. status ≡ 0) (λ fault. status ≡ fault_status fault)
     → IfErr end (λ fault. IfSome known (TellsRepair kind repairs fault))
@@ -119,3 +119,31 @@ told_in_3 kind repairs (Some input) (Err Output) status ends (inr tells) three =
     absurd (apart status 4 ends three (λ is. omega arith))
 told_in_3 kind repairs (Some input) (Err NoMemory) status ends (inr tells) three =
     absurd (apart status 5 ends three (λ is. omega arith))
+
+-- the same, where the kind of the file and whether it is a repair are known by other names
+pub status_1 : (kind asked : FileKind) (repairs wanted : Bool) → kind ≡ asked → repairs ≡ wanted
+    → (known : Option (List ℕ)) (end : Result (Unit {0}) ReplayFault) (status : ℕ)
+    → MatchResult end (λ done. status ≡ 0) (λ fault. status ≡ fault_status fault)
+    → IfErr end (λ fault. IfSome known (TellsRepair kind repairs fault))
+    → status ≡ 1 → IfSome known (IsNoInput asked wanted)
+status_1 kind asked repairs wanted refl refl known end status ends tells =
+    told_in_1 kind repairs known end status ends tells
+
+pub status_3 : (kind asked : FileKind) (repairs wanted : Bool) → kind ≡ asked → repairs ≡ wanted
+    → (known : Option (List ℕ)) (end : Result (Unit {0}) ReplayFault) (status : ℕ)
+    → MatchResult end (λ done. status ≡ 0) (λ fault. status ≡ fault_status fault)
+    → IfErr end (λ fault. IfSome known (TellsRepair kind repairs fault))
+    → status ≡ 3 → IfSome known (λ input. HasRefusedRound asked (replayed wanted input))
+status_3 kind asked repairs wanted refl refl known end status ends tells =
+    told_in_3 kind repairs known end status ends tells
+
+pub never_status_1 : (kind asked : FileKind) (repairs wanted : Bool) → kind ≡ asked
+    → repairs ≡ wanted → (known : Option (List ℕ)) (end : Result (Unit {0}) ReplayFault)
+    (status : ℕ)
+    → MatchResult end (λ done. status ≡ 0) (λ fault. status ≡ fault_status fault)
+    → IfErr end (λ fault. IfSome known (TellsRepair kind repairs fault))
+    → IfSome known
+    (λ input. length input ≤ 2 ^ 26 → IsFile asked (replayed wanted input) → status ≢ 1)
+never_status_1 kind asked repairs wanted refl refl known end status ends tells =
+    never_ends_in_1 kind repairs known status
+    (told_in_1 kind repairs known end status ends tells)
