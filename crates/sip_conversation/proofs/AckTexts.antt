@@ -1,6 +1,6 @@
--- A message whose text is that of an ACK has its method.
+-- A request whose text is that of an ACK has its method, and no response has such a text.
 use Rattle.std.proofs.Common.{◌≡◌, ℕ, true, false, List, [], ◌∷◌, ◌++◌, refl, sym, ap, ◌∙◌, arith, append_assoc}
-use Rattle.std.specs.Prelude.{codes, IsTrue}
+use Rattle.std.specs.Prelude.{codes, IsTrue, Some}
 use Rattle.std.specs.List.{AllByRecursion, flat_map, list_all}
 use Rattle.std.proofs.lemmas.Bool.{false≢true}
 use Rattle.sip_text.specs.Character.{is_token_byte}
@@ -10,10 +10,11 @@ use Rattle.sip_message.specs.declared.start_line.StartLine.{StartLine}
 use Rattle.sip_message.specs.declared.start_line.StartLine.TheVariants as start
 use Rattle.sip_message.specs.Message.{is_request_line, is_request_message}
 use Rattle.sip_message.specs.Written.{content_text, extensions_text, head_text, identity_text, number_line, routes_text, start_text, via_line, written}
+use Rattle.sip_clients.specs.Clients.{status_of}
 use Rattle.sip_transactions.proofs.RowFacts.{and-left, and-right}
 
 -- a word and a space, and more
-abbrev pub Begins : List ℕ → List ℕ → Type 0
+abbrev Begins : List ℕ → List ℕ → Type 0
 Begins word text = (rest : List ℕ) × (text ≡ word ++ 32 ∷ rest)
 
 begins_more : (word text more : List ℕ) → Begins word text → Begins word (text ++ more)
@@ -31,7 +32,7 @@ head_begins word m begins =
     begins_more word (first ++ vias) (number_line (codes "Max-Forwards") m.max_forwards)
     (begins_more word first vias begins)
 
-pub text_begins : (word : List ℕ) (m : Message) → Begins word (start_text m.start m.cseq.method)
+text_begins : (word : List ℕ) (m : Message) → Begins word (start_text m.start m.cseq.method)
     → Begins word (written m)
 unfolding written
 text_begins word m begins =
@@ -113,3 +114,43 @@ is_ack request ack is token so method same =
     same_word request.cseq.method (codes "ACK") one.0 other.0
     (token_spaces request.cseq.method token) ack_spaces
     (sym one.1 ∙ (same ∙ (other.1 ∙ ap (λ word. word ++ 32 ∷ other.0) method)))
+
+-- ---- a response
+
+response_begins : (line : StartLine) (method : List ℕ) (status : ℕ)
+    → status_of line ≡ Some status → Begins (codes "SIP/2.0") (start_text line method)
+unfolding start_text
+response_begins (start.Request uri) method status is = absurd cc
+response_begins (start.Response code reason) method status is = (_, refl)
+
+version_spaces : AllByRecursion IsNoSpace (codes "SIP/2.0")
+version_spaces = (
+  λ is. absurd (omega arith),
+  (
+    λ is. absurd (omega arith),
+    (
+      λ is. absurd (omega arith),
+      (
+        λ is. absurd (omega arith),
+        (
+          λ is. absurd (omega arith),
+          (λ is. absurd (omega arith), (λ is. absurd (omega arith), tt)),
+        ),
+      ),
+    ),
+  ),
+)
+
+not_both : codes "SIP/2.0" ≡ codes "ACK" → ⊥
+not_both same = absurd cc
+
+-- its text is that of no ACK
+pub no_ack : (response ack : Message) (status : ℕ) → status_of response.start ≡ Some status
+    → is_request_message ack ≡ true → ack.cseq.method ≡ codes "ACK"
+    → written response ≡ written ack → ⊥
+no_ack response ack status is so method same =
+    let one = text_begins (codes "SIP/2.0") response
+    (response_begins response.start response.cseq.method status is) in
+    let other = text_begins ack.cseq.method ack (request_begins ack.start ack.cseq.method so) in
+    not_both (same_word (codes "SIP/2.0") (codes "ACK") one.0 other.0 version_spaces ack_spaces
+    (sym one.1 ∙ (same ∙ (other.1 ∙ ap (λ word. word ++ 32 ∷ other.0) method))))

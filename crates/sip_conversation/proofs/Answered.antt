@@ -1,19 +1,17 @@
 -- A response that an agent says is its user's answer, or its own, to a request that came.
-use Rattle.std.proofs.Common.{◌≡◌, ℕ, Bool, true, false, List, [], ◌∷◌, ◌++◌, refl, sym, ap, ◌∙◌, subst, arith, slice_index}
+use Rattle.std.proofs.Common.{◌≡◌, ℕ, Bool, true, false, List, [], refl, sym, ap, ◌∙◌, subst, arith}
 use Rattle.std.specs.Prelude.{Contains, IfSome, Option, None, Some, codes}
 use Rattle.std.specs.Result.{result_ok}
-use Rattle.std.specs.List.{AllByRecursion, flat_map}
+use Rattle.std.specs.List.{AllByRecursion}
 use Rattle.std.proofs.lemmas.Option.{same_Some}
 use Rattle.sip_message.specs.declared.addr.Addr.{Addr}
 use Rattle.sip_message.specs.declared.id.Id.{Id}
 use Rattle.sip_message.specs.declared.key.Key.{Key}
 use Rattle.sip_message.specs.declared.message.Message.{Message}
-use Rattle.sip_message.specs.declared.start_line.StartLine.{StartLine}
-use Rattle.sip_message.specs.declared.start_line.StartLine.TheVariants as start
 use Rattle.sip_message.specs.Content.{with_content_of}
-use Rattle.sip_message.specs.Message.{is_request_line, is_request_message}
+use Rattle.sip_message.specs.Message.{is_request_message}
 use Rattle.sip_message.specs.Response.{response_of}
-use Rattle.sip_message.specs.Written.{content_text, extensions_text, head_text, identity_text, number_line, routes_text, start_text, via_line, written}
+use Rattle.sip_message.specs.Written.{written}
 use Rattle.sip_model.specs.Laws.{EachKeyAlone}
 use Rattle.sip_model.specs.Machine.{given_at, tick_at}
 use Rattle.sip_transactions.specs.declared.input.Command.TheVariants as order
@@ -45,10 +43,11 @@ use Rattle.sip_conversation.specs.Messages.{CallSays, IsGiven, IsSaid}
 use Rattle.sip_conversation.specs.Messages.IsSaid.{Acknowledges, Asked, Direct, Trying}
 use Rattle.sip_conversation.specs.Answers.{AnswersARequest, IsAnswered, IsResponseTo, Responds, own_statuses}
 use Rattle.sip_conversation.specs.Answers.IsAnswered.{ByAgent, ByUser}
+use Rattle.sip_conversation.proofs.AckTexts.{no_ack}
 use Rattle.sip_conversation.proofs.Among.{all_of, each_of}
 use Rattle.sip_conversation.proofs.Bridge.{any_arrival}
 use Rattle.sip_conversation.proofs.CallSays.{InputGives, UserGives, all_say}
-use Rattle.sip_clients.proofs.ClientAsks.{IsAckText, IsAsk, OutSays}
+use Rattle.sip_clients.proofs.ClientAsks.{IsAsk, OutSays}
 use Rattle.sip_conversation.proofs.OneTransaction.{KindCame}
 use Rattle.sip_conversation.proofs.Unstamped.{no_status}
 use Rattle.sip_conversation.proofs.Ups.{ItemCame, TimedCame, UpCame}
@@ -82,62 +81,6 @@ answer_copies local held r =
     by_case true false = record { vias = refl; from = refl; call_id = refl; cseq = refl }
     by_case false true = record { vias = refl; from = refl; call_id = refl; cseq = refl }
     by_case false false = record { vias = refl; from = refl; call_id = refl; cseq = refl }
-
--- ---- the text of a response isn't that of an ACK
-
-abbrev Begins : ℕ → List ℕ → Type 0
-Begins byte text = (rest : List ℕ) × (text ≡ byte ∷ rest)
-
-begins_more : (byte : ℕ) (text more : List ℕ) → Begins byte text → Begins byte (text ++ more)
-begins_more byte text more begins =
-    (begins.0 ++ more, ap (λ bytes. bytes ++ more) begins.1)
-
-head_begins : (byte : ℕ) (m : Message) → Begins byte (start_text m.start m.cseq.method)
-    → Begins byte (head_text m)
-unfolding head_text
-head_begins byte m begins =
-    let first = start_text m.start m.cseq.method in
-    let vias = flat_map via_line m.vias in
-    begins_more byte (first ++ vias) (number_line (codes "Max-Forwards") m.max_forwards)
-    (begins_more byte first vias begins)
-
-text_begins : (byte : ℕ) (m : Message) → Begins byte (head_text m) → Begins byte (written m)
-unfolding written
-text_begins byte m begins =
-    let one = head_text m ++ identity_text m in
-    let two = one ++ routes_text m in
-    let three = two ++ extensions_text m in
-    begins_more byte three (content_text m)
-    (begins_more byte two (extensions_text m)
-    (begins_more byte one (routes_text m)
-    (begins_more byte (head_text m) (identity_text m) begins)))
-
-response_begins : (line : StartLine) (method : List ℕ) (status : ℕ)
-    → status_of line ≡ Some status → Begins 83 (start_text line method)
-unfolding start_text
-response_begins (start.Request uri) method status is = absurd cc
-response_begins (start.Response code reason) method status is = (_, refl)
-
-ack_line : (line : StartLine) → is_request_line line ≡ true
-    → Begins 65 (start_text line (codes "ACK"))
-unfolding start_text
-ack_line (start.Request uri) is = (_, refl)
-ack_line (start.Response code reason) is = absurd cc
-
-not_both : (first : ℕ) → first ≡ 83 → first ≡ 65 → ⊥
-not_both first one other = absurd (omega arith)
-
-no_ack : (response : Message) (status : ℕ) → status_of response.start ≡ Some status
-    → IsAckText (written response) → ⊥
-no_ack response status is text =
-    let ack = text.0 in
-    let first : List ℕ → ℕ = λ bytes. slice_index bytes 0 in
-    let one = text_begins 83 response (head_begins 83 response
-    (response_begins response.start response.cseq.method status is)) in
-    let other = text_begins 65 ack (head_begins 65 ack
-    (subst (λ method. Begins 65 (start_text ack.start method)) (sym (text.2).method)
-    (ack_line ack.start (text.2).request))) in
-    not_both (first (written response)) (ap first one.1) (ap first (text.1 ∙ other.1))
 
 module _ (config : Config) (rounds : List Round) (Came : Message → Type 0) where
   -- ---- each answer
@@ -297,7 +240,8 @@ module _ (config : Config) (rounds : List Round) (Came : Message → Type 0) whe
         subst Answers same (out_says (call_out.Command id (order.Answer key message)) says) status
         is
     answered response (Direct to says) status is =
-        absurd (no_ack response status is (out_says (call_out.Direct to (written response)) says))
+        let text = out_says (call_out.Direct to (written response)) says in
+        absurd (no_ack response text.0 status is (text.2).request (text.2).method text.1)
     answered response (Trying key id request reply_to given asks same) status is =
         subst Answers (sym same)
         (own_says 100 (0, omega arith, refl) (codes "Trying") request (codes "")

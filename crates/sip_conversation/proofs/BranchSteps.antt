@@ -29,7 +29,7 @@ use Rattle.sip_common.specs.declared.pending_request.PendingRequest.{PendingRequ
 use Rattle.sip_common.specs.declared.pending_request.PendingRequest.TheVariants.{Ack, Prack}
 use Rattle.sip_common.specs.declared.refusal.Refusal.{Refusal}
 use Rattle.sip_common.specs.declared.refusal.Refusal.TheVariants.{AlreadyFinal, BadMethod, NoSuchRequest, NothingToAck, NothingToPrack}
-use Rattle.sip_common.proofs.Each.{each_but_one, each_changed, each_set, found_one}
+use Rattle.sip_common.proofs.Each.{both, each_but_one, each_changed, each_set, found_one}
 use Rattle.sip_common.proofs.Starts.{early_starts, ended_starts, none_of_both, starts}
 use Rattle.sip_clients.specs.Client.{Clients, ClientTaken, Side}
 use Rattle.sip_clients.specs.Rules.Ends.{request_is_lost, request_over}
@@ -40,7 +40,7 @@ use Rattle.sip_clients.specs.declared.client.Cancelling.{Cancelling}
 use Rattle.sip_clients.specs.declared.client.Cancelling.TheVariants.{NotAsked, Sent, Waits}
 use Rattle.sip_clients.specs.declared.client.Client.{Client}
 use Rattle.sip_clients.specs.declared.event.Event.{Event}
-use Rattle.sip_conversation.proofs.Branches.{AreOwn, Comes, Done, Own, Say, cancel_own, either, first_holds, found_or, next_own, no_command, outcome_own, silent_say, start_own, starts_own}
+use Rattle.sip_conversation.proofs.Branches.{AreOwn, Comes, Done, Own, OutSays, Say, cancel_own, either, first_holds, found_or, next_own, no_command, outcome_own, silent_say, start_own, starts_own}
 
 -- the type of what a response is with all that comes up with it
 abbrev Domain : {A B : Type 0} → (A → B) → Type 0
@@ -64,15 +64,14 @@ module _ (seed call_id : List ℕ) (Came : Id → Type 0) where
   abbrev Says : List CallOut → Type 0
   Says = Say seed call_id Came
 
+  abbrev OutIsOwn : CallOut → Type 0
+  OutIsOwn = OutSays seed call_id Came
+
   abbrev ComesOf : Event → Type 0
   ComesOf = Comes seed call_id Came
 
   abbrev pub Taken : ClientTaken → Type 0
   Taken taken = Done seed call_id Came ((taken.0).clients, taken.1)
-
-  says_both : (xs ys : List CallOut) → Says xs → Says ys → Says (xs ++ ys)
-  says_both [] ys one other = other
-  says_both (x ∷ xs) ys one other = (one.0, says_both xs ys one.1 other)
 
   dialog_found : (name : DialogId) (dialogs : Dialogs) → AreDialogsOf call_id dialogs
       → (held : HeldDialog) → lookup (is_dialog_id name) dialogs ≡ Some held
@@ -107,9 +106,9 @@ module _ (seed call_id : List ℕ) (Came : Id → Type 0) where
         starts_so.0,
         either (λ (ended : Dialogs × List CallOut). Says (sent.1 ++ ended.1))
             (bytes_eq method (codes "BYE")) (ended_at name dialogs) (dialogs, [])
-            (λ bye. says_both sent.1 (ended_at name dialogs).1 starts_so.1
+            (λ bye. both OutIsOwn sent.1 (ended_at name dialogs).1 starts_so.1
             (silent_say seed call_id Came (ended_at name dialogs).1 (ended_starts name dialogs)))
-            (λ other. says_both sent.1 [] starts_so.1 tt),
+            (λ other. both OutIsOwn sent.1 [] starts_so.1 tt),
       ))
 
   pub request_own : (event : Event) (command : DialogRequest) (side : Side) → ComesOf event
@@ -368,11 +367,6 @@ module _ (seed call_id : List ℕ) (Came : Id → Type 0) where
       (λ other. record { request = its; outs = (tt, tt); prack = tt })
       (λ early. dialog_own reply client dialogs comes its own)))))
 
-  both_own : (xs ys : List Client) → AllByRecursion OwnRequest xs → AllByRecursion OwnRequest ys
-      → AllByRecursion OwnRequest (xs ++ ys)
-  both_own [] ys one other = other
-  both_own (x ∷ xs) ys one other = (one.0, both_own xs ys one.1 other)
-
   response_own : (event : Event) (id : Id) (of : List ℕ) (response : Message) (side : Side)
       (status : ℕ) (client : Client) → ComesOf event → OwnRequest client
       → AreDialogsOf call_id side.dialogs → OwnClients side.clients
@@ -408,7 +402,7 @@ module _ (seed call_id : List ℕ) (Came : Id → Type 0) where
             (λ over. each_but_one OwnRequest (is_id id) side.clients own),
         so.outs,
       )
-      (both_own done.prack cancels so.prack
+      (both OwnRequest done.prack cancels so.prack
       (either (AllByRecursion OwnRequest) final []
       (option_map_or (λ asked_by. cancel_request asked_by client ∷ []) waiting [])
       (λ final. tt)

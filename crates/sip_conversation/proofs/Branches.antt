@@ -35,7 +35,7 @@ use Rattle.sip_common.specs.declared.item.CallOut.TheVariants as out
 use Rattle.sip_common.specs.declared.pending_request.PendingRequest.{PendingRequest}
 use Rattle.sip_common.specs.declared.pending_request.PendingRequest.TheVariants.{Ack, Prack}
 use Rattle.sip_common.specs.declared.refusal.Refusal.{Refusal}
-use Rattle.sip_common.proofs.Each.{each_inserted}
+use Rattle.sip_common.proofs.Each.{both, each_inserted}
 use Rattle.sip_common.proofs.Starts.{starts}
 use Rattle.sip_clients.specs.Client.{Clients}
 use Rattle.sip_clients.specs.Event.{branch_of}
@@ -177,15 +177,11 @@ module _ (seed call_id : List ℕ) (Came : Id → Type 0) where
   abbrev pub Done : Clients × List CallOut → Type 0
   Done done = AreOwn done.0 × Say done.1
 
-  say_both : (xs ys : List CallOut) → Say xs → Say ys → Say (xs ++ ys)
-  say_both [] ys one other = other
-  say_both (x ∷ xs) ys one other = (one.0, say_both xs ys one.1 other)
-
   pub start_own : (done : Clients × List CallOut) (client : Client) → Done done → Own client
       → Done (start done client)
   start_own done client own its = (
     each_inserted Own is_id client.id client its done.0 own.0,
-    say_both done.1 _ own.1 (record { own = its; key_is = refl; of_is = refl }, tt),
+    both OutSays done.1 _ own.1 (record { own = its; key_is = refl; of_is = refl }, tt),
   )
 
   pub starts_own : (clients : List Client) (done : Clients × List CallOut) → Done done

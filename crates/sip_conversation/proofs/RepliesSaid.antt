@@ -174,7 +174,7 @@ module _ (configs : Side → Config) (fair : IsFair configs) (before : List Turn
       record {
         response = so.said;
         started = begun;
-        own_call = own_call configs fair.calls before turn call_id status (tag_of response.from)
+        call_id_is = own_call configs fair.calls before turn call_id status (tag_of response.from)
             (tag_of response.to) response.body so.said begun;
       }
   up_said call_id kind.Timeout came started = tt

@@ -10,7 +10,7 @@ use Rattle.sip_message.specs.declared.key.Key.TheVariants as key
 use Rattle.sip_message.specs.declared.message.Message.{Message}
 use Rattle.sip_message.specs.declared.start_line.StartLine.{StartLine}
 use Rattle.sip_message.specs.declared.start_line.StartLine.TheVariants as start
-use Rattle.sip_message.specs.Key.{key_cmp, side_of}
+use Rattle.sip_message.specs.Key.{client_key, key_cmp, side_of}
 use Rattle.sip_message.specs.MessageKey.{key_at, key_of_message}
 use Rattle.sip_message.specs.TopVia.{top_branch, top_host, top_port}
 use Rattle.sip_model.specs.Laws.{EachKeyAlone}
@@ -42,18 +42,19 @@ use Rattle.sip_conversation.proofs.Rounds.{ArrivalFits, OutFits, RoundFits, Time
 use Rattle.sip_conversation.proofs.StartedUps.{UpIsStarted, WasStarted, ups_started}
 use Rattle.sip_conversation.proofs.Ups.{OutCame}
 
--- the key of a response is a client's
-client_side : (line : StartLine) (branch host : List ℕ) (port : ℕ) (method : List ℕ) (status : ℕ)
-    → status_of line ≡ Some status → side_of (key_at line branch host port method) ≡ 0
-client_side (start.Request uri) branch host port method status is = absurd cc
-client_side (start.Response code reason) branch host port method status is = refl
+-- the key of a response is one of a client
+client_parts : (line : StartLine) (branch host : List ℕ) (port : ℕ) (method : List ℕ) (status : ℕ)
+    → status_of line ≡ Some status
+    → key_at line branch host port method ≡ client_key branch method
+client_parts (start.Request uri) branch host port method status is = absurd cc
+client_parts (start.Response code reason) branch host port method status is = refl
 
-is_client : (message : Message) (status : ℕ) → status_of message.start ≡ Some status
-    → side_of (key_of_message message) ≡ 0
+pub response_key : (response : Message) (status : ℕ) → status_of response.start ≡ Some status
+    → key_of_message response ≡ client_key (top_branch response) response.cseq.method
 unfolding key_of_message
-is_client message status is =
-    client_side message.start (top_branch message) (top_host message) (top_port message)
-    message.cseq.method status is
+response_key response status is =
+    client_parts response.start (top_branch response) (top_host response) (top_port response)
+    response.cseq.method status is
 
 abbrev Any : Message → Type 0
 Any message = Unit {0}
@@ -146,7 +147,7 @@ module _ (config : Config) (rounds : List Round) where
     server_kind call_id (kind.Request request reply_to) key = tt
     server_kind call_id (kind.Ack ack) key = tt
     server_kind call_id (kind.Response response) key = λ status is.
-        absurd (not_both (side_of (key_of_message response)) (is_client response status is)
+        absurd (not_both (side_of (key_of_message response)) (ap side_of (response_key response status is))
         (ap side_of key ∙ apart))
     server_kind call_id kind.Timeout key = tt
     server_kind call_id kind.Failed key = tt

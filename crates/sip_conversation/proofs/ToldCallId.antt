@@ -1,27 +1,24 @@
 -- A response that is told has the Call-ID with which it is told.
 use Rattle.std.proofs.Common.{◌≡◌, ℕ, Bool, true, List, [], ◌∷◌, ◌++◌, refl, sym, ap, ◌∙◌, subst}
-use Rattle.std.specs.Prelude.{Some, if◌then◌else◌}
+use Rattle.std.specs.Prelude.{if◌then◌else◌}
 use Rattle.std.specs.List.{slice_get}
 use Rattle.std.specs.Option.{option_map_or}
 use Rattle.std.proofs.lemmas.Bool.{false≢true}
 use Rattle.sip_message.specs.Key.{client_key}
 use Rattle.sip_message.specs.Message.{is_request_message}
-use Rattle.sip_message.specs.MessageKey.{key_at, key_of_message}
+use Rattle.sip_message.specs.MessageKey.{key_of_message}
 use Rattle.sip_message.specs.Source.{stamped, stamped_vias}
-use Rattle.sip_message.specs.TopVia.{top_branch, top_host, top_port}
+use Rattle.sip_message.specs.TopVia.{top_branch}
 use Rattle.sip_message.specs.Via.{branch_of}
 use Rattle.sip_message.specs.declared.addr.Addr.{Addr}
 use Rattle.sip_message.specs.declared.cseq.CSeq.{CSeq}
 use Rattle.sip_message.specs.declared.message.Message.{Message}
-use Rattle.sip_message.specs.declared.start_line.StartLine.{StartLine}
-use Rattle.sip_message.specs.declared.start_line.StartLine.TheVariants as start
 use Rattle.sip_message.specs.declared.via.Via.{Via}
 use Rattle.sip_message.proofs.Stamps.{stamp_leaves}
 use Rattle.sip_model.specs.Laws.{EachKeyAlone}
 use Rattle.sip_model.specs.Machine.{tick_at}
 use Rattle.sip_model.proofs.Ordered.{by_bool}
 use Rattle.sip_transactions.specs.declared.input.Input.TheVariants.{Start}
-use Rattle.sip_clients.specs.Clients.{status_of}
 use Rattle.sip_calls.specs.Call.{call_machine}
 use Rattle.sip_calls.specs.CallShard.{call_cmp}
 use Rattle.sip_round.specs.declared.config.Config.{Config}
@@ -32,6 +29,7 @@ use Rattle.sip_conversation.specs.Messages.{ComesUnchanged, IsGiven, IsSaid, com
 use Rattle.sip_conversation.specs.Replies.{AreCounted, IsStartedFor, SaidResponse}
 use Rattle.sip_conversation.proofs.Longer.{rounds_of-append}
 use Rattle.sip_conversation.proofs.OneCallId.{one_call_id}
+use Rattle.sip_conversation.proofs.StartedFor.{response_key}
 
 -- ---- a request as it came, and as it was said
 
@@ -65,21 +63,6 @@ came_same source came said same asks =
     (λ is. subst (λ m. IsSame m said) (sym (same ∙ ap comes is)) (stamped_same source said is))
     (λ other. absurd (false≢true (sym other
     ∙ (ap is_request_message (sym (same ∙ ap comes other)) ∙ asks))))
-
--- ---- the key of a response
-
-client_parts : (line : StartLine) (branch host : List ℕ) (port : ℕ) (method : List ℕ) (status : ℕ)
-    → status_of line ≡ Some status
-    → key_at line branch host port method ≡ client_key branch method
-client_parts (start.Request uri) branch host port method status is = absurd cc
-client_parts (start.Response code reason) branch host port method status is = refl
-
-response_key : (response : Message) (status : ℕ) → status_of response.start ≡ Some status
-    → key_of_message response ≡ client_key (top_branch response) response.cseq.method
-unfolding key_of_message
-response_key response status is =
-    client_parts response.start (top_branch response) (top_host response) (top_port response)
-    response.cseq.method status is
 
 peer_peer : (s : Side) → peer (peer s) ≡ s
 peer_peer side.One = refl

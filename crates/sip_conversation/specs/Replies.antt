@@ -56,7 +56,7 @@ pub record ToldResponse (configs : Side → Config) (before : List Turn) (turn :
   pub response : SaidResponse configs before turn.side status local_tag remote_tag body
   pub started : IsStartedFor (configs turn.side) (rounds_of turn.side (before ++ turn ∷ []))
       call_id response.original
-  pub own_call : AreCounted (configs turn.side) (rounds_of turn.side (before ++ turn ∷ []))
+  pub call_id_is : AreCounted (configs turn.side) (rounds_of turn.side (before ++ turn ∷ []))
       → response.original.call_id ≡ call_id
 
 -- so is each response that the user of a turn's side is told of, up to the turn's end
