@@ -1,6 +1,6 @@
 //! What `ua listen`, `ua call` and `ua agent` do.
 
-ghost use Rattle.std.specs.Prelude.{IfOk, IfSome};
+ghost use Rattle.std.specs.Prelude.{◌≡◌, IfOk, IfSome};
 ghost use Rattle.std.specs.List.{list_all};
 ghost use Rattle.sip_message.specs.Addr.{addr_text};
 ghost use Rattle.sip_program.specs.Scheme.{is_scheme, is_scheme_byte};
