@@ -28,3 +28,4 @@ pub mod CallBranches
 pub mod Origins
 pub mod OneCallId
 pub mod ToldCallId
+pub mod SentRseqs
