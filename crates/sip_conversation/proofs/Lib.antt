@@ -29,3 +29,4 @@ pub mod Origins
 pub mod OneCallId
 pub mod ToldCallId
 pub mod SentRseqs
+pub mod PracksFirst
