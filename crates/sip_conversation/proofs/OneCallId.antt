@@ -142,7 +142,7 @@ all_give (timed ∷ inputs) = (input_gives timed.input, all_give inputs)
 
 module _ (config : Config)
     (alone : EachKeyAlone call_cmp (call_machine (calls_of config)) tick_at) where
-  out_replies : (rounds : List Round) (out : CallOut) → CallSays config rounds out
+  pub out_replies : (rounds : List Round) (out : CallOut) → CallSays config rounds out
       → OutSays IsReply out
   out_replies rounds out says =
       each_of (OutSays IsReply) (said_of_call config rounds says.0) out
