@@ -29,7 +29,6 @@ pub mod Origins
 pub mod OneCallId
 pub mod ToldCallId
 pub mod SentRseqs
-pub mod PracksFirst
 pub mod PracksCame
 pub mod PracksServed
 pub mod PracksOfCalls

@@ -254,10 +254,10 @@ module _ (Brought : Message → Type 0) where
             (λ one among here holds. cancel_holds Brought now one holds) all;
         outs = outs_both ok (out.Command held.id (order.Answer held.key terminated)
             ∷ out.Notice (notice.Cancel call_id held.id) ∷ after.1) of_ok (
-          none_given Brought (response_of held.request 487 (codes "Request Terminated") held.tag)
-              refl,
-          (tt, early_given held.id state.dialogs),
-        );
+              none_given Brought (response_of held.request 487 (codes "Request Terminated") held.tag)
+                  refl,
+              (tt, early_given held.id state.dialogs),
+            );
       })
 
   cancel_done : (state : State) (call_id : List ℕ) (arrival : Arrival) (now : ℕ)
