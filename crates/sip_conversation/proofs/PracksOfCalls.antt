@@ -1,7 +1,7 @@
 -- A call answers with an RSeq above 1 only after a PRACK came to it whose RAck has RSeq 1 and the
 -- CSeq of that answer.
-use Rattle.std.proofs.Common.{◌≡◌, ◌⊎◌, ⊎_elim, ℕ, Bool, true, false, cond, List, [], ◌∷◌, ◌++◌, map, refl, sym, ap, ◌∙◌, subst, append_assoc, arith}
-use Rattle.std.specs.Prelude.{Contains, IfSome, Option, None, Some, filter_map}
+use Rattle.std.proofs.Common.{◌≡◌, ⊎_elim, ℕ, Bool, true, false, cond, List, [], ◌∷◌, ◌++◌, map, refl, sym, ap, ◌∙◌, subst, append_assoc, arith}
+use Rattle.std.specs.Prelude.{Contains, Option, None, Some, filter_map}
 use Rattle.std.specs.List.{AllByRecursion}
 use Rattle.std.specs.List.Sorted.{IsStrictlySortedBy}
 use Rattle.std.specs.declared.cmp.Ordering.TheVariants.{Less}
@@ -36,13 +36,13 @@ use Rattle.sip_clients.proofs.RuleRequests.{ack_same, cancel_same, invite_same, 
 use Rattle.sip_clients.proofs.RuleResponses.{response_same}
 use Rattle.sip_calls.specs.declared.call.Call.{Call}
 use Rattle.sip_calls.specs.declared.calls.Calls.{Calls}
-use Rattle.sip_calls.specs.Call.{CallItem, CallTaken, Taken, call_machine, call_step, call_tick, event_of, item_of_call, kept, made_tag, new_call, received, side_of}
+use Rattle.sip_calls.specs.Call.{CallItem, CallTaken, call_machine, call_step, call_tick, event_of, item_of_call, kept, made_tag, new_call, received, side_of}
 use Rattle.sip_calls.specs.HeldById.{RequestsRise}
 use Rattle.sip_calls.specs.HeldRequests.{request_brought, requests_held}
 use Rattle.sip_calls.specs.Histories.{call_from}
 use Rattle.sip_calls.specs.Sides.{by_server, holds_any}
 use Rattle.sip_calls.proofs.HeldById.{held_by_id}
-use Rattle.sip_conversation.proofs.Among.{each_of, first_or_later, none_among}
+use Rattle.sip_conversation.proofs.Among.{first_or_later, none_among}
 use Rattle.sip_conversation.proofs.PracksCame.{Holds, OutGiven, OutsGiven, served_tick}
 use Rattle.sip_conversation.proofs.PracksServed.{Apart, KindBrought, kind_done, respond_done}
 

@@ -1,18 +1,15 @@
 -- A reliable provisional response with an RSeq above 1 that the other side said, it said after this
 -- side said the PRACK of the response of RSeq 1 to the same INVITE.
 use Rattle.std.proofs.Common.{◌≡◌, ℕ, ◌<◌, Bool, true, false, ◌&&◌, not, ◌==◌, List, [], refl, sym, ap, ◌∙◌, subst}
-use Rattle.std.specs.Prelude.{Contains, IfSome, Option, None, Some, codes, if◌then◌else◌}
+use Rattle.std.specs.Prelude.{IfSome, Option, None, Some, if◌then◌else◌}
 use Rattle.std.specs.List.{AllByRecursion}
 use Rattle.sip_message.specs.Message.{is_request_message}
 use Rattle.sip_message.specs.Source.{stamped}
 use Rattle.sip_message.specs.Written.{written}
 use Rattle.sip_message.specs.declared.addr.Addr.{Addr}
-use Rattle.sip_message.specs.declared.cseq.CSeq.{CSeq}
 use Rattle.sip_message.specs.declared.message.Message.{Message}
-use Rattle.sip_message.specs.declared.rack.RAck.{RAck}
 use Rattle.sip_model.specs.Laws.{EachKeyAlone}
-use Rattle.sip_model.specs.Machine.{Timed, outputs_from, tick_at}
-use Rattle.sip_model.proofs.Ordered.{by_bool}
+use Rattle.sip_model.specs.Machine.{tick_at}
 use Rattle.sip_transactions.specs.declared.input.Command.TheVariants as order
 use Rattle.sip_transactions.specs.declared.output.Kind.{Kind}
 use Rattle.sip_transactions.specs.declared.output.Kind.TheVariants as kind

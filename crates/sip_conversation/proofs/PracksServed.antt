@@ -34,7 +34,7 @@ use Rattle.sip_served.specs.Rules.Responses.{dialogs_after, held_after, makes_di
 use Rattle.sip_served.specs.State.{ServedTaken, State, changed_at, changed_first, has_id}
 use Rattle.sip_conversation.proofs.Among.{among_first, among_later, each_of}
 use Rattle.sip_conversation.proofs.Branches.{either, found_or}
-use Rattle.sip_conversation.proofs.PracksCame.{Given, Holds, OutGiven, OutsGiven, Pracked, ServedHolds, ack_holds, answer_given, answer_holds, cancel_holds, may_send, none_given, prack_holds}
+use Rattle.sip_conversation.proofs.PracksCame.{Holds, OutGiven, OutsGiven, Pracked, ServedHolds, ack_holds, answer_given, answer_holds, cancel_holds, may_send, none_given, prack_holds}
 
 -- ---- lists
 

@@ -1,6 +1,6 @@
 -- The RSeqs of the reliable provisional responses that went out to a held request are 1, 2, 3 and so
 -- on.
-use Rattle.std.proofs.Common.{◌≡◌, ℕ, suc, zero, ◌+◌, Bool, true, false, cond, List, [], ◌∷◌, ◌++◌, refl, sym, ap, ◌∙◌, arith}
+use Rattle.std.proofs.Common.{◌≡◌, ℕ, suc, zero, ◌+◌, Bool, true, false, List, [], ◌∷◌, ◌++◌, refl, sym, ap, ◌∙◌, arith}
 use Rattle.std.specs.Prelude.{Option, None, Some, find, fold, is_some, if◌then◌else◌}
 use Rattle.std.specs.Result.{result_ok}
 use Rattle.sip_message.specs.declared.id.Id.{Id}
@@ -10,7 +10,6 @@ use Rattle.sip_reliable.specs.declared.send_fault.SendFault.{SendFault}
 use Rattle.sip_reliable.specs.declared.tick.Tick.{Tick}
 use Rattle.sip_reliable.specs.declared.tick.Tick.TheVariants as tick
 use Rattle.sip_reliable.specs.Ledger.{ok_unless, send_answer, send_fault}
-use Rattle.sip_transactions.specs.declared.input.Command.TheVariants as order
 use Rattle.sip_common.specs.declared.command.Respond.{Respond as Answer}
 use Rattle.sip_common.specs.declared.item.CallOut.{CallOut}
 use Rattle.sip_common.specs.declared.item.CallOut.TheVariants as out
