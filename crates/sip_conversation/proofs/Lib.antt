@@ -28,7 +28,6 @@ pub mod CallBranches
 pub mod Origins
 pub mod OneCallId
 pub mod ToldCallId
-pub mod SentRseqs
 pub mod PracksCame
 pub mod PracksServed
 pub mod PracksOfCalls
