@@ -261,16 +261,19 @@ fn ended<'a, E: Write>(
             "ua: {lost} notices lost, since the output wasn't read"
         );
     }
-    match (end, error) {
-        (Ok(()), None) => Ok(()),
-        (Ok(()) | Err(UaFault::Output), Some(error)) => Err(Failure::new(
+    let is_unwritten = end.is_ok() || end == Err(UaFault::Output);
+    match error {
+        Some(error) if is_unwritten => Err(Failure::new(
             TalkFault::Ua(UaFault::Output),
             Cause::Stream {
                 name: "standard output",
                 error,
             },
         )),
-        (Err(fault), _) => Err(Failure::unknown(TalkFault::Ua(fault))),
+        _ => match end {
+            Ok(()) => Ok(()),
+            Err(fault) => Err(Failure::unknown(TalkFault::Ua(fault))),
+        },
     }
 }
 
