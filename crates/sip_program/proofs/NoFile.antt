@@ -116,7 +116,7 @@ told_in_3 kind repairs (Some input) (Err Input) status ends (inr tells) three =
 told_in_3 kind repairs (Some input) (Err (Events fault)) status ends (inr tells) three =
     absurd (a_file_fault fault (sym ends ∙ three))
 told_in_3 kind repairs (Some input) (Err (Round index fault)) status ends (inr (inl none)) three =
-    absurd (out_of_memory fault none.0 none.1.0 (sym ends ∙ three))
+    absurd (out_of_memory fault none.0 none.1 (sym ends ∙ three))
 told_in_3 kind repairs (Some input) (Err (Round index fault)) status ends (inr (inr told)) three =
     (index, fault, told)
 told_in_3 kind repairs (Some input) (Err Output) status ends (inr tells) three =
