@@ -4,6 +4,7 @@
 
 mod answers;
 mod cancel;
+mod chacha;
 mod client;
 mod clients;
 mod commands;

@@ -3,9 +3,7 @@
 ghost use Rattle.std.specs.Prelude.{◌≡◌, ◌<◌, ◌≤◌, ◌^◌, ◌++◌, IfOk, OnOk};
 ghost use Rattle.sip_clients.specs.Name.{hex, name_of, word_of_name};
 
-use rand_chacha::ChaCha20Rng;
-use rand_core::SeedableRng;
-use rand_core::utils::NextWord;
+use crate::chacha::word_at;
 use sip_message::{Id, Token};
 use sip_text::{Text, hex_digit};
 use std::alloc::{AllocError, Global};
@@ -51,10 +49,7 @@ fn word_of(seed: [u8; 32], id: Id, index: u8) -> u32
     requires { index < 16 }
     ensures { result ≡ word_of_name seed id index }
 {
-    let mut rng = ChaCha20Rng::from_seed(seed);
-    rng.set_stream(id.round);
-    rng.set_word_pos(16 * u128::from(id.place) + u128::from(index));
-    rng.next_word()
+    word_at(&seed, id.round, u64::from(id.place), index)
 }
 
 // Appends the last so many hexadecimal digits of a number.

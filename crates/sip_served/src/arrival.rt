@@ -148,8 +148,8 @@ fn is_named_by(held: &HeldRequest, rack: &RAck) -> bool
         && held.ledger.waits_for(rack.rseq)
 }
 
-// Whether the same request is held.
-fn merges(requests: &[HeldRequest], request: &Message) -> bool
+/// Whether the same request is held.
+pub(crate) fn merges(requests: &[HeldRequest], request: &Message) -> bool
     ensures { result ≡ list_any (arrival.is_merged request.now) requests.now }
 {
     requests.iter().any(|held| is_merged(held, request))
@@ -163,8 +163,8 @@ fn is_merged(held: &HeldRequest, request: &Message) -> bool
         && held.request.get().cseq.method == request.cseq.method
 }
 
-// Whether it requires an option that the agent doesn't know.
-fn requires_unknown(request: &Message) -> bool
+/// Whether it requires an option that the agent doesn't know.
+pub(crate) fn requires_unknown(request: &Message) -> bool
     ensures { result ≡ list_any is_unknown_option request.now.require }
 {
     request

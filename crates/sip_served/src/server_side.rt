@@ -1,6 +1,8 @@
 //! The server side of one Call-ID: what it holds, and what each item makes of it.
 
-ghost use Rattle.std.specs.Prelude.{◌≡◌, ◌<◌, ◌≤◌, ◌^◌, ◌∷◌, IfOk, OnOk, Some, filter, length, slice_set};
+ghost use Rattle.std.specs.Prelude.{◌≡◌, ◌<◌, ◌≤◌, ◌^◌, [], ◌∷◌, ◌++◌, IfOk, OnOk, Some, false, filter, length, slice_set};
+ghost use Rattle.sip_common.specs.Requests.{has_to_tag};
+ghost use Rattle.sip_common.specs.declared.item.CallOut.TheVariants as call_out;
 ghost use Rattle.sip_served.specs.Acknowledgment.{ack_taken};
 ghost use Rattle.sip_served.specs.Arrival as arrived;
 ghost use Rattle.sip_served.specs.Cancel as cancels;
@@ -15,7 +17,7 @@ ghost use Rattle.sip_served.specs.Tick.{is_kept_at};
 ghost use Rattle.sip_served.specs.declared.held_request.HeldRequest.{HeldRequest};
 
 use crate::acknowledgment::{acknowledge, acknowledged_invite, prack};
-use crate::arrival::{Arrival, ArrivalCase, case_of};
+use crate::arrival::{Arrival, ArrivalCase, case_of, merges, requires_unknown};
 use crate::cancel::{
     cancel_accepted, cancelled_request, is_unanswered_invite, request_terminated, terminate,
     termination_told,
@@ -30,8 +32,10 @@ use crate::tick::{is_kept, next_due, tick_requests};
 use indexmap::IndexMap;
 use sip_common::dialogs::{dialog_of_request, end, end_early, visit};
 use sip_common::outputs::{joined, one, refused, tell};
-use sip_common::request::{dialog_id_of, has_to_tag, is_bye, is_cancel, own_tag};
-use sip_common::{CallOut, DialogId, Dialogs, Item, Notice, Refusal, Respond, UserCommand};
+use sip_common::request::{dialog_id_of, has_to_tag, is_bye, is_cancel, is_prack, own_tag};
+use sip_common::{
+    CallOut, DialogId, DialogReference, Dialogs, Item, Notice, Refusal, Respond, UserCommand,
+};
 use sip_message::{Addr, CallId, Id, Message, Token};
 use sip_text::Boxed;
 use sip_transactions::{Command, Kind, Up};
@@ -249,6 +253,41 @@ impl ServerSide {
         ensures { IfOk result (λ outs. (self.new, outs.items)
             ≡ arrived.request_taken self.old call_id arrival) }
     {
+        if has_to_tag(arrival.request.get()) {
+            self.take_inside(call_id, arrival)
+        } else {
+            self.take_outside(call_id, arrival)
+        }
+    }
+
+    // A request outside of any dialog: no dialog is looked for, and so none is named.
+    #[tactic(auto, using(crate::proofs::Outside::merged_taken, crate::proofs::Outside::unknown_taken, crate::proofs::Outside::lone_taken, crate::proofs::Outside::user_taken))]
+    fn take_outside(
+        &mut self,
+        call_id: CallId,
+        arrival: Arrival,
+    ) -> Result<Vec<CallOut>, AllocError>
+        requires { has_to_tag arrival.request ≡ false }
+        ensures { IfOk result (λ outs. (self.new, outs.items)
+            ≡ arrived.request_taken self.old call_id arrival) }
+    {
+        let request = arrival.request.get();
+        if merges(self.requests.as_slice(), request) {
+            loop_detected(self.alloc, &arrival)
+        } else if requires_unknown(request) {
+            bad_extension(self.alloc, &arrival)
+        } else if is_bye(request) || is_prack(request) {
+            no_such_dialog(self.alloc, &arrival)
+        } else {
+            self.hold(call_id, None, arrival)
+        }
+    }
+
+    // A request inside of a dialog.
+    fn take_inside(&mut self, call_id: CallId, arrival: Arrival) -> Result<Vec<CallOut>, AllocError>
+        ensures { IfOk result (λ outs. (self.new, outs.items)
+            ≡ arrived.request_taken self.old call_id arrival) }
+    {
         let name = dialog_id_of(self.alloc, arrival.request.get(), &arrival.tag)?;
         let case = case_of(
             self.requests.as_slice(),
@@ -332,7 +371,8 @@ impl ServerSide {
             ≡ arrived.for_user self.old call_id name arrival) }
     {
         let ends = has_to_tag(arrival.request.get()) && is_bye(arrival.request.get());
-        let held = self.hold(call_id, &name, arrival)?;
+        let dialog = dialog_of_request(&self.dialogs, arrival.request.get(), &name)?;
+        let held = self.hold(call_id, dialog, arrival)?;
         if !ends {
             return Ok(held);
         }
@@ -340,18 +380,20 @@ impl ServerSide {
         joined(held, ended)
     }
 
-    // It is held and told.
+    // It is held, as one of this dialog if of any, and told.
     fn hold(
         &mut self,
         call_id: CallId,
-        name: &DialogId,
+        dialog: Option<DialogReference>,
         arrival: Arrival,
     ) -> Result<Vec<CallOut>, AllocError>
-        ensures { IfOk result (λ outs. (self.new, outs.items)
-            ≡ arrived.request_held self.old call_id name.now arrival) }
+        ensures held { OnOk result (self.new ≡ record self.old {
+          requests = self.old.requests ++ arrived.held_first dialog arrival ∷ [];
+        }) }
+        ensures told { IfOk result (λ outs. outs.items
+            ≡ call_out.Notice (arrived.request_notice call_id arrival) ∷ []) }
     {
         let notice = notice_of_request(self.alloc, call_id, &arrival)?;
-        let dialog = dialog_of_request(&self.dialogs, arrival.request.get(), name)?;
         // Most calls hold one request, and a list that grows by itself begins with four places.
         if self.requests.is_empty() {
             self.requests.reserve_exact(1)?;
