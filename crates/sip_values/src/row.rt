@@ -1,10 +1,11 @@
 //! How the value of a header is read.
 ghost use Rattle.std.specs.Prelude.{◌≡◌, IfOk};
 ghost use Rattle.sip_text.specs.Forms.{passing, reading_of, split};
+ghost use Rattle.sip_text.specs.Token.{is_token};
 ghost use Rattle.sip_text.specs.Trimmed as ends;
 
-use sip_parts::{Checked, Rule};
-use sip_text::{Separator, Series, trimmed};
+use sip_parts::{Checked, Rule, Token};
+use sip_text::{Separator, Series, is_token, trimmed};
 use std::alloc::{AllocError, Global};
 
 /// A form of text, and the value that a text in this form has.
@@ -33,6 +34,17 @@ pub(crate) fn checked_in<R: Rule>(
         return Ok(None);
     }
     Ok(Some(Checked::copy_of(alloc, inside)?))
+}
+
+/// The token without the white space at its ends, or None where it is none then.
+pub(crate) fn token_in(alloc: Global, text: &[u8]) -> Result<Option<Token>, AllocError>
+    ensures { IfOk result (λ made. made ≡ reading_of (passing is_token) ends.trimmed text.now) }
+{
+    let inside = trimmed(text);
+    if !is_token(inside) {
+        return Ok(None);
+    }
+    Ok(Some(Token::copy_of(alloc, inside)?))
 }
 
 /// The values of the pieces between separators, or None where a piece isn't in the form.

@@ -2,8 +2,8 @@
 ghost use Rattle.std.specs.Prelude.{◌≡◌};
 
 use crate::numeral::{Numeral, numeral_in};
-use crate::row::{Row, checked_in};
-use sip_parts::{Token, TokenRule};
+use crate::row::{Row, token_in};
+use sip_parts::Token;
 use sip_text::{Separator, trimmed};
 use std::alloc::{AllocError, Global};
 
@@ -39,7 +39,7 @@ impl Row for CSeqRow {
         let Some(number) = numeral_in(number) else {
             return Ok(None);
         };
-        let Some(method) = checked_in::<TokenRule>(alloc, rest)? else {
+        let Some(method) = token_in(alloc, rest)? else {
             return Ok(None);
         };
         Ok(Some(CSeqDraft { number, method }))
