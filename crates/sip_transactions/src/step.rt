@@ -9,7 +9,7 @@ use crate::state::State;
 pub enum Next {
     /// The state stays.
     Same,
-    /// There is no state any more.
+    /// The transaction ends.
     Ended,
     /// The transaction is in this state.
     Become(State),
@@ -26,7 +26,7 @@ pub enum Handed {
     Timeout,
     /// That a send failed.
     Failed,
-    /// That a response is dropped, since no transaction waits for it.
+    /// Nothing: the response is dropped, since no transaction waits for it.
     NoTransaction,
 }
 

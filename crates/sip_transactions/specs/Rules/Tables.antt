@@ -36,8 +36,9 @@ abbrev pub row : Next → Handed → Sent → Due → Step
 row next handed sent due = record { next = next; handed = handed; sent = sent; due = due }
 
 -- INVITE client transaction: RFC 3261, section 17.1.1, and RFC 6026, section 7.2. The ACK of a 2xx
--- is sent by the call, not by it. A repeats the request, B ends the wait for a response, D absorbs
--- repeated responses, M passes on further 2xx.
+-- is sent by the call, not by it. A retransmits the request, B ends the wait for a response. While
+-- D runs, retransmitted responses get the ACK again; while M runs, further 2xx go up. `left`: what
+-- the rows above leave.
 abbrev pub invite_client : Option State → Trigger → Step
 invite_client None Start = row (To Calling) up.Nothing send.Given Both  -- +A +B
 invite_client None (Response any) = row Ended up.NoTransaction send.Nothing Clear
@@ -65,8 +66,8 @@ invite_client (Some Accepted) (Response 2xx) = row Same up.Message send.Nothing 
 invite_client (Some Accepted) TimeoutDue = row Ended up.Nothing send.Nothing Clear  -- !M
 invite_client state other = row Same up.Nothing send.Nothing Keep
 
--- Non-INVITE client transaction: RFC 3261, section 17.1.2. E repeats the request, F ends the wait
--- for a final response, K absorbs repeated responses.
+-- Non-INVITE client transaction: RFC 3261, section 17.1.2. E retransmits the request, F ends the
+-- wait for a final response. While K runs, retransmitted responses are absorbed.
 abbrev pub client : Option State → Trigger → Step
 client None Start = row (To Trying) up.Nothing send.Given Both  -- +E +F
 client None (Response any) = row Ended up.NoTransaction send.Nothing Clear
@@ -90,10 +91,11 @@ client (Some Proceeding) (Response left) =
 client (Some Completed) TimeoutDue = row Ended up.Nothing send.Nothing Clear  -- !K
 client state other = row Same up.Nothing send.Nothing Keep
 
--- INVITE server transaction: RFC 3261, section 17.2.1, and RFC 6026, section 7.1. G repeats the
--- response, H ends the wait for the ACK, I absorbs repeated ACKs, L absorbs repeated INVITEs after
--- a 2xx (the last row), lets further 2xx out and passes ACKs up. A 100 of the user isn't sent: the
--- last row. A failed send ends no server transaction (RFC 6026); own: the user is told of it.
+-- INVITE server transaction: RFC 3261, section 17.2.1, and RFC 6026, section 7.1. G retransmits the
+-- response, H ends the wait for the ACK. While I runs, further ACKs are absorbed. While L runs,
+-- retransmitted INVITEs are absorbed (the last row), further 2xx go out, and ACKs go up. The user's
+-- 100 isn't sent (the last row). A failed send ends no server transaction (RFC 6026); the user is
+-- told, even late (RFC 3261, section 17.2.4).
 abbrev pub invite_server : Option State → Trigger → Step
 invite_server None Request = row (To Proceeding) up.Message send.Trying Clear
 invite_server None Ack = row Ended up.Message send.Nothing Clear
@@ -118,8 +120,8 @@ invite_server (Some Confirmed) TimeoutDue = row Ended up.Nothing send.Nothing Cl
 invite_server (Some Confirmed) Failed = row Same up.Failed send.Nothing Keep
 invite_server state other = row Same up.Nothing send.Nothing Keep
 
--- Non-INVITE server transaction: RFC 3261, section 17.2.2. J keeps the response for repeated
--- requests.
+-- Non-INVITE server transaction: RFC 3261, section 17.2.2. While J runs, a retransmitted request
+-- gets the response again.
 abbrev pub server : Option State → Trigger → Step
 server None Request = row (To Trying) up.Message send.Nothing Clear
 server (Some Trying) (Answer 101-199) = row (To Proceeding) up.Nothing send.Given Clear
