@@ -1,4 +1,4 @@
--- A request that comes up outside of any dialog: what becomes of it, case by case.
+-- A request that comes up outside of any dialog: what happens, case by case.
 use Rattle.std.proofs.Common.{◌≡◌, ℕ, not, ◌&&◌, ◌||◌, Bool, true, false, List, [], ◌∷◌, ◌++◌, refl, ap, ◌∙◌}
 use Rattle.std.specs.Prelude.{codes, None, if◌then◌else◌}
 use Rattle.std.specs.List.{list_any}
@@ -11,7 +11,7 @@ use Rattle.sip_served.specs.declared.arrival.ArrivalCase.{ArrivalCase}
 use Rattle.sip_served.specs.declared.arrival.ArrivalCase.TheVariants.{Merged, BadExtension, NoDialog, ForUser}
 use Rattle.sip_served.specs.State.{State, ServedTaken}
 
--- which case it is, where these are so
+-- which case it is, by these tests
 abbrev case_by : Bool → Bool → Bool → ArrivalCase
 case_by merged unknown lone =
     if merged then Merged else if unknown then BadExtension else if lone then NoDialog else ForUser

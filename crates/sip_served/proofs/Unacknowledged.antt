@@ -1,5 +1,5 @@
--- What each item of the server side makes of the reliable provisional responses to the INVITE of an
--- id: they await their PRACK, and are sent again, as what is given says.
+-- After each item of the server side the reliable provisional responses to the INVITE of an id
+-- await their PRACK, and are sent again, exactly as the outputs say.
 use Rattle.std.proofs.Common.{◌≡◌, ℕ, true, false, not, ◌&&◌, ◌==◌, List, [], map, refl, sym, ap, ◌∙◌}
 use Rattle.std.specs.Prelude.{None, Some, fold, if◌then◌else◌}
 use Rattle.sip_message.specs.declared.id.Id.{Id}
@@ -49,7 +49,7 @@ repeating invite = record {
 
 -- ---- those that are kept, and those whose PRACK gets a 200
 
--- numbers of what awaits its PRACK, which go by answers and by PRACKs alone
+-- numbers of what awaits its PRACK, which change only by answers and by PRACKs
 module _ (invite : Id) (numbers : List ReliableResponse → List Provisional → List ℕ) where
   abbrev read : HeldRequest → List ℕ
   read held = numbers held.provisionals held.ledger.waiting

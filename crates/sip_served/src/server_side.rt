@@ -1,4 +1,4 @@
-//! The server side of one Call-ID: what it holds, and what each item makes of it.
+//! The server side of one Call-ID: what it holds, and how each item changes it.
 
 ghost use Rattle.std.specs.Prelude.{◌≡◌, ◌<◌, ◌≤◌, ◌^◌, [], ◌∷◌, ◌++◌, IfOk, OnOk, Some, false, filter, length, slice_set};
 ghost use Rattle.sip_common.specs.Requests.{has_to_tag};
@@ -45,7 +45,7 @@ use std::marker::Model;
 /// The held requests in the order in which they came up, and the held dialogs in the order in which
 /// they were made (RFC 3261, sections 8.2, 9.2, 12 and 13.3; RFC 3262, section 3).
 ///
-/// Where a call met want of memory, it is not known what is held.
+/// If memory ran out in a call, it isn't known what is held.
 pub struct ServerSide {
     alloc: Global,
     local: Addr,
@@ -120,8 +120,8 @@ impl ServerSide {
         *self = ServerSide::new(self.alloc, local);
     }
 
-    /// An item of the event of this id, at the moment `now` in ms. `tag` is the To tag that the
-    /// answers to a request without one get.
+    /// Takes an item of the event of this id, at the moment `now` in ms. `tag` is the To tag for
+    /// the answers to a request without one.
     pub(crate) fn item(
         &mut self,
         tag: Token,
@@ -229,7 +229,7 @@ impl ServerSide {
         joined(told, ended)
     }
 
-    // An INVITE that a CANCEL names has its final response, and its early dialogs end.
+    // The INVITE that a CANCEL names gets its final response, and its early dialogs end.
     fn terminate(
         &mut self,
         invite: Id,
@@ -260,7 +260,7 @@ impl ServerSide {
         }
     }
 
-    // A request outside of any dialog: no dialog is looked for, and so none is named.
+    // A request outside of any dialog: no dialog is looked up, so no name is made.
     #[tactic(auto, using(crate::proofs::Outside::merged_taken, crate::proofs::Outside::unknown_taken, crate::proofs::Outside::lone_taken, crate::proofs::Outside::user_taken))]
     fn take_outside(
         &mut self,
@@ -328,7 +328,7 @@ impl ServerSide {
         }
     }
 
-    // A request in a dialog is noted there.
+    // A request in a dialog is noted in that dialog.
     fn note(&mut self, name: &DialogId, request: &Message) -> Result<(), AllocError>
         ensures { OnOk result (self.new ≡ arrived.noted self.old name.now request.now) }
     {
@@ -338,7 +338,7 @@ impl ServerSide {
         Ok(())
     }
 
-    // A PRACK that names a response which waits for it.
+    // A PRACK that names a response that waits for it.
     fn prack(
         &mut self,
         call_id: CallId,
@@ -380,7 +380,7 @@ impl ServerSide {
         joined(held, ended)
     }
 
-    // It is held, as one of this dialog if of any, and told.
+    // Holds a request, as one of this dialog if there is one, and tells the user.
     fn hold(
         &mut self,
         call_id: CallId,
@@ -394,7 +394,7 @@ impl ServerSide {
             ≡ call_out.Notice (arrived.request_notice call_id arrival) ∷ []) }
     {
         let notice = notice_of_request(self.alloc, call_id, &arrival)?;
-        // Most calls hold one request, and a list that grows by itself begins with four places.
+        // Most calls hold one request, but a list that grows by itself begins with room for four.
         if self.requests.is_empty() {
             self.requests.reserve_exact(1)?;
         }
@@ -403,8 +403,8 @@ impl ServerSide {
         tell(self.alloc, notice)
     }
 
-    /// Takes the ACK of a 2xx, which comes up (RFC 3261, section 13.3.1.4). The Call-ID is that of
-    /// its transaction.
+    /// Takes an ACK of a 2xx that comes up (RFC 3261, section 13.3.1.4). The Call-ID is that of its
+    /// transaction.
     ///
     /// # Errors
     ///
@@ -416,7 +416,7 @@ impl ServerSide {
         self.take_ack(call_id, ack)
     }
 
-    // The ACK of a 2xx that waits for it, or another.
+    // The ACK of a 2xx that waits for it, or another ACK.
     fn take_ack(&mut self, call_id: CallId, ack: &Message) -> Result<Vec<CallOut>, AllocError>
         ensures { IfOk result (λ outs. (self.new, outs.items)
             ≡ ack_taken self.old call_id ack.now) }
@@ -508,7 +508,7 @@ impl ServerSide {
     }
 }
 
-// What is due to be removed goes.
+// Removes the requests whose moment of removal has come.
 fn remove_over(requests: &mut Vec<HeldRequest>, now: u64)
     ensures { requests.new.items ≡ filter (is_kept_at now) requests.old.items }
 {

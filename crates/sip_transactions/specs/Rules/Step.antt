@@ -58,8 +58,7 @@ text_sent context message send.Trying =
 text_sent context message send.Ack = option_and_then
     (λ response. option_map (λ invite. written (ack_of invite response)) context.request) message
 
--- what a row hands up of a message that came, or in its place; or that it drops that message (the
--- id is then that of this input, since no transaction is held)
+-- what a row hands up; or that it drops what came, under the id of this input (no life is held)
 abbrev pub handed_up : (Kind → Out) → Context → Option Kind → Handed → Option Out
 handed_up hand context came up.Nothing = None
 handed_up hand context came up.Message = option_map hand came

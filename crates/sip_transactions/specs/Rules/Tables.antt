@@ -36,9 +36,8 @@ abbrev pub row : Next → Handed → Sent → Due → Step
 row next handed sent due = record { next = next; handed = handed; sent = sent; due = due }
 
 -- INVITE client transaction: RFC 3261, section 17.1.1, and RFC 6026, section 7.2. The ACK of a 2xx
--- is sent by the call, not by it. A retransmits the request, B ends the wait for a response. While
--- D runs, retransmitted responses get the ACK again; while M runs, further 2xx go up. `left`: what
--- the rows above leave.
+-- is sent by the call. A retransmits the request, B ends the wait for a response. While D runs, a
+-- repeated response gets the ACK again; while M runs, 2xx go up. `left`: what the rows above leave.
 abbrev pub invite_client : Option State → Trigger → Step
 invite_client None Start = row (To Calling) up.Nothing send.Given Both  -- +A +B
 invite_client None (Response any) = row Ended up.NoTransaction send.Nothing Clear
@@ -92,10 +91,9 @@ client (Some Completed) TimeoutDue = row Ended up.Nothing send.Nothing Clear  --
 client state other = row Same up.Nothing send.Nothing Keep
 
 -- INVITE server transaction: RFC 3261, section 17.2.1, and RFC 6026, section 7.1. G retransmits the
--- response, H ends the wait for the ACK. While I runs, further ACKs are absorbed. While L runs,
--- retransmitted INVITEs are absorbed (the last row), further 2xx go out, and ACKs go up. The user's
--- 100 isn't sent (the last row). A failed send ends no server transaction (RFC 6026); the user is
--- told, even late (RFC 3261, section 17.2.4).
+-- response, H ends the wait for the ACK. While I runs, ACKs are absorbed; while L runs, INVITEs are
+-- absorbed, 2xx go out and ACKs go up. A 100 isn't sent: the last row. A failed send ends no server
+-- transaction (RFC 6026), but the user is told, even late (RFC 3261, section 17.2.4).
 abbrev pub invite_server : Option State → Trigger → Step
 invite_server None Request = row (To Proceeding) up.Message send.Trying Clear
 invite_server None Ack = row Ended up.Message send.Nothing Clear
