@@ -127,8 +127,7 @@ after_487 now held =
     record held { ledger = closed_now held.ledger; removal = Some (now + LIFETIME) }
 
 -- The CANCEL of this request gets a 200 with the To tag of the request's responses. An INVITE
--- without a final response (its removal isn't set) gets a 487, the user is told, and its early
--- dialogs end.
+-- without a final response (no `removal`) gets a 487, the user is told, and its early dialogs end.
 abbrev pub cancel_for : State → List ℕ → Arrival → ℕ → HeldRequest → ServedTaken
 cancel_for state call_id arrival now held =
     let ok = own_response (record arrival { tag = held.tag }) 200 (codes "OK") in

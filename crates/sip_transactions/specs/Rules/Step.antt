@@ -97,8 +97,7 @@ context_at_first id call_id to request =
 -- One input of a transaction at a moment, or the moment alone: if both timers are due, only the
 -- ending one fires. A request or a start begins a life if none is held; a response or an ACK
 -- doesn't. If one is held, a start does nothing (the last row). The client of an INVITE keeps the
--- INVITE for its ACKs. An answer or a failure does nothing if none is held; the ids of both aren't
--- used.
+-- INVITE for its ACKs. An answer or a failure does nothing if none is held; its id isn't used.
 unfoldable pub step_at : Key → Option Life → ℕ → Option Input → Option Life × List Out
 step_at key held now (Some (Receive id message reply_to)) =
     let (trigger, kind) = trigger_of_message message.start message reply_to in

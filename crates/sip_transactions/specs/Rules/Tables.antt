@@ -31,7 +31,7 @@ use Rattle.sip_transactions.specs.declared.step.Pace.TheVariants.{Doubled, Cappe
 -- timers. `Keep`: as they are. `Clear`: none runs. `Ending`: the ending one alone runs. `Both`: the
 -- repeating one runs T1 and the ending one 64*T1. `Again`: the repeating one runs anew, by T1
 -- doubled each time (`Doubled`), that but at most T2 (`Capped`), or T2 (`Even`). `To` the same
--- state is the same as `Same`.
+-- state is `Same`.
 abbrev pub row : Next → Handed → Sent → Due → Step
 row next handed sent due = record { next = next; handed = handed; sent = sent; due = due }
 
