@@ -18,7 +18,7 @@ is_row (a ∷ b ∷ []) h = absurd (omega arith)
 is_row (a ∷ b ∷ c ∷ []) h = absurd (omega arith)
 is_row (a ∷ b ∷ c ∷ d ∷ e ∷ xs) h = absurd (omega arith)
 
--- what quarter rounds in the four lanes give
+-- the results of quarter rounds in the four lanes
 abbrev pub InLanes : (a b c d p q r s : List ℕ) → Type 0
 InLanes a b c d p q r s = (lane : ℕ) → lane < 4
     → (slice_index p lane, slice_index q lane, slice_index r lane, slice_index s lane)
@@ -52,7 +52,7 @@ columns a b c d p q r s (row a0 a1 a2 a3) (row b0 b1 b2 b3) (row c0 c1 c2 c3) (r
       ← made 3 (omega arith),
     ) refl
 
--- each diagonal, whose words were moved under one another
+-- each diagonal, after its words were moved into one lane
 pub diagonals : (a b c d p q r s : List ℕ) → IsRow a → IsRow b → IsRow c → IsRow d
     → IsRow p → IsRow q → IsRow r → IsRow s
     → InLanes a (from_second b) (from_third c) (from_last d) p q r s
@@ -77,7 +77,7 @@ pub in_later : (a rest : List ℕ) (k : ℕ) → length a ≡ 4 → 4 ≤ k
     → slice_index (a ++ rest) k ≡ slice_index rest (k - 4)
 in_later a rest k long past = get_or-append_right a rest 4 k 0 long past
 
--- where the four rows of a sum lie
+-- the words of a sum, row by row
 module _ (p q r s a b c d : List ℕ) (p4 : length p ≡ 4) (q4 : length q ≡ 4) (r4 : length r ≡ 4)
     (a4 : length a ≡ 4) (b4 : length b ≡ 4) (c4 : length c ≡ 4) (k : ℕ) where
   abbrev pub Sums : ℕ → Type 0

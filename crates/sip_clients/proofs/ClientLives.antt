@@ -1,5 +1,5 @@
--- The steps of the client side: what happens in the dialog of each name is what the response does
--- in it and what goes out in it.
+-- The steps of the client side: in the dialog of each name happens what the response does in it and
+-- what goes out in it.
 use Rattle.std.proofs.Common.{◌≡◌, ℕ, Bool, true, false, List, [], ◌++◌, refl, sym, ap, subst, ◌∙◌}
 use Rattle.std.specs.Prelude.{Option, None, Some, Result, Ok, Err, find}
 use Rattle.std.specs.Map.{set_value}

@@ -1,4 +1,4 @@
--- A tick: the dialogs that are early still end with their INVITEs, and each end is told once, since
+-- A tick: the dialogs that are still early end with their INVITEs. Each end is told once, since
 -- each INVITE has an id of its own.
 use Rattle.std.proofs.Common.{◌≡◌, ℕ, ◌+◌, Bool, true, false, ◌&&◌, ◌||◌, cond, List, [], ◌∷◌, refl, sym, ◌∙◌, arith}
 use Rattle.std.specs.Prelude.{Option, None, Some}
@@ -85,7 +85,7 @@ module _ (now : ℕ) (dialogs : Dialogs) (apart : DialogsApart dialogs) (named :
       neither true = refl
       neither false = refl
 
-  -- of a held dialog
+  -- for a held dialog
   sum_of : (total n rest : ℕ) (here later : Bool) → total ≡ n + rest → n ≡ once here
       → rest ≡ once later → (here ≡ true → later ≡ false) → total ≡ once (here || later)
   sum_of total n rest true true all first second apart_from =

@@ -1,5 +1,4 @@
--- What a response leaves owed in the dialog of each name is what was owed before it, and what it
--- asks for.
+-- After a response the same is owed in the dialog of each name as before, and what it asks for.
 use Rattle.std.proofs.Common.{◌≡◌, inl, ℕ, Bool, false, not, ◌&&◌, List, [], ◌∷◌, ◌++◌, refl, sym, ap, ◌∙◌, append-nil}
 use Rattle.std.specs.Prelude.{Option, None, Some, if◌then◌else◌}
 use Rattle.std.specs.List.{list_any}
@@ -72,7 +71,7 @@ module _ (event : Event) (id : Id) (call_id : List ℕ) (response : Message) (si
     abbrev clients : Clients
     clients = set_value (is_id id) side.clients done.0
 
-    -- what goes out so, by what becomes of the request
+    -- whether the request goes out
     abbrev out_by : DialogId → PendingRequest → Bool
     out_by name =
         given event id call_id response status client side.dialogs apart named name done.2 done.3

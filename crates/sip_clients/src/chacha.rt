@@ -16,7 +16,7 @@ const CONSTANTS: [u32; 4] = [0x6170_7865, 0x3320_646e, 0x7962_2d32, 0x6b20_6574]
 // How many words a row of a state has.
 const ROW_WORDS: u8 = 4;
 
-/// The word of this index in the block of this number of a stream. It makes that block alone, where
+/// The word of this index in the block of this number of a stream. It makes only that block, while
 /// the generators of `rand_chacha` make four at a time.
 pub(crate) fn word_at(seed: &[u8; 32], stream: u64, block: u64, index: u8) -> u32
     requires { index < 16 }
@@ -73,7 +73,7 @@ fn word_of_block(a: u32x4, b: u32x4, c: u32x4, d: u32x4, index: u8) -> u32
     }
 }
 
-// The sum of two words that stand at the same place.
+// The sum of two words at the same place.
 fn sum_at(row: u32x4, first: u32x4, place: u8) -> u32
     requires { place < 4 }
     ensures { result ≡ chacha.add32 (slice_index row place) (slice_index first place) }
@@ -81,8 +81,8 @@ fn sum_at(row: u32x4, first: u32x4, place: u8) -> u32
     add(row, first).to_array()[usize::from(place)]
 }
 
-// The rounds of the four columns, and then those of the four diagonals: the rows are turned so that
-// the words of a diagonal stand in one lane, and back.
+// The rounds of the four columns, and then those of the four diagonals: the rows are rotated so
+// that the words of a diagonal are in one lane, and then back.
 #[inline(always)]
 fn double_round(a: u32x4, b: u32x4, c: u32x4, d: u32x4) -> (u32x4, u32x4, u32x4, u32x4)
     ensures { result.0 ++ (result.1 ++ (result.2 ++ result.3))

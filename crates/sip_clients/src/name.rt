@@ -8,9 +8,9 @@ use sip_message::{Id, Token};
 use sip_text::{Text, hex_digit};
 use std::alloc::{AllocError, Global};
 
-/// The name of an index that an event makes: 16 hexadecimal digits of the round, 16 of the place,
-/// one of the index, and 8 of a word of the ChaCha20 stream of the round under the seed, so that
-/// two names differ and no peer can guess one.
+/// The name of an index that an event makes. It has 16 hexadecimal digits of the round, 16 of the
+/// place, one of the index, and 8 of a word of the ChaCha20 stream of the round under the seed. So
+/// two names differ, and no peer can guess one.
 pub fn made_name(alloc: Global, seed: [u8; 32], id: Id, index: u8) -> Result<Token, AllocError>
     requires { index < 16 }
     ensures { IfOk result (λ name. name ≡ name_of seed id index) }
@@ -44,7 +44,7 @@ pub(crate) fn push_name(
     Ok(())
 }
 
-// The word of a name: each place has 16 of them.
+// The word of a name. Each place has 16 words.
 fn word_of(seed: [u8; 32], id: Id, index: u8) -> u32
     requires { index < 16 }
     ensures { result ≡ word_of_name seed id index }

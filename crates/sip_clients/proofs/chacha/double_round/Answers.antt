@@ -1,3 +1,4 @@
+-- `double_round` makes a column round and then a diagonal round.
 use Rattle.std.proofs.Common.{ap, ◌∙◌, arith}
 use Rattle.rand_chacha.specs.Block.{diagonal_round}
 use Rattle.sip_clients.proofs.ChaChaRows.{IsRow, is_row, columns, diagonals}

@@ -1,3 +1,4 @@
+-- `quarter_rounds` makes the quarter round of the four words in each lane.
 use Rattle.std.proofs.Common.{refl}
 use Rattle.rand_chacha.specs.Block.{quarter_round}
 use Rattle.sip_clients.proofs.chacha.quarter_rounds.Goals as goal

@@ -1,3 +1,4 @@
+-- `word_at` gives the word of ChaCha with ten double rounds.
 use Rattle.std.proofs.Common.{ℕ, List, slice_index, ap, ◌∙◌}
 use Rattle.rand_chacha.specs.Block.{add32, double_rounds, block_word}
 use Rattle.sip_clients.proofs.ChaChaRows.{first_state}

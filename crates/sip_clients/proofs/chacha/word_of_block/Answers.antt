@@ -1,3 +1,5 @@
+-- `word_of_block`: each turn of the loop makes one more double round, and after ten the word is the
+-- sum.
 use Rattle.std.proofs.Common.{◌≡◌, ◌++◌, List, ℕ, ◌<◌, ◌≤◌, slice_index, arith, refl, ap, ◌∙◌, add-one}
 use Rattle.rand_chacha.specs.Block.{add32, column_round, diagonal_round, double_rounds}
 use Rattle.sip_clients.proofs.ChaChaRows.{sum_in_first, sum_in_second, sum_in_third, sum_in_last}
@@ -13,7 +15,7 @@ loop-round-preserved c =
     rw add-one (c.double_round.ensures
     ∙ ap (λ x. diagonal_round (column_round x)) c.loop-round.invariant)
 
--- the sum where the rounds are over
+-- the sum once the rounds are over
 whole : (x state : List ℕ) (rounds k sum : ℕ) → rounds ≡ 10 → x ≡ double_rounds rounds state
     → sum ≡ add32 (slice_index x k) (slice_index state k)
     → sum ≡ add32 (slice_index (double_rounds 10 state) k) (slice_index state k)

@@ -1,3 +1,4 @@
+-- The loop of `word_of_block`: so many double rounds were made.
 use Rattle.std.proofs.Common.{◌≡◌, ◌++◌}
 use Rattle.rand_chacha.specs.Block.{double_rounds}
 use Rattle.sip_clients.proofs.chacha.word_of_block.Given as goal

@@ -1,3 +1,4 @@
+-- `xor_rotate` gives in each lane the rotated exclusive or of two words.
 use Rattle.rand_chacha.proofs.LaneLemmas.{shifts_rotate}
 use Rattle.sip_clients.proofs.chacha.xor_rotate.Goals as goal
 

@@ -1,3 +1,4 @@
+-- `word_of` gives the word of a name: its block and its index in it are those of the place.
 use Rattle.std.proofs.Common.{◌≡◌, ◌+◌, ◌*◌, ◌/◌, ◌%◌, arith}
 use Rattle.sip_clients.proofs.name.word_of.Goals as goal
 
