@@ -57,7 +57,7 @@ use Rattle.sip_clients.specs.Tick.{clients_ticked, early_ends_told, is_over}
 use Rattle.sip_clients.proofs.Served.{paid_either}
 
 module _ (P : CallOut → Type 0) where
-  -- what is true of the outputs that need no response
+  -- P is true of notices of ends and of refused commands, of ACKs, and of requests that go out
   pub record Allows : Type 0 where
     pub ended : (held : HeldDialog) → P (ended_notice held)
     pub refusal : (call_id : List ℕ) (place : ℕ) (why : Refusal)
