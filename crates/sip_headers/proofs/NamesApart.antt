@@ -121,7 +121,7 @@ not_found header text (Some other) e is =
     true≢false (sym (found_passes (λ h. is_named h text) headers header
     (e ∙ ap Some (sym (same_is header other same)))) ∙ is))
 
--- the header of a name is this one just where the name is one of this header
+-- the header of a name is this one just if the name is one of this header
 pub named_by_table : (header : HeaderName) (text : List ℕ)
     → option_map_or (is_same header) (header_named text) false ≡ is_named header text
 named_by_table header text = by (is_named header text) refl

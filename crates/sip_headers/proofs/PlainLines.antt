@@ -50,7 +50,7 @@ none_before test (b ∷ bs) (suc k) lt none =
 
 -- ---- a line with its end
 
--- the last byte, or 0 where there is none
+-- the last byte, or 0 if there is none
 abbrev last_byte : List ℕ → ℕ
 last_byte text = slice_index text (length text - 1)
 

@@ -22,7 +22,7 @@ section_from (part ∷ (next ∷ parts)) =
     with_line_of (strip_carriage_return part) (join_with_byte 10 (next ∷ parts))
     (section_from (next ∷ parts))
 
--- the lines up to the first empty one; nothing where there is no empty line
+-- the lines up to the first empty one; nothing if there is no empty line
 abbrev pub section_at : List ℕ → Option Section
 section_at text = section_from (slice_split (λ b. b == 10) text)
 

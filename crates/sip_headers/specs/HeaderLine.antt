@@ -44,7 +44,7 @@ abbrev pub class_by_name : List ℕ → List ℕ → Option HeaderName → Class
 class_by_name name value None = other name value
 class_by_name name value (Some header) = known header value
 
--- by the name and the value, where the line has them
+-- by the name and the value, if the line has them
 abbrev pub class_by_parts : Option (List ℕ × List ℕ) → Class
 class_by_parts None = bad
 class_by_parts (Some parts) = class_by_name parts.0 parts.1 (header_named parts.0)

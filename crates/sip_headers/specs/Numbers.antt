@@ -91,7 +91,7 @@ known_slot Bad = None
 abbrev pub known_both : Numeral → Numeral → Option (Option (ℕ × ℕ))
 known_both one other = known one >>= λ a. known other >>= λ b. Some (Some (a, b))
 
--- the numbers of a RAck, where there is one
+-- the numbers of a RAck, if there is one
 abbrev pub known_rack : Slot RAckDraft → Option (Option (ℕ × ℕ))
 known_rack Absent = Some None
 known_rack (Once rack) = known_both rack.rseq rack.cseq
@@ -115,7 +115,7 @@ numbers_in d = do
     content_length = content_length;
   })
 
--- the port, where there is one
+-- the port, if there is one
 abbrev pub known_port : Option Numeral → Option (Option ℕ)
 known_port None = Some None
 known_port (Some word) = port_of word >>= λ n. Some (Some n)

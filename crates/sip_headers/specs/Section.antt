@@ -13,7 +13,7 @@ use Rattle.sip_headers.specs.Named.{is_same}
 use Rattle.sip_headers.specs.Slot.{IsSlot, IsList}
 use Rattle.sip_headers.specs.declared.draft.Draft.{Draft}
 
--- the line's value before those that follow, where the line is of this header
+-- the line's value before those that follow, if the line is of this header
 abbrev pub before_values : HeaderName → Class → List (List ℕ) → List (List ℕ)
 before_values header bad values = values
 before_values header (known named value) values =

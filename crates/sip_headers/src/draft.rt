@@ -250,7 +250,7 @@ fn other_header(alloc: Global, name: &[u8], value: &[u8]) -> Result<Header, Allo
     })
 }
 
-/// The long name where the name is one of three compact names, in any case of the letters: of
+/// The long name if the name is one of three compact names, in any case of the letters: of
 /// Content-Type, Subject and Content-Encoding (RFC 3261, section 7.3.3). Any other name itself.
 #[tactic(auto, unfolding(crate::specs::Draft::long_name))]
 pub fn long_name(name: &[u8]) -> &[u8]

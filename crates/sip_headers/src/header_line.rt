@@ -42,8 +42,8 @@ fn class_named<'a>(name: &'a [u8], value: &'a [u8]) -> LineClass<'a>
     }
 }
 
-/// What the first line of the text is, and what follows it, where it is a header line that stands
-/// in the text as it is. None where it is none, or has to be looked at more closely.
+/// What the first line of the text is, and what follows it, if it is a header line that stands
+/// in the text as it is. None if it is none, or has to be looked at more closely.
 pub(crate) fn plain_line(text: &[u8]) -> Option<(LineClass<'_>, &[u8])>
     ensures { IfSome result (λ found.
         plain.IsPlainLine text.now (header_lines.class_now found.0) found.1.now) }

@@ -10,7 +10,7 @@ use Rattle.sip_parts.specs.declared.header_entry.HeaderKind.TheVariants.{Once, A
 use Rattle.sip_parts.specs.declared.header_name.HeaderName.{HeaderName}
 use Rattle.sip_parts.specs.declared.header_name.HeaderName.TheVariants.{Via, From, To, CallId, CSeq, MaxForwards, ContentLength, RSeq, RAck, Contact, RecordRoute, Route, Require, Supported}
 
--- a long name, a compact name where there is one, and how often the header's lines may stand in a
+-- a long name, a compact name if there is one, and how often the header's lines may stand in a
 -- message
 pub record Entry : Type 0 where
   pub name : List ℕ

@@ -25,7 +25,7 @@ pub enum HeaderKind {
 pub struct HeaderEntry {
     /// Its long name, as it is written.
     pub name: &'static str,
-    /// Its compact name, where it has one.
+    /// Its compact name, if it has one.
     pub compact: Option<&'static str>,
     pub kind: HeaderKind,
 }
@@ -86,7 +86,7 @@ impl HeaderName {
         token_eq(name, entry.name.as_bytes()) || is_word_of(name, entry.compact)
     }
 
-    /// The header of this name, or None where the name is another one.
+    /// The header of this name, or None if the name is another one.
     // Apart, since a loop over lines that has it within keeps less in registers.
     #[inline(never)]
     pub fn of(name: &[u8]) -> Option<HeaderName>
@@ -132,7 +132,7 @@ impl HeaderName {
 
     /// Those that have a name of so many bytes, in the order of the table.
     fn of_length(bytes: usize) -> &'static [HeaderName]
-        // A name of this length is found among them where it is found at all.
+        // A name of this length is found among them if it is found at all.
         ensures { (name : List ℕ) → length name ≡ bytes
             → find (λ header. table.is_named header name) result.now ≡ table.header_named name }
     {

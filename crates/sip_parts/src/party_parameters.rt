@@ -9,7 +9,7 @@ use sip_text::{Series, is_token};
 use std::alloc::AllocError;
 use std::marker::Model;
 
-/// Parameters whose `tag`, where there is one, is a token. A contract sees them as their list.
+/// Parameters whose `tag`, if there is one, is a token. A contract sees them as their list.
 pub struct PartyParameters {
     parameters: Series<Parameter>,
 }
@@ -61,7 +61,7 @@ impl PartyParameters {
         parameters
     }
 
-    /// The tag: empty where there is none.
+    /// The tag: empty if there is none.
     pub fn tag(&self) -> &[u8]
         ensures { result.now ≡ tags.tag_in self.now }
     {

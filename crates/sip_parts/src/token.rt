@@ -43,7 +43,7 @@ impl Model for Token {
 }
 
 impl Token {
-    /// The token that the text is, where it is one.
+    /// The token that the text is, if it is one.
     pub fn new(text: Text) -> Option<Token>
         ensures { SomeIff result (IsTrue (rule.is_token text)) text }
     {
@@ -100,7 +100,7 @@ impl Token {
     }
 }
 
-/// The same text, where it is a usual token.
+/// The same text, if it is a usual token.
 fn usual(text: &[u8]) -> Option<&'static [u8]>
     ensures { IfSome result (λ word. word.now ≡ text.now) }
 {

@@ -49,7 +49,7 @@ more_goes : {X : Type 0} (put : Option (List X) → Draft) (f : List ℕ → Opt
 more_goes put f front more text value rest again goes =
     goes_to (ap (λ o. put (listed (Some front) o)) again.read) goes
 
--- a number where there is one
+-- a number if there is one
 abbrev numbered : Option ℕ → Slot Numeral
 numbered n = slot_of (option_map (λ x. Number x) n)
 

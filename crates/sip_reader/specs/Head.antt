@@ -55,7 +55,7 @@ abbrev pub first_of : StartLine → List ℕ → FirstLine (List ℕ)
 first_of (Request uri) method = first.Request method uri
 first_of (Response status reason) method = first.Response status reason
 
--- what the first of the lines says; none where it is no start line, or there is no line
+-- what the first of the lines says; none if it is no start line, or there is no line
 abbrev pub IsFirst : Option (FirstLine (List ℕ)) → List (List ℕ) → Type 0
 IsFirst says [] = says ≡ None
 IsFirst says (line ∷ lines) = OrNone SpellsFirst says line
@@ -84,7 +84,7 @@ abbrev pub value_under : List ℕ → Option (List ℕ × List ℕ) → Option (
 value_under name None = None
 value_under name (Some line) = if is_same_header name line.0 then Some line.1 else None
 
--- Of each line behind the first: its name and value where it is a header line, otherwise nothing.
+-- Of each line behind the first: its name and value if it is a header line, otherwise nothing.
 pub record HasParts (parts : List (Option (List ℕ × List ℕ))) (text : List ℕ) : Type 0 where
   pub lines : List (List ℕ)
   pub head_is : IsHead lines text

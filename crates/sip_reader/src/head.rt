@@ -70,7 +70,7 @@ pub fn header_lines(alloc: Global, text: &[u8]) -> Result<Series<HeaderLine>, Al
 }
 
 /// The first line that isn't empty, with those that go on with it, and the text behind it. None
-/// where there is none.
+/// if there is none.
 fn first_line_of(alloc: Global, text: &[u8]) -> Result<Option<(Whole<'_>, &[u8])>, AllocError>
     ensures { IfOk result (λ found. reading.lines_found found ≡ reading.head_at text.now) }
 {
@@ -127,7 +127,7 @@ fn header_lines_in(alloc: Global, text: &[u8]) -> Result<Series<HeaderLine>, All
     Ok(headers)
 }
 
-/// The line's value, where it is a header line of this name. The header of the table that the name
+/// The line's value, if it is a header line of this name. The header of the table that the name
 /// is of is given beside it.
 fn value_in<'a>(name: &[u8], header: Option<HeaderName>, line: &'a [u8]) -> Option<&'a [u8]>
     requires { header ≡ header_named name.now }

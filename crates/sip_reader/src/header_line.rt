@@ -19,7 +19,7 @@ pub struct HeaderLine {
 }
 
 impl HeaderLine {
-    /// The header line that a line without folds is. None where it is none.
+    /// The header line that a line without folds is. None if it is none.
     pub(crate) fn read(alloc: Global, line: &[u8]) -> Result<Option<HeaderLine>, AllocError>
         ensures { IfOk result (λ found. found ≡ option_map header_line (line_from line.now)) }
     {

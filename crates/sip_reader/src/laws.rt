@@ -46,7 +46,7 @@ pub fn no_fault_of_a_message()
         → IsFirstFault fault text → ⊥ }
 {}
 
-/// What is written for a message is read again as the same message, where it isn't too long.
+/// What is written for a message is read again as the same message, if it isn't too long.
 pub fn written_is_spelled()
     ensures { (m : Message) → IsMessage m → length (written m) ≤ 65535 → Spells m (written m) }
 {}

@@ -7,7 +7,7 @@ use sip_parts::{Reason, RequestUri, StatusCode};
 use sip_text::{Text, cut, is_token, number_u32, token_eq};
 use std::alloc::{AllocError, Global};
 
-/// What the start line says, or None where it is neither a request line nor a status line.
+/// What the start line says, or None if it is neither a request line nor a status line.
 #[tactic(auto, unfolding(crate::specs::ReadStart::start_at))]
 pub(crate) fn start_of(
     alloc: Global,

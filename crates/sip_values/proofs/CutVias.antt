@@ -1,4 +1,4 @@
--- A Via value that is cut at its separators from left to right is its parts, one behind the other.
+-- A Via value that is cut at its separators from left to right is its parts, one after the other.
 use Rattle.std.proofs.Common.{◌≡◌, ◌<◌, inl, inr, ℕ, true, not, eqb, List, [], ◌∷◌, ◌++◌, codes, refl, sym, ap, subst, ◌∙◌, arith}
 use Rattle.std.specs.List.{list_all}
 use Rattle.std.specs.Str.{str_eq_ignore_ascii_case, str_to_ascii_lowercase}

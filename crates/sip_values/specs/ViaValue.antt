@@ -66,7 +66,7 @@ AreVias vias text = Split (Byte 44) IsVia vias text
 
 -- ---- what reading from left to right finds
 
--- a host, and a word in the place of its port, where there is one
+-- a host, and a word in the place of its port, if there is one
 abbrev pub SentBy : Type 0
 SentBy = List ℕ × Option Numeral
 

@@ -31,7 +31,7 @@ impl Row for NumberRow {
     }
 }
 
-/// The word as a number, or None where the text isn't a word.
+/// The word as a number, or None if the text isn't a word.
 pub(crate) fn numeral_in(text: &[u8]) -> Option<Numeral>
     ensures { result ≡ numerals.numeral_from text.now }
 {

@@ -103,7 +103,7 @@ pub(crate) fn parameters_between(
     Ok(None)
 }
 
-/// A parameter, and what stands behind its semicolon, where there is one.
+/// A parameter, and what stands behind its semicolon, if there is one.
 type FirstParameter<'a> = (ParameterText<'a>, Option<&'a [u8]>);
 
 /// The first of several parameters.

@@ -17,7 +17,7 @@ pub trait Row {
 
     ghost reads: { List ℕ → Option Self.Value };
 
-    /// The value, or None where the text isn't in this form.
+    /// The value, or None if the text isn't in this form.
     fn read(alloc: Global, text: &[u8]) -> Result<Option<Self::Value>, AllocError>
         ensures { IfOk result (λ made. made ≡ reads text.now) };
 }
@@ -36,7 +36,7 @@ pub(crate) fn checked_in<R: Rule>(
     Ok(Some(Checked::copy_of(alloc, inside)?))
 }
 
-/// The token without the white space at its ends, or None where it is none then.
+/// The token without the white space at its ends, or None if it is none then.
 pub(crate) fn token_in(alloc: Global, text: &[u8]) -> Result<Option<Token>, AllocError>
     ensures { IfOk result (λ made. made ≡ reading_of (passing is_token) ends.trimmed text.now) }
 {

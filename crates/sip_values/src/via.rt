@@ -26,7 +26,7 @@ pub struct ViaDraft {
     pub parameters: Series<Parameter>,
 }
 
-/// What stands before the transport, where it is written without white space.
+/// What stands before the transport, if it is written without white space.
 const PROTOCOL: &[u8] = b"SIP/2.0/";
 
 /// One value of a Via.
@@ -153,13 +153,13 @@ fn end_in(
     Ok(Some(((host, port), parameters)))
 }
 
-/// A host, and a word in its port's place, where there is one.
+/// A host, and a word in its port's place, if there is one.
 type SentByDraft = (Host, Option<Numeral>);
 
 /// The same as they stand in a text.
 type SentByText<'a> = (&'a [u8], Option<Numeral>);
 
-/// The host and the port, and what stands behind the first semicolon, where there is one.
+/// The host and the port, and what stands behind the first semicolon, if there is one.
 fn first_sent_by(text: &[u8]) -> Option<(SentByText<'_>, Option<&[u8]>)>
     ensures exact { option_map (first_now values.sent_by_now) result
         ≡ first (separator.Anywhere 59) values.sent_by_from text.now }

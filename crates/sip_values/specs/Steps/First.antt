@@ -12,7 +12,7 @@ abbrev pub ends : {X A : Type 0} → X → X × Option A
 ends x = (x, None)
 
 -- the value of the text before the first separator that counts, and the text behind it, or nothing
--- where there is no such separator
+-- if there is no such separator
 abbrev pub first : {X : Type 0} → Separator → (List ℕ → Option X) → List ℕ
     → Option (X × Option (List ℕ))
 first at f text = on_cut at (both f goes_on) (told ends f) text
