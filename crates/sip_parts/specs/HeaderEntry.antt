@@ -71,7 +71,7 @@ is_needed Once = true
 is_needed NeededList = true
 is_needed kind = false
 
--- it stands at most once
+-- it may occur once
 abbrev pub is_single : HeaderKind → Bool
 is_single Once = true
 is_single AtMostOnce = true

@@ -1,4 +1,4 @@
--- The value of a header that stays as it stands (RFC 3261, section 7.3.1).
+-- The value of a header that is kept as it is (RFC 3261, section 7.3.1).
 use Rattle.std.specs.Prelude.{ℕ, Bool, not, ◌&&◌, List}
 use Rattle.std.specs.List.{list_all}
 use Rattle.std.specs.Str.{bytes_eq}

@@ -1,4 +1,4 @@
--- The name of a header that stays as it stands (RFC 3261, sections 7.3.1 and 7.3.3).
+-- The name of a header that is kept as it is (RFC 3261, sections 7.3.1 and 7.3.3).
 use Rattle.std.specs.Prelude.{ℕ, Bool, not, ◌&&◌, ◌||◌, List, codes, is_some}
 use Rattle.std.specs.Str.{str_eq_ignore_ascii_case}
 use Rattle.sip_text.specs.Token.{is_token}

@@ -266,7 +266,7 @@ skip_again (suc n) text start lines rest some_line is =
 
 -- ---- the whole
 
--- the first line behind the line ends that are skipped
+-- the first line after the line ends that are skipped
 pub begins_full : (text first after : List ℕ)
     → line_at (without_line_ends text) ≡ Some (first, after) → IsFull first
 begins_full text first after e none =
@@ -274,7 +274,7 @@ begins_full text first after e none =
     (subst (λ (xs : List ℕ). IsLine (without_line_ends text) xs after) none
     (line_takes (without_line_ends text) first after e)))
 
--- the lines of a text are its first line and those behind it
+-- the lines of a text are its first line and those after it
 pub first_onto : (text first after : List ℕ)
     → line_at (without_line_ends text) ≡ Some (first, after)
     → whole_section (section_at (without_line_ends text)) ≡ onto_section first (section_at after)

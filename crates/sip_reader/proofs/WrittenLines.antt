@@ -202,7 +202,7 @@ header_goes d h value rest good ready =
     class_goes d (entry h).name value rest (known h value) (name_token h) good
     (ap (class_by_name (entry h).name value) (long_names h)) ready
 
--- ---- headers that stay as they stand
+-- ---- headers that are kept as they are
 
 no_header : (o : Option HeaderName) → is_some o ≡ false → o ≡ None
 no_header None e = refl

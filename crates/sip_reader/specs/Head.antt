@@ -84,7 +84,7 @@ abbrev pub value_under : List ℕ → Option (List ℕ × List ℕ) → Option (
 value_under name None = None
 value_under name (Some line) = if is_same_header name line.0 then Some line.1 else None
 
--- Of each line behind the first: its name and value if it is a header line, otherwise nothing.
+-- Of each line after the first: its name and value if it is a header line, otherwise nothing.
 pub record HasParts (parts : List (Option (List ℕ × List ℕ))) (text : List ℕ) : Type 0 where
   pub lines : List (List ℕ)
   pub head_is : IsHead lines text

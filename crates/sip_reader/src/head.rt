@@ -35,9 +35,9 @@ pub fn start_line(alloc: Global, text: &[u8]) -> Result<Option<FirstLine<Token>>
 }
 
 /// The values of a header in the text, also in one that spells no message: of each header line of
-/// this name, the long or the compact one, in any case of the letters, in the order of the lines.
-/// A value is without its folds and without white space round it, and a list stays one text (RFC
-/// 3261, sections 7.3.1 and 7.3.3). The header lines are those behind the first line up to an empty
+/// this name, the long or the compact one, in any case of the letters, in the order of the lines. A
+/// value is without its folds and without white space around it, and a list stays one text (RFC
+/// 3261, sections 7.3.1 and 7.3.3). The header lines are those after the first line up to an empty
 /// one, or up to the last that has its end; a line that is no header line is passed over.
 ///
 /// # Errors
@@ -52,10 +52,10 @@ pub fn header_values(alloc: Global, text: &[u8], name: &[u8]) -> Result<Series<T
     values_in(alloc, lines, name)
 }
 
-/// The header lines of the text, also of one that spells no message: those behind the first line up
+/// The header lines of the text, also of one that spells no message: those after the first line up
 /// to an empty one, or up to the last that has its end, in their order; a line that is no header
 /// line is passed over. A name stays as it is written, and a value is without its folds and without
-/// white space round it (RFC 3261, sections 7.3.1 and 7.3.3).
+/// white space around it (RFC 3261, sections 7.3.1 and 7.3.3).
 ///
 /// # Errors
 ///
@@ -69,15 +69,15 @@ pub fn header_lines(alloc: Global, text: &[u8]) -> Result<Series<HeaderLine>, Al
     header_lines_in(alloc, lines)
 }
 
-/// The first line that isn't empty, with those that go on with it, and the text behind it. None
-/// if there is none.
+/// The first line that isn't empty, with those that go on with it, and the text after it. None if
+/// there is none.
 fn first_line_of(alloc: Global, text: &[u8]) -> Result<Option<(Whole<'_>, &[u8])>, AllocError>
     ensures { IfOk result (λ found. reading.lines_found found ≡ reading.head_at text.now) }
 {
     next_whole(alloc, without_line_ends(text))
 }
 
-/// The first line of the text, with those that go on with it, and the text behind it. None where it
+/// The first line of the text, with those that go on with it, and the text after it. None where it
 /// is empty, or no line has its end.
 fn next_whole(alloc: Global, text: &[u8]) -> Result<Option<(Whole<'_>, &[u8])>, AllocError>
     ensures lines { IfOk result (λ found.

@@ -11,7 +11,7 @@ use sip_text::{Separator, Text, is_token, trimmed, trimmed_end};
 use std::alloc::{AllocError, Global};
 
 /// A header line: its name as it is written, and its value without its folds and without white
-/// space round it.
+/// space around it.
 #[derive(Clone, Drop)]
 pub struct HeaderLine {
     pub name: Token,
@@ -33,7 +33,7 @@ impl HeaderLine {
     }
 }
 
-/// A name, and a value without white space round it.
+/// A name, and a value without white space around it.
 fn parts_of(line: &[u8]) -> Option<(&[u8], &[u8])>
     ensures parts { both_now result ≡ line_from line.now }
     ensures name { IfSome result (λ parts. IsTrue (is_token parts.0.now)) }

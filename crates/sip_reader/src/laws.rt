@@ -99,7 +99,7 @@ pub fn head_of_a_message()
         (filter (λ header. is_same_header name header.name) m.others) }
 {}
 
-/// What is written for a message with a content of the user's own has the content's headers behind
+/// What is written for a message with a content of the user's own has the content's headers after
 /// those of the message, in order: the headers of any name outside the table, the tokens of Require
 /// and those of Supported. The content's contacts stand in place of the message's, where it has
 /// any. No header of the table that may stand once stands twice.

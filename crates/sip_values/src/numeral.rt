@@ -10,9 +10,9 @@ use std::alloc::{AllocError, Global};
 /// A word in the place of a number.
 #[derive(Clone, Copy, Debug, PartialEq, Eq)]
 pub enum Numeral {
-    /// Digits, and the number that they stand for.
+    /// Digits; the number that they stand for.
     Number(u32),
-    /// Not all digits, or too large a number.
+    /// Not only digits, or a number that is too large.
     NotANumber,
 }
 

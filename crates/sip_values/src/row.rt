@@ -12,7 +12,7 @@ use std::alloc::{AllocError, Global};
 pub trait Row {
     ghost use Rattle.std.specs.Prelude.{ℕ, List, Option};
 
-    /// What a text in this form stands for.
+    /// The type of the values of this form.
     type Value: Drop;
 
     ghost reads: { List ℕ → Option Self.Value };
@@ -22,7 +22,7 @@ pub trait Row {
         ensures { IfOk result (λ made. made ≡ reads text.now) };
 }
 
-/// The text without the white space at its ends, or None where it doesn't keep the rule then.
+/// The text without the white space at its ends, or None if it then doesn't satisfy the rule.
 pub(crate) fn checked_in<R: Rule>(
     alloc: Global,
     text: &[u8],
@@ -36,7 +36,7 @@ pub(crate) fn checked_in<R: Rule>(
     Ok(Some(Checked::copy_of(alloc, inside)?))
 }
 
-/// The token without the white space at its ends, or None if it is none then.
+/// The token without the white space at its ends, or None if what is left is no token.
 pub(crate) fn token_in(alloc: Global, text: &[u8]) -> Result<Option<Token>, AllocError>
     ensures { IfOk result (λ made. made ≡ reading_of (passing is_token) ends.trimmed text.now) }
 {
@@ -47,7 +47,7 @@ pub(crate) fn token_in(alloc: Global, text: &[u8]) -> Result<Option<Token>, Allo
     Ok(Some(Token::copy_of(alloc, inside)?))
 }
 
-/// The values of the pieces between separators, or None where a piece isn't in the form.
+/// The values of the pieces between separators, or None if a piece isn't in the form.
 pub fn split_of<R: Row>(
     alloc: Global,
     separator: Separator,

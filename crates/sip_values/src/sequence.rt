@@ -7,14 +7,14 @@ use sip_parts::Token;
 use sip_text::{Separator, trimmed};
 use std::alloc::{AllocError, Global};
 
-/// A CSeq, whose number may be none.
+/// A CSeq. The word in the place of its number may be no number.
 #[derive(Drop)]
 pub struct CSeqDraft {
     pub number: Numeral,
     pub method: Token,
 }
 
-/// A RAck, whose numbers may be none.
+/// A RAck. The words in the places of its numbers may be no numbers.
 #[derive(Drop)]
 pub struct RAckDraft {
     pub rseq: Numeral,

@@ -24,7 +24,7 @@ whole_lines_at text = whole_lines (lines_at text)
 abbrev pub head_at : List ℕ → List (List ℕ)
 head_at text = whole_lines_at (without_line_ends text)
 
--- a first line, and the lines of the text behind it
+-- a first line, and the lines of the text after it
 abbrev pub lines_found : Option (Whole × Bor (List ℕ)) → List (List ℕ)
 lines_found None = []
 lines_found (Some found) = whole_now found.0 ∷ whole_lines_at found.1.now
