@@ -5,11 +5,11 @@ use Rattle.std.specs.Str.{bytes_eq}
 use Rattle.sip_text.specs.Character.{is_line_byte}
 use Rattle.sip_text.specs.Trimmed.{trimmed}
 
--- without blanks at its ends it is the same text
+-- a text without blanks at its ends
 abbrev pub has_no_blank_ends : List ℕ → Bool
 has_no_blank_ends text = bytes_eq (trimmed text) text
 
--- neither CR nor LF stands in it
+-- a text without CR and LF
 abbrev pub has_no_line_byte : List ℕ → Bool
 has_no_line_byte text = list_all (λ b. not (is_line_byte b)) text
 

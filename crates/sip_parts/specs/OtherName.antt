@@ -11,6 +11,6 @@ is_compact_name name =
     str_eq_ignore_ascii_case name (codes "c")
     || (str_eq_ignore_ascii_case name (codes "s") || str_eq_ignore_ascii_case name (codes "e"))
 
--- a token, and no name of a header that is read into a field of its own
+-- a token, and no name of a header that is parsed into a field of its own
 unfoldable pub is_other_name : List ℕ → Bool
 is_other_name name = is_token name && not (is_some (header_named name) || is_compact_name name)

@@ -1,4 +1,4 @@
--- Lists of parameters (RFC 3261, section 7.3.1). Of several with one name the first counts.
+-- Lists of parameters (RFC 3261, section 7.3.1). If several have the same name, the first counts.
 use Rattle.std.specs.Prelude.{ℕ, List, [], Option, Some, None, find, unwrap_or}
 use Rattle.std.specs.Str.{str_eq_ignore_ascii_case}
 use Rattle.sip_parts.specs.declared.parameter.Parameter.{Parameter}

@@ -1,4 +1,4 @@
-//! The parts of SIP messages: texts that keep a rule of the grammar by their type.
+//! The parts of SIP messages: texts that satisfy a rule of the grammar by their type.
 #![tactic(auto)]
 
 mod call_id;

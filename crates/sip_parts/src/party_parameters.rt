@@ -27,7 +27,7 @@ impl Model for PartyParameters {
 }
 
 impl PartyParameters {
-    /// These parameters, or None where the first parameter `tag` isn't a token.
+    /// These parameters, or None if the value of the first parameter `tag` isn't a token.
     pub fn new(parameters: Series<Parameter>) -> Option<PartyParameters>
         ensures { SomeIff result (IsTrue (tags.has_good_tag parameters)) parameters }
     {

@@ -43,7 +43,7 @@ impl Model for Token {
 }
 
 impl Token {
-    /// The token that the text is, if it is one.
+    /// The text as a token, if it is one.
     pub fn new(text: Text) -> Option<Token>
         ensures { SomeIff result (IsTrue (rule.is_token text)) text }
     {
@@ -54,7 +54,7 @@ impl Token {
         }
     }
 
-    /// The token that the text is.
+    /// The text as a token.
     pub fn from_text(text: Text) -> Token
         requires { IsTrue (rule.is_token text) }
         ensures { result ≡ text }
@@ -64,7 +64,7 @@ impl Token {
         }
     }
 
-    /// The token that the text is. Takes no memory for a usual one.
+    /// The text as a token. Takes no memory for a usual one.
     pub fn copy_of(alloc: Global, text: &[u8]) -> Result<Token, AllocError>
         requires { IsTrue (rule.is_token text.now) }
         ensures { IfOk result (λ made. made ≡ text.now) }
@@ -87,7 +87,7 @@ impl Token {
         }
     }
 
-    /// The plain text. Takes memory for a usual token alone.
+    /// The plain text. Takes memory only for a usual token.
     pub fn into_text(self, alloc: Global) -> Result<Text, AllocError>
         ensures value { IfOk result (λ text. text ≡ self) }
         ensures rule { IsTrue (rule.is_token self) }

@@ -33,7 +33,7 @@ use Rattle.sip_headers.proofs.WrittenNumbers.{number_again, call_id_again, cseq_
 use Rattle.sip_headers.proofs.WrittenTokens.{tokens_again}
 use Rattle.sip_headers.proofs.WrittenVias.{via_again}
 
--- ---- one header after the other
+-- ---- one header after another
 
 slot_goes : {X : Type 0} (put : Slot X → Draft) (f : List ℕ → Option X) (x : X)
     (text value rest : List ℕ) → Again f x value

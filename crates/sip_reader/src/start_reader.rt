@@ -1,4 +1,4 @@
-//! Start lines as text, read (RFC 3261, sections 7.1 and 7.2).
+//! Reading of start lines (RFC 3261, sections 7.1 and 7.2).
 ghost use Rattle.std.specs.Prelude.{◌≡◌, ◌≤◌, IfOk};
 ghost use Rattle.sip_reader.specs.ReadStart as reading;
 
