@@ -38,7 +38,7 @@ module _ (life : DialogReference) (invite : Id) where
   abbrev Step : Option Id → Option ℕ → Clients → CallTaken → Type 0
   Step event number before taken = Result event number before (side_of taken.0) taken.1
 
-  -- an event that might begin the INVITE comes only once
+  -- if the event is that of the INVITE, no such INVITE is held before
   abbrev Once : Option Id → Clients → Type 0
   Once event clients = event ≡ Some invite → ear_of life invite clients ≡ None
 

@@ -156,7 +156,7 @@ module _ (life : DialogReference) (invite : Id) (event : Option Id) where
   abbrev pub Begins : Type 0
   Begins = event ≡ Some invite
 
-  -- the latest RSeq doesn't change in a step from these requests to those, or the INVITE is over
+  -- no RSeq comes for the INVITE in a step from these requests to those
   pub record Keeps (before after : Clients) : Type 0 where
     pub apart : AreApart after
     pub silent : Silent Begins (ear before) (ear after)

@@ -75,7 +75,7 @@ module _ (event : Event) (command : DialogBody) (side : Side) where
   abbrev asked_name : DialogId
   asked_name = name_in command.local_tag command.remote_tag
 
-  -- the dialog after this is sent
+  -- the dialog after the user gave this
   abbrev paid_of : PendingRequest → HeldDialog → HeldDialog
   paid_of pending held = (paid event pending command.content held).0
 

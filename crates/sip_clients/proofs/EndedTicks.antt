@@ -46,7 +46,7 @@ module _ (now : ℕ) (dialogs : Dialogs) (apart : DialogsApart dialogs) (named :
       by_over true = early_told client.id dialogs apart named name
       by_over false = none found
 
-  -- an early dialog was made by one INVITE alone
+  -- an early dialog was made by only one INVITE
   not_of_other : (id other : Id) (held : HeldDialog) → is_early_of id held ≡ true
       → is_id id other ≡ false → is_early_of other held ≡ false
   not_of_other id other held is apart_ids =

@@ -63,7 +63,8 @@ case_fresh reply.Passed client found answer = tt
 case_fresh reply.Early client found answer = tt
 case_fresh reply.Told client found answer = tt
 
--- the CANCEL of an INVITE after a response, and what the response starts
+-- the outputs of a response start nothing, its request and its CANCEL don't change, and a request
+-- that starts is a new one
 pub record Replies (client : Client) (done : Replied) : Type 0 where
   pub quiet : AreQuiet done.2
   pub kept : IsKept client done.0

@@ -161,7 +161,7 @@ pub at_most_same : (clients : Clients) (id : Id)
     → how_many id (waiting clients) ≤ how_many id (waiting clients)
 at_most_same clients id = omega arith
 
--- a request that is just sent waits for no CANCEL
+-- no CANCEL of a request that was just sent waits
 with_fewer : (id : Id) (client : Client) → client.cancel ≡ cancel.NotAsked
     → (clients : Clients) (of : Id)
     → how_many of (waiting (with_client id client clients)) ≤ how_many of (waiting clients)
@@ -200,7 +200,7 @@ started_within event client clients fresh =
     (str_to_ascii_lowercase (top_branch client.request)) ((client.request).cseq).method clients
     fresh (nothing clients clients (at_most_same clients))
 
--- a request that was just sent waits for no CANCEL, and has heard nothing
+-- a request that was just sent waits for no CANCEL, and no RSeq came for it
 abbrev pub StartsFresh : ClientChange → Type 0
 StartsFresh Stays = Unit {0}
 StartsFresh Over = Unit {0}

@@ -31,7 +31,7 @@ KeepsTo call_id step =
     (side : Side) → IsSideOf call_id side
     → IsSideOf call_id (step side).0 × AreNoticesOf call_id (step side).1
 
--- a step of the client requests alone doesn't change the dialogs
+-- a step that only changes client requests doesn't change the dialogs
 abbrev pub on_side : (Clients → Clients × List CallOut) → Side → ClientTaken
 on_side step side =
     (record side { clients = (step side.clients).0 }, (step side.clients).1)

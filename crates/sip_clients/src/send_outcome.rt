@@ -1,4 +1,4 @@
-//! What becomes of a request that is to be sent in a dialog.
+//! The outcome of a request to send in a dialog.
 
 ghost use Rattle.std.specs.Prelude.{◌≡◌, ◌∷◌, ◌++◌, [], ℕ, IfOk, List, OnOk, Option, Some, codes};
 ghost use Rattle.sip_dialog.specs.declared.fault.DialogFault.{DialogFault};
@@ -22,7 +22,7 @@ pub(crate) struct OutgoingRequest {
     pub(crate) created_by: Id,
 }
 
-/// What becomes of a request that is to be sent in a dialog.
+/// The outcome of a request to send in a dialog.
 #[derive(Drop)]
 pub(crate) enum SendOutcome {
     Sent(OutgoingRequest),
@@ -32,7 +32,7 @@ pub(crate) enum SendOutcome {
 }
 
 impl OutgoingRequest {
-    /// The request, and where it goes.
+    /// The request, and its address.
     pub(crate) fn into_parts(self) -> (Message, Addr)
         ensures { result ≡ (self.message, self.to) }
     {

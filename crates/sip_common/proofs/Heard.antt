@@ -1,5 +1,5 @@
--- The dialog of a name before and after a step: it goes on with what happened and was heard in it,
--- it ends, or it is made anew.
+-- The dialog of a name before and after a step: it goes on with what happened in it and its latest
+-- RSeq, it ends, or it is made anew.
 use Rattle.std.proofs.Common.{◌≡◌, ◌⊎◌, inl, inr, ℕ, Bool, true, false, ◌&&◌, cond, List, [], ◌∷◌, refl, sym, ap, subst, ◌∙◌, nat_eq}
 use Rattle.std.specs.Prelude.{Option, None, Some, filter, fold}
 use Rattle.std.specs.Cmp.{IsEquivalence, first_so, second_so}

@@ -49,7 +49,7 @@ happened_on opening life happen.Ends fits =
     end_stands (dialog_after opening life) (ended_now (dialog_after opening life)) refl opening
     life refl
 
--- so it is with all that happens after a story
+-- the same for all that happens after a story
 pub all_on : (opening : Opening) (life more : List Happening)
     → AllFit (dialog_after opening life) more
     → fold happened (dialog_after opening life) more ≡ dialog_after opening (life ++ more)

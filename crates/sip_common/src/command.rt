@@ -10,9 +10,9 @@ use std::alloc::AllocError;
 #[derive(Clone, Copy, PartialEq, Eq)]
 pub enum ProvisionalSupport {
     None,
-    /// `100rel` stands in Supported.
+    /// With `100rel` in Supported.
     Supported,
-    /// `100rel` stands in Require.
+    /// With `100rel` in Require.
     Required,
 }
 

@@ -23,7 +23,7 @@ module _ {A B : Type 0} (f : A → B) where
         | false ↦ filter_mapped p xs
       ]
 
-  -- if a change of each element is a change of what is read of it, so it is for lists
+  -- if a change of each element is a change of what is read of it, the same is true of lists
   pub map_mapped : (P : B → Type 0) (g : B → B) (h : A → A)
       → ((x : A) → P (f x) → f (h x) ≡ g (f x)) → (xs : List A) → AllByRecursion P (map f xs)
       → map f (map h xs) ≡ map g (map f xs)

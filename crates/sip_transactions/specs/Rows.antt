@@ -1,6 +1,6 @@
--- The tables of the four machines, a line for each row (RFC 3261, sections 17.1 and 17.2, and
--- RFC 6026, section 7). A timer's letter stands beside each row that sets it (+) or in which it
--- fires (!). T1, T2 and T4 are those of RFC 3261, section 17, and LIFETIME is 64 times T1, in ms.
+-- The tables of the four machines, a line for each row (RFC 3261, sections 17.1 and 17.2, and RFC
+-- 6026, section 7). Beside a row are the letters of the timers that it sets (+) or that fire in it
+-- (!). T1, T2 and T4 are those of RFC 3261, section 17, and LIFETIME is 64 times T1, in ms.
 use Rattle.std.specs.Prelude.{ℕ, Bool, ◌==◌, ◌&&◌, ◌+◌, ◌++◌, List, [], ◌∷◌, Option, None, Some, option_map, find}
 use Rattle.std.specs.List.{list_any}
 use Rattle.sip_transactions.specs.declared.state.State.{State}

@@ -105,7 +105,7 @@ impl Input {
         }
     }
 
-    /// The message that came, if one did, and where a response to it goes.
+    /// The message that came, if one did, and the address of a response to it.
     pub(crate) fn into_arrived(self) -> Option<(Boxed<Message>, Addr)>
         ensures { result ≡ arrived_in (Some self) }
     {

@@ -18,7 +18,7 @@ pub struct Life {
     pub context: Context,
 }
 
-/// What is held of a transaction beside its state.
+/// What is held of a transaction, apart from its state.
 #[derive(Drop)]
 pub struct Context {
     /// The event of the first input.

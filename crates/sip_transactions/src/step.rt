@@ -63,7 +63,7 @@ pub enum Due {
     Keep,
     /// Nothing is due any more.
     Clear,
-    /// The end alone is due, after this time in milliseconds.
+    /// Only the end is due, after this time in milliseconds.
     Ending(u32),
     /// The repeat is due after T1, and the end after 64 times T1.
     Both,

@@ -1,6 +1,6 @@
 -- The rules of a response to a client request (RFC 3261, sections 9.1, 12.1.2, 12.2.1.2, 13.2.2 and
 -- 13.2.2.4; RFC 3262, section 4). Read from the end: response_received finds the request,
--- response_to treats its CANCEL, outcome_of chooses the case; the cases stand before them.
+-- response_to treats its CANCEL, outcome_of chooses the case; the cases come before them.
 use Rattle.std.specs.Prelude.{ℕ, ◌+◌, Bool, true, not, ◌&&◌, ◌||◌, ◌==◌, List, [], ◌∷◌, ◌++◌, length, Option, None, Some, fold, is_none, is_some, option_and_then, unwrap_or, if◌then◌else◌}
 use Rattle.std.specs.Map.{lookup, remove_entry, set_value}
 use Rattle.std.specs.Option.{option_map_or}
@@ -60,7 +60,7 @@ kept after dialogs outs =
 -- The user is told of a response that asks for an ACK or a PRACK. That goes out at once, empty,
 -- unless it must carry an SDP answer (the response has a body and the INVITE had none; own: any
 -- body counts as SDP) or is refused (the user is told, with the place of this response). If it
--- waits or is refused, it stands last in `pending_requests`: `with_it` is `held` with it. `after`
+-- waits or is refused, it is the last in `pending_requests`: `with_it` is `held` with it. `after`
 -- gives the request, with the ACK that went out (RFC 3261, section 13.2.1; RFC 3262, section 5).
 abbrev pub asks_for : PendingRequest → ReceivedResponse → Client → (Option SentAck → Client)
     → HeldDialog → Dialogs → Outcome

@@ -1,7 +1,7 @@
 -- The rules of what comes up to the server side of a Call-ID: requests (RFC 3261, sections 8.2 and
 -- 12.2.2), CANCELs (section 9.2), PRACKs (RFC 3262, section 3) and ACKs (section 13.3.1.4). Read
 -- from the end: server_received takes what comes up, request_received a request by the first case
--- that fits, ack_received an ACK; the cases stand before them.
+-- that fits, ack_received an ACK; the cases come before them.
 use Rattle.std.specs.Prelude.{ℕ, Bool, false, true, not, ◌+◌, ◌&&◌, ◌||◌, ◌==◌, List, [], ◌∷◌, ◌++◌, Option, None, Some, codes, find, filter, is_none, nat_le, reverse, unwrap_or, if◌then◌else◌}
 use Rattle.std.specs.List.{list_any, join_by}
 use Rattle.std.specs.Option.{option_map, option_map_or}

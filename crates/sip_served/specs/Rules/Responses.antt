@@ -1,6 +1,6 @@
 -- The rules of the user's answer to a held request: when it is refused, the response that goes out,
 -- and what is held then (RFC 3261, sections 8.2.6, 12.1.1 and 13.3.1; RFC 3262, section 3). Read
--- from the end: respond_command finds the request, respond_to refuses or sends; the parts stand
+-- from the end: respond_command finds the request, respond_to refuses or sends; the parts come
 -- before them.
 use Rattle.std.specs.Prelude.{ℕ, ◌+◌, Bool, true, false, not, ◌&&◌, ◌||◌, nat_le, nat_lt, List, [], ◌∷◌, ◌++◌, length, Option, None, Some, codes, find, is_some, is_none, if◌then◌else◌}
 use Rattle.std.specs.List.{list_any}

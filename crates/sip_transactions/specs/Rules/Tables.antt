@@ -1,8 +1,8 @@
 -- The tables of the four machines (RFC 3261, sections 17.1 and 17.2, and RFC 6026, section 7). Each
--- row has the state and what comes; then the state after it, what goes up, what is sent, and what
--- becomes of the timers. The first row that fits counts, and by the last one of a table nothing
--- happens. `None` is no transaction. A timer's letter stands beside each row that sets it (+) or in
--- which it fires (!). T1 and T4 are those of RFC 3261, section 17, in ms.
+-- row has the state and what comes; then the state after it, what goes up, what is sent, and how
+-- the timers change. The first row that fits counts; by the last one of a table nothing happens.
+-- `None` is no transaction. Beside a row are the letters of the timers that it sets (+) or that
+-- fire in it (!). T1 and T4 are those of RFC 3261, section 17, in ms.
 use Rattle.std.specs.Prelude.{codes, if◌then◌else◌, Option, None, Some}
 use Rattle.std.specs.Str.{bytes_eq}
 use Rattle.sip_message.specs.declared.key.Key.{Key}
@@ -28,7 +28,7 @@ use Rattle.sip_transactions.specs.declared.step.Pace.TheVariants.{Doubled, Cappe
 -- A row: the state after it (`Same`, `To` another, or `Ended`: no transaction); what goes up
 -- (`Message`: what came; `NoTransaction`: it is dropped); what is sent (`Given`: the message of the
 -- input; `Latest`: what was sent last, again; `Trying`: a 100; `Ack`: the ACK of what came); the
--- timers. `Keep`: as they are. `Clear`: none runs. `Ending`: the ending one alone runs. `Both`: the
+-- timers. `Keep`: as they are. `Clear`: none runs. `Ending`: only the ending one runs. `Both`: the
 -- repeating one runs T1 and the ending one 64*T1. `Again`: the repeating one runs anew, by T1
 -- doubled each time (`Doubled`), that but at most T2 (`Capped`), or T2 (`Even`). `To` the same
 -- state is `Same`.
@@ -80,13 +80,13 @@ client (Some Trying) (Response 2xx) = row (To Completed) up.Message send.Nothing
 client (Some Trying) (Response 300-699) =
     row (To Completed) up.Message send.Nothing (Ending T4)  -- +K
 client (Some Trying) (Response left) =
-    row (To Proceeding) up.Message send.Nothing Keep  -- 100 to 199
+    row (To Proceeding) up.Message send.Nothing Keep  -- 100 to 199; E and F run on
 client (Some Proceeding) (Response 2xx) =
     row (To Completed) up.Message send.Nothing (Ending T4)  -- +K
 client (Some Proceeding) (Response 300-699) =
     row (To Completed) up.Message send.Nothing (Ending T4)  -- +K
 client (Some Proceeding) (Response left) =
-    row (To Proceeding) up.Message send.Nothing Keep  -- 100 to 199
+    row (To Proceeding) up.Message send.Nothing Keep  -- 100 to 199; E and F run on
 client (Some Completed) TimeoutDue = row Ended up.Nothing send.Nothing Clear  -- !K
 client state other = row Same up.Nothing send.Nothing Keep
 

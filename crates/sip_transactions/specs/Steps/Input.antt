@@ -42,7 +42,7 @@ message_in (Some (Start id call_id message to)) = Some message
 message_in (Some (Answer id message)) = Some message
 message_in (Some (Failed id)) = None
 
--- the message that came, and where a response to it goes
+-- the message that came, and the address of a response to it
 abbrev pub arrived_in : Option Input → Option (Message × Addr)
 arrived_in None = None
 arrived_in (Some (Receive id message reply_to)) = Some (message, reply_to)
