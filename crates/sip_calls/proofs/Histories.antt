@@ -49,7 +49,7 @@ Stands name (Some held) (Some history) ids =
     × (how_many history.life ≡ length history.sent)
     × NumberedAfter (opened history.opening).local_cseq history.sent
 
--- it was made by this event
+-- the dialog was made by this event
 abbrev pub born_of : Option Id → Option HeldDialog → Bool
 born_of event after = option_map_or
     (λ id. option_map_or (λ (held : HeldDialog). is_id held.created_by id) after false) event false

@@ -44,7 +44,7 @@ use Rattle.sip_calls.proofs.HeldRequests.{Sound, adds_sound, first_command, head
 -- ---- what is said of the request of each id
 
 module _ {X : Type 0} (none : X) (read : HeldRequest → X) where
-  -- it is what is read of it, if it is held
+  -- what is said of each held request is what is read of it
   abbrev pub Says : List HeldRequest → (Id → X) → Type 0
   Says requests said = (invite : Id)
       → IfSome (find (has_id invite) requests) (λ held. read held ≡ said invite)

@@ -106,7 +106,7 @@ call_from calls call (input ∷ inputs) =
     call_from calls (call_step calls call input.input input.moment).0 inputs
 
 module _ (calls : Calls) (name : DialogId) where
-  -- it begins anew if the input makes the dialog
+  -- the history begins anew if the input makes the dialog
   abbrev pub history_after : Option Call → Option History → Timed CallItem → Option History
   history_after call history timed =
       let done = call_step calls call timed.input timed.moment in
@@ -143,7 +143,7 @@ abbrev pub HoldsItsHistory : Type 0
 HoldsItsHistory =
     OfEachDialog (λ history dialog. dialog ≡ dialog_after history.opening history.life)
 
--- it is held under the name of its tags
+-- a dialog is held under the name of its tags
 abbrev pub HasItsName : Type 0
 HasItsName = (calls : Calls) (inputs : List (Timed CallItem)) → EventsDiffer inputs
     → (name : DialogId) (held : HeldDialog)

@@ -165,7 +165,7 @@ module _ (event : Event) (side : Side) (apart : AreApart side.dialogs)
 
 module _ (event : Event) (id : Id) (call_id : List ℕ) (response : Message) (side : Side)
     (apart : AreApart side.dialogs) (named : AreNamed side.dialogs) where
-  -- by the status and the request
+  -- what a response does, by its status and its request
   abbrev brings_by : Option ℕ → Option Client → Lives
   brings_by status o name held =
       option_map_or (λ client. option_map_or

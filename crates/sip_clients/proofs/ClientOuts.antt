@@ -197,7 +197,7 @@ module _ (P : CallOut → Type 0) (allows : Allows P) where
       (last_told (is_last after.kind answer.status) after side.dialogs answer tells)
       (settled_told answer.event answer.id done.3 put))
 
-  -- it is true of a notice of the response
+  -- P is true of a notice of the response
   abbrev pub ResponseAllowed : Event → Id → List ℕ → Message → Type 0
   ResponseAllowed event id call_id response = (name : DialogId) (status : ℕ)
       → status_of response.start ≡ Some status

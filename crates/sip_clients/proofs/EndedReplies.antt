@@ -162,7 +162,7 @@ beside_goes opens ends before after (Some id) invite done goes =
 
 -- ---- a response that isn't the last
 
--- it opens dialogs: the first INVITE
+-- a request opens dialogs: the first INVITE
 abbrev pub opens_dialogs : RequestKind → Bool
 opens_dialogs InitialInvite = true
 opens_dialogs (ReInvite life) = false
@@ -313,7 +313,7 @@ module _ (event : Event) (id : Id) (call_id : List ℕ) (response : Message) (st
         && ((is_success status && not (has_answer own asker.answers))
         || (not (is_final status) && (not (status == 100) && has_to_tag response)))
 
-    -- it replaces a held dialog, or opens one
+    -- the response replaces a held dialog, or opens one
     opens_so : is_last noted.kind status ≡ false → (name : DialogId)
         → ((puts (reply_case noted found answer) && is_dialog_id own name)
         || is_some (dialog_at name dialogs))

@@ -37,7 +37,7 @@ use Rattle.sip_clients.proofs.WithoutStarts.{none_started}
 
 module _ (event : Event) (id : Id) (call_id : List ℕ) (response : Message) (side : Side)
     (apart : AreApart side.dialogs) (named : AreNamed side.dialogs) where
-  -- by the status and the request
+  -- what a response asks for, by its status and its request
   abbrev owes_by : Option ℕ → Option Client → DialogId → List CallOut → List PendingRequest
   owes_by status o name outs = option_map_or (λ client. option_map_or
       (λ status. reply_owes status client response name (dialog_at name side.dialogs) outs)

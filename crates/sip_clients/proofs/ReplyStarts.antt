@@ -28,7 +28,7 @@ use Rattle.sip_clients.proofs.StartBounds.{waits_in, waits_for, waiting, how_man
 use Rattle.sip_clients.proofs.Tally.{tally_set, weight}
 use Rattle.sip_clients.proofs.WithoutStarts.{AreQuiet, none_started, ended_quiet, case_quiet}
 
--- its request and its CANCEL don't change
+-- the kind and the CANCEL of a request don't change
 abbrev pub IsKept : Client → Client → Type 0
 IsKept before after = (after.kind ≡ before.kind) × (after.cancel ≡ before.cancel)
 
@@ -63,8 +63,8 @@ case_fresh reply.Passed client found answer = tt
 case_fresh reply.Early client found answer = tt
 case_fresh reply.Told client found answer = tt
 
--- the outputs of a response start nothing, its request and its CANCEL don't change, and a request
--- that starts is a new one
+-- the outputs of a response start nothing, the kind and the CANCEL of its request don't change, and
+-- a request that starts is a new one
 pub record Replies (client : Client) (done : Replied) : Type 0 where
   pub quiet : AreQuiet done.2
   pub kept : IsKept client done.0

@@ -679,7 +679,7 @@ taken_same answer side client =
     ∙ ap (λ name. reply_settled (record answer { name = name }) client side)
     (name_same client.kind client answer.response)
 
--- its effect by its status, and by the held request
+-- the effect of a response, by its status and the held request
 abbrev rule_by : Event → Id → List ℕ → Message → Side → Option ℕ → Option Client → ClientTaken
 rule_by event id call_id message side status held =
     option_map_or (λ status. option_map_or (λ (client : Client).

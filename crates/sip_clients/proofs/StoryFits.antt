@@ -151,7 +151,7 @@ module _ (story : ClientStory) where
 
   -- ---- the CANCEL
 
-  -- it may go out as soon as a provisional response has come
+  -- the CANCEL may go out as soon as a provisional response has come
   pub record IsReady (before : List ClientHappening) (id : Id) : Type 0 where
     pub asked_so : IsAskedFor story before
     pub alone : list_any is_cancel_sent before ≡ false

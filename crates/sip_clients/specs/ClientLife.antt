@@ -36,7 +36,7 @@ request_in (out.Direct to bytes) = None
 abbrev pub requests_out : List CallOut → List Outgoing
 requests_out outs = filter_map request_in outs
 
--- those that are CANCELs
+-- the requests that are CANCELs
 abbrev pub cancels_out : List CallOut → List Outgoing
 cancels_out outs = filter (λ sent. is_cancel sent.request) (requests_out outs)
 

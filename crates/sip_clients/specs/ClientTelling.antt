@@ -166,7 +166,7 @@ cancel_told event command outs stories =
 
 -- ---- a tick
 
--- those whose time is over are removed
+-- the requests whose time is over are removed
 abbrev pub ticked_told : ℕ → ClientStories → ClientStories
 ticked_told now stories = filter (λ entry. not (is_over now (client_told entry.1))) stories
 

@@ -36,7 +36,7 @@ abbrev pub with_pending : PendingRequest → HeldDialog → HeldDialog
 with_pending pending held =
     record held { pending_requests = held.pending_requests ++ pending ∷ [] }
 
--- it stays owed, unless it was sent
+-- the ACK or PRACK stays owed, unless it was sent
 abbrev pub kept_unless_sent : PendingRequest → SendOutcome → HeldDialog → HeldDialog
 kept_unless_sent pending (Sent sending) held = held
 kept_unless_sent pending Waits held = with_pending pending held
@@ -58,7 +58,7 @@ without_pending pending held =
           held.pending_requests;
     }
 
--- it is no longer owed, if it was sent
+-- the ACK or PRACK is no longer owed, if it was sent
 abbrev pub dropped_if_sent : PendingRequest → SendOutcome → HeldDialog → HeldDialog
 dropped_if_sent pending (Sent sending) held = without_pending pending held
 dropped_if_sent pending Waits held = held

@@ -63,7 +63,8 @@ success_case client found name =
     else if has_dialog client.kind found then Accepted
     else Late
 
--- it is the next one by its RSeq, or it is dropped (RFC 3262, section 4)
+-- a reliable provisional response is the next one by its RSeq, or it is dropped (RFC 3262, section
+-- 4)
 abbrev pub offer_case : Offer → ℕ → ReplyCase
 offer_case Taken rseq = Reliable rseq
 offer_case Repeat rseq = Passed

@@ -90,7 +90,7 @@ abbrev pub KeptFrom : Option ℕ → Life → HeldDialog → Option HeldDialog �
 KeptFrom came life after None = ⊥
 KeptFrom came life after (Some before) = Keeps came (life before) before after
 
--- it was there and this happened in it, or it is no longer held
+-- the dialog was there and this happened in it, or it is no longer held
 abbrev pub Stays : Option ℕ → Life → Option HeldDialog → Option HeldDialog → Type 0
 Stays came life before None = Unit {0}
 Stays came life before (Some after) = KeptFrom came life after before

@@ -20,7 +20,7 @@ KeptOwed change after (Some before) =
     (after.created_by ≡ before.created_by) × (after.pending_requests
     ≡ change before.pending_requests)
 
--- it was there and what is owed in it changed in this way, or it is no longer held
+-- the dialog was there and what is owed in it changed in this way, or it is no longer held
 abbrev pub OwesStill : (List PendingRequest → List PendingRequest) → Option HeldDialog
     → Option HeldDialog → Type 0
 OwesStill change before None = Unit {0}

@@ -40,17 +40,17 @@ presence_of d name.Route = list_presence d.routes
 presence_of d name.Require = list_presence d.require
 presence_of d name.Supported = list_presence d.supported
 
--- it is missing
+-- the header is missing
 abbrev pub is_nowhere : Presence → Bool
 is_nowhere Nowhere = true
 is_nowhere presence = false
 
--- it is repeated
+-- the header is repeated
 abbrev pub is_repeated : Presence → Bool
 is_repeated Repeated = true
 is_repeated presence = false
 
--- a line of it has another form
+-- a line of the header has another form
 abbrev pub is_unfit : Presence → Bool
 is_unfit Unfit = true
 is_unfit presence = false

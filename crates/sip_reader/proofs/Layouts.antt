@@ -110,7 +110,7 @@ section_again (line ∷ lines) text rest all is =
 abbrev pub HasEnd : List ℕ → List ℕ → Type 0
 HasEnd text after = (text ≡ 10 ∷ after) ⊎ (text ≡ 13 ∷ (10 ∷ after))
 
--- it doesn't
+-- the text doesn't begin with a line end
 abbrev pub NoEnd : List ℕ → Type 0
 NoEnd text = (after : List ℕ) → HasEnd text after → ⊥
 

@@ -149,7 +149,7 @@ module _ (requests : List HeldRequest) (request : Message) (held : HeldDialog)
 
 module _ (requests : List HeldRequest) (dialogs : Dialogs) (request : Message) (tag : List ℕ)
     (other : DialogId) (held : HeldDialog) (at : dialog_at other dialogs ≡ Some held) where
-  -- by whether it has a To tag
+  -- the name, by whether the request has a To tag
   abbrev name_by : Bool → DialogId
   name_by outside =
       dialog_id_of_tags (if outside then tag else tag_of request.to) (tag_of request.from)

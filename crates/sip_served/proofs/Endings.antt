@@ -173,7 +173,7 @@ bye_is_no_prack request is =
 
 module _ (requests : List HeldRequest) (dialogs : Dialogs) (request : Message) (tag : List ℕ)
     (name : DialogId) (held : HeldDialog) (at : dialog_at name dialogs ≡ Some held) where
-  -- by whether it has a To tag
+  -- the name, by whether the request has a To tag
   abbrev own : Bool → DialogId
   own outside = dialog_id_of_tags (if outside then tag else tag_of request.to) (tag_of request.from)
 

@@ -55,7 +55,7 @@ answer_start local held r =
     by_case false true = refl
     by_case false false = refl
 
--- it has the next RSeq if it is sent reliably
+-- the response has the next RSeq if it is sent reliably
 abbrev pub next_rseq : HeldRequest → Answer → Option ℕ
 next_rseq held r =
     if is_sent_reliably held r.status r.reliability

@@ -61,7 +61,7 @@ sent_next story now =
       interval = long i;
     }
 
--- it is sent again as its story says
+-- the 2xx is sent again as its story says
 repeats_on : (now : ℕ) (o : Option SuccessStory)
     → option_map success_of (option_map
     (λ (story : SuccessStory). record story { repeats = story.repeats ++ now ∷ [] }) o)
@@ -123,7 +123,7 @@ module _ (h : RequestHappening) where
 
 -- ---- one thing that happens to a request
 
--- it has the next number, or is due
+-- a reliable response that goes out has the next RSeq; sending again and giving up are due
 abbrev Fits : HeldRequest → RequestHappening → Type 0
 Fits held (SendsReliably number response now) = number ≡ held.ledger.next
 Fits held (RepeatsProvisionals numbers now) =

@@ -24,7 +24,7 @@ use Rattle.sip_served.proofs.Reading.{IsTold, Quiet, Reading}
 use Rattle.sip_served.proofs.RequestLives.{provisionals_alone}
 use Rattle.sip_served.proofs.Rseqs.{again_quiet, another_ticked, answer_rseq, answer_start, awaits_answered, given_as, given_up_numbers, keeps_answered, none_open, open_numbers, open_repeated, own_ticked, repeated_numbers, repeats_answered, repeats_pracked, said, said_of_repeats}
 
--- those that are kept, those whose PRACK gets a 200, and those that are sent again
+-- the RSeqs that are kept, those whose PRACK gets a 200, and those that are sent again
 abbrev pub until_pracked : (HeldRequest → List ℕ) → Id → Reading (List ℕ)
 until_pracked read invite = record {
   none = [];

@@ -27,7 +27,7 @@ dialogs_row =
     (builder.ghosts fold_hasher.the_row hasher.ghosts builder.no_dict
     (copied.ghosts fold_hasher.the_row) builder.no_dict) hasher.ghosts allocator.ghosts
 
--- it holds the dialogs that the reference had at its end; all else is unchanged
+-- the side holds the dialogs that the reference had at its end; all else is unchanged
 abbrev pub SideLends : MutBor State → MutBor dialogs_row.Denot → Fml
 SideLends s r =
     Lends server_side.the_row dialogs_row s r

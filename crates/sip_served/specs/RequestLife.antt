@@ -17,7 +17,7 @@ use Rattle.sip_served.specs.Provisionals.{without_rseq}
 
 -- what happens to a request that is held
 pub data RequestHappening : Type 0 where
-  -- its answer makes this dialog
+  -- an answer makes this dialog
   MakesDialog : DialogReference → RequestHappening
   -- a reliable provisional response goes out, with this RSeq, at a moment
   SendsReliably : ℕ → Message → ℕ → RequestHappening

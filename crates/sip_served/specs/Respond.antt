@@ -150,8 +150,8 @@ finished response status now held = went_on (Finishes response status now ∷ []
 
 -- ---- the dialogs after the response
 
--- it makes a dialog if the request is outside of dialogs and has made none (RFC 3261, section
--- 12.1.1)
+-- a response makes a dialog if its request is outside of dialogs and has made none (RFC 3261,
+-- section 12.1.1)
 abbrev pub makes_dialog : HeldRequest → ℕ → Bool
 makes_dialog held status =
     makes_or_confirms_dialog held status && not (has_to_tag held.request) && is_none held.dialog

@@ -58,7 +58,7 @@ abbrev pub is_prack_of : ℕ → RequestHappening → Bool
 is_prack_of wanted (TakesPrack number) = wanted == number
 is_prack_of wanted _ = false
 
--- those that went out and whose PRACK didn't come since
+-- the responses that went out and whose PRACK didn't come since
 abbrev pub unacknowledged : List RequestHappening → List ReliableResponse
 unacknowledged [] = []
 unacknowledged (SendsReliably number response now ∷ later) =
@@ -75,7 +75,7 @@ pub record SuccessStory : Type 0 where
   pub repeats : List ℕ
   pub over : Option SuccessEnd
 
--- it goes out again one capped interval after it was last sent
+-- the 2xx goes out again one capped interval after it was last sent
 abbrev pub next_sending : SuccessStory → Retransmission
 next_sending story =
     let pause = interval Capped (length story.repeats) in

@@ -22,9 +22,9 @@ pub enum Handed {
     Nothing,
     /// The message that came.
     Message,
-    /// That no response came in time, or no ACK.
+    /// The report that no response came in time, or no ACK.
     Timeout,
-    /// That a send failed.
+    /// The report that a send failed.
     Failed,
     /// Nothing: the response is dropped, since no transaction waits for it.
     NoTransaction,

@@ -231,7 +231,7 @@ quote_ends false (b ∷ bs) e =
     by_byte further false false f g h =
         let more = further false h in (b ∷ more.0, ap (λ (xs : List ℕ). b ∷ xs) more.1)
 
--- its last byte is a quote
+-- the last byte of a quoted string is a quote
 pub quoted_ends : (text : List ℕ) → is_quoted text ≡ true
     → (front : List ℕ) × (text ≡ front ++ (34 ∷ []))
 quoted_ends text is =

@@ -56,7 +56,7 @@ is_sent_reliably held respond =
 abbrev pub is_dialog_response : HeldRequest → ℕ → Bool
 is_dialog_response held status = is_invite held.request && nat_lt status 300
 
--- it makes a dialog if the INVITE is outside of dialogs and has made none (its tag is new)
+-- it makes a dialog if its INVITE is outside of dialogs and has made none (the tag is new)
 abbrev pub makes_dialog : HeldRequest → ℕ → Bool
 makes_dialog held status =
     is_dialog_response held status && not (has_to_tag held.request) && is_none held.dialog

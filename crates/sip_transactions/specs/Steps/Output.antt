@@ -63,7 +63,7 @@ made_of request send.Latest message = None
 made_of request send.Trying message = Some (trying_of message)
 made_of request send.Ack message = option_map (λ request. ack_of request message) request
 
--- its bytes
+-- the bytes of that message
 abbrev pub made_bytes : Option Message → Sent → Option Message → Option (List ℕ)
 made_bytes request sent message =
     option_map written (option_and_then (made_of request sent) message)
