@@ -32,7 +32,7 @@ abbrev pub acknowledged_invite : Message → List HeldRequest → Option Id
 acknowledged_invite ack requests =
     option_map (λ held. held.id) (find (λ held. awaits_ack held && is_ack_of ack held) requests)
 
--- the request after its 2xx was sent for the last time
+-- the request after its 2xx was acknowledged or given up
 abbrev pub success_ended : SuccessEnd → HeldRequest → HeldRequest
 success_ended end held = went_on (EndsSuccess end ∷ []) held
 
