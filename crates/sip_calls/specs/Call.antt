@@ -86,8 +86,7 @@ received call event up of_server =
 abbrev pub with_clients : Call → Clients × List CallOut → CallTaken
 with_clients call taken = (record call { clients = taken.0 }, taken.1)
 
--- Invite and Plain begin a call: nothing may be held under their Call-ID; for others something must
--- be
+-- Invite and Plain begin a call: nothing may be held under their Call-ID; others need a held call
 abbrev pub call_refusal : Bool → UserCommand → Option Refusal
 call_refusal held (Invite invite) = if held then Some CallInUse else None
 call_refusal held (Plain plain) = if held then Some CallInUse else None
@@ -143,8 +142,7 @@ call_machine calls =
 
 -- ---- for steps and laws: `run` needs nothing of what follows
 
--- the moment at which something of a call is due; a call under which nothing is held is over at
--- once
+-- the moment at which something of a call is due (0 if nothing is held, since such a call is over)
 abbrev pub call_due : Call → Option ℕ
 call_due call =
     if holds_any call then earlier (served.server_due call.served) (clients.client_due call.clients)

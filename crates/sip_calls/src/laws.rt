@@ -82,8 +82,8 @@ pub fn requests_are_held_by_id()
 {}
 
 /// Whatever comes to a call, if no id of a request comes up twice: a held INVITE awaits its ACK if
-/// a 2xx to it went out, and the user was told since neither of its ACK nor that none came (RFC
-/// 3261, section 13.3.1.4).
+/// a 2xx to it went out, and since then the user was told neither of its ACK nor that none came
+/// (RFC 3261, section 13.3.1.4).
 pub fn an_invite_awaits_its_ack_as_told()
     ensures { AwaitsAsTold }
 {}

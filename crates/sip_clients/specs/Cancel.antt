@@ -56,8 +56,7 @@ abbrev pub refusing : Event → Cancel → Refusal → Clients → Clients × Li
 refusing event command refusal clients =
     (clients, refused event.id command.call_id refusal)
 
--- the command by its case: refused; asked before; the CANCEL waits for a provisional response; goes
--- out
+-- the command by its case: refused; asked before; its CANCEL waits; or its CANCEL goes out
 abbrev pub cancelled_as : CancelCase → Event → Cancel → Client → Clients → Clients × List CallOut
 cancelled_as (case.Refused refusal) event command invite clients =
     refusing event command refusal clients

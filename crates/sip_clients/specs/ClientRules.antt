@@ -1,5 +1,5 @@
--- What is true of the life of a client request: when which CANCEL goes out, and which ACK answers a
--- retransmitted 2xx (RFC 3261, sections 9.1 and 13.2.2.4).
+-- What is true of the life of a client request: when its CANCEL goes out and what it is, and which
+-- ACK answers a retransmitted 2xx (RFC 3261, sections 9.1 and 13.2.2.4).
 use Rattle.std.specs.Prelude.{◌≡◌, ℕ, true, false, List, [], ◌∷◌, ◌++◌, None, Some}
 use Rattle.std.specs.List.{AllByRecursion, list_any}
 use Rattle.sip_message.specs.HopByHop.{cancel_of}

@@ -28,8 +28,8 @@ use std::marker::Model;
 use std::mem;
 
 /// The held requests that were sent under one Call-ID, in the order in which they were sent. They
-/// change the dialogs of the Call-ID that each call hands in (RFC 3261, sections 8.1, 12.2.1, 13.2
-/// and 17.1; RFC 3262, section 4).
+/// change the dialogs of the Call-ID that are handed in (RFC 3261, sections 8.1, 12.2.1, 13.2 and
+/// 17.1; RFC 3262, section 4).
 ///
 /// After memory ran out no request is held, and it isn't known what was done to the dialogs.
 pub struct Clients {

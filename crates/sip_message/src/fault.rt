@@ -7,7 +7,7 @@ use std::alloc::{AllocError, AllocFailed};
 use std::fmt;
 
 /// What is wrong with a text. The fault is the first of these whose condition is true; NoMemory may
-/// be returned in place of a fault.
+/// be returned in place of the fault that would have followed.
 #[derive(Clone, Copy, Debug, PartialEq, Eq)]
 pub enum ReadFault {
     /// It has more than 65,535 bytes.

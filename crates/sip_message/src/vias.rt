@@ -31,7 +31,7 @@ impl Model for Vias {
 }
 
 impl Vias {
-    /// These values, or None if there is none, or the branch of the first doesn't begin so.
+    /// These values, or None if there is none, or the first has no such branch.
     pub fn new(vias: Series<Via>) -> Option<Vias>
         ensures { SomeIff result (IsTrue (via.are_vias vias)) vias }
     {

@@ -114,8 +114,7 @@ abbrev pub next_due : Call → Option ℕ
 next_due call =
     earlier (served.next_server_due call.served) (clients.next_removal call.clients)
 
--- the moment at which something of a call is due; a call under which nothing is held is over at
--- once
+-- the moment at which something of a call is due (0 if nothing is held, since such a call is over)
 abbrev pub due_taken : Call → Option ℕ
 due_taken call = if holds_any call then next_due call else Some 0
 

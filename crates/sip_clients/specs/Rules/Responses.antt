@@ -150,7 +150,7 @@ reliable_response reply client dialogs held rseq =
     (λ ack. if initial then client else record client { last_rseq = Some rseq })
     (if initial then record held { last_rseq = Some rseq } else held) dialogs
 
--- one of a dialog, which it makes (early) if it isn't held; without RSeq it counts as unreliable
+-- one of a dialog, which it makes (early) if it isn't held; unreliable if without 100rel or RSeq
 abbrev pub dialog_response : ReceivedResponse → Client → Dialogs → Outcome
 dialog_response reply client dialogs =
     let response = reply.response in
