@@ -28,3 +28,7 @@ pub mod CallBranches
 pub mod Origins
 pub mod OneCallId
 pub mod ToldCallId
+pub mod PracksCame
+pub mod PracksServed
+pub mod PracksOfCalls
+pub mod PracksSaid

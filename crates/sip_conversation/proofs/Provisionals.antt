@@ -38,6 +38,7 @@ use Rattle.sip_conversation.proofs.Among.{each_of}
 use Rattle.sip_conversation.proofs.CallOuts.{InputFits, KindTells, NoticeTells, OutFits, ResponseTells, step_fits}
 use Rattle.sip_conversation.proofs.Fronts.{carried_before, carried_to, keeps_before, keeps_to}
 use Rattle.sip_conversation.proofs.OneTransaction.{KindCame}
+use Rattle.sip_conversation.proofs.PracksSaid.{prack_said}
 use Rattle.sip_conversation.proofs.RepliesSaid.{Came, IsFair, response_said}
 use Rattle.sip_conversation.proofs.Unchanged.{inputs_unchanged}
 use Rattle.sip_conversation.proofs.Ups.{ItemCame, TimedCame, UpCame}
@@ -116,11 +117,15 @@ module _ (configs : Side → Config) (fair : IsFair configs) (before : List Turn
       let so = response_said configs fair before turn carried keep response comes status is in
       let here : provisional_number (Some status) response ≡ Some rseq =
       ap (λ o. provisional_number o response) (sym is) ∙ number in
+      let numbered = ap (provisional_number (Some status)) so.whole ∙ here in
       record {
         response = so.said;
-        number = ap (provisional_number (Some status)) so.whole ∙ here;
+        number = numbered;
         by_user = by_user (configs (peer turn.side)) (rounds_of (peer turn.side) before) response
             rseq status response.body here so.said.answered;
+        pracked = prack_said configs before turn.side (fair.calls (peer turn.side))
+            (inputs_unchanged fair.transactions configs fair.addresses before carried keep
+            (peer turn.side)) so.said.original so.said.said status rseq so.said.status_is numbered;
       }
 
   module _ (calls : Calls) (invite : AnInvite) (life : DialogReference) where

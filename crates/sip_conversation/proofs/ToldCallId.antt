@@ -64,7 +64,7 @@ came_same source came said same asks =
     (λ other. absurd (false≢true (sym other
     ∙ (ap is_request_message (sym (same ∙ ap comes other)) ∙ asks))))
 
-peer_peer : (s : Side) → peer (peer s) ≡ s
+pub peer_peer : (s : Side) → peer (peer s) ≡ s
 peer_peer side.One = refl
 peer_peer side.Other = refl
 

@@ -1,7 +1,8 @@
 -- The reliable provisional responses that a user is told of have consecutive RSeqs, each is told
 -- once, and the other side said each of them before (RFC 3262, section 4).
-use Rattle.std.specs.Prelude.{◌≡◌, ◌≢◌, ℕ, List, [], ◌∷◌, ◌++◌, AllPairs, Option, None, Some, filter, map}
+use Rattle.std.specs.Prelude.{◌≡◌, ◌≢◌, ◌<◌, ℕ, List, [], ◌∷◌, ◌++◌, AllPairs, Option, None, Some, codes, filter, map}
 use Rattle.std.specs.List.{AllByRecursion}
+use Rattle.sip_message.specs.declared.message.Message.{Message}
 use Rattle.sip_model.specs.Machine.{Timed}
 use Rattle.sip_common.specs.declared.held_dialog.DialogReference.{DialogReference}
 use Rattle.sip_common.specs.declared.item.CallOut.{CallOut}
@@ -13,10 +14,12 @@ use Rattle.sip_calls.specs.declared.calls.Calls.{Calls}
 use Rattle.sip_calls.specs.Call.{CallItem}
 use Rattle.sip_calls.specs.Provisionals.{IsConsecutive, done, number_in_life}
 use Rattle.sip_round.specs.declared.config.Config.{Config}
+use Rattle.sip_round.specs.declared.round.Round.{Round}
 use Rattle.sip_round.specs.Answers.{calls_of}
 use Rattle.sip_round.specs.Laws.{call_inputs_of}
 use Rattle.sip_conversation.specs.Answers.{RespondsSo}
 use Rattle.sip_conversation.specs.Conversation.{Side, Turn, peer, rounds_of}
+use Rattle.sip_conversation.specs.Messages.{IsSaid}
 use Rattle.sip_conversation.specs.Replies.{SaidResponse}
 
 -- ---- what a user is told of them
@@ -36,13 +39,24 @@ told_from calls invite life call (input ∷ inputs) =
 
 -- ---- what the other side said
 
--- in these turns the other side said such a response as a reliable provisional one, with this RSeq
--- and a tag in To, because its user responded that way
+-- in these rounds an agent said the PRACK of the response of RSeq 1 to the INVITE that this
+-- response answers (RFC 3262, section 7.2)
+pub record SaidPrack (config : Config) (rounds : List Round) (response : Message) : Type 0 where
+  pub prack : Message
+  pub said : IsSaid config rounds prack
+  pub method : prack.cseq.method ≡ codes "PRACK"
+  pub rack : prack.rack
+      ≡ Some record { rseq = 1; cseq = response.cseq.number; method = codes "INVITE" }
+
+-- In these turns the other side said such a response as a reliable provisional one, with this RSeq
+-- and a tag in To, because its user responded that way. If the RSeq is above 1, this side said the
+-- PRACK of the first in these turns.
 pub record SaidReliably (configs : Side → Config) (turns : List Turn) (side : Side)
     (rseq status : ℕ) (local_tag remote_tag body : List ℕ) : Type 0 where
   pub response : SaidResponse configs turns side status local_tag remote_tag body
   pub number : provisional_number (Some status) response.original ≡ Some rseq
   pub by_user : RespondsSo (configs (peer side)) (rounds_of (peer side) turns) status body
+  pub pracked : 1 < rseq → SaidPrack (configs side) (rounds_of side turns) response.original
 
 -- it is the notice of a response, and the other side said that response
 abbrev pub IsSaidReliably : (Side → Config) → List Turn → Side → ℕ → CallOut → Type 0

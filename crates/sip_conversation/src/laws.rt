@@ -58,8 +58,10 @@ pub fn calls_hear_unchanged(one: Config, other: Config)
 /// in one life of a dialog, have consecutive RSeqs, and the user is told of each once (RFC 3262,
 /// section 4). In the turns before the one in which the user is told, the other side said a
 /// reliable provisional response with this RSeq and with the status, the tags and the body that are
-/// told. Its user gave the command to respond with that status and body. The law doesn't say that
-/// the response was to this INVITE, or that the first of these RSeqs is 1.
+/// told. Its user gave the command to respond with that status and body. If the RSeq is above 1,
+/// this side said in those turns a PRACK whose RAck has RSeq 1, the response's CSeq number and
+/// INVITE (RFC 3262, section 7.2). The law doesn't say that the response was to this INVITE, or that
+/// the first of these RSeqs is 1.
 pub fn provisionals_told_were_said(one: Config, other: Config)
     ensures { (turns : List Turn) → Carried (of_sides one other) turns
         → CallsKeepRules (of_sides one other) turns

@@ -1,5 +1,5 @@
 -- What the statuses 1 and 3 of a replay tell of its input, and that a file never ends in status 1.
-use Rattle.std.proofs.Common.{◌≡◌, ◌≢◌, ◌⊎◌, inl, inr, ℕ, ◌<◌, ◌≤◌, ◌^◌, Bool, List, length, Option, Some, None, IfSome, ap, arith, sym, ◌∙◌}
+use Rattle.std.proofs.Common.{◌≡◌, ◌≢◌, ◌⊎◌, inl, inr, ℕ, ◌<◌, ◌≤◌, ◌^◌, Bool, List, length, Option, Some, None, IfSome, ap, arith, sym, ◌∙◌, subst}
 use Rattle.std.specs.Prelude.{IfErr, MatchResult, Result, Ok, Err}
 use Rattle.sip_files.specs.declared.version.FileKind.{FileKind}
 use Rattle.sip_files.specs.EventFile.{IsFile}
@@ -92,9 +92,13 @@ a_file_fault BadVersion is = omega arith
 a_file_fault (BadLine number) is = omega arith
 a_file_fault events_fault.NoMemory is = omega arith
 
+five_or_three : (status : ℕ) → status ≡ 5 → status ≡ 3 → ⊥
+five_or_three status five three = omega arith
+
 out_of_memory : (fault : RoundFault) (broken : Bool) → fault ≡ round_fault.NoMemory broken
     → round_status fault ≡ 3 → ⊥
-out_of_memory fault broken refl is = omega arith
+out_of_memory fault broken is three =
+    five_or_three (round_status fault) (ap round_status is) three
 
 -- what a replay that ends in status 3 tells of its input
 told_in_3 : (kind : FileKind) (repairs : Bool) (known : Option (List ℕ))
@@ -112,7 +116,7 @@ told_in_3 kind repairs (Some input) (Err Input) status ends (inr tells) three =
 told_in_3 kind repairs (Some input) (Err (Events fault)) status ends (inr tells) three =
     absurd (a_file_fault fault (sym ends ∙ three))
 told_in_3 kind repairs (Some input) (Err (Round index fault)) status ends (inr (inl none)) three =
-    absurd (out_of_memory fault none.0 none.1.0 (sym ends ∙ three))
+    absurd (out_of_memory fault none.0 none.1 (sym ends ∙ three))
 told_in_3 kind repairs (Some input) (Err (Round index fault)) status ends (inr (inr told)) three =
     (index, fault, told)
 told_in_3 kind repairs (Some input) (Err Output) status ends (inr tells) three =
@@ -126,16 +130,20 @@ pub status_1 : (kind asked : FileKind) (repairs wanted : Bool) → kind ≡ aske
     → MatchResult end (λ done. status ≡ 0) (λ fault. status ≡ fault_status fault)
     → IfErr end (λ fault. IfSome known (TellsRepair kind repairs fault))
     → status ≡ 1 → IfSome known (IsNoInput asked wanted)
-status_1 kind asked repairs wanted refl refl known end status ends tells =
-    told_in_1 kind repairs known end status ends tells
+status_1 kind asked repairs wanted kinds repair known end status ends tells one =
+    subst (λ k. IfSome known (IsNoInput k wanted)) kinds
+    (subst (λ r. IfSome known (IsNoInput kind r)) repair
+    (told_in_1 kind repairs known end status ends tells one))
 
 pub status_3 : (kind asked : FileKind) (repairs wanted : Bool) → kind ≡ asked → repairs ≡ wanted
     → (known : Option (List ℕ)) (end : Result (Unit {0}) ReplayFault) (status : ℕ)
     → MatchResult end (λ done. status ≡ 0) (λ fault. status ≡ fault_status fault)
     → IfErr end (λ fault. IfSome known (TellsRepair kind repairs fault))
     → status ≡ 3 → IfSome known (λ input. HasRefusedRound asked (replayed wanted input))
-status_3 kind asked repairs wanted refl refl known end status ends tells =
-    told_in_3 kind repairs known end status ends tells
+status_3 kind asked repairs wanted kinds repair known end status ends tells three =
+    subst (λ k. IfSome known (λ input. HasRefusedRound k (replayed wanted input))) kinds
+    (subst (λ r. IfSome known (λ input. HasRefusedRound kind (replayed r input))) repair
+    (told_in_3 kind repairs known end status ends tells three))
 
 pub never_status_1 : (kind asked : FileKind) (repairs wanted : Bool) → kind ≡ asked
     → repairs ≡ wanted → (known : Option (List ℕ)) (end : Result (Unit {0}) ReplayFault)
@@ -144,6 +152,6 @@ pub never_status_1 : (kind asked : FileKind) (repairs wanted : Bool) → kind �
     → IfErr end (λ fault. IfSome known (TellsRepair kind repairs fault))
     → IfSome known
     (λ input. length input ≤ 2 ^ 26 → IsFile asked (replayed wanted input) → status ≢ 1)
-never_status_1 kind asked repairs wanted refl refl known end status ends tells =
-    never_ends_in_1 kind repairs known status
-    (told_in_1 kind repairs known end status ends tells)
+never_status_1 kind asked repairs wanted kinds repair known end status ends tells =
+    never_ends_in_1 asked wanted known status
+    (status_1 kind asked repairs wanted kinds repair known end status ends tells)

@@ -1,6 +1,6 @@
 //! What `ua listen`, `ua call` and `ua agent` do.
 
-ghost use Rattle.std.specs.Prelude.{IfOk, IfSome};
+ghost use Rattle.std.specs.Prelude.{◌≡◌, IfOk, IfSome};
 ghost use Rattle.std.specs.List.{list_all};
 ghost use Rattle.sip_message.specs.Addr.{addr_text};
 ghost use Rattle.sip_program.specs.Scheme.{is_scheme, is_scheme_byte};
@@ -261,16 +261,19 @@ fn ended<'a, E: Write>(
             "ua: {lost} notices lost, since the output wasn't read"
         );
     }
-    match (end, error) {
-        (Ok(()), None) => Ok(()),
-        (Ok(()) | Err(UaFault::Output), Some(error)) => Err(Failure::new(
+    let is_unwritten = end.is_ok() || end == Err(UaFault::Output);
+    match error {
+        Some(error) if is_unwritten => Err(Failure::new(
             TalkFault::Ua(UaFault::Output),
             Cause::Stream {
                 name: "standard output",
                 error,
             },
         )),
-        (Err(fault), _) => Err(Failure::unknown(TalkFault::Ua(fault))),
+        _ => match end {
+            Ok(()) => Ok(()),
+            Err(fault) => Err(Failure::unknown(TalkFault::Ua(fault))),
+        },
     }
 }
 

@@ -32,9 +32,9 @@ Examples:
 
 Exit status:
   0  success
-  1  the input is no event file, or no session file
+  1  the input isn't an event file (or, with --session, a session file)
   2  a wrong option or command
-  3  a round was refused
+  3  a round was refused: its time goes back or is too large, or it has too many events
   4  a file, a stream or the socket failed
   5  out of memory
   6  the call was not answered (with --must-answer)";
@@ -63,7 +63,7 @@ Example, and what it prints of a call that is answered:
 
   notice ua-call response 0.1 200 LOCAL-TAG REMOTE-TAG SDP
   notice ua-call ended LOCAL-TAG REMOTE-TAG
-  notice ua-call response 3.1 200 LOCAL-TAG REMOTE-TAG -";
+  notice ua-call response 3.2 200 LOCAL-TAG REMOTE-TAG -";
 
 const AGENT_EXAMPLE: &str = "\
 Example, an OPTIONS to a listener, and what it prints:
@@ -273,7 +273,7 @@ pub(crate) fn parse<'a, S: AsStr>(alloc: Global, words: &'a [S]) -> Result<ArgMa
     let command = Command::new(alloc, "ua")
         .about(
             "A SIP user agent over UDP: answers calls, places a call, or runs commands from a \
-            pipe; replays what it recorded, and draws it",
+            pipe; also replays and draws its recordings",
         )
         .after_help(EXAMPLES)
         .version(VERSION)
@@ -380,8 +380,8 @@ fn ladder_command<'a>(alloc: Global) -> Result<Command<'a>, AllocError> {
     let command = Command::new(alloc, "ladder")
         .about(
             "Reads an event file from standard input and draws its call flow, at most 100 \
-            characters wide: a column for each address, an arrow for each datagram, and a line for \
-            each command, notice and drop",
+            characters wide. There is a column for each address, an arrow for each datagram, and a \
+            line for each command, notice and drop",
         )
         .after_help(LADDER_EXAMPLE);
     command.arg(session_argument(alloc))
@@ -405,7 +405,11 @@ fn listen_command<'a>(alloc: Global) -> Result<Command<'a>, AllocError> {
         .value_name("STATUS")
         .value_parser(value_parser!(u16).range(200..=699))
         .default_value("200")
-        .help("The status of the final response to an INVITE, from 200 to 699");
+        .help(
+            "The status of the final response to an INVITE, from 200 to 699. 3xx needs \
+            --contact. 401, 405, 407, 420 to 423 and 494 are refused, since they need other \
+            headers",
+        );
     let contact = Arg::new(alloc, "contact")
         .long("contact")
         .value_name("URI")
@@ -419,8 +423,8 @@ fn listen_command<'a>(alloc: Global) -> Result<Command<'a>, AllocError> {
         .about(
             "Answers calls over UDP: 200 (or --answer) to INVITE, 200 to BYE and OPTIONS, 501 to \
             anything else. Prints a line for each notice. When standard input ends, it ends all \
-            calls, and exits within a second; a terminal, or an input that is empty from the \
-            start, is ignored",
+            calls and exits within a second. A terminal, or an input that is empty from the \
+            start, is ignored. Through bin/ua, Ctrl-C does this instead",
         )
         .after_help(LISTEN_EXAMPLE)
         .arg(local_argument(alloc))?
@@ -462,14 +466,17 @@ fn call_command<'a>(alloc: Global) -> Result<Command<'a>, AllocError> {
         .action(ArgAction::SetTrue)
         .help(
             "In the last second of --turns or --seconds, send CANCEL for a call that isn't \
-            answered, or BYE for one that is up; exit as soon as nothing is held. The end of \
-            standard input always does so",
+            answered, or BYE for one that is up. Then exit as soon as nothing is held. The end \
+            of standard input always does so",
         );
     let hold = Arg::new(alloc, "hold")
         .long("hold")
         .value_name("MS")
         .value_parser(value_parser!(u32))
-        .help("Hang up MS milliseconds after the answer; by default at once");
+        .help(
+            "Hang up MS milliseconds after the answer (this doesn't put the call on hold); by \
+            default at once",
+        );
     let reliable = Arg::new(alloc, "reliable")
         .long("reliable")
         .action(ArgAction::SetTrue)
@@ -480,9 +487,11 @@ fn call_command<'a>(alloc: Global) -> Result<Command<'a>, AllocError> {
         .help("Exit with status 6 if the call isn't answered");
     Command::new(alloc, "call")
         .about(
-            "Calls a URI over UDP, hangs up after the answer, and exits. Prints a line for each \
-            notice. When standard input ends, it gives up the call, and exits within a second; a \
-            terminal, or an input that is empty from the start, is ignored",
+            "Calls a URI over UDP, hangs up after the answer, and exits when nothing is held any \
+            more: 32 seconds later, unless --turns or --seconds ends it sooner. Prints a line \
+            for each notice. When standard input ends, it ends its call and exits within a \
+            second. A terminal, or an input that is empty from the start, is ignored. Through \
+            bin/ua, Ctrl-C does this instead",
         )
         .after_help(CALL_EXAMPLE)
         .arg(local_argument(alloc))?
@@ -538,7 +547,7 @@ fn session_argument<'a>(alloc: Global) -> Arg<'a> {
     Arg::new(alloc, "session")
         .long("session")
         .action(ArgAction::SetTrue)
-        .help("Take a session file too, in which commands have header lines")
+        .help("Take a session file too, in which commands may have header lines")
 }
 
 fn body_argument<'a>(alloc: Global, help: &'a str) -> Arg<'a> {
@@ -552,7 +561,7 @@ fn stats_argument<'a>(alloc: Global) -> Arg<'a> {
     Arg::new(alloc, "stats")
         .long("stats")
         .action(ArgAction::SetTrue)
-        .help("At the end, write the address and the counts to standard error")
+        .help("At the end, write a line of statistics to standard error")
 }
 
 fn record_argument<'a>(alloc: Global) -> Arg<'a> {
@@ -568,9 +577,9 @@ fn local_argument<'a>(alloc: Global) -> Arg<'a> {
         .value_name("ADDR")
         .required(true)
         .help(
-            "Your own address, such as 192.0.2.1:5060: the socket is bound to it, and Via and \
-            Contact have it. Port 0 takes any free port. 0.0.0.0 receives on all addresses of the \
-            machine, but tells peers to answer to 0.0.0.0",
+            "Your own address, such as 192.0.2.1:5060. The socket is bound to it, and Via and \
+            Contact name it. Port 0 takes any free port. 0.0.0.0 receives on all addresses of \
+            the machine, but then Contact is 0.0.0.0, and a peer's BYE doesn't arrive",
         )
 }
 
@@ -579,7 +588,7 @@ fn turns_argument<'a>(alloc: Global) -> Arg<'a> {
         .long("turns")
         .value_name("N")
         .value_parser(value_parser!(u32))
-        .help("Exit after N turns of 10 ms; 3000 turns are half a minute")
+        .help("Exit after N turns of 10 ms, without ending calls; 3000 turns are half a minute")
 }
 
 fn seconds_argument<'a>(alloc: Global) -> Arg<'a> {
@@ -587,7 +596,7 @@ fn seconds_argument<'a>(alloc: Global) -> Arg<'a> {
         .long("seconds")
         .value_name("N")
         .value_parser(value_parser!(u32))
-        .help("Exit after N seconds")
+        .help("Exit after N seconds, without ending calls")
 }
 
 fn drops_argument<'a>(alloc: Global) -> Arg<'a> {
@@ -627,8 +636,8 @@ fn replay_command<'a>(alloc: Global) -> Result<Command<'a>, AllocError> {
         .value_parser(["spread", "first"].as_slice())
         .default_value("spread")
         .help(
-            "How to split. spread: by the sum of the bytes of a branch or a Call-ID. first: \
-            everything into the first shard",
+            "How to split transactions and calls among the shards. spread: by the sum of the \
+            bytes of a branch or a Call-ID. first: everything into the first shard",
         );
     let repair = Arg::new(alloc, "repair")
         .long("repair")
@@ -638,7 +647,9 @@ fn replay_command<'a>(alloc: Global) -> Result<Command<'a>, AllocError> {
             many bytes were left out",
         );
     Command::new(alloc, "replay")
-        .about("Runs the rounds of an event file on standard input, and writes its output file")
+        .about(
+            "Runs an event file from standard input, and writes the output file to standard output",
+        )
         .after_help(REPLAY_EXAMPLE)
         .arg(session_argument(alloc))?
         .arg(shards_argument(alloc, "1"))?

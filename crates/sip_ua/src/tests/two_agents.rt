@@ -14,6 +14,43 @@ use std::thread::Threads;
 const INVITE: &str =
     "invite c 192.0.2.9:5060 sip:b@192.0.2.9 sip:a@192.0.2.1 sip:b@h supported -\n";
 
+const CALLER: u8 = 1;
+
+const CALLEE: u8 = 9;
+
+/// The event of a turn: a command, or the datagram that the other side sent as its N-th.
+#[derive(Clone, Copy)]
+enum Spoken {
+    Command(&'static str),
+    Carried(usize),
+}
+
+/// A conversation with two reliable provisional responses: a turn each, with its side, its event,
+/// and how the notice begins that its user is told, if one is.
+const CONVERSATION: [(u8, Spoken, &str); 13] = [
+    (CALLER, Spoken::Command(INVITE), ""),
+    (CALLEE, Spoken::Carried(1), "request 0.1 INVITE "),
+    (
+        CALLEE,
+        Spoken::Command("respond c 0.1 181 reliable - A\n"),
+        "",
+    ),
+    (CALLER, Spoken::Carried(2), "response 0.1 181 "),
+    (CALLEE, Spoken::Carried(2), "prack 0.1 1 -"),
+    (
+        CALLEE,
+        Spoken::Command("respond c 0.1 182 reliable - B\n"),
+        "",
+    ),
+    (CALLER, Spoken::Carried(2), ""),
+    (CALLER, Spoken::Carried(4), "response 0.1 182 "),
+    (CALLEE, Spoken::Carried(3), "prack 0.1 2 -"),
+    (CALLER, Spoken::Carried(3), "response 1.1 200 "),
+    (CALLEE, Spoken::Command("respond c 0.1 200 plain - C\n"), ""),
+    (CALLER, Spoken::Carried(6), "response 0.1 200 "),
+    (CALLEE, Spoken::Carried(4), "ack 0.1 -"),
+];
+
 /// A network that loses `lost` of eight datagrams, and duplicates one.
 #[derive(Drop)]
 struct Network {
@@ -133,8 +170,10 @@ fn turn<T: Threads + Sync>(
     Ok(())
 }
 
-// The user is told of each reliable provisional response once and in order, and nothing is held at
-// the end. Another program calculated how many calls are made, and how many datagrams are sent.
+// An instance of the laws `responses_told_were_said` and `provisionals_told_were_said` of
+// sip_conversation: the user is told of each reliable provisional response once and in order. And
+// nothing is held at the end. Another program calculated how many calls are made, and how many
+// datagrams are sent.
 #[test]
 fn calls_over_a_network_that_loses_datagrams(rt: HostRuntime) -> Result<(), Fail> {
     let (alloc, mut whole, mut sent) = (rt.alloc(), 0u32, 0u32);
@@ -159,5 +198,73 @@ fn calls_over_a_network_that_loses_datagrams(rt: HostRuntime) -> Result<(), Fail
         }
     }
     assert!(rt; (whole, sent) == (192, 10_108));
+    Ok(())
+}
+
+/// What one side sent so far, in order.
+#[derive(Drop)]
+struct Speaker {
+    side: Side,
+    sent: Vec<String>,
+}
+
+fn speaker_at(alloc: Global, last: u8) -> Result<Speaker, Fail> {
+    Ok(Speaker {
+        side: side_at(alloc, last)?,
+        sent: Vec::new(alloc),
+    })
+}
+
+// The event of a turn, where this is the other side.
+fn event_of(alloc: Global, spoken: Spoken, peer: &Speaker) -> Result<String, Fail> {
+    match spoken {
+        Spoken::Command(line) => Ok(String::from_str(alloc, line)?),
+        Spoken::Carried(number) => {
+            let bytes = peer.sent.get(number.wrapping_sub(1)).ok_or("a send")?;
+            let local = peer.side.local;
+            Ok(format!(in alloc; "datagram {local} {bytes}\n")?)
+        }
+    }
+}
+
+// A round of a side. Returns what its user is told.
+fn speak<T: Threads + Sync>(
+    rt: &T,
+    alloc: Global,
+    me: &mut Speaker,
+    event: String,
+    at: u32,
+) -> Result<String, Fail> {
+    me.side.events.push((0, event))?;
+    let file = file(rt, alloc, &mut me.side, at)?;
+    let mut notices = String::new(alloc);
+    for line in str::from_utf8(&file)?.lines() {
+        if let Some(notice) = line.strip_prefix("notice c ") {
+            notices.push_str(notice)?;
+        } else if let Some(send) = line.strip_prefix("send ") {
+            let (_, bytes) = send.split_once(' ').ok_or("bytes")?;
+            me.sent.push(String::from_str(alloc, bytes)?)?;
+        }
+    }
+    Ok(notices)
+}
+
+// Each datagram of it was sent by the other side in an earlier turn, so it is carried: the premise
+// of the laws of sip_conversation can be met. What the callee says, the caller is told.
+#[test]
+fn a_conversation_that_is_carried(rt: HostRuntime) -> Result<(), Fail> {
+    let alloc = rt.alloc();
+    let (mut caller, mut callee) = (speaker_at(alloc, CALLER)?, speaker_at(alloc, CALLEE)?);
+    for (number, spoken, expected) in CONVERSATION {
+        let notices = if number == CALLER {
+            let event = event_of(alloc, spoken, &callee)?;
+            speak(&rt, alloc, &mut caller, event, 0)?
+        } else {
+            let event = event_of(alloc, spoken, &caller)?;
+            speak(&rt, alloc, &mut callee, event, 0)?
+        };
+        assert!(rt; notices.starts_with(expected), "{notices}");
+        assert!(rt; notices.is_empty() == expected.is_empty(), "{notices}");
+    }
     Ok(())
 }

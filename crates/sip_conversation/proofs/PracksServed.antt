@@ -1,0 +1,384 @@
+-- Each step of the server side keeps what a held request keeps of its PRACKs, and gives such
+-- responses alone.
+use Rattle.std.proofs.Common.{◌≡◌, ℕ, Bool, true, false, ◌||◌, ◌&&◌, not, ◌==◌, cond, List, [], ◌∷◌, ◌++◌, map, refl, sym, ap, ◌∙◌, subst, arith}
+use Rattle.std.specs.Prelude.{Contains, Option, None, Some, codes, filter, find, is_none, nat_le, reverse, if◌then◌else◌}
+use Rattle.std.specs.List.{AllByRecursion, list_any}
+use Rattle.std.specs.Map.{values_of}
+use Rattle.std.specs.Option.{option_map_or}
+use Rattle.std.specs.Str.{bytes_eq}
+use Rattle.std.proofs.lemmas.Slice.Eq.{bytes_eq-Decides}
+use Rattle.sip_message.specs.Response.{response_of}
+use Rattle.sip_message.specs.declared.id.Id.{Id}
+use Rattle.sip_message.specs.declared.message.Message.{Message}
+use Rattle.sip_message.specs.declared.rack.RAck.{RAck}
+use Rattle.sip_transactions.specs.declared.output.Kind.{Kind}
+use Rattle.sip_transactions.specs.declared.output.Kind.TheVariants as kind
+use Rattle.sip_transactions.specs.declared.output.Up.{Up as AnUp}
+use Rattle.sip_reliable.specs.Ledger.{waits_for}
+use Rattle.sip_common.specs.Dialogs.{Dialogs, dialog_at, dialog_changed, early_ended, ended_at, ended_notice, is_early_of, is_dialog_id}
+use Rattle.sip_common.specs.Ids.{is_id}
+use Rattle.sip_common.specs.Requests.{dialog_id_of, has_to_tag, is_bye, is_cancel, is_invite, is_prack, is_success, is_unknown_option}
+use Rattle.sip_common.specs.declared.command.Respond.{Respond}
+use Rattle.sip_common.specs.declared.held_dialog.DialogId.{DialogId}
+use Rattle.sip_common.specs.declared.held_dialog.HeldDialog.{HeldDialog}
+use Rattle.sip_common.specs.declared.item.CallOut.{CallOut}
+use Rattle.sip_common.specs.declared.item.CallOut.TheVariants as out
+use Rattle.sip_common.specs.declared.notice.Notice.TheVariants as notice
+use Rattle.sip_transactions.specs.declared.input.Command.TheVariants as order
+use Rattle.sip_common.proofs.Each.{both}
+use Rattle.sip_served.specs.declared.arrival.Arrival.{Arrival}
+use Rattle.sip_served.specs.declared.held_request.HeldRequest.{HeldRequest}
+use Rattle.sip_served.specs.Rules.Arrivals.{ack_for, ack_received, after_487, after_ack, after_prack, after_request, awaits, bad_extension, cancel_for, cancel_received, is_above, is_merged, is_named_by, is_same_branch, no_such_call, own_response, prack_for, prack_received, request_for_user, request_in_dialog, request_received, server_received}
+use Rattle.sip_served.specs.Rules.Responses.{dialogs_after, held_after, makes_dialog, respond_command, respond_to, response_refusal, response_sent}
+use Rattle.sip_served.specs.State.{ServedTaken, State, changed_at, changed_first, has_id}
+use Rattle.sip_conversation.proofs.Among.{among_first, among_later, each_of}
+use Rattle.sip_conversation.proofs.Branches.{either, found_or}
+use Rattle.sip_conversation.proofs.PracksCame.{Holds, OutGiven, OutsGiven, Pracked, ServedHolds, ack_holds, answer_given, answer_holds, cancel_holds, equal, may_send, no_rseq, none_given, prack_holds}
+
+-- ---- lists
+
+found_so : {X : Type 0} (p : X → Bool) (xs : List X) (x : X) → find p xs ≡ Some x
+    → Contains xs x × (p x ≡ true)
+found_so p [] x is = absurd cc
+found_so p (y ∷ ys) x is = by_first (p y) refl is (λ later. found_so p ys x later)
+  where
+    by_first : (b : Bool) → p y ≡ b → cond b (Some y) (find p ys) ≡ Some x
+        → (find p ys ≡ Some x → Contains ys x × (p x ≡ true))
+        → Contains (y ∷ ys) x × (p x ≡ true)
+    by_first true passes is rest =
+        let same : y ≡ x = cc in
+        (subst (Contains (y ∷ ys)) same (among_first y ys), ap p (sym same) ∙ passes)
+    by_first false fails is rest =
+        let later = rest is in (among_later y ys x later.0, later.1)
+
+-- where the first that passes is changed
+changed_so : {X : Type 0} (P : X → Type 0) (test : X → Bool) (change : X → X) (xs : List X)
+    → ((x : X) → Contains xs x → test x ≡ true → P x → P (change x)) → AllByRecursion P xs
+    → AllByRecursion P (changed_first test change xs)
+changed_so P test change [] keeps all = tt
+changed_so P test change (x ∷ xs) keeps all =
+    by_first (test x) refl
+    (changed_so P test change xs (λ y among. keeps y (among_later x xs y among)) all.1)
+  where
+    by_first : (b : Bool) → test x ≡ b → AllByRecursion P (changed_first test change xs)
+        → AllByRecursion P (cond b (change x ∷ xs) (x ∷ changed_first test change xs))
+    by_first true passes rest = (keeps x (among_first x xs) passes all.0, all.1)
+    by_first false fails rest = (all.0, rest)
+
+same_bytes : (one two : List ℕ) → bytes_eq one two ≡ true → one ≡ two
+same_bytes one two is = (bytes_eq-Decides one two).0 is
+
+three_of : (a b c d e : Bool) → (a && b && c && d && e) ≡ true
+    → (b ≡ true) × (c ≡ true) × (d ≡ true)
+three_of true true true true e all = (refl, refl, refl)
+three_of true true true false e all = absurd cc
+three_of true true false d e all = absurd cc
+three_of true false c d e all = absurd cc
+three_of false b c d e all = absurd cc
+
+-- no two held requests have an id
+abbrev pub Apart : List HeldRequest → Type 0
+Apart requests = (one two : HeldRequest) → Contains requests one → Contains requests two
+    → is_id one.id two.id ≡ true → one ≡ two
+
+module _ (Brought : Message → Type 0) where
+  abbrev HoldsAll : List HeldRequest → Type 0
+  HoldsAll requests = AllByRecursion (Holds Brought) requests
+
+  abbrev Outs : List CallOut → Type 0
+  Outs outs = OutsGiven Brought outs
+
+  abbrev Done : ServedTaken → Type 0
+  Done taken = ServedHolds Brought taken
+
+  outs_both : (xs ys : List CallOut) → Outs xs → Outs ys → Outs (xs ++ ys)
+  outs_both xs ys one other = both (OutGiven Brought) xs ys one other
+
+  -- ---- the ends of dialogs
+
+  ends_given : (dialogs : List HeldDialog) → Outs (map ended_notice dialogs)
+  ends_given [] = tt
+  ends_given (held ∷ dialogs) = (tt, ends_given dialogs)
+
+  early_given : (invite : Id) (dialogs : Dialogs) → Outs (early_ended invite dialogs).1
+  early_given invite dialogs = ends_given (filter (is_early_of invite) (values_of dialogs))
+
+  ended_given : (name : DialogId) (dialogs : Dialogs) → Outs (ended_at name dialogs).1
+  ended_given name dialogs =
+      found_or Outs _ (dialog_at name dialogs) [] (λ held is. (tt, tt)) (λ none. tt)
+
+  own_given : (arrival : Arrival) (status : ℕ) (reason : List ℕ)
+      → Outs (own_response arrival status reason)
+  own_given arrival status reason =
+      (none_given Brought (response_of arrival.request status reason arrival.tag) refl, tt)
+
+  no_call_done : (state : State) (arrival : Arrival) → HoldsAll state.requests
+      → Done (no_such_call state arrival)
+  no_call_done state arrival all = record {
+    requests = all;
+    outs = own_given arrival 481 (codes "Call/Transaction Does Not Exist");
+  }
+
+  -- ---- a request that comes up
+
+  user_done : (state : State) (call_id : List ℕ) (name : DialogId) (arrival : Arrival)
+      → HoldsAll state.requests → Done (request_for_user state call_id name arrival)
+  user_done state call_id name arrival all =
+      let request = arrival.request in record {
+        requests = both (Holds Brought) state.requests _ all (
+          record {
+            first = refl;
+            acked = λ more none. absurd (omega (arith, more));
+            kept = tt;
+            success = tt;
+          },
+          tt,
+        );
+        outs = (
+          tt,
+          either (λ (after : Dialogs × List CallOut). Outs after.1)
+              (has_to_tag request && is_bye request) (ended_at name state.dialogs)
+              (state.dialogs, []) (λ ends. ended_given name state.dialogs) (λ other. tt),
+        );
+      }
+
+  -- what the RAck of a PRACK names
+  named_so : (rack : RAck) (name : DialogId) (created_by : Id) (invite : HeldRequest)
+      (prack : Message) → Brought prack → is_prack prack ≡ true → prack.rack ≡ Some rack
+      → is_named_by rack name created_by invite ≡ true → rack.rseq ≡ 1
+      → Pracked Brought invite.request.cseq.number
+  named_so rack name created_by invite prack brought is has named first =
+      let parts = three_of
+      (option_map_or (λ reference. is_dialog_id reference.name name
+      && is_id reference.created_by created_by) invite.dialog false)
+      (is_invite invite.request) (bytes_eq rack.method invite.request.cseq.method)
+      (invite.request.cseq.number == rack.cseq) (waits_for rack.rseq invite.ledger) named in
+      let inviting : is_invite invite.request ≡ true = parts.0 in
+      let method : rack.method ≡ invite.request.cseq.method =
+      same_bytes rack.method invite.request.cseq.method parts.1 in
+      let number : invite.request.cseq.number ≡ rack.cseq =
+      equal invite.request.cseq.number rack.cseq parts.2 in
+      let of_invite : rack.method ≡ codes "INVITE" =
+      method ∙ same_bytes invite.request.cseq.method (codes "INVITE") inviting in (
+        prack,
+        brought,
+        same_bytes prack.cseq.method (codes "PRACK") is,
+        has ∙ (λ i. Some record {
+          rseq = first i;
+          cseq = sym number i;
+          method = of_invite i;
+        }),
+      )
+
+  prack_done : (state : State) (call_id : List ℕ) (name : DialogId) (created_by : Id)
+      (arrival : Arrival) (rack : Option RAck) → arrival.request.rack ≡ rack
+      → Brought arrival.request → is_prack arrival.request ≡ true → Apart state.requests
+      → HoldsAll state.requests
+      → Done (prack_received state call_id name created_by arrival rack)
+  prack_done state call_id name created_by arrival None has brought is apart all =
+      no_call_done state arrival all
+  prack_done state call_id name created_by arrival (Some rack) has brought is apart all =
+      found_or Done (prack_for state call_id arrival rack)
+      (find (is_named_by rack name created_by) state.requests) (no_such_call state arrival)
+      (λ invite found.
+      let so = found_so (is_named_by rack name created_by) state.requests invite found in record {
+        requests = changed_so (Holds Brought) (has_id invite.id) (after_prack rack.rseq)
+            state.requests
+            (λ one among here holds. prack_holds Brought rack.rseq one holds
+            (λ first. subst (λ (held : HeldRequest). Pracked Brought held.request.cseq.number)
+            (sym (apart one invite among so.0 here))
+            (named_so rack name created_by invite arrival.request brought is has so.1 first)))
+            all;
+        outs = outs_both (own_response arrival 200 (codes "OK"))
+            (out.Notice (notice.Prack call_id invite.id rack.rseq arrival.request.body) ∷ [])
+            (own_given arrival 200 (codes "OK")) (tt, tt);
+      })
+      (λ none. no_call_done state arrival all)
+
+  dialog_done : (state : State) (call_id : List ℕ) (name : DialogId) (arrival : Arrival)
+      (held_dialog : HeldDialog) → Brought arrival.request → Apart state.requests
+      → HoldsAll state.requests
+      → Done (request_in_dialog state call_id name arrival held_dialog)
+  dialog_done state call_id name arrival held_dialog brought apart all =
+      let request = arrival.request in
+      let noted : State = record state {
+        dialogs = dialog_changed name (after_request request) state.dialogs;
+      } in
+      let late : ServedTaken =
+      (state, own_response arrival 500 (codes "Server Internal Error")) in
+      let prack : ServedTaken =
+      prack_received noted call_id name held_dialog.created_by arrival request.rack in
+      let user : ServedTaken = request_for_user noted call_id name arrival in
+      either Done (not (is_above held_dialog request.cseq.number)) late
+      (if is_prack request then prack else user)
+      (λ is. record {
+        requests = all;
+        outs = own_given arrival 500 (codes "Server Internal Error");
+      })
+      (λ above. either Done (is_prack request) prack user
+      (λ is. prack_done noted call_id name held_dialog.created_by arrival request.rack refl brought
+      is apart all)
+      (λ other. user_done noted call_id name arrival all))
+
+  -- ---- a CANCEL, and an ACK
+
+  cancel_one : (state : State) (call_id : List ℕ) (arrival : Arrival) (now : ℕ)
+      (held : HeldRequest) → HoldsAll state.requests
+      → Done (cancel_for state call_id arrival now held)
+  cancel_one state call_id arrival now held all =
+      let ok = own_response (record arrival { tag = held.tag }) 200 (codes "OK") in
+      let of_ok = own_given (record arrival { tag = held.tag }) 200 (codes "OK") in
+      let terminated =
+      response_of held.request 487 (codes "Request Terminated") held.tag in
+      let after = early_ended held.id state.dialogs in
+      let ended : ServedTaken = (
+        record state {
+          requests = changed_at held.id (after_487 now) state.requests;
+          dialogs = after.0;
+        },
+        ok ++ out.Command held.id (order.Answer held.key terminated)
+            ∷ out.Notice (notice.Cancel call_id held.id) ∷ after.1,
+      ) in
+      let still_ok : ServedTaken = (state, ok) in
+      either Done (not (is_invite held.request && is_none held.removal)) still_ok ended
+      (λ late. record { requests = all; outs = of_ok })
+      (λ still. record {
+        requests = changed_so (Holds Brought) (has_id held.id) (after_487 now) state.requests
+            (λ one among here holds. cancel_holds Brought now one holds) all;
+        outs = outs_both ok (out.Command held.id (order.Answer held.key terminated)
+            ∷ out.Notice (notice.Cancel call_id held.id) ∷ after.1) of_ok (
+              none_given Brought terminated refl,
+              (tt, early_given held.id state.dialogs),
+            );
+      })
+
+  cancel_done : (state : State) (call_id : List ℕ) (arrival : Arrival) (now : ℕ)
+      → HoldsAll state.requests → Done (cancel_received state call_id arrival now)
+  cancel_done state call_id arrival now all =
+      found_or Done (cancel_for state call_id arrival now)
+      (find (λ held. is_same_branch arrival.key held.key) (reverse state.requests))
+      (no_such_call state arrival)
+      (λ held found. cancel_one state call_id arrival now held all)
+      (λ none. no_call_done state arrival all)
+
+  ack_done : (state : State) (call_id : List ℕ) (ack : Message) → HoldsAll state.requests
+      → Done (ack_received state call_id ack)
+  unfolding ack_received
+  ack_done state call_id ack all =
+      found_or Done (ack_for state call_id ack) (find (awaits ack) state.requests) (state, [])
+      (λ invite found. record {
+        requests = changed_so (Holds Brought) (has_id invite.id) after_ack state.requests
+            (λ one among here holds. ack_holds Brought one holds) all;
+        outs = (tt, tt);
+      })
+      (λ none. record { requests = all; outs = tt })
+
+  -- ---- any request
+
+  request_done : (state : State) (call_id : List ℕ) (arrival : Arrival) (now : ℕ)
+      → Brought arrival.request → Apart state.requests → HoldsAll state.requests
+      → Done (request_received state call_id arrival now)
+  unfolding request_received
+  request_done state call_id arrival now brought apart all =
+      let request = arrival.request in
+      let name = dialog_id_of request arrival.tag in
+      let outside : ServedTaken = if is_bye request || is_prack request
+      then no_such_call state arrival else request_for_user state call_id name arrival in
+      let inside : ServedTaken =
+      option_map_or (request_in_dialog state call_id name arrival)
+      (dialog_at name state.dialogs) (no_such_call state arrival) in
+      let known : ServedTaken = if has_to_tag request then inside else outside in
+      let once : ServedTaken = if list_any is_unknown_option request.require
+      then bad_extension state arrival else known in
+      let merged : ServedTaken =
+      (state, own_response arrival 482 (codes "Loop Detected")) in
+      let no_cancel : ServedTaken = if not (has_to_tag request)
+      && list_any (is_merged request) state.requests then merged else once in
+      either Done (is_cancel request) (cancel_received state call_id arrival now) no_cancel
+      (λ is. cancel_done state call_id arrival now all)
+      (λ is. either Done
+      (not (has_to_tag request) && list_any (is_merged request) state.requests) merged once
+      (λ twice. record {
+        requests = all;
+        outs = own_given arrival 482 (codes "Loop Detected");
+      })
+      (λ single. either Done (list_any is_unknown_option request.require)
+      (bad_extension state arrival) known
+      (λ unknown. record { requests = all; outs = (λ rseq is more. absurd (no_rseq rseq is), tt) })
+      (λ fine. either Done (has_to_tag request) inside outside
+      (λ tagged. found_or Done (request_in_dialog state call_id name arrival)
+      (dialog_at name state.dialogs) (no_such_call state arrival)
+      (λ held found. dialog_done state call_id name arrival held brought apart all)
+      (λ none. no_call_done state arrival all))
+      (λ untagged. either Done (is_bye request || is_prack request) (no_such_call state arrival)
+      (request_for_user state call_id name arrival)
+      (λ odd. no_call_done state arrival all)
+      (λ plain. user_done state call_id name arrival all)))))
+
+  abbrev pub KindBrought : Kind → Type 0
+  KindBrought (kind.Request request reply_to) = Brought request
+  KindBrought (kind.Ack ack) = Unit {0}
+  KindBrought (kind.Response response) = Unit {0}
+  KindBrought kind.Timeout = Unit {0}
+  KindBrought kind.Failed = Unit {0}
+
+  pub kind_done : (state : State) (made : List ℕ) (up : AnUp) (k : Kind) (now : ℕ)
+      → KindBrought k → Apart state.requests → HoldsAll state.requests
+      → Done (server_received state made up k now)
+  kind_done state made up (kind.Request request reply_to) now brought apart all =
+      request_done state up.call_id _ now brought apart all
+  kind_done state made up (kind.Ack ack) now brought apart all =
+      ack_done state up.call_id ack all
+  kind_done state made up (kind.Response response) now brought apart all =
+      record { requests = all; outs = tt }
+  kind_done state made up kind.Timeout now brought apart all =
+      record { requests = all; outs = tt }
+  kind_done state made up kind.Failed now brought apart all =
+      record { requests = all; outs = tt }
+
+  -- ---- an answer of the user
+
+  dialogs_given : (event : Id) (held : HeldRequest) (status : ℕ) (response : Message)
+      (dialogs : Dialogs) → Outs (dialogs_after event held status response dialogs).1
+  dialogs_given event held status response dialogs =
+      let request = held.request in
+      let Fine : Dialogs × List CallOut → Type 0 = λ after. Outs after.1 in
+      either Fine (makes_dialog held status) _ _ (λ makes. tt)
+      (λ other. either Fine
+      (is_invite request && is_success status && not (has_to_tag request)) _ _ (λ confirms. tt)
+      (λ neither. either Fine (is_invite request && nat_le 300 status)
+      (early_ended held.id dialogs) (dialogs, []) (λ rejects. early_given held.id dialogs)
+      (λ none. tt)))
+
+  answer_done : (state : State) (event : Id) (respond : Respond) (now : ℕ) (held : HeldRequest)
+      → Holds Brought held → HoldsAll state.requests
+      → Done (respond_to state event respond now held)
+  answer_done state event respond now held holds all =
+      let response = response_sent state.local held respond in
+      found_or Done _ (response_refusal state.dialogs held respond) _
+      (λ refusal refused. record { requests = all; outs = (tt, tt) })
+      (λ none. let sends = may_send Brought state.dialogs held respond none in record {
+        requests = changed_so (Holds Brought) (has_id respond.id)
+            (λ _. held_after event held respond response now) state.requests
+            (λ one among here before. answer_holds Brought state.local held respond holds sends
+            event now) all;
+        outs = (
+          answer_given Brought state.local held respond holds sends,
+          dialogs_given event held respond.status response state.dialogs,
+        );
+      })
+
+  holds_one : (requests : List HeldRequest) → HoldsAll requests → (one : HeldRequest)
+      → Contains requests one → Holds Brought one
+  holds_one requests all one among = each_of (Holds Brought) requests one all among
+
+  pub respond_done : (state : State) (event : Id) (respond : Respond) (now : ℕ)
+      → HoldsAll state.requests → Done (respond_command state event respond now)
+  unfolding respond_command
+  respond_done state event respond now all =
+      found_or Done (respond_to state event respond now)
+      (find (has_id respond.id) state.requests) _
+      (λ held found. answer_done state event respond now held
+      (holds_one state.requests all held
+      (found_so (has_id respond.id) state.requests held found).0) all)
+      (λ none. record { requests = all; outs = (tt, tt) })
