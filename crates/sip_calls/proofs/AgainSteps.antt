@@ -1,4 +1,4 @@
--- Each input of a call: what was heard after it for an INVITE in a life of a dialog.
+-- Each input of a call: the latest RSeq of an INVITE in a life of a dialog after it.
 use Rattle.std.proofs.Common.{◌≡◌, ℕ, Bool, true, false, List, [], refl, sym, subst}
 use Rattle.std.specs.Prelude.{Option, None, Some}
 use Rattle.sip_model.specs.Machine.{Timed}
@@ -38,7 +38,7 @@ module _ (life : DialogReference) (invite : Id) where
   abbrev Step : Option Id → Option ℕ → Clients → CallTaken → Type 0
   Step event number before taken = Result event number before (side_of taken.0) taken.1
 
-  -- it was heard before, where an event comes that might begin it
+  -- if the event is that of the INVITE, no such INVITE is held before
   abbrev Once : Option Id → Clients → Type 0
   Once event clients = event ≡ Some invite → ear_of life invite clients ≡ None
 

@@ -1,4 +1,4 @@
--- Over all inputs of a call: a held INVITE awaits its ACK as what was given says.
+-- For all inputs of a call: a held INVITE awaits its ACK exactly if the outputs say so.
 use Rattle.std.specs.Prelude.{false}
 use Rattle.sip_served.specs.Acknowledgment.{awaits_ack}
 use Rattle.sip_served.specs.Awaiting.{awaits_by}

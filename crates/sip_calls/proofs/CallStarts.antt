@@ -1,4 +1,4 @@
--- An input of a call starts transactions of clients alone, each under the id of its event or of a
+-- An input of a call starts only client transactions, each under the id of its event or of a
 -- command whose CANCEL waited; a tick starts none.
 use Rattle.std.proofs.Common.{◌≡◌, ℕ, Bool, true, false, List, [], ◌∷◌, refl, sym, subst, ap, ◌∙◌}
 use Rattle.std.specs.Prelude.{Option, None, Some}

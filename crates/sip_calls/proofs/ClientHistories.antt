@@ -1,4 +1,4 @@
--- Over all inputs of a call: the client requests that are held are what their stories say.
+-- For all inputs of a call: the held client requests are what their stories say.
 use Rattle.std.proofs.Common.{◌≡◌, ℕ, true, false, List, [], ◌∷◌, ◌++◌, refl, sym, subst}
 use Rattle.std.specs.Prelude.{Option, None, Some}
 use Rattle.std.specs.List.{AllByRecursion}
@@ -43,7 +43,7 @@ use Rattle.sip_calls.proofs.KeptSides.{kept_side}
 
 -- ---- one input
 
--- what is held is what the stories say, and what happens to each goes with what happened before
+-- what is held is what the stories say, and what happens to each is allowed by what happened before
 record AreSo (clients : Clients) (stories : ClientStories) : Type 0 where
   pub told : AreTold clients stories
   pub lived : AllLive stories
@@ -110,7 +110,7 @@ command_so call event (Cancel cancel) stories so =
     (cancel_holds event cancel) (cancel_rules event cancel) (cancel_waits event cancel)
     (side_of call) stories so
 
--- where nothing is held
+-- if nothing is held
 first_so : (calls : Calls) (event : Event) (command : UserCommand) (stories : ClientStories)
     → AreSo [] stories
     → let call = new_call calls.local in
@@ -204,7 +204,7 @@ after_all calls inputs = from calls inputs None [] record { told = refl; lived =
 pub holds_client_stories : HoldsClientStories
 holds_client_stories calls inputs = (after_all calls inputs).told
 
--- what holds of each thing after those before it
+-- a law of each happening, after those before it
 each_story : (P : ClientStory → Type 0)
     → ((story : ClientStory) → EachFits story [] story.life → P story)
     → (stories : ClientStories) → AllLive stories

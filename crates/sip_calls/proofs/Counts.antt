@@ -1,4 +1,4 @@
--- What happens in a dialog counts as a request where it goes out, and nowhere else.
+-- What happens in a dialog counts as a request if, and only if, a request goes out.
 use Rattle.std.proofs.Common.{◌≡◌, ℕ, ◌+◌, Bool, true, false, cond, List, [], ◌∷◌, ◌++◌, length, refl, ◌∙◌, arith}
 use Rattle.std.specs.Prelude.{Option, None, Some, count_by, find, is_some, if◌then◌else◌}
 use Rattle.std.specs.List.{flat_map}
@@ -56,7 +56,7 @@ made_count (cseq ∷ cseqs) =
     let all = counted cseq cseqs in
     omega (arith, more, all)
 
--- ---- none is among what is brought
+-- ---- no request is among what comes
 
 none_if : (b : Bool) (life : List Happening) → how_many life ≡ 0 → how_many (cond b life []) ≡ 0
 none_if true life none = none

@@ -1,4 +1,4 @@
--- Each input of a call: what was heard after it in a life of a dialog for the first INVITE.
+-- Each input of a call: the latest RSeq of the first INVITE in a life of a dialog after it.
 use Rattle.std.proofs.Common.{◌≡◌, ℕ, Bool, true, false, not, List, [], refl, sym, subst}
 use Rattle.std.specs.Prelude.{Option, None, Some}
 use Rattle.sip_model.specs.Machine.{Timed}

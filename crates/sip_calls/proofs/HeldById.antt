@@ -1,4 +1,4 @@
--- The held requests stand in the order of their ids, below those that are still to come.
+-- The held requests are in the order of their ids, below those that are still to come.
 use Rattle.std.proofs.Common.{◌≡◌, inl, inr, ℕ, true, false, cond, List, [], ◌∷◌, ◌++◌, map, refl, sym, ap, subst, append-nil}
 use Rattle.std.specs.Prelude.{Option, None, Some, filter, filter_map}
 use Rattle.std.specs.List.{AllByRecursion, cons_option}

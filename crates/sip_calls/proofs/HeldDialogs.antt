@@ -119,7 +119,7 @@ command_sound call calls id now (Prack prack) sound =
 command_sound call calls id now (Cancel cancel) sound =
     cancel_sound (event_of calls id now) cancel (side_of call) sound
 
--- ---- a call of which nothing is held
+-- ---- a call under which nothing is held
 
 first_silent : (calls : Calls) (id : Id) (now : ℕ) (command : UserCommand)
     → names_ended (first_command_taken (new_call calls.local) (event_of calls id now) command).1
@@ -192,8 +192,8 @@ kept_sound : (taken : CallTaken) → AreSound (taken.0).clients
 kept_sound taken sound =
     subst (λ (side : Side). AreSound side.clients) (sym (kept_side taken.0)) sound
 
--- the names of the dialogs that are held differ, each is that of its tags, and so it is with the
--- client requests
+-- the names of the held dialogs differ, and each is that of its tags; the ids of the held client
+-- requests differ, and each is its own
 pub record Orderly (state : Option Call) : Type 0 where
   pub apart : AreApart (side_held state).dialogs
   pub named : AreNamed (side_held state).dialogs
@@ -262,7 +262,7 @@ input_sound calls state input now sound =
     subst (λ (taken : Taken). AreSound (side_held taken.0).clients)
     (sym (same_step calls state input now)) (input_sound_taken calls state input now sound)
 
--- a dialog that stays or begins has the name of its tags
+-- a dialog that goes on or begins has the name of its tags
 still_named : (event : Option Id) (start : Option Opening) (came : Option ℕ) (life : Life)
     (begun : List Happening) (name : DialogId) (before : Option HeldDialog) (held : HeldDialog)
     → ((was : HeldDialog) → before ≡ Some was

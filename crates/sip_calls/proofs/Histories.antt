@@ -1,4 +1,4 @@
--- Over all inputs of a call: the dialog that is held under a name is what its history makes.
+-- For all inputs of a call: the dialog that is held under a name is what its history makes it.
 use Rattle.std.proofs.Common.{◌≡◌, ◌⊎◌, inl, inr, ℕ, ◌+◌, Bool, true, false, List, [], ◌∷◌, ◌++◌, length, refl, sym, ap, subst, ◌∙◌, add-zero, arith}
 use Rattle.std.specs.Prelude.{Option, None, Some, filter_map, fold, if◌then◌else◌}
 use Rattle.std.specs.List.{IsDistinct, cons_option}
@@ -30,7 +30,7 @@ use Rattle.sip_calls.specs.Provisionals.{EventsDiffer, event_in, side_held}
 use Rattle.sip_calls.proofs.Counts.{count_both, counted, how_many, life_counts, made_count}
 use Rattle.sip_calls.proofs.LifeSteps.{by_input}
 
--- a dialog in which nothing happened is as it was opened
+-- a dialog in which nothing happened is what its opening makes it
 nothing_yet : (opening : Opening) → opened opening ≡ dialog_after opening []
 nothing_yet opening =
     let start = opened opening in
@@ -49,7 +49,7 @@ Stands name (Some held) (Some history) ids =
     × (how_many history.life ≡ length history.sent)
     × NumberedAfter (opened history.opening).local_cseq history.sent
 
--- it was made by this event
+-- the dialog was made by this event
 abbrev pub born_of : Option Id → Option HeldDialog → Bool
 born_of event after = option_map_or
     (λ id. option_map_or (λ (held : HeldDialog). is_id held.created_by id) after false) event false
@@ -259,11 +259,11 @@ from calls (input ∷ inputs) state histories differ sound =
     (rest_differ (event_in input.input) (ids_of inputs) differ)
     (next_sound calls input inputs state histories differ sound)
 
--- before all inputs
+-- before any input
 pub none_yet : {ids : List Id} → Sound None (λ name. None) ids
 none_yet = record { apart = none_apart is_dialog_id; stand = λ name. tt }
 
--- after all inputs, of which nothing was held before
+-- after all inputs, if nothing was held before
 sound_after : (calls : Calls) (inputs : List (Timed CallItem)) → EventsDiffer inputs
     → Sound (call_from calls None inputs) (λ name. history_of calls name inputs) []
 sound_after calls inputs differ =

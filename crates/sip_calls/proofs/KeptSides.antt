@@ -1,4 +1,4 @@
--- A call under which nothing is held is over, and so nothing is held of it.
+-- A call under which nothing is held is over, so its sides hold nothing.
 use Rattle.std.proofs.Common.{◌≡◌, Bool, true, false, not, ◌||◌, ◌==◌, List, [], ◌∷◌, length, nat_lt, refl, sym, ap, ◌∙◌, arith}
 use Rattle.std.specs.Prelude.{None, Some, if◌then◌else◌}
 use Rattle.std.proofs.lemmas.Grind.{common_steps}

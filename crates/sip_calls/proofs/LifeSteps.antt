@@ -1,4 +1,4 @@
--- Each input of a call: what happens in the dialog of each name, which stays, is over or is made
+-- Each input of a call: what happens in the dialog of each name, which goes on, ends or is made
 -- anew.
 use Rattle.std.proofs.Common.{◌≡◌, ℕ, Bool, true, false, not, List, [], ◌++◌, refl, sym, ap, subst, ◌∙◌, append-nil}
 use Rattle.std.specs.Prelude.{Option, None, Some}
@@ -41,11 +41,12 @@ use Rattle.sip_calls.proofs.KeptSides.{kept_side}
 abbrev pub dialogs_of : Call → Dialogs
 dialogs_of call = (call.served).dialogs
 
--- what is brought, and what goes out
+-- what comes, and what goes out
 abbrev with_outs : Lives → List CallOut → Lives
 with_outs brought outs name held = brought name held ++ sent_in name outs
 
--- after this is given, whatever was heard; the requests that go out have the next numbers
+-- the dialogs after these outputs, whatever RSeq came; the requests that go out have the next
+-- numbers
 abbrev pub MovesTo : Option Id → Option Opening → Lives → List CallOut → Dialogs → Dialogs → Type 0
 MovesTo event start lives outs before after = (came : DialogId → Option ℕ)
     × Moves event start came lives (λ name. sent_in name outs) before after
@@ -61,7 +62,7 @@ led : (event : Option Id) (lives : Lives) (outs : List CallOut) (before after : 
 led event lives outs before after leads numbered =
     (none_came, moves_led event None (λ name. sent_in name outs) lives before after leads, numbered)
 
--- where nothing goes out
+-- if nothing goes out
 without_outs : (event : Option Id) (start : Option Opening) (brought : Lives) (call : Call)
     (taken : CallTaken) → starts taken.1 ≡ []
     → Moves event start none_came brought (λ name. []) (dialogs_of call) (dialogs_of taken.0)
@@ -172,7 +173,7 @@ tick_step call now apart =
     led None (by_outs taken.1) taken.1 (dialogs_of call) (dialogs_of taken.0) sends.leads
     sends.numbered
 
--- ---- a call of which nothing is held
+-- ---- a call under which nothing is held
 
 none_held : (event : Option Id) (lives : Lives) (outs : List CallOut)
     → MovesTo event None lives outs [] []
@@ -188,7 +189,7 @@ no_opening local id (kind.Response response) = refl
 no_opening local id kind.Timeout = refl
 no_opening local id kind.Failed = refl
 
--- what happens in a dialog of none is whatever is said of it
+-- if no dialog is held, anything may be said to happen in it
 of_none : (event : Option Id) (start : Option Opening) (lives others : Lives)
     (outs : List CallOut) (after : Dialogs) → start ≡ None → MovesTo event start lives outs [] after
     → MovesTo event None others outs [] after

@@ -1,4 +1,4 @@
--- Over all inputs of a call: what is owed in a held dialog is as what was given says.
+-- For all inputs of a call: what is owed in a held dialog is what the outputs say.
 use Rattle.std.proofs.Common.{◌≡◌, inl, inr, ℕ, Bool, true, false, not, List, [], ◌∷◌, refl, sym, ap, subst, ◌∙◌, append-nil}
 use Rattle.std.specs.Prelude.{Option, None, Some, IfSome, if◌then◌else◌}
 use Rattle.std.specs.List.{IsDistinct, cons_option}
@@ -40,7 +40,7 @@ use Rattle.sip_calls.proofs.LifeSteps.{dialogs_of, first_none}
 
 -- ---- one input
 
--- of each name what is owed changes so
+-- for each name what is owed changes in this way
 abbrev OwesTo : Option Id → (DialogId → List PendingRequest → List PendingRequest) → Dialogs
     → Dialogs → Type 0
 OwesTo event change before after =
@@ -97,7 +97,7 @@ command_owes call calls id now (Prack prack) apart named name =
 command_owes call calls id now (Cancel cancel) apart named name =
     same_to (Some id) (dialogs_of call) (dialogs_of call) (same_owed (dialogs_of call)) name
 
--- where nothing was held, nothing is told of a response
+-- if nothing was held, nothing is told of a response
 none_owed : (local : Calls) (id : Id) (k : Kind) (name : DialogId) (outs : List CallOut)
     (pending_requests : List PendingRequest) → owed_by_kind (new_call local.local) id k name outs
     pending_requests ≡ pending_requests
@@ -164,7 +164,7 @@ input_owes calls state input now apart named =
 
 -- ---- one dialog
 
--- these are owed in it, where it is held
+-- these are owed in it, if it is held
 abbrev Owing : Option HeldDialog → List PendingRequest → Type 0
 Owing o pending_requests = IfSome o (λ held. held.pending_requests ≡ pending_requests)
 

@@ -1,4 +1,4 @@
--- A call holds and tells what is of its own Call-ID, and nothing else.
+-- What a call holds and tells has its own Call-ID.
 use Rattle.std.proofs.Common.{◌≡◌, ℕ, Bool, true, false, List, [], ◌∷◌, subst, sym}
 use Rattle.std.specs.Prelude.{Option, None, Some}
 use Rattle.std.specs.List.{AllByRecursion}
@@ -48,7 +48,7 @@ module _ (call_id : List ℕ) where
   abbrev IsDoneOf : CallTaken → Type 0
   IsDoneOf done = AreSidesOf call_id done.0 × AreNoticesOf call_id done.1
 
-  -- what is held then, if anything, and what is told
+  -- what is held afterwards, if anything, and what is told
   abbrev IsTakenOf : Taken → Type 0
   IsTakenOf taken = IsCallOf call_id taken.0 × AreNoticesOf call_id taken.1
 
@@ -72,7 +72,7 @@ module _ (call_id : List ℕ) where
         its.1,
       )
 
-  -- one thing after another
+  -- one thing happens, and then another
   after : (done : CallTaken) (more : Call → CallTaken) → IsDoneOf done
       → ((call : Call) → AreSidesOf call_id call → IsDoneOf (more call))
       → IsDoneOf (one_after_other done more)
@@ -209,7 +209,7 @@ module _ (call_id : List ℕ) where
 
   -- ---- the machine of a call
 
-  -- each of these inputs is of that Call-ID
+  -- each of these inputs has this Call-ID
   abbrev pub AreInputsOf : List (Timed CallItem) → Type 0
   AreInputsOf inputs = AllByRecursion (λ timed. IsInputOf call_id timed.input) inputs
 

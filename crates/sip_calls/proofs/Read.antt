@@ -1,5 +1,5 @@
--- What is read of a held request over all inputs of a call is what the outputs said of it, where it
--- is so of one item of the server side.
+-- What is read of a held request after all inputs of a call is what the outputs said of it, if this
+-- is true for one item of the server side.
 use Rattle.std.proofs.Common.{◌≡◌, ℕ, Bool, true, false, List, [], ◌∷◌, ◌++◌, map, refl, sym, ap, subst, ◌∙◌}
 use Rattle.std.specs.Prelude.{Option, None, Some, IfSome, filter, filter_map, find, fold, is_some, if◌then◌else◌}
 use Rattle.std.specs.List.{IsDistinct, cons_option, flat_map}
@@ -44,12 +44,12 @@ use Rattle.sip_calls.proofs.HeldRequests.{Sound, adds_sound, first_command, head
 -- ---- what is said of the request of each id
 
 module _ {X : Type 0} (none : X) (read : HeldRequest → X) where
-  -- it is what is read of it, where it is held
+  -- what is said of each held request is what is read of it
   abbrev pub Says : List HeldRequest → (Id → X) → Type 0
   Says requests said = (invite : Id)
       → IfSome (find (has_id invite) requests) (λ held. read held ≡ said invite)
 
-  -- what was said before, of one that is held
+  -- what was said before, if it is held
   abbrev pub before_of : List HeldRequest → (Id → X) → Id → X
   before_of requests said invite =
       if is_some (find (has_id invite) requests) then said invite else none
@@ -75,7 +75,7 @@ module _ {X : Type 0} (none : X) (read : HeldRequest → X) where
       by_found None says = tt
       by_found (Some held) says = says ∙ same invite
 
-  -- where nothing is said and nothing changes
+  -- if nothing is said and nothing changes
   says_still : (requests : List HeldRequest) (said : Id → X) → Says requests said
       → Says requests (before_of requests said)
   says_still requests said says invite =

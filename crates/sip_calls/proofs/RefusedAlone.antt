@@ -1,4 +1,4 @@
--- A command that is refused gives its notice alone, and changes nothing.
+-- A command that is refused only gives its notice, and changes nothing.
 use Rattle.std.proofs.Common.{◌≡◌, ℕ, false, List, refl, ap, subst, sym}
 use Rattle.std.specs.Prelude.{Option, None, Some, filter, find}
 use Rattle.std.specs.Map.{values_of}

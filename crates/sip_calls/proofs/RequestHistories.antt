@@ -1,4 +1,4 @@
--- Over all inputs of a call: the requests that are held are what their stories say.
+-- For all inputs of a call: the held requests are what their stories say.
 use Rattle.std.proofs.Common.{◌≡◌, ℕ, List, [], ◌∷◌, map, refl, sym, subst, ◌∙◌, ap}
 use Rattle.std.specs.Prelude.{Option, None, Some}
 use Rattle.std.specs.List.{AllByRecursion}
@@ -32,7 +32,7 @@ use Rattle.sip_calls.specs.Steps.Call.{step_taken, command_taken, first_command_
 use Rattle.sip_calls.proofs.SameSteps.{same_step}
 use Rattle.sip_calls.proofs.HeldRequests.{first_command, kept_requests, requests_of}
 
--- ---- what an input makes of the requests is what it makes of the server side
+-- ---- an input changes the requests as it changes the server side
 
 up_served : (call : Call) (event : Event) (up : AnUp) (k : Kind)
     → requests_of (up_taken call event up k).0
@@ -54,7 +54,7 @@ command_served call calls id now (Ack ack) = refl
 command_served call calls id now (Prack prack) = refl
 command_served call calls id now (Cancel cancel) = refl
 
--- where nothing is held nothing is answered
+-- if nothing is held nothing is answered
 none_answered : (local : Addr) (id : Id) (command : UserCommand) (now : ℕ)
     → [] ≡ ((server_command_taken (empty_at local) id command now).0).requests
 none_answered local id (Invite invite) now = refl

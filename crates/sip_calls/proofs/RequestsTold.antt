@@ -1,4 +1,4 @@
--- The user is told of a request by the input of its call that brings it, and once.
+-- Only the input that brings a request tells the user of it, once.
 use Rattle.std.proofs.Common.{◌≡◌, ℕ, ◌≤◌, Bool, true, false, cond, List, [], ◌++◌, refl, sym, ap, subst, ◌∙◌, append-nil, arith}
 use Rattle.std.specs.Prelude.{Option, None, Some, count_by}
 use Rattle.std.proofs.lemmas.List.Elements.{filter_map-append}

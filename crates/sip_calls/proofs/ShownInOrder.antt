@@ -1,5 +1,4 @@
--- What is shown of the reliable provisional responses of an INVITE in a life of a dialog is in
--- order.
+-- The reliable provisional responses to an INVITE in a life of a dialog are shown in order.
 use Rattle.std.proofs.Common.{◌≢◌, AllPairs, ℕ, List, sym, subst}
 use Rattle.sip_reliable.specs.Inbound.{IsConsecutive}
 use Rattle.sip_reliable.proofs.InOrder.{consecutive, once}

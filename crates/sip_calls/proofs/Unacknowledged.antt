@@ -1,5 +1,5 @@
--- Over all inputs of a call: the reliable provisional responses to a held INVITE await their PRACK,
--- and are sent again, as what was given says.
+-- For all inputs of a call: the reliable provisional responses to a held INVITE await their PRACK,
+-- and are sent again, exactly as the outputs say.
 use Rattle.std.specs.Prelude.{[]}
 use Rattle.sip_served.specs.Unacknowledged.{awaited_by, awaited_rseqs, kept_rseqs, repeated_by, repeated_rseqs}
 use Rattle.sip_served.proofs.Unacknowledged.{told_awaited, told_kept, told_repeated}

@@ -1,5 +1,5 @@
--- The rules of one call: what each input makes of it, and what it gives (RFC 3261, sections 8, 12
--- and 13; RFC 3262).
+-- The rules of one call: how each input changes it, and what it gives (RFC 3261, sections 8, 12,
+-- 13; RFC 3262).
 use Rattle.std.specs.Prelude.{ℕ, Bool, true, false, List, [], ◌∷◌, ◌++◌, Option, None, Some, if◌then◌else◌}
 use Rattle.std.specs.Option.{option_map_or}
 use Rattle.sip_message.specs.declared.addr.Addr.{Addr}
@@ -36,35 +36,35 @@ use Rattle.sip_calls.specs.declared.call.Call.{Call}
 use Rattle.sip_calls.specs.declared.calls.Calls.{Calls}
 pub use Rattle.sip_calls.specs.Sides.{CallTaken, by_clients, by_server, holds_any, side_of}
 
--- a call after what happens to it, `None` if it isn't held, and what it gives
+-- a call afterwards, `None` if it isn't held, and what it gives
 abbrev pub Taken : Type 0
 Taken = Option Call × List CallOut
 
--- a call under which nothing is held is held no more
+-- a call under which nothing is held is no longer held
 abbrev pub kept_call : Call → Option Call
 kept_call call = if holds_any call then Some call else None
 
--- the call, where anything is held of it, and what it gives
+-- the call, if anything is held under it, and what it gives
 abbrev pub kept : CallTaken → Taken
 kept taken = (kept_call taken.0, taken.1)
 
--- a call of which nothing is held yet
+-- a call under which nothing is held yet
 abbrev pub new_call : Addr → Call
 new_call local = record { served = empty_at local; clients = [] }
 
--- an event, and what its agent makes requests from
+-- an event, with what all calls share: the agent's address (`local`) and its `seed`
 abbrev pub event_of : Calls → Id → ℕ → Event
 event_of calls id now = record { local = calls.local; seed = calls.seed; id = id; moment = now }
 
 -- ---- what comes up
 
--- the To tag that an event makes for a request without one, of index 0: an event that is a request
--- makes no branch
+-- the To tag that an event makes for a request without one: index 0 is also that of the branch, but
+-- a received request makes none
 abbrev pub made_tag : Event → List ℕ
 made_tag event = name_of event.seed event.id 0
 
--- A transaction timed out or could not send: the user is told, then its client request is over. Of
--- a server transaction nothing else changes.
+-- A transaction timed out or could not send: the user is told, then its client request is over. If
+-- it is a server transaction, nothing else changes.
 abbrev pub transaction_lost : Call → Id → ANotice → Bool → CallTaken
 transaction_lost call id notice timed_out =
     let after = by_clients call (request_is_lost id timed_out (side_of call)) in
@@ -82,17 +82,17 @@ received call event up of_server =
 
 -- ---- commands of the user
 
--- the client requests after it, and what it gives
+-- the call after a change of its client requests, and what it gives
 abbrev pub with_clients : Call → Clients × List CallOut → CallTaken
 with_clients call taken = (record call { clients = taken.0 }, taken.1)
 
--- Invite and Plain begin a call: nothing may be held under their Call-ID; for others something is
+-- Invite and Plain begin a call: nothing may be held under their Call-ID; others need a held call
 abbrev pub call_refusal : Bool → UserCommand → Option Refusal
 call_refusal held (Invite invite) = if held then Some CallInUse else None
 call_refusal held (Plain plain) = if held then Some CallInUse else None
 call_refusal held command = if held then None else Some NoSuchCall
 
--- a command that isn't refused so
+-- a command that isn't refused by this
 abbrev pub used_command : Call → Event → UserCommand → CallTaken
 used_command call event (Invite invite) =
     with_clients call (invite_command event invite call.clients)
@@ -108,7 +108,7 @@ used_command call event (Cancel cancel) =
 
 -- ---- the machine
 
--- an item of a call that is held, or of which nothing is held yet
+-- an item of a call that is held, or isn't held yet
 abbrev pub item_of_call : Bool → Call → Event → Item → CallTaken
 item_of_call held call event (Up up) = received call event up up.kind
 item_of_call held call event (User command) =
@@ -126,7 +126,7 @@ call_tick call now =
 abbrev pub CallItem : Type 0
 CallItem = Id × Item
 
--- what an item makes of a call, or, without one, that time goes on
+-- a call after an item, or, without one, after a tick
 abbrev pub call_step : Calls → Option Call → Option CallItem → ℕ → Taken
 call_step calls None None now = (None, [])
 call_step calls None (Some (id, item)) now =
@@ -135,12 +135,14 @@ call_step calls (Some call) None now = kept (call_tick call now)
 call_step calls (Some call) (Some (id, item)) now =
     kept (item_of_call true call (event_of calls id now) item)
 
--- one machine for every Call-ID
+-- one machine for every Call-ID; an input (`Timed`) has a moment, and an item or none
 abbrev pub call_machine : Calls → Machine (List ℕ) Call (Timed CallItem) CallOut
 call_machine calls =
     record { step = λ key state timed. call_step calls state timed.input timed.moment }
 
--- the moment at which something is due of a call; one under which nothing is held is over at once
+-- ---- for steps and laws: `run` needs nothing of what follows
+
+-- the moment at which something of a call is due (0 if nothing is held, since such a call is over)
 abbrev pub call_due : Call → Option ℕ
 call_due call =
     if holds_any call then earlier (served.server_due call.served) (clients.client_due call.clients)

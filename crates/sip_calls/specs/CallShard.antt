@@ -1,4 +1,4 @@
--- What a shard of calls shows, and what its items are to one call.
+-- What a shard of calls holds, and what its items are to one call.
 use Rattle.std.specs.Prelude.{ℕ, List}
 use Rattle.std.specs.Ordering.{nat_cmp}
 use Rattle.std.specs.Cmp.Lexicographic.{slice_cmp}
@@ -11,7 +11,7 @@ use Rattle.sip_calls.specs.Call.{CallItem}
 use Rattle.sip_calls.specs.declared.call.Call.{Call}
 use Rattle.sip_calls.specs.declared.calls.Calls.{Calls}
 
--- what all calls share, and the calls that are held by Call-ID; a broken shard holds `None`
+-- what all calls share, and the held calls by Call-ID (`None` if the shard is broken)
 pub record HeldCalls : Type 0 where
   pub calls : Calls
   pub held : Held (List ℕ) Call

@@ -1,5 +1,5 @@
--- The stories of the client requests that a call holds, over all its inputs: as each was sent, and
--- what happened to it since (RFC 3261, sections 9.1, 13.2.2.4 and 17.1.1; RFC 3262, section 4).
+-- The stories of the client requests that a call holds, for all its inputs: each as it was sent,
+-- and what happened to it since (RFC 3261, sections 9.1, 13.2.2.4 and 17.1.1; RFC 3262, section 4).
 use Rattle.std.specs.Prelude.{◌≡◌, ℕ, List, [], ◌∷◌, ◌++◌, Option, None, Some}
 use Rattle.std.specs.List.{AllByRecursion}
 use Rattle.sip_model.specs.Machine.{Timed}
@@ -30,7 +30,7 @@ use Rattle.sip_calls.specs.Provisionals.{side_held}
 
 -- ---- one input
 
--- what comes up from a transaction adds to the stories, by what is given
+-- the stories after what comes up from a transaction, by what the call gives
 abbrev pub told_by_kind : Side → Event → AnUp → Kind → List CallOut → ClientStories
     → ClientStories
 told_by_kind side event up (kind.Response response) outs stories =
@@ -39,7 +39,7 @@ told_by_kind side event up kind.Timeout outs stories = lost_told up.id stories
 told_by_kind side event up kind.Failed outs stories = lost_told up.id stories
 told_by_kind side event up _ outs stories = stories
 
--- so does a command of the user
+-- the same for a command of the user
 abbrev pub told_by_command : Side → Event → UserCommand → List CallOut → ClientStories
     → ClientStories
 told_by_command side event (Invite invite) outs stories = invite_told outs stories
@@ -52,13 +52,13 @@ told_by_command side event (Prack prack) outs stories =
     in_dialog_told event (name_in prack.local_tag prack.remote_tag) side outs stories
 told_by_command side event (Cancel cancel) outs stories = cancel_told event cancel outs stories
 
--- an item
+-- the same for an item
 abbrev pub told_by_item : Side → Event → Item → List CallOut → ClientStories → ClientStories
 told_by_item side event (Up up) outs stories = told_by_kind side event up up.kind outs stories
 told_by_item side event (User command) outs stories =
     told_by_command side event command outs stories
 
--- an item, or that time goes on
+-- the same for an item or a tick
 abbrev pub told_by_input : Calls → Side → Option CallItem → ℕ → List CallOut → ClientStories
     → ClientStories
 told_by_input calls side None now outs stories = ticked_told now stories
@@ -67,13 +67,13 @@ told_by_input calls side (Some (id, item)) now outs stories =
 
 -- ---- a list of inputs
 
--- the stories after the next, from what was held and its stories
+-- the stories after the next input, from what was held and its stories
 abbrev pub told_next : Calls → Option Call → ClientStories → Timed CallItem → ClientStories
 told_next calls call stories timed =
     told_by_input calls (side_held call) timed.input timed.moment
     (call_step calls call timed.input timed.moment).1 stories
 
--- after all of them
+-- the stories after a list of inputs
 abbrev pub told_from : Calls → Option Call → ClientStories → List (Timed CallItem)
     → ClientStories
 told_from calls call stories [] = stories
@@ -81,7 +81,7 @@ told_from calls call stories (input ∷ inputs) =
     told_from calls (call_step calls call input.input input.moment).0
     (told_next calls call stories input) inputs
 
--- over all inputs of a call, of which nothing was held before
+-- the same for all inputs of a call, if nothing was held before
 abbrev pub client_stories : Calls → List (Timed CallItem) → ClientStories
 client_stories calls inputs = told_from calls None [] inputs
 
@@ -92,9 +92,8 @@ abbrev pub HoldsClientStories : Type 0
 HoldsClientStories = (calls : Calls) (inputs : List (Timed CallItem))
     → AreTold (side_held (call_from calls None inputs)).clients (client_stories calls inputs)
 
--- The CANCEL of an INVITE goes out once, after a provisional response and before any 2xx, under
--- the id of the command that asked for it first, with the branch of the INVITE and to where that
--- went.
+-- The CANCEL of an INVITE goes out once, after a provisional response and before any 2xx, under the
+-- id of the first command that asked for it, with the branch and the address of the INVITE.
 abbrev pub CancelsOnce : Type 0
 CancelsOnce = (calls : Calls) (inputs : List (Timed CallItem))
     → AllByRecursion (λ (entry : Id × ClientStory).
@@ -102,8 +101,8 @@ CancelsOnce = (calls : Calls) (inputs : List (Timed CallItem))
     → entry.1.life ≡ before ++ SendsCancel cancel ∷ later
     → IsCancelOf entry.1 before cancel) (client_stories calls inputs)
 
--- an ACK that answers a 2xx that comes again is the one that went out for it: the same bytes, to
--- the same address
+-- an ACK that answers a retransmitted 2xx is the one that went out for it: the same bytes, to the
+-- same address
 abbrev pub RepeatsItsAck : Type 0
 RepeatsItsAck = (calls : Calls) (inputs : List (Timed CallItem))
     → AllByRecursion (λ (entry : Id × ClientStory).

@@ -1,4 +1,4 @@
--- In which order the requests of a call are held, over all its inputs.
+-- The order in which the requests of a call are held, for all its inputs.
 use Rattle.std.specs.Prelude.{List, None, filter_map, map}
 use Rattle.sip_model.specs.Machine.{Timed}
 use Rattle.sip_transactions.specs.Ids.{IdsRise}
@@ -11,7 +11,7 @@ use Rattle.sip_calls.specs.Histories.{call_from}
 abbrev pub RequestsRise : List (Timed CallItem) → Type 0
 RequestsRise inputs = IdsRise (filter_map (λ timed. request_brought timed.input) inputs)
 
--- Whatever comes to a call: the held requests stand in the order of their ids.
+-- Whatever comes to a call: the held requests are in the order of their ids.
 abbrev pub HeldById : Type 0
 HeldById = (calls : Calls) (inputs : List (Timed CallItem)) → RequestsRise inputs
     → IdsRise (map (λ held. held.id) (requests_held (call_from calls None inputs)))

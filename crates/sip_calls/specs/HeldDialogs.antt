@@ -1,5 +1,5 @@
--- Which dialogs are held over all inputs of a call: each from the input that opens it to the one
--- that ends it, whose end the user is told of once (RFC 3261, sections 12.1, 12.3 and 15.1).
+-- Which dialogs are held, for all inputs of a call: each from the input that opens it to the one
+-- that ends it. The user is told of each end once (RFC 3261, sections 12.1, 12.3 and 15.1).
 use Rattle.std.specs.Prelude.{◌≡◌, ℕ, ◌+◌, ◌≤◌, Bool, true, false, not, ◌&&◌, ◌||◌, ◌==◌, List, [], ◌∷◌, Option, None, Some, codes, cond, count_by, filter_map, is_some}
 use Rattle.std.specs.List.{list_any}
 use Rattle.std.specs.Option.{option_map_or}
@@ -53,24 +53,24 @@ abbrev pub is_early_response : ℕ → Message → Bool
 is_early_response status response =
     not (is_final status) && (not (status == 100) && has_to_tag response)
 
--- the dialog of its tags opens by each such response to that INVITE, and by the first 2xx (RFC
--- 3261, sections 12.1.2 and 13.2.2.4)
+-- each such response to that INVITE, and the first 2xx, opens the dialog of its tags (RFC 3261,
+-- sections 12.1.2 and 13.2.2.4)
 abbrev pub opened_by_reply : ℕ → Client → Message → DialogId → Bool
 opened_by_reply status client response name =
     let own = reply_name client.kind client response in
     opens_dialogs client.kind && is_dialog_id own name
     && (is_first_success status client own || is_early_response status response)
 
--- the response to the request of this id
+-- the same for the response to the request of this id
 abbrev pub opened_by_response : Id → Message → Clients → DialogId → Bool
 opened_by_response id response clients name =
     option_map_or (λ client. option_map_or
     (λ status. opened_by_reply status client response name) (status_of response.start) false)
     (client_at id clients) false
 
--- ---- what ends one there
+-- ---- what ends a dialog at the client side
 
--- the dialog that a request was sent in, as it was then
+-- the dialog that a request was sent in, and no later one of the name
 abbrev pub was_sent_in : RequestKind → DialogId → HeldDialog → Bool
 was_sent_in InitialInvite name held = false
 was_sent_in (ReInvite life) name held =
@@ -79,26 +79,26 @@ was_sent_in (InDialog life) name held =
     is_dialog_id life.name name && is_id held.created_by life.created_by
 was_sent_in OutOfDialog name held = false
 
--- With a request that is over end the early dialogs that it made and, where the peer has the dialog
--- no longer, the one that it was sent in (RFC 3261, sections 12.2.1.2 and 12.3).
+-- When a request is over, the early dialogs that it made end. If the peer no longer has the dialog
+-- that it was sent in, so does that one (RFC 3261, sections 12.2.1.2 and 12.3).
 abbrev pub ends_with : Client → Bool → DialogId → HeldDialog → Bool
 ends_with client gone name held =
     is_early_of client.id held || (gone && was_sent_in client.kind name held)
 
--- so it is after its final response, other than the 2xx to an INVITE; a 481 or 408 says that the
--- peer has the dialog no longer
+-- a request is over after its final response, other than a 2xx to an INVITE; a 481 or 408 says that
+-- the peer no longer has the dialog
 abbrev pub ended_by_reply : ℕ → Client → DialogId → HeldDialog → Bool
 ended_by_reply status client name held =
     is_last client.kind status && ends_with client (ends_dialog status) name held
 
--- the response to the request of this id
+-- the same for the response to the request of this id
 abbrev pub ended_by_response : Id → Message → Clients → DialogId → HeldDialog → Bool
 ended_by_response id response clients name held =
     option_map_or (λ client. option_map_or
     (λ status. ended_by_reply status client name held) (status_of response.start) false)
     (client_at id clients) false
 
--- and where the request of this id is lost; a timeout is as a 408 (RFC 3261, section 8.1.3.1)
+-- the same if the request of this id is lost; a timeout counts as a 408 (RFC 3261, section 8.1.3.1)
 abbrev pub ended_by_loss : Id → Bool → Clients → DialogId → HeldDialog → Bool
 ended_by_loss id timed_out clients name held =
     option_map_or (λ client. ends_with client timed_out name held) (client_at id clients) false
@@ -109,13 +109,13 @@ gives_bye name outs = list_any (λ cseq. bytes_eq cseq.method (codes "BYE")) (cs
 
 -- ---- one input
 
--- of what comes up a response may open a dialog
+-- a response that comes up may open a dialog
 abbrev pub opened_by_kind : Call → Id → Kind → DialogId → Bool
 opened_by_kind call id (kind.Response response) name =
     opened_by_response id response call.clients name
 opened_by_kind call id _ name = false
 
--- of the user's commands an answer may
+-- an answer of the user may open a dialog
 abbrev pub opened_by_command : Call → UserCommand → List CallOut → DialogId → Bool
 opened_by_command call (Respond respond) outs name =
     opened_by_answer call.served respond outs name
@@ -125,13 +125,13 @@ abbrev pub opened_by_item : Call → Item → List CallOut → DialogId → Bool
 opened_by_item call (Up up) outs name = opened_by_kind call up.id up.kind name
 opened_by_item call (User command) outs name = opened_by_command call command outs name
 
--- an input that gives this opens the dialog of the name; where nothing is held none is opened
+-- an input with these outputs opens the dialog of the name; if nothing is held none is opened
 abbrev pub opens : Option Call → Option CallItem → List CallOut → DialogId → Bool
 opens (Some call) (Some (id, item)) outs name = opened_by_item call item outs name
 opens _ _ outs name = false
 
--- what comes up ends the dialog that is held so under the name: a BYE or a CANCEL, a response, or
--- that a transaction is lost
+-- what comes up ends the dialog that is held under the name: a BYE, a CANCEL, a response, or the
+-- loss of a transaction
 abbrev pub ended_by_kind : Call → Id → Key → Kind → DialogId → HeldDialog → Bool
 ended_by_kind call id key (kind.Request request reply_to) name held =
     ended_by_request call.served key request name held
@@ -141,7 +141,7 @@ ended_by_kind call id key (kind.Response response) name held =
 ended_by_kind call id key kind.Timeout name held = ended_by_loss id true call.clients name held
 ended_by_kind call id key kind.Failed name held = ended_by_loss id false call.clients name held
 
--- so does a command of the user: a BYE that goes out at once (RFC 3261, section 15.1.1), or an
+-- a command of the user ends the dialog: a BYE that goes out (RFC 3261, section 15.1.1), or an
 -- answer
 abbrev pub ended_by_command : Call → UserCommand → List CallOut → DialogId → HeldDialog → Bool
 ended_by_command call (Request request) outs name held = gives_bye name outs
@@ -153,8 +153,8 @@ abbrev pub ended_by_item : Call → Item → List CallOut → DialogId → HeldD
 ended_by_item call (Up up) outs name held = ended_by_kind call up.id up.key up.kind name held
 ended_by_item call (User command) outs name held = ended_by_command call command outs name held
 
--- an input ends it; at a tick those end that are early 64*T1 after the first 2xx to their INVITE
--- (RFC 3261, section 13.2.2.4)
+-- an input ends the dialog; at a tick those end that are still early 64*T1 after the first 2xx to
+-- their INVITE (RFC 3261, section 13.2.2.4)
 abbrev pub ended_by : Option Call → Option CallItem → ℕ → List CallOut → DialogId → HeldDialog
     → Bool
 ended_by (Some call) (Some (id, item)) now outs name held = ended_by_item call item outs name held
@@ -215,23 +215,23 @@ held_now name call = cond (is_some (dialog_at name (side_held call).dialogs)) 1 
 
 -- ---- the laws
 
--- Whatever comes to a call: a dialog of a name is held where an input opened it, and none ended it
+-- Whatever comes to a call: a dialog of a name is held if an input opened it and none ended it
 -- since.
 abbrev pub HeldUntilItEnds : Type 0
 HeldUntilItEnds = (calls : Calls) (inputs : List (Timed CallItem)) (name : DialogId)
     → is_some (dialog_at name (side_held (call_from calls None inputs)).dialogs)
     ≡ held_from calls name None false inputs
 
--- Whatever came to a call before: the user is told of the end of a dialog by the input that ends
--- it, once, and by no other.
+-- Whatever came to a call before: only the input that ends a dialog tells the user of its end,
+-- once.
 abbrev pub EachEndIsToldOnce : Type 0
 EachEndIsToldOnce = (calls : Calls) (inputs : List (Timed CallItem)) (input : Timed CallItem)
     (name : DialogId) → let call = call_from calls None inputs in
     let outs = (call_step calls call input.input input.moment).1 in
     ends_told name outs ≡ cond (ends call input outs name) 1 0
 
--- Whatever came to a call before: of inputs that come then, no more tell of an end than opened the
--- dialog, or found it held. So between two such ends one opened it.
+-- Whatever came to a call before: later inputs tell of the end of a dialog no more often than they
+-- open it, or once more if it was held. So between two such ends an input opened it.
 abbrev pub EachEndHasItsOpening : Type 0
 EachEndHasItsOpening = (calls : Calls) (earlier inputs : List (Timed CallItem)) (name : DialogId)
     → let call = call_from calls None earlier in

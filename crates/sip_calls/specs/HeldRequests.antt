@@ -1,5 +1,5 @@
--- The requests of the peer that a call holds, over all its inputs, and what is read of one off what
--- the call gives.
+-- The requests of the peer that a call holds, for all its inputs, and what the outputs of the call
+-- say of each.
 use Rattle.std.specs.Prelude.{◌≡◌, Bool, true, false, List, [], ◌∷◌, Option, None, Some, filter_map, find, fold, is_some, if◌then◌else◌}
 use Rattle.std.specs.List.{IsDistinct}
 use Rattle.sip_model.specs.Machine.{Timed}
@@ -36,7 +36,7 @@ request_brought _ = None
 abbrev pub RequestsDiffer : List (Timed CallItem) → Type 0
 RequestsDiffer inputs = IsDistinct is_id (filter_map (λ timed. request_brought timed.input) inputs)
 
--- those that are held
+-- the requests that are held
 abbrev pub requests_held : Option Call → List HeldRequest
 requests_held None = []
 requests_held (Some call) = (call.served).requests
@@ -49,32 +49,32 @@ kind_is_about (kind.Request request reply_to) = true
 kind_is_about (kind.Ack ack) = true
 kind_is_about _ = false
 
--- the same of a command
+-- the same for a command
 abbrev pub command_is_about : UserCommand → Bool
 command_is_about (Respond respond) = true
 command_is_about _ = false
 
--- the same of an item
+-- the same for an item
 abbrev pub is_about : Item → Bool
 is_about (Up up) = kind_is_about up.kind
 is_about (User command) = command_is_about command
 
--- ---- what is read off the outputs, of a request of the peer
+-- ---- what the outputs say of a request of the peer
 
--- By the outputs of one input, one after another: a tick, or an item that is about such requests.
+-- By the outputs of one input, in order: of a tick, or of an item that is about such requests.
 abbrev pub read_in : {X : Type 0} → (X → CallOut → X) → Option CallItem → X → List CallOut → X
 read_in by None x outs = fold (at_tick by) x outs
 read_in by (Some (event, item)) x outs = if is_about item then fold by x outs else x
 
 module _ {X : Type 0} (by : X → CallOut → X) (none : X) (calls : Calls) (invite : Id) where
-  -- by the next input; nothing is said yet of a request that isn't held
+  -- by the outputs of the next input; nothing is said yet of a request that isn't held
   abbrev pub read_next : Option Call → X → Timed CallItem → X
   read_next call x timed =
       read_in by timed.input (if is_some (find (has_id invite) (requests_held call)) then x else
       none)
       (call_step calls call timed.input timed.moment).1
 
-  -- by a list of inputs
+  -- by the outputs of a list of inputs
   abbrev pub read_from : Option Call → X → List (Timed CallItem) → X
   read_from call x [] = x
   read_from call x (input ∷ inputs) =

@@ -1,4 +1,4 @@
--- The history of the dialog of a name over all inputs of a call: how it opened, and what happened
+-- The history of the dialog of a name, for all inputs of a call: how it opened, and what happened
 -- in it since (RFC 3261, section 12).
 use Rattle.std.specs.Prelude.{◌≡◌, ◌+◌, Bool, true, false, List, [], ◌∷◌, ◌++◌, Option, None, Some, filter_map, fold, length, if◌then◌else◌}
 use Rattle.std.specs.Option.{option_map, option_map_or}
@@ -37,19 +37,19 @@ brought_by_kind call id (kind.Response response) name held =
 brought_by_kind call id kind.Timeout name held = []
 brought_by_kind call id kind.Failed name held = []
 
--- of the user's commands an answer may do something by itself
+-- what an answer of the user does in the dialog
 abbrev pub brought_by_command : Call → UserCommand → List CallOut → DialogId → HeldDialog
     → List Happening
 brought_by_command call (Respond respond) outs name held =
     answer_confirms call.served respond outs name held
 brought_by_command call _ outs name held = []
 
--- what an item does so
+-- what an item does in the dialog
 abbrev pub brought_by : Call → Item → List CallOut → DialogId → HeldDialog → List Happening
 brought_by call (Up up) outs name held = brought_by_kind call up.id up.kind name held
 brought_by call (User command) outs name held = brought_by_command call command outs name held
 
--- all that an input makes happen in it: that, and the requests that go out in it
+-- all that an input makes happen in the dialog: this, and the requests that go out in it
 abbrev pub happens_in : Option Call → Option CallItem → List CallOut → DialogId → HeldDialog
     → List Happening
 happens_in (Some call) (Some (id, item)) outs name held =
@@ -61,17 +61,17 @@ abbrev pub opening_by_kind : Call → Id → Kind → Option Opening
 opening_by_kind call id (kind.Response response) = response_opens id response call.clients
 opening_by_kind call id _ = None
 
--- that which a command of the user makes: a request, with the answer to it
+-- the opening of a dialog that a command of the user makes: a request, with the answer to it
 abbrev pub opening_by_command : Call → UserCommand → Option Opening
 opening_by_command call (Respond respond) = answer_opens call.served respond
 opening_by_command call _ = None
 
--- that which an item makes
+-- the opening of a dialog that an item makes
 abbrev pub opening_by : Call → Item → Option Opening
 opening_by call (Up up) = opening_by_kind call up.id up.kind
 opening_by call (User command) = opening_by_command call command
 
--- that which an input makes; where nothing is held none is made
+-- the opening of a dialog that an input makes; if nothing is held none is made
 abbrev pub opening_in : Option Call → Option CallItem → Option Opening
 opening_in (Some call) (Some (id, item)) = opening_by call item
 opening_in _ _ = None
@@ -94,7 +94,7 @@ abbrev pub with_more : List Happening → List CSeq → History → History
 with_more more cseqs history =
     record history { life = history.life ++ more; sent = history.sent ++ cseqs }
 
--- the requests that went out are all that happened
+-- the requests that went out are all that has happened so far
 abbrev pub begun_with : List CSeq → Opening → History
 begun_with cseqs opening =
     record { opening = opening; life = requests_made cseqs; sent = cseqs }
@@ -106,7 +106,7 @@ call_from calls call (input ∷ inputs) =
     call_from calls (call_step calls call input.input input.moment).0 inputs
 
 module _ (calls : Calls) (name : DialogId) where
-  -- it begins anew where the input makes the dialog
+  -- the history begins anew if the input makes the dialog
   abbrev pub history_after : Option Call → Option History → Timed CallItem → Option History
   history_after call history timed =
       let done = call_step calls call timed.input timed.moment in
@@ -123,7 +123,7 @@ module _ (calls : Calls) (name : DialogId) where
       history_from (call_step calls call input.input input.moment).0
       (history_after call history input) inputs
 
-  -- over all inputs of a call, of which nothing was held before
+  -- for all inputs of a call, if nothing was held before
   abbrev pub history_of : List (Timed CallItem) → Option History
   history_of inputs = history_from None None inputs
 
@@ -137,13 +137,13 @@ OfEachDialog Law = (calls : Calls) (inputs : List (Timed CallItem)) → EventsDi
     → (history : History) × (history_of calls name inputs ≡ Some history)
     × Law history held.dialog
 
--- Whatever comes to a call: a dialog that is held is what its opening and all that happened in it
--- since make.
+-- Whatever comes to a call: a held dialog is what its opening and all that happened in it since
+-- make it.
 abbrev pub HoldsItsHistory : Type 0
 HoldsItsHistory =
     OfEachDialog (λ history dialog. dialog ≡ dialog_after history.opening history.life)
 
--- it is held under the name of its tags
+-- a dialog is held under the name of its tags
 abbrev pub HasItsName : Type 0
 HasItsName = (calls : Calls) (inputs : List (Timed CallItem)) → EventsDiffer inputs
     → (name : DialogId) (held : HeldDialog)
@@ -155,13 +155,13 @@ abbrev pub CountsItsRequests : Type 0
 CountsItsRequests = OfEachDialog (λ history dialog. dialog.local_cseq
     ≡ (opened history.opening).local_cseq + length history.sent)
 
--- each of these had the number after that of the one before it
+-- each of these requests had the number after that of the one before it
 abbrev pub NumbersItsRequests : Type 0
 NumbersItsRequests = OfEachDialog (λ history dialog.
     NumberedAfter (opened history.opening).local_cseq history.sent)
 
--- Whatever came to a call before: the requests that an input sends in a dialog, one that is held or
--- that it opens, have the numbers after its local CSeq; so has the BYE that ends it.
+-- Whatever came to a call before: the requests that an input sends in a dialog, a held one or one
+-- that it opens, have the next numbers after its local CSeq; so has the BYE that ends it.
 abbrev pub HasTheNextNumber : Type 0
 HasTheNextNumber = (calls : Calls) (inputs : List (Timed CallItem)) (input : Timed CallItem)
     → EventsDiffer inputs → (name : DialogId) → let call = call_from calls None inputs in
@@ -174,7 +174,7 @@ abbrev pub HasTheGreatestNumber : Type 0
 HasTheGreatestNumber = OfEachDialog (λ history dialog. dialog.remote_cseq
     ≡ fold greater (opened history.opening).remote_cseq (filter_map accepted_number history.life))
 
--- its routes and its target are those of its opening, and then of what gave it others
+-- its routes and its target are those of its opening, or the last ones that it got since
 abbrev pub HasTheLatestRoute : Type 0
 HasTheLatestRoute = OfEachDialog (λ history dialog. let start = opened history.opening in
     (dialog.route_set ≡ fold (routes_by start.side) start.route_set history.life)

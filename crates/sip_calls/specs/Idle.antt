@@ -1,4 +1,4 @@
--- Where nothing is due of a call, a tick does nothing.
+-- If nothing of a call is due, a tick does nothing.
 use Rattle.std.proofs.Common.{◌≡◌, ℕ, Bool, true, false, ◌||◌, List, [], ◌++◌, refl, sym, ◌∙◌, ap, arith}
 use Rattle.std.specs.Prelude.{None, Some, if◌then◌else◌}
 use Rattle.std.proofs.lemmas.Grind.{common_steps}
@@ -23,7 +23,7 @@ use Rattle.sip_calls.specs.Call.{call_due, call_machine, call_tick, kept_call}
 use Rattle.sip_calls.specs.Sides.{CallTaken, by_clients, by_server, holds_any, side_of}
 use Rattle.sip_calls.specs.Steps.Call.{due_taken, next_due, ticked}
 
--- the rules of a tick are the steps of the code
+-- a tick: the rules say the same as the steps of the code
 pub same_tick : (call : Call) (now : ℕ) → call_tick call now ≡ ticked call now
 same_tick call now =
     let after : CallTaken = by_server call (served.tick_taken call.served now) in

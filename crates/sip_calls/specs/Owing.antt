@@ -1,5 +1,5 @@
--- What is owed in the dialog of a name over all inputs of a call, read off what the call gives (RFC
--- 3261, section 13.2.2.4; RFC 3262, section 4).
+-- What is owed in the dialog of a name, for all inputs of a call, by what the call gives (RFC 3261,
+-- section 13.2.2.4; RFC 3262, section 4).
 use Rattle.std.specs.Prelude.{◌≡◌, List, [], ◌∷◌, ◌++◌, Option, None, Some, if◌then◌else◌}
 use Rattle.sip_model.specs.Machine.{Timed}
 use Rattle.sip_message.specs.declared.id.Id.{Id}
@@ -24,8 +24,8 @@ use Rattle.sip_calls.specs.Sides.{side_of}
 
 -- ---- one input
 
--- what is owed after a message that comes up, by what was owed before it and what is given: a
--- response may leave more owed
+-- what is owed after a message that comes up, by what was owed before and what is given: a response
+-- may ask for more
 abbrev pub owed_by_kind : Call → Id → Kind → DialogId → List CallOut → List PendingRequest
     → List PendingRequest
 owed_by_kind call id (kind.Response response) name outs pending_requests =
@@ -33,7 +33,7 @@ owed_by_kind call id (kind.Response response) name outs pending_requests =
     (dialog_at name (side_of call).dialogs) outs
 owed_by_kind call id _ name outs pending_requests = pending_requests
 
--- after a command of the user: its ACKs and PRACKs leave less
+-- after a command of the user: an ACK or PRACK that goes out is no longer owed
 abbrev pub owed_by_command : UserCommand → DialogId → List CallOut → List PendingRequest
     → List PendingRequest
 owed_by_command (Ack command) name outs pending_requests =
@@ -77,9 +77,9 @@ module _ (calls : Calls) (name : DialogId) where
       (owed_next call pending_requests input)
       inputs
 
--- Whatever comes to a call: in a held dialog are owed, the oldest first, the ACK of each 2xx and
--- the PRACK of each reliable provisional response to an INVITE of which the user was told since the
--- dialog was made, unless it went out at once, or since by a command, which serves the oldest of
+-- Whatever comes to a call: in a held dialog these are owed, the oldest first: the ACK of each 2xx
+-- and the PRACK of each reliable provisional response to an INVITE of which the user was told since
+-- the dialog was made, unless it went out at once, or later by a command, which sends the oldest of
 -- its kind.
 abbrev pub OwesAsTold : Type 0
 OwesAsTold = (calls : Calls) (inputs : List (Timed CallItem)) → EventsDiffer inputs

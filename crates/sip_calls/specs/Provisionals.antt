@@ -1,5 +1,5 @@
--- The reliable provisional responses that come to an INVITE in one life of a dialog, and those that
--- the user is told of (RFC 3262, section 4).
+-- The reliable provisional responses to an INVITE in one life of a dialog, and those of which the
+-- user is told (RFC 3262, section 4).
 use Rattle.std.specs.Prelude.{◌≡◌, ◌≢◌, ℕ, List, [], ◌∷◌, ◌++◌, Option, None, Some, AllPairs, filter_map}
 use Rattle.std.specs.List.{IsDistinct}
 use Rattle.std.specs.Option.{option_and_then, option_to_list}
@@ -20,14 +20,14 @@ use Rattle.sip_calls.specs.declared.calls.Calls.{Calls}
 use Rattle.sip_calls.specs.Call.{CallItem, call_step}
 use Rattle.sip_calls.specs.Sides.{side_of}
 
--- the RSeq of the reliable provisional response that comes up to that INVITE in that life of a
--- dialog, where one does
+-- the RSeq of the reliable provisional response to that INVITE that comes up in that life of a
+-- dialog, if one does
 abbrev pub number_up : AnInvite → DialogReference → Id → Kind → Side → Option ℕ
 number_up invite life id (kind.Response response) side =
     option_and_then (number_for invite life id response) (client_at id side.clients)
 number_up invite life id _ side = None
 
--- the RSeq of the response that an input brings, where it is one of them
+-- the RSeq of the response that an input brings, if it is one of them
 abbrev pub number_in : AnInvite → DialogReference → Option CallItem → Side → Option ℕ
 number_in invite life (Some (event, Up up)) side = number_up invite life up.id up.kind side
 number_in invite life _ side = None
@@ -44,7 +44,7 @@ module _ (calls : Calls) (invite : AnInvite) (life : DialogReference) where
   abbrev pub done : Option Call → Timed CallItem → Option Call × List CallOut
   done call timed = call_step calls call timed.input timed.moment
 
-  -- the same, where the dialog's life still stands after the input
+  -- the RSeq that an input brings, if the dialog's life goes on after the input
   abbrev pub number_in_life : Option Call → Timed CallItem → Option ℕ
   number_in_life call timed = in_life (lives (side_held (done call timed).0).dialogs life)
       (number_in invite life timed.input (side_held call))
@@ -55,24 +55,24 @@ module _ (calls : Calls) (invite : AnInvite) (life : DialogReference) where
   came_from call (input ∷ inputs) =
       option_to_list (number_in_life call input) ++ came_from (done call input).0 inputs
 
-  -- those of the responses that the user is told of, in order
+  -- the RSeqs of the responses of which the user is told, in order
   abbrev pub shown_from : Option Call → List (Timed CallItem) → List ℕ
   shown_from call [] = []
   shown_from call (input ∷ inputs) =
       told_of (number_in_life call input) (done call input).1
       ++ shown_from (done call input).0 inputs
 
-  -- over all inputs of a call, of which nothing was held before
+  -- the same for all inputs of a call, if nothing was held before
   abbrev pub came : List (Timed CallItem) → List ℕ
   came inputs = came_from None inputs
 
-  -- the numbers of all responses that the user is told of
+  -- the RSeqs of all responses of which the user is told
   abbrev pub shown : List (Timed CallItem) → List ℕ
   shown inputs = shown_from None inputs
 
 -- ---- events
 
--- the event of which a message comes up: that a request is lost may be told to a tick
+-- the event by which a message comes up; a request may be lost by a tick
 abbrev pub event_of_kind : Id → Kind → Option Id
 event_of_kind id (kind.Request request reply_to) = Some id
 event_of_kind id (kind.Ack ack) = Some id
@@ -86,28 +86,28 @@ event_in None = None
 event_in (Some (id, Up up)) = event_of_kind id up.kind
 event_in (Some (id, User command)) = Some id
 
--- messages and commands come of different events
+-- messages and commands come by different events
 abbrev pub EventsDiffer : List (Timed CallItem) → Type 0
 EventsDiffer inputs = IsDistinct is_id (filter_map (λ timed. event_in timed.input) inputs)
 
 -- ---- the laws
 
--- A law of the numbers that came, and of those shown, to an INVITE in a life of a dialog.
+-- A law of the RSeqs that came, and of those shown, for an INVITE in a life of a dialog.
 abbrev pub OfEachLife : (List ℕ → List ℕ → Type 0) → Type 0
 OfEachLife Law = (calls : Calls) (inputs : List (Timed CallItem)) → EventsDiffer inputs
     → (invite : AnInvite) (life : DialogReference)
     → Law (came calls invite life inputs) (shown calls invite life inputs)
 
--- Whatever comes to a call: of the reliable provisional responses that came to an INVITE in a life
--- of a dialog the user is told of the first, and then of each that is one more than the one told
--- before it.
+-- Whatever comes to a call: of the reliable provisional responses to an INVITE in a life of a
+-- dialog, the user is told of the first, and then of each whose RSeq is one more than the last one
+-- told.
 abbrev pub ShownInOrder : Type 0
 ShownInOrder = OfEachLife (λ came shown. shown ≡ in_order came)
 
--- their numbers are consecutive
+-- the RSeqs that are shown are consecutive
 abbrev pub ShownConsecutive : Type 0
 ShownConsecutive = OfEachLife (λ came shown. IsConsecutive shown)
 
--- and so none is shown twice
+-- so none is shown twice
 abbrev pub ShownOnce : Type 0
 ShownOnce = OfEachLife (λ came shown. AllPairs (λ x y. x ≢ y) shown)

@@ -1,4 +1,4 @@
--- The stories of the requests that a call holds, over all its inputs: how each came up, and what
+-- The stories of the requests that a call holds, for all its inputs: how each came up, and what
 -- happened to it since (RFC 3261, section 13.3.1.4; RFC 3262, section 3).
 use Rattle.std.specs.Prelude.{◌≡◌, ℕ, List, [], ◌∷◌, map, Option, None, Some}
 use Rattle.std.specs.List.{AllByRecursion}
@@ -29,7 +29,7 @@ served_state calls (Some call) = call.served
 
 -- ---- a list of inputs
 
--- the stories after them, from what was held and its stories
+-- the stories after a list of inputs, from what was held and its stories
 abbrev pub stories_from : Calls → Option Call → Stories → List (Timed CallItem) → Stories
 stories_from calls call stories [] = stories
 stories_from calls call stories (input ∷ inputs) =
@@ -37,7 +37,7 @@ stories_from calls call stories (input ∷ inputs) =
     (event_told (served_state calls call) (served_event calls input.input input.moment) stories)
     inputs
 
--- over all inputs of a call, of which nothing was held before
+-- the same for all inputs of a call, if nothing was held before
 abbrev pub stories_of : Calls → List (Timed CallItem) → Stories
 stories_of calls inputs = stories_from calls None [] inputs
 
@@ -48,8 +48,8 @@ abbrev pub HoldsItsStories : Type 0
 HoldsItsStories = (calls : Calls) (inputs : List (Timed CallItem))
     → requests_held (call_from calls None inputs) ≡ map request_of (stories_of calls inputs)
 
--- by each story at most 8 reliable provisional responses have no PRACK, and none but the first
--- until it has one
+-- in each story at most 8 reliable provisional responses have no PRACK; until the first has one, it
+-- is the only one
 abbrev pub FewUnacknowledged : Type 0
 FewUnacknowledged = (calls : Calls) (inputs : List (Timed CallItem))
     → AllByRecursion (λ story. FewWait (ledger_of story)) (stories_of calls inputs)

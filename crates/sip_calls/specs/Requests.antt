@@ -1,4 +1,4 @@
--- The requests that come up for a call, and those that the user is told of.
+-- The requests that come up for a call, and those of which the user is told.
 use Rattle.std.specs.Prelude.{ℕ, ◌≤◌, Bool, false, List, Option, Some, cond, count_by, filter_map}
 use Rattle.sip_message.specs.declared.id.Id.{Id}
 use Rattle.sip_common.specs.declared.item.CallOut.{CallOut}
@@ -19,7 +19,7 @@ comes_up_by id _ = false
 abbrev pub tells_of : Id → List CallOut → ℕ
 tells_of id outs = count_by (is_id id) (filter_map request_told_by outs)
 
--- whatever is held, the user is told of a request by the input that brings it, and once
+-- whatever is held, only the input that brings a request tells the user of it, once
 abbrev pub EachToldOnce : Type 0
 EachToldOnce = (calls : Calls) (state : Option Call) (input : Option CallItem) (now : ℕ) (id : Id)
     → tells_of id (call_step calls state input now).1 ≤ cond (comes_up_by id input) 1 0

@@ -8,11 +8,11 @@ use Rattle.sip_clients.specs.Client.{Side, ClientTaken}
 use Rattle.sip_clients.specs.Tick as clients
 use Rattle.sip_calls.specs.declared.call.Call.{Call}
 
--- a call after something, and what it gives
+-- a call after something happened to it, and what it gives
 abbrev pub CallTaken : Type 0
 CallTaken = Call × List CallOut
 
--- the server side took something
+-- the call after a change of its server side
 abbrev pub by_server : Call → ServedTaken → CallTaken
 by_server call taken = (record call { served = taken.0 }, taken.1)
 
@@ -20,7 +20,7 @@ by_server call taken = (record call { served = taken.0 }, taken.1)
 abbrev pub side_of : Call → Side
 side_of call = record { dialogs = (call.served).dialogs; clients = call.clients }
 
--- the client side took something
+-- the call after a change of its client side
 abbrev pub by_clients : Call → ClientTaken → CallTaken
 by_clients call taken = (
   record call {

@@ -1,5 +1,5 @@
 -- Which reliable provisional responses to an INVITE that came up await their PRACK, and which are
--- still sent again, over all inputs of a call, read off what the call gives (RFC 3262, section 3).
+-- still sent again, for all inputs of a call, by what the call gives (RFC 3262, section 3).
 use Rattle.std.specs.Prelude.{◌≡◌, [], None}
 use Rattle.sip_served.specs.Unacknowledged.{awaited_by, awaited_rseqs, kept_rseqs, repeated_by, repeated_rseqs}
 use Rattle.sip_calls.specs.HeldRequests.{OfEachRequest, read_from}
@@ -15,8 +15,8 @@ abbrev pub AwaitedAsTold : Type 0
 AwaitedAsTold = OfEachRequest (λ calls inputs invite held.
     awaited_rseqs held ≡ read_from (awaited_by invite) [] calls invite None [] inputs)
 
--- Those of them are sent again since whose sending no final response went out, and the user wasn't
--- told that no PRACK came.
+-- A response is sent again until its PRACK comes, a final response goes out, or the user is told
+-- that no PRACK came.
 abbrev pub RepeatedAsTold : Type 0
 RepeatedAsTold = OfEachRequest (λ calls inputs invite held.
     repeated_rseqs held ≡ read_from (repeated_by invite) [] calls invite None [] inputs)

@@ -38,7 +38,7 @@ impl Call {
         earlier(self.served.next_due(), self.clients.next_due())
     }
 
-    /// The moment `now`, in ms, has come: first for the server side.
+    /// The moment `now`, in ms, has come, first for the server side.
     pub(crate) fn tick(&mut self, now: u64) -> Result<Vec<CallOut>, AllocError>
         requires { now ≤ 2 ^ 62 }
         ensures { IfOk result (λ outs. (self.new, outs.items) ≡ call_tick self.old now) }

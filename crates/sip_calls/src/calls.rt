@@ -1,4 +1,4 @@
-//! The machine of one call: what each of its inputs makes of it, and what it gives.
+//! The machine of one call: how each input changes it, and what it gives.
 
 ghost use Rattle.std.specs.Prelude.{◌≡◌, ◌≤◌, ◌^◌, IfOk, None, Some, false, true, if◌then◌else◌};
 ghost use Rattle.sip_common.specs.Requests.{local_tag_of};
@@ -26,7 +26,7 @@ const ANSWER_TAG_NAME: u8 = 0;
 pub struct Calls {
     /// The agent's own address.
     pub local: Addr,
-    /// The key of the words that made names end in.
+    /// The key of the words at the end of made names.
     pub seed: [u8; 32],
 }
 
@@ -149,7 +149,7 @@ impl Calls {
     }
 }
 
-// A call of which nothing was held takes an item.
+// A call under which nothing was held takes an item.
 fn take_first(
     alloc: Global,
     call: &mut Call,
@@ -231,7 +231,7 @@ fn tag_of_answers(alloc: Global, event: Event, request: &Message) -> Result<Toke
     }
 }
 
-// A transaction is lost: that is told, and then what ends with its request ends.
+// A transaction is lost: the user is told, and then what ends with its request ends.
 fn fail_request(
     alloc: Global,
     call: &mut Call,
@@ -248,7 +248,7 @@ fn fail_request(
     Ok(outs)
 }
 
-// A command of the user, where nothing is held.
+// A command of the user while nothing is held.
 fn take_first_command(
     alloc: Global,
     call: &mut Call,

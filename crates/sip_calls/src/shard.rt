@@ -18,8 +18,8 @@ use std::marker::Model;
 
 /// Calls by Call-ID. A Call-ID under which nothing is held has no call.
 ///
-/// After a call of a method answered [`ShardFault::NoMemory`] the shard is broken: it holds
-/// nothing, and every later call that can fail answers [`ShardFault::Broken`].
+/// After a method returned [`ShardFault::NoMemory`] the shard is broken: it holds nothing, and
+/// every later call that can fail returns [`ShardFault::Broken`].
 #[derive(Drop)]
 pub struct CallShard {
     calls: Calls,
@@ -37,8 +37,8 @@ impl Model for CallShard {
 impl CallShard {
     ghost use Rattle.sip_calls.specs.CallShard.{HeldCalls, call_cmp, item_input};
 
-    /// A shard without a call, of an agent at the address `local` whose made names are keyed by
-    /// `seed`. Takes no memory.
+    /// A shard without calls, of an agent at the address `local`; `seed` is the key of its made
+    /// names. Takes no memory.
     pub fn new(alloc: Global, local: Addr, seed: [u8; 32]) -> CallShard
         ensures { result ≡ record {
           calls = record { local = local; seed = seed };
@@ -79,8 +79,8 @@ impl CallShard {
         self.table.tick(&self.calls, now)
     }
 
-    /// Gives the call of an item's Call-ID that item, at the moment `now` in ms. The id is that of
-    /// the item's event.
+    /// Gives an item to the call of its Call-ID, at the moment `now` in ms. The id is that of the
+    /// item's event.
     pub fn item(&mut self, id: Id, item: Item, now: u64) -> Result<Vec<CallOut>, ShardFault>
         requires { now ≤ 2 ^ 62 }
         ensures shared { self.new.calls ≡ self.old.calls }

@@ -1,4 +1,5 @@
--- An INVITE in a life of a dialog: what a response keeps of it, and which case the response is.
+-- An INVITE in a life of a dialog: what a response leaves unchanged in it, and which case the
+-- response is.
 use Rattle.std.proofs.Common.{◌≡◌, ℕ, Bool, true, false, ◌&&◌, cond, refl, sym, ap, ◌∙◌}
 use Rattle.std.specs.Prelude.{Option, None, Some, if◌then◌else◌}
 use Rattle.std.specs.Cmp.{first_so, second_so}
@@ -50,7 +51,7 @@ case_by final inside alive winning last_rseq rseq =
     if final then winning else (if inside
     && alive then reliable_case last_rseq rseq else reply.Told)
 
--- the dialog isn't there: there is no number, or the response is told as any other
+-- the dialog isn't held: there is no RSeq, or the response is told like any other
 abbrev pub Gone : Option ℕ → ReplyCase → Type 0
 Gone None case = Unheard case
 Gone (Some number) case = case ≡ reply.Told
@@ -86,7 +87,7 @@ lives_same life own dialogs same =
     λ i. option_map_or (λ (held : HeldDialog). is_id held.created_by (created_by i))
     (entries.same_key name_laws life.name own.name dialogs named i) false
 
--- the dialog of a name is another of the same life
+-- the dialog of a name is replaced by one of the same life
 lives_put : (life : DialogReference) (name : DialogId) (held after : HeldDialog) (dialogs : Dialogs)
     → dialog_at name dialogs ≡ Some held → after.created_by ≡ held.created_by
     → lives (insert_entry is_dialog_id dialogs name after) life ≡ lives dialogs life

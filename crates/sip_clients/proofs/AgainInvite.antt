@@ -1,4 +1,4 @@
--- What the client side makes of what was heard for an INVITE in a life of a dialog.
+-- How the client side changes the latest RSeq of an INVITE in a life of a dialog.
 use Rattle.std.proofs.Common.{◌≡◌, ◌⊎◌, inl, inr, ℕ, Bool, true, false, not, ◌&&◌, cond, List, [], ◌∷◌, refl, ap, ◌∙◌}
 use Rattle.std.specs.Prelude.{Option, None, Some, if◌then◌else◌}
 use Rattle.std.specs.Option.{option_map}
@@ -49,9 +49,9 @@ use Rattle.sip_clients.proofs.Served.{paid_either}
 abbrev pub AreApart : Clients → Type 0
 AreApart clients = entries.Apart id_laws clients
 
--- ---- the ear of an INVITE
+-- ---- the latest RSeq of an INVITE
 
--- what was heard last for a request, where it is an INVITE in the life
+-- the latest RSeq of a request, if it is an INVITE in the life
 abbrev pub asks_ear : DialogReference → RequestKind → Option ℕ → Option (Option ℕ)
 asks_ear life InitialInvite last_rseq = None
 asks_ear life (ReInvite own) last_rseq =
@@ -85,7 +85,7 @@ silent_then Begins x y z (inl none) (inr (inl same)) = inl (same ∙ none)
 silent_then Begins x y z (inr (inl first)) (inr (inl same)) = inr (inl (same ∙ first))
 silent_then Begins x y z (inr (inr begins)) (inr (inl same)) = inr (inr (begins.0, same ∙ begins.1))
 
--- it is over, or it stays
+-- the INVITE is over, or its latest RSeq doesn't change
 abbrev pub EndsOrStays : Option (Option ℕ) → Option (Option ℕ) → Type 0
 EndsOrStays before after = (after ≡ None) ⊎ (after ≡ before)
 
@@ -114,7 +114,7 @@ listens_then Begins before middle after (Some number) shown hears (inr same) = r
 abbrev pub ear_of : DialogReference → Id → Clients → Option (Option ℕ)
 ear_of life invite clients = client_ear life (client_at invite clients)
 
--- a CANCEL that may be sent is no INVITE, whatever its id
+-- a CANCEL that may be sent is no INVITE, whatever its id is
 module _ (life : DialogReference) (invite : Id) where
   abbrev EarStays : Option Client → Option Client → Type 0
   EarStays before after = EndsOrStays (client_ear life before) (client_ear life after)
@@ -140,8 +140,8 @@ module _ (life : DialogReference) (invite : Id) where
       entries.by_insertion id_laws EarStays stays_same stays_none id invite
       (cancel_client id cancelled) done.0 (λ same. inl refl)
 
--- what was heard is so, after what makes such requests of those before, beside these dialogs, where
--- this number may have come and this is given
+-- the latest RSeq after a step from these requests to those, beside these dialogs, if this number
+-- may have come and these are the outputs
 abbrev pub AgainResult : DialogReference → Id → Option Id → Clients → Dialogs → Clients → Option ℕ
     → List CallOut → Type 0
 AgainResult life invite event before dialogs after number outs =
@@ -156,7 +156,7 @@ module _ (life : DialogReference) (invite : Id) (event : Option Id) where
   abbrev pub Begins : Type 0
   Begins = event ≡ Some invite
 
-  -- what was heard is so, after what makes such requests of these
+  -- no RSeq comes for the INVITE in a step from these requests to those
   pub record Keeps (before after : Clients) : Type 0 where
     pub apart : AreApart after
     pub silent : Silent Begins (ear before) (ear after)

@@ -1,4 +1,4 @@
--- A response to a client request: what was heard after it for an INVITE in a life of a dialog.
+-- A response to a client request: the latest RSeq of an INVITE in a life of a dialog after it.
 use Rattle.std.proofs.Common.{◌≡◌, ◌⊎◌, inl, inr, ℕ, Bool, true, false, not, ◌&&◌, ◌==◌, cond, List, [], ◌++◌, map, refl, sym, ap, subst, ◌∙◌}
 use Rattle.std.specs.Prelude.{Option, None, Some, filter, if◌then◌else◌}
 use Rattle.std.specs.Map.{set_value}
@@ -48,7 +48,7 @@ module _ (life : DialogReference) (invite : Id) (event : Option Id) (answer : Re
   ResultOf dialogs clients number outs =
       AgainResult life invite event side.clients dialogs clients number outs
 
-  -- ---- what is left to do once the request is as it is after the response
+  -- ---- what is left to do once the request was changed by the response
 
   module _ (clients : Clients) (left : AreApart clients) (dialogs : Dialogs) (change : ClientChange)
       (starts : StartsFresh change) (outs : List CallOut) where
@@ -113,7 +113,7 @@ module _ (life : DialogReference) (invite : Id) (event : Option Id) (answer : Re
   -- ---- the request that is found
 
   module _ (client : Client) (is : client_at answer.id side.clients ≡ Some client) where
-    -- that the response has come is noted in it first
+    -- first the request notes that the response has come
     abbrev pub noting : Client → Client
     noting client = after_response (is_final answer.status) client
 
@@ -208,7 +208,7 @@ module _ (life : DialogReference) (invite : Id) (event : Option Id) (answer : Re
       was = ap (client_ear life) (there found is same)
           ∙ (λ i. if ours i then Some client.last_rseq else None)
 
-      -- it has heard this since
+      -- the latest RSeq after the response
       abbrev Heard : Replied → Type 0
       Heard done = ear after ≡ client_ear life (Some done.0)
 

@@ -1,4 +1,4 @@
--- A response that comes up: what was heard after it for an INVITE in a life of a dialog.
+-- A response that comes up: the latest RSeq of an INVITE in a life of a dialog after it.
 use Rattle.std.proofs.Common.{◌≡◌, ℕ, Bool, true, false, ◌&&◌, List, [], ◌++◌, refl, sym, subst}
 use Rattle.std.specs.Prelude.{Option, None, Some, if◌then◌else◌}
 use Rattle.std.specs.Map.{set_value}
@@ -48,7 +48,7 @@ module _ (life : DialogReference) (invite : Id) (event : Option Id) (of : Event)
   unchanged = silent_result life invite event side.clients side.clients side.dialogs []
       (keeps_same life invite event side.clients apart)
 
-  -- a CANCEL that may go out last is no INVITE, and is told to nobody
+  -- a CANCEL that may go out last is no INVITE, and the user isn't told of it
   freed : (number : Option ℕ) (command : Option Id) (cancelled : Client) (done : Replied)
       → SideResult number (side_after of id side None done)
       → SideResult number (side_after of id side

@@ -1,4 +1,4 @@
--- Which ACKs and PRACKs a response gives and asks for.
+-- Which ACKs and PRACKs go out with a response, and which it asks for.
 use Rattle.std.proofs.Common.{◌≡◌, ℕ, Bool, true, false, not, ◌&&◌, ◌||◌, List, [], ◌∷◌, ◌++◌, refl, ap, ◌∙◌}
 use Rattle.std.specs.Prelude.{Option, None, Some, if◌then◌else◌}
 use Rattle.std.specs.List.{list_any}
@@ -34,13 +34,13 @@ use Rattle.sip_clients.specs.Replied.{by_reply_case}
 use Rattle.sip_clients.specs.ReceivedResponse.{is_invite_kind, has_dialog, offer_case, reliable_case}
 use Rattle.sip_clients.proofs.DialogDebts.{neither_way, unless_out}
 
--- ---- a response: what is given
+-- ---- a response: what goes out
 
 or_false : (b : Bool) → (b || false) ≡ b
 or_false true = refl
 or_false false = refl
 
--- what is said of no command
+-- a test that no command passes
 module _ (p : CallOut → Bool) (none : (id : Id) (order : Order) → p (out.Command id order) ≡ false)
   where
     any_beside : (freed : Option Id) (invite : Client) (done : Clients × List CallOut)
@@ -98,7 +98,7 @@ case_told reply.Passed client found answer = refl
 case_told reply.Early client found answer = refl
 case_told reply.Told client found answer = refl
 
--- what is left of what is asked for
+-- what is asked for and doesn't go out
 abbrev pub left_by : Bool → (PendingRequest → Bool) → Option PendingRequest → List PendingRequest
 left_by told goes o =
     option_map_or (λ pending. if told && not (goes pending) then pending ∷ [] else []) o []

@@ -1,5 +1,5 @@
--- What the client side of a call asks to send is a request, and what it sends outside of any
--- transaction is the text of an ACK.
+-- The client side of a call starts transactions with requests. What it sends without a transaction
+-- is the text of an ACK.
 use Rattle.std.proofs.Common.{◌≡◌, ℕ, Bool, true, false, cond, List, [], ◌∷◌, ◌++◌, map, refl, sym, ap, ◌∙◌, subst}
 use Rattle.std.specs.Prelude.{Option, None, Some, IfSome, Result, Ok, Err, codes, filter, find, if◌then◌else◌}
 use Rattle.std.proofs.lemmas.Bool.{false≢true}
@@ -88,7 +88,7 @@ pub record IsAck (message : Message) : Type 0 where
 abbrev pub IsAckText : List ℕ → Type 0
 IsAckText bytes = (message : Message) × (bytes ≡ written message) × IsAck message
 
--- ---- what a client request keeps
+-- ---- the ACKs that a client request keeps
 
 abbrev pub KeptAck : Option SentAck → Type 0
 KeptAck ack = IfSome ack (λ sent. IsAckText sent.bytes)
@@ -136,7 +136,7 @@ plain_asks event plain =
     ap is_request_line (content_start (through plain.routes (bare_plain event plain)) plain.content
     ∙ bare_start event plain.call_id plain.method plain.request_uri plain.from plain.to)
 
--- ---- what is to be sent in a dialog
+-- ---- what is sent in a dialog
 
 abbrev pub Serves : (Message → Type 0) → SendOutcome → Type 0
 Serves Q (Sent sending) = Q sending.message
@@ -225,7 +225,7 @@ requested_at_serves name event command dialogs =
 module _ (Given : Message → Type 0) where
   -- ---- what is said of outputs
 
-  -- a transaction is started with a request, and an answer is one of which this is said
+  -- a transaction is started with a request; an answer is one of which this is said
   abbrev pub CommandSays : Command → Type 0
   CommandSays (order.Start key call_id message to) = IsAsk message
   CommandSays (order.Answer key message) = Given message
@@ -581,7 +581,7 @@ module _ (Given : Message → Type 0) where
       }) clients all
   noted_asks (Prack rseq number) name ack clients kept all = all
 
-  -- what a command pays is of its kind
+  -- a command sends an ACK or PRACK of its own kind
   abbrev IsFound : PendingKind → Result PendingRequest Refusal → Type 0
   IsFound k (Ok pending) = is_of k pending ≡ true
   IsFound k (Err refusal) = Unit {0}

@@ -1,5 +1,5 @@
--- The steps of the client side: what happens in the dialog of each name is what the response does
--- in it and what goes out in it.
+-- The steps of the client side: in the dialog of each name happens what the response does in it and
+-- what goes out in it.
 use Rattle.std.proofs.Common.{◌≡◌, ℕ, Bool, true, false, List, [], ◌++◌, refl, sym, ap, subst, ◌∙◌}
 use Rattle.std.specs.Prelude.{Option, None, Some, Result, Ok, Err, find}
 use Rattle.std.specs.Map.{set_value}
@@ -165,7 +165,7 @@ module _ (event : Event) (side : Side) (apart : AreApart side.dialogs)
 
 module _ (event : Event) (id : Id) (call_id : List ℕ) (response : Message) (side : Side)
     (apart : AreApart side.dialogs) (named : AreNamed side.dialogs) where
-  -- by the status and the request
+  -- what a response does, by its status and its request
   abbrev brings_by : Option ℕ → Option Client → Lives
   brings_by status o name held =
       option_map_or (λ client. option_map_or

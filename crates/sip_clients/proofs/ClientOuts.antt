@@ -1,4 +1,4 @@
--- What the client side of a call gives: notices of the ends of dialogs and of refused commands,
+-- The outputs of the client side of a call: notices of ends of dialogs and of refused commands,
 -- ACKs, requests, and notices of responses that come up.
 use Rattle.std.proofs.Common.{◌≡◌, ℕ, Bool, true, false, cond, List, [], ◌∷◌, ◌++◌, map, refl}
 use Rattle.std.specs.Prelude.{Option, None, Some, codes, filter, if◌then◌else◌}
@@ -57,7 +57,7 @@ use Rattle.sip_clients.specs.Tick.{clients_ticked, early_ends_told, is_over}
 use Rattle.sip_clients.proofs.Served.{paid_either}
 
 module _ (P : CallOut → Type 0) where
-  -- what it gives of itself is all so
+  -- P is true of notices of ends and of refused commands, of ACKs, and of requests that go out
   pub record Allows : Type 0 where
     pub ended : (held : HeldDialog) → P (ended_notice held)
     pub refusal : (call_id : List ℕ) (place : ℕ) (why : Refusal)
@@ -197,7 +197,7 @@ module _ (P : CallOut → Type 0) (allows : Allows P) where
       (last_told (is_last after.kind answer.status) after side.dialogs answer tells)
       (settled_told answer.event answer.id done.3 put))
 
-  -- a notice of the response is such a thing
+  -- P is true of a notice of the response
   abbrev pub ResponseAllowed : Event → Id → List ℕ → Message → Type 0
   ResponseAllowed event id call_id response = (name : DialogId) (status : ℕ)
       → status_of response.start ≡ Some status

@@ -1,4 +1,4 @@
--- What a held client request is after what happens to it is what its story says then.
+-- A held client request after something happened to it is what its longer story says.
 use Rattle.std.proofs.Common.{◌≡◌, ℕ, ◌+◌, ◌*◌, Bool, true, false, cond, ◌||◌, List, [], ◌∷◌, ◌++◌, refl, sym, ap, ◌∙◌, append-nil, append_assoc}
 use Rattle.std.specs.Prelude.{Option, None, Some, filter_map, fold, unwrap_or, if◌then◌else◌}
 use Rattle.std.specs.List.{last_or, list_any}
@@ -20,7 +20,7 @@ use Rattle.sip_clients.specs.ClientStory.{ClientStory, with_answer, asked_first,
 
 -- ---- the record after one thing
 
--- what is asked of its cancelling, where it is asked for once more
+-- the state of its cancelling after one more command
 abbrev pub asked_again : Id → Cancelling → Cancelling
 asked_again id NotAsked = Waits id
 asked_again id (Waits first) = Waits first
@@ -33,7 +33,7 @@ cancelling_by cancel (AsksCancel id) = asked_again id cancel
 cancelling_by cancel (SendsCancel sent) = Sent
 cancelling_by cancel _ = cancel
 
--- the dialogs of a first INVITE keep what is taken
+-- for a first INVITE the dialogs keep the RSeq that is taken
 abbrev pub heard_taken : RequestKind → Option ℕ → ℕ → Option ℕ
 heard_taken InitialInvite last_rseq rseq = last_rseq
 heard_taken _ last_rseq rseq = Some rseq
@@ -71,7 +71,7 @@ pub last_push : {X : Type 0} (o : Option X) (xs : List X) (x : X)
 last_push o [] x = refl
 last_push o (y ∷ xs) x = last_push (Some y) xs x
 
--- by what was taken before and now
+-- the latest RSeq, by those taken before and now
 abbrev heard_then : List ℕ → ClientHappening → Option ℕ
 heard_then rseqs h = last_or None (rseqs ++ filter_map rseq_taken (h ∷ []))
 
@@ -129,7 +129,7 @@ removal_more (_ ∷ life) h = removal_more life h
 
 -- ---- its CANCEL
 
--- the first that asked, where one asks or a 2xx comes now
+-- the first command that asked, after one asks or a 2xx comes
 abbrev pub asked_by : Option Id → ClientHappening → Option Id
 asked_by first (GetsSuccess name moment) = None
 asked_by first (GetsSuccessAgain name) = None

@@ -1,5 +1,5 @@
--- What commands of the user leave owed in the dialog of each name is what was owed before them,
--- changed as they pay.
+-- After a command of the user the same is owed in the dialog of each name as before, but for what
+-- the command sends.
 use Rattle.std.proofs.Common.{◌≡◌, ℕ, Bool, true, false, ◌&&◌, cond, List, ◌++◌, refl, sym, ap, subst, ◌∙◌}
 use Rattle.std.specs.Prelude.{Option, None, Some, Err, find, if◌then◌else◌}
 use Rattle.std.specs.List.{list_any}
@@ -75,7 +75,7 @@ module _ (event : Event) (command : DialogBody) (side : Side) where
   abbrev asked_name : DialogId
   asked_name = name_in command.local_tag command.remote_tag
 
-  -- the dialog where this is paid
+  -- the dialog after the user gave this
   abbrev paid_of : PendingRequest → HeldDialog → HeldDialog
   paid_of pending held = (paid event pending command.content held).0
 
@@ -142,7 +142,7 @@ module _ (event : Event) (command : DialogBody) (side : Side) where
           subst (λ (o : Option HeldDialog). OwesStill (command_pays kind command name outs) o
           (option_map (paid_of pending) o)) (sym there) (less.0, less.1 ∙ pays)
 
-  -- what becomes of it where the dialog is held
+  -- its outcome if the dialog is held
   served_as : (pending : PendingRequest) (held : HeldDialog) → dialog_at asked_name side.dialogs
       ≡ Some held
       → (paid_at asked_name event pending command.content side.dialogs).1

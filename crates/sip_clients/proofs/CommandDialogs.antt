@@ -1,4 +1,4 @@
--- What is sent in a dialog, owed, paid and ended on the client side, is what happens in it.
+-- What the client side sends in a dialog, and the ends of dialogs, are what happens in them.
 use Rattle.std.proofs.Common.{ℕ, Bool, true, false, not, cond, List, [], refl, sym, subst}
 use Rattle.std.specs.Prelude.{Option, None, Some, codes, filter, fold}
 use Rattle.sip_message.specs.Content.{Content}
@@ -28,7 +28,7 @@ use Rattle.sip_common.proofs.Heard.{AreApart, Grows, Keeps, Leads, Life, in_one,
 use Rattle.sip_clients.proofs.SentIn.{asks, discharge_life, request_life, unless_refused}
 use Rattle.sip_clients.proofs.Served.{served_dialogs}
 
--- ---- what is sent in a dialog, owed and paid
+-- ---- what is sent in a dialog or owed
 
 -- the requests that a dialog doesn't refuse are made in it
 sends_made : (method : List ℕ) (fault : Option DialogFault) (dialog : Dialog)

@@ -1,4 +1,4 @@
--- A command of the user starts at most one transaction, of a client, under the id of its event.
+-- A command of the user starts at most one transaction, a client's, under the id of its event.
 use Rattle.std.proofs.Common.{◌≡◌, ℕ, ◌+◌, ◌≤◌, Bool, true, false, cond, List, [], ◌∷◌, ◌++◌, refl, sym, subst}
 use Rattle.std.specs.Prelude.{Option, None, Some}
 use Rattle.sip_message.specs.declared.id.Id.{Id}
@@ -74,7 +74,7 @@ module _ (event : Event) where
       (client_for event.id OutOfDialog (plain_of event command) command.address) clients
       (refused event.id command.call_id BadMethod) refl refl
 
-  -- what is told, and what becomes of the requests
+  -- what is told, and how the requests change
   said_fits : (call_id : List ℕ) (name : DialogId) (service : SendOutcome) (clients : Clients)
       → OwnOf clients (
         (settled event event.id (request_said event call_id name service).1 clients).0,

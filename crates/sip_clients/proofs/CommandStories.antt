@@ -1,5 +1,5 @@
--- The loss of a request, a command of the user and a tick add to the stories of the held client
--- requests what they make of these.
+-- The loss of a request, a command of the user and a tick change the held client requests as they
+-- add to their stories.
 use Rattle.std.proofs.Common.{◌≡◌, ℕ, Bool, true, false, not, cond, ◌||◌, List, [], ◌∷◌, ◌++◌, map, refl, sym, ap, subst, ◌∙◌, append-nil}
 use Rattle.std.specs.Prelude.{Option, None, Some, Result, Ok, Err, codes, filter, fold, is_some, if◌then◌else◌}
 use Rattle.std.specs.List.{list_any}
@@ -314,7 +314,7 @@ module _ (event : Event) (command : Cancel) (side : Side) (stories : ClientStori
   CancelTold taken = AreTold taken.0 (cancel_told event command taken.1 stories)
 
   module _ (invite : Client) (at : client_at command.id side.clients ≡ Some invite) where
-    -- what holds of the INVITE holds of the one that is found
+    -- what is true of the INVITE is true of the one that is found
     of_invite : (P : Client → Type 0) → P invite → (client : Client)
         → client_at command.id side.clients ≡ Some client → P client
     of_invite P is client found = subst P (some_same invite client (sym at ∙ found)) is
@@ -395,7 +395,7 @@ pub cancel_holds : (event : Event) (command : Cancel)
     (λ side outs stories. cancel_told event command outs stories)
 cancel_holds event command side stories told = cancel_holds_so event command side stories told
 
--- ---- what happens goes with what happened before
+-- ---- what happens is allowed by what happened before
 
 begun_rules : (step : Side → ClientTaken) (sent_for : Side → Message → RequestKind)
     → HoldsRules step (λ side outs stories. begin_stories (sent_for side) outs stories)

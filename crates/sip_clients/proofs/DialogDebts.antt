@@ -1,5 +1,4 @@
--- What is owed in one dialog, what is paid there and what goes out for it, and what ends dialogs on
--- the client side.
+-- What is owed in one dialog and what goes out for it, and what ends dialogs on the client side.
 use Rattle.std.proofs.Common.{◌≡◌, ℕ, Bool, true, false, not, ◌&&◌, cond, List, [], ◌∷◌, ◌++◌, refl, sym, ap, ◌∙◌, append-nil}
 use Rattle.std.specs.Prelude.{Option, None, Some, codes, filter, if◌then◌else◌}
 use Rattle.std.specs.List.{list_any}
@@ -78,9 +77,9 @@ pub lost_owes : (id : Id) (timed_out : Bool) (o : Option Client) (side : Side)
 lost_owes id timed_out None side apart = same_owed side.dialogs
 lost_owes id timed_out (Some client) side apart = ended_same client timed_out side.dialogs apart
 
--- ---- what is owed and paid in one dialog
+-- ---- what is owed and sent in one dialog
 
--- it goes out
+-- the request goes out
 abbrev pub goes : SendOutcome → Bool
 goes (Sent sending) = true
 goes Waits = false

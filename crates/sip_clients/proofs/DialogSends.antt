@@ -28,7 +28,7 @@ abbrev pub AreNamed : Dialogs → Type 0
 AreNamed dialogs = (name : DialogId) (held : HeldDialog) → dialog_at name dialogs ≡ Some held
     → is_dialog_id name (name_of_dialog held.dialog) ≡ true
 
--- what goes out in it is all that happens
+-- only what goes out in the dialog happens in it
 abbrev pub by_outs : List CallOut → Lives
 by_outs outs name held = sent_in name outs
 
@@ -99,7 +99,7 @@ between_silent name xs ys zs none_x none_z =
     ∙ (λ i. after_silent name xs ys none_x i ++ none_numbered name zs none_z i)
     ∙ append-nil (cseqs_in name ys)
 
--- what goes out with what becomes of its request
+-- the CSeqs that go out by a change of the requests
 abbrev pub change_cseqs : DialogId → ClientChange → List CSeq
 change_cseqs name Stays = []
 change_cseqs name Over = []

@@ -1,5 +1,4 @@
--- Commands of the user: a BYE that goes out ends its dialog, and nothing else ends one; its end is
--- told once.
+-- Commands of the user: only a BYE that goes out ends a dialog, and this is told once.
 use Rattle.std.proofs.Common.{◌≡◌, Bool, true, false, ◌&&◌, ◌||◌, cond, List, [], ◌++◌, refl, sym, ap, subst, ◌∙◌}
 use Rattle.std.specs.Prelude.{Option, None, Some, codes, is_some}
 use Rattle.std.specs.List.{list_any}
@@ -56,7 +55,7 @@ is_of_bye cseq = bytes_eq cseq.method (codes "BYE")
 abbrev pub gives_bye : DialogId → List CallOut → Bool
 gives_bye name outs = list_any is_of_bye (cseqs_in name outs)
 
--- what is served in a dialog leaves it its name
+-- a dialog keeps its name when a request is sent in it
 served_named : (event : Event) (command : DialogRequest) (held : HeldDialog)
     → name_of_dialog (request_in_held event command.method command.content held).0.dialog
     ≡ name_of_dialog held.dialog

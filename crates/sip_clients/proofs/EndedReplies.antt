@@ -40,7 +40,7 @@ use Rattle.sip_common.proofs.EndedDialogs.{AreNamed, Goes, Which, early_told, en
 
 -- ---- what ends with a client request
 
--- the dialog that it was sent in, as it was then
+-- the dialog that it was sent in, and no later one of the name
 abbrev pub was_sent_in : RequestKind → Which
 was_sent_in InitialInvite name held = false
 was_sent_in (ReInvite life) name held =
@@ -58,7 +58,7 @@ module _ (life : DialogReference) (dialogs : Dialogs) (apart : AreApart dialogs)
   abbrev is_it : Which
   is_it name held = is_dialog_id life.name name && is_id held.created_by life.created_by
 
-  -- what is held under its name is that dialog where that lives
+  -- if the dialog still lives, it is the one held under its name
   lives_as : (name : DialogId) (held : HeldDialog) → dialog_at name dialogs ≡ Some held
       → (lives_so : Bool) → lives dialogs life ≡ lives_so → (b : Bool)
       → is_dialog_id life.name name ≡ b → (b && lives_so)
@@ -162,14 +162,14 @@ beside_goes opens ends before after (Some id) invite done goes =
 
 -- ---- a response that isn't the last
 
--- it opens dialogs: the first INVITE
+-- a request opens dialogs: the first INVITE
 abbrev pub opens_dialogs : RequestKind → Bool
 opens_dialogs InitialInvite = true
 opens_dialogs (ReInvite life) = false
 opens_dialogs (InDialog life) = false
 opens_dialogs OutOfDialog = false
 
--- whether a dialog is put by a case
+-- whether a dialog is put in by a case
 abbrev puts : ReplyCase → Bool
 puts reply.Repeated = false
 puts reply.Accepted = true
@@ -179,7 +179,7 @@ puts reply.Passed = false
 puts reply.Early = true
 puts reply.Told = false
 
--- which response of the first INVITE does
+-- which response to the first INVITE opens one
 abbrev opening : (final success again inside : Bool) → Bool
 opening final success again inside = (success && not again) || (not final && inside)
 
@@ -195,7 +195,7 @@ first_reliable : (rseq : Option ℕ) → puts (reliable_case None rseq) ≡ true
 first_reliable None = refl
 first_reliable (Some number) = refl
 
--- where no dialog of the name is held
+-- if no dialog of the name is held
 by_kind : (kind : RequestKind) (client : Client) (final success again inside : Bool)
     (rseq : Option ℕ) → (success ≡ true → final ≡ true) → (final ≡ true → success ≡ true)
     → puts (if final then (if again then reply.Repeated
@@ -234,7 +234,7 @@ not_last true false true last is = absurd cc
 not_last true false false last is = absurd cc
 not_last false success inviting last is = absurd cc
 
--- the last opens none
+-- the last response opens no dialog
 last_opens : (kind : RequestKind) (final success first early : Bool)
     → (final && not (is_invite_kind kind && success)) ≡ true
     → (opens_dialogs kind && ((success && first) || (not final && early))) ≡ false
@@ -251,7 +251,7 @@ module _ (event : Event) (id : Id) (call_id : List ℕ) (response : Message) (st
     abbrev own : DialogId
     own = reply_name asker.kind asker response
 
-    -- the request when the response has come
+    -- the request after the response came
     abbrev noted : Client
     noted = after_response (is_final status) asker
 
@@ -313,7 +313,7 @@ module _ (event : Event) (id : Id) (call_id : List ℕ) (response : Message) (st
         && ((is_success status && not (has_answer own asker.answers))
         || (not (is_final status) && (not (status == 100) && has_to_tag response)))
 
-    -- it puts a dialog that is there, or opens one
+    -- the response replaces a held dialog, or opens one
     opens_so : is_last noted.kind status ≡ false → (name : DialogId)
         → ((puts (reply_case noted found answer) && is_dialog_id own name)
         || is_some (dialog_at name dialogs))

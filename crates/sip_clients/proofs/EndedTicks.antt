@@ -1,4 +1,4 @@
--- A tick: the dialogs that are early still end with their INVITEs, and each end is told once, since
+-- A tick: the dialogs that are still early end with their INVITEs. Each end is told once, since
 -- each INVITE has an id of its own.
 use Rattle.std.proofs.Common.{◌≡◌, ℕ, ◌+◌, Bool, true, false, ◌&&◌, ◌||◌, cond, List, [], ◌∷◌, refl, sym, ◌∙◌, arith}
 use Rattle.std.specs.Prelude.{Option, None, Some}
@@ -46,7 +46,7 @@ module _ (now : ℕ) (dialogs : Dialogs) (apart : DialogsApart dialogs) (named :
       by_over true = early_told client.id dialogs apart named name
       by_over false = none found
 
-  -- an early dialog was made by one INVITE alone
+  -- an early dialog was made by only one INVITE
   not_of_other : (id other : Id) (held : HeldDialog) → is_early_of id held ≡ true
       → is_id id other ≡ false → is_early_of other held ≡ false
   not_of_other id other held is apart_ids =
@@ -85,7 +85,7 @@ module _ (now : ℕ) (dialogs : Dialogs) (apart : DialogsApart dialogs) (named :
       neither true = refl
       neither false = refl
 
-  -- of a held dialog
+  -- for a held dialog
   sum_of : (total n rest : ℕ) (here later : Bool) → total ≡ n + rest → n ≡ once here
       → rest ≡ once later → (here ≡ true → later ≡ false) → total ≡ once (here || later)
   sum_of total n rest true true all first second apart_from =

@@ -1,4 +1,4 @@
--- What an input makes of what was heard in a life of a dialog for the first INVITE.
+-- How an input changes the latest RSeq of the first INVITE in a life of a dialog.
 use Rattle.std.proofs.Common.{◌≡◌, inl, inr, ℕ, Bool, true, false, ◌==◌, List, [], ◌∷◌, ◌++◌, map, refl, sym, ap, subst, ◌∙◌}
 use Rattle.std.specs.Prelude.{Option, None, Some, filter, if◌then◌else◌}
 use Rattle.std.specs.Option.{option_and_then, option_map_or, option_map}
@@ -23,9 +23,9 @@ use Rattle.sip_clients.specs.Cancel.{cancel_client, sent_beside}
 use Rattle.sip_clients.specs.Client.{Clients}
 use Rattle.sip_clients.specs.Outputs.{start_command}
 
--- ---- the ear of a life
+-- ---- the latest RSeq in a life
 
--- what was heard last in a dialog, where it is that of the life
+-- the latest RSeq in a dialog, if it is that of the life
 abbrev pub ear_in : DialogReference → Option HeldDialog → Option (Option ℕ)
 ear_in life None = None
 ear_in life (Some held) =
@@ -100,7 +100,7 @@ pub told_more : (number : Option ℕ) (outs : List CallOut) (out : CallOut)
 told_more None outs out none = refl
 told_more (Some number) outs out none = told_also number outs out none
 
--- a CANCEL that may go out last is told to nobody
+-- the user isn't told of a CANCEL that may go out last
 pub told_beside : (number : Option ℕ) (command : Option Id) (cancelled : Client)
     (done : Clients × List CallOut)
     → told_of number (sent_beside (option_map (λ id. cancel_client id cancelled) command) done).1
@@ -112,7 +112,7 @@ told_beside number (Some id) cancelled done =
 
 -- ---- a number came
 
--- where it is taken
+-- if it is taken
 taken_held : (event : Option Id) (life : DialogReference) (number : ℕ) (Opens : Opening → Type 0)
     (lived : Life) (begun : List Happening) (before : Option HeldDialog) (after : HeldDialog)
     (shown : List ℕ)
@@ -155,7 +155,7 @@ taken_so event life number Opens lived begun before (Some after) true outs own g
     taken_held event life number Opens lived begun before after
     (map (λ out. number) (filter is_response outs)) goes own offer is
 
--- where it isn't, nothing changes and nothing is told
+-- if it isn't, nothing changes and nothing is told
 pub passed_so : (Begins : Type 0) (life : DialogReference) (number : ℕ) (held : Option HeldDialog)
     (offer : Offer) (b : Bool) → is_own life held ≡ b
     → offered (option_and_then (λ held. held.last_rseq) held) number ≡ offer → taken offer number

@@ -1,5 +1,5 @@
--- A response to a client request: what was heard after it in a life of a dialog for the first
--- INVITE.
+-- A response to a client request: the latest RSeq of the first INVITE in a life of a dialog after
+-- it.
 use Rattle.std.proofs.Common.{◌≡◌, inl, ℕ, Bool, true, false, not, ◌&&◌, ◌==◌, cond, List, [], ◌∷◌, ◌++◌, map, refl, sym, ap, subst, ◌∙◌}
 use Rattle.std.specs.Prelude.{Option, None, Some, filter, if◌then◌else◌}
 use Rattle.std.specs.Option.{option_and_then}
@@ -40,7 +40,7 @@ first client = record client { kind = InitialInvite }
 
 -- ---- what is told
 
--- a reliable provisional response that is taken is told once, whatever becomes of its PRACK
+-- a reliable provisional response that is taken is told once, whether or not its PRACK goes out
 pub told_once : (number : ℕ) (answer : ReceivedResponse) (id : Id) (service : SendOutcome)
     (clients : Clients)
     → map (λ out. number) (filter is_response
@@ -53,12 +53,12 @@ told_once number answer id (Refused refusal) clients = refl
 
 -- ---- which case it is
 
--- it has no such number, or the number decides
+-- the response has no such number, or the number decides the case
 abbrev pub Decided : (ReplyCase → Type 0) → Option ℕ → Option ℕ → ReplyCase → Type 0
 Decided Other last_rseq None case = Other case
 Decided Other last_rseq (Some number) case = case ≡ offer_case (offered last_rseq number) number
 
--- none that is heard of the first INVITE
+-- no RSeq of the first INVITE comes in this case
 abbrev pub Unheard : ReplyCase → Type 0
 Unheard case = heard_number case InitialInvite true ≡ None
 
@@ -83,7 +83,7 @@ success_unheard client found answer =
 
 -- ---- one response
 
--- what a client request and the dialogs are after a response, and all that is given
+-- all outputs of a response
 abbrev pub given : ReceivedResponse → Replied → Clients → List CallOut
 given answer done clients = done.2 ++ (settled answer.event answer.id done.3 clients).1
 
@@ -113,7 +113,7 @@ module _ (event : Option Id) (life : DialogReference) (client : Client) (answer 
       → Answered event client answer made case dialogs (taken_as case client).1
   moves_by case client named = case_moves event client answer made case dialogs apart named
 
-  -- it isn't heard
+  -- no RSeq comes
   goes_unheard : (client : Client) (done : Replied) (clients : Clients)
       → AreApart done.1 → (lived : Life) (begun : List Happening)
       → Goes event (OpensBy (Some (start event client answer made)) life.name) None lived begun
@@ -135,7 +135,7 @@ module _ (event : Option Id) (life : DialogReference) (client : Client) (answer 
       goes_unheard client (request_over client dialogs answer) clients leads.apart nothing []
       (inl (leads.stays life.name))
 
-  -- what happens by a case in the dialog of the life, where it is held and where it is made
+  -- what happens by a case in the dialog of the life, if it is held or made
   abbrev lived_by : ReplyCase → Client → Life
   lived_by case client = in_one answer.name (case_life event client answer made case) life.name
 
@@ -154,7 +154,7 @@ module _ (event : Option Id) (life : DialogReference) (client : Client) (answer 
       (lived_by case client) (begun_by case client) before (dialog_at life.name done.1)) none
       (moves.goes life.name))
 
-  -- it is
+  -- an RSeq comes
   by_offer : (number : ℕ) (offer : Offer) (clients : Clients)
       → IsNamedSo (first client) answer found
       → is_dialog_id answer.name life.name ≡ true

@@ -1,4 +1,4 @@
--- What the client side makes of what was heard in a life of a dialog for the first INVITE.
+-- How the client side changes the latest RSeq of the first INVITE in a life of a dialog.
 use Rattle.std.proofs.Common.{◌≡◌, ℕ, Bool, List, [], ◌++◌, refl, sym, subst}
 use Rattle.std.specs.Prelude.{Option, None, Some, Result, Ok, Err, if◌then◌else◌}
 use Rattle.std.specs.Map.{set_value}
@@ -43,7 +43,7 @@ use Rattle.sip_common.proofs.Heard.{AreApart, Leads, Lives, Moves, OpensBy, in_o
 use Rattle.sip_clients.proofs.Hearing.{Listens}
 use Rattle.sip_clients.proofs.SentIn.{discharge_life, request_life}
 
--- nothing is heard of a request by which no reliable provisional response is heard
+-- no RSeq comes for a request other than the first INVITE
 unheard_by : (kind : RequestKind)
     → ((number : ℕ) (named : Bool) → heard_number (reply.Reliable number) kind named ≡ None)
     → (case : ReplyCase) (named : Bool) → heard_number case kind named ≡ None
@@ -62,8 +62,8 @@ module _ (life : DialogReference) where
   abbrev pub ear : Dialogs → Option (Option ℕ)
   ear dialogs = ear_in life (dialog_at life.name dialogs)
 
-  -- what was heard is so, after what makes such dialogs of these, where this number may have come
-  -- and this is given
+  -- the latest RSeq after a step from these dialogs to those, if this number may have come and
+  -- these are the outputs
   abbrev pub ResultOf : Option Id → Dialogs → Dialogs → Option ℕ → List CallOut → Type 0
   ResultOf event before after number outs =
       AreApart after × Listens (event ≡ Some life.created_by) (ear before) (ear after)
@@ -108,12 +108,12 @@ module _ (life : DialogReference) where
     abbrev noting : ℕ → Client → Client
     noting status client = after_response (is_final status) client
 
-    -- the requests when the response to this one has come
+    -- the requests after the response to this one came
     abbrev replied : ℕ → Client → Clients
     replied status client = set_value (is_id id) side.clients
         (reply_taken (noting status client) side.dialogs (answer_for status client)).0
 
-    -- a CANCEL that may go out last is told to nobody
+    -- the user isn't told of a CANCEL that may go out last
     freed : (number : Option ℕ) (command : Option Id) (cancelled : Client) (done : Replied)
         → SideResult number (side_after event id side None done)
         → SideResult number (side_after event id side
@@ -204,7 +204,7 @@ request_leads event command side apart =
     (request_keeps event command.method command.content) side.dialogs apart)
     (bye_leads name command.method done.1 done.0)
 
--- the same of what is owed and paid
+-- the same for an ACK or PRACK
 abbrev pub paid_in : DialogBody → Result PendingRequest Refusal → Lives
 paid_in command (Err refusal) = quiet
 paid_in command (Ok pending) = in_one (name_in command.local_tag command.remote_tag)

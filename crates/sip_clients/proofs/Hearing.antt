@@ -1,5 +1,5 @@
--- Numbers that come one after the other, where each is shown by what was heard before it: in a life
--- that one event begins, those in order are shown.
+-- Numbers that come one after the other, each shown or not by the latest before it: in a life that
+-- one event begins, those in order are shown.
 use Rattle.std.proofs.Common.{◌≡◌, ◌⊎◌, inl, inr, ℕ, List, [], ◌∷◌, ◌++◌, true, false, refl, sym, ap, subst, ◌∙◌, append_assoc, append-nil, arith}
 use Rattle.std.specs.Prelude.{Option, None, Some, unwrap_or}
 use Rattle.std.specs.List.{AllByRecursion, IsDistinct, filter_map, cons_option}
@@ -14,11 +14,11 @@ use Rattle.sip_common.specs.Ids.{is_id}
 
 -- ---- one input
 
--- nothing came: what was heard last stays, the life is over, or it begins
+-- nothing came: the latest number doesn't change, the life is over, or it begins
 abbrev pub Silent : Type 0 → Option (Option ℕ) → Option (Option ℕ) → Type 0
 Silent Begins before after = (after ≡ None) ⊎ ((after ≡ before) ⊎ (Begins × (after ≡ Some None)))
 
--- a number came, in a life that was there or that begins
+-- a number came, in a life that goes on or begins
 pub record Hears (Begins : Type 0) (before after : Option (Option ℕ)) (number : ℕ)
     (shown : List ℕ) : Type 0 where
   pub last : Option ℕ
@@ -64,7 +64,7 @@ apart_now created_by (Some id) rest apart = (
 abbrev InOrderFrom : List ℕ → List ℕ → List ℕ → Type 0
 InOrderFrom before shown came = in_order before ++ shown ≡ in_order (before ++ came)
 
--- the life is over, or this was heard last
+-- the life is over, or this is the latest number
 abbrev Heard : Option (Option ℕ) → List ℕ → Type 0
 Heard ear before = (ear ≡ None) ⊎ (ear ≡ Some (latest before))
 
@@ -183,7 +183,7 @@ module _ {S I : Type 0} (next : S → I → S) (event : I → Option Id) (number
       none done.1 (λ begins so_far. from_life inputs (next state input) so_far done.0
       (now.1 begins)) (λ gone. from_before inputs (next state input) done.0 now.0 gone)
 
-  -- where nothing was heard before, and events differ
+  -- if no number came before, and events differ
   pub heard_in_order : (inputs : List I) (state : S) → Sound state
       → IsDistinct is_id (filter_map event inputs) → ear state ≡ None
       → shown_from state inputs ≡ in_order (came_from state inputs)

@@ -10,7 +10,7 @@ use Rattle.sip_message.specs.Via.{has_cookie}
 use Rattle.sip_text.specs.Number.{hex_digit}
 use Rattle.sip_clients.specs.Name.{hex, name_of, word_of_name}
 
--- so many digits are one fewer of the number without its last digit, and that digit
+-- so many digits: one fewer of the number without its last digit, and then that digit
 pub hex-last : (count number : ℕ) → 0 < count
     → hex count number ≡ hex (count - 1) (number / 16) ++ hex_digit (number % 16) ∷ []
 unfolding hex
@@ -30,7 +30,7 @@ digit_less number left some =
     div-div-eq-div-mul number (2 ^ (4 * (left - 1))) 16
     ∙ ap (λ d. number / d) (sym (pow-add 2 (4 * (left - 1)) 4) ∙ ap (λ x. 2 ^ x) e)
 
--- the next digit behind those before it
+-- the next digit after those before it
 pub digit_next : (count number left : ℕ) → 0 < left → left ≤ count
     → hex (count - left) (number / 2 ^ (4 * left))
     ++ hex_digit (number / 2 ^ (4 * (left - 1)) % 16) ∷ []
@@ -97,7 +97,7 @@ run-all : (test : ℕ → Bool) (text : List ℕ) → 0 < length text → list_a
 run-all test [] some all = absurd (omega arith)
 run-all test (b ∷ bs) some all = all
 
--- parts of which each passes pass together
+-- if each part passes, the whole passes
 all-append : (xs ys : List ℕ) → list_all is_token_byte xs ≡ true → list_all is_token_byte ys ≡ true
     → list_all is_token_byte (xs ++ ys) ≡ true
 all-append xs ys p q = rw (list_all-append, p, q) refl

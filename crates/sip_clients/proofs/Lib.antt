@@ -36,6 +36,7 @@ pub mod EndedCommands
 pub mod EndedTicks
 pub mod EndedKeys
 pub mod ClientOuts
+pub mod ChaChaRows
 pub mod ClientAsks
 pub mod StoryMaps
 pub mod ClientRecords

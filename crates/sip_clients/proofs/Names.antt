@@ -1,4 +1,4 @@
--- A made name tells its round, its place and its index.
+-- A made name determines its round, its place and its index.
 use Rattle.std.proofs.Common.{◌≡◌, ℕ, zero, suc, ◌+◌, ◌-◌, ◌/◌, ◌%◌, ◌<◌, ◌^◌, List, [], ◌∷◌, ◌++◌, length, take, drop, sym, ap, ◌∙◌, arith, length-append}
 use Rattle.std.proofs.lemmas.Bool.Decides.{nat_tests}
 use Rattle.std.proofs.Math.Seq.{take-append_seam, drop-append_seam}
@@ -6,7 +6,7 @@ use Rattle.sip_clients.proofs.Hex.{length-hex}
 use Rattle.sip_text.specs.Number.{hex_digit}
 use Rattle.sip_clients.specs.Name.{hex, NamesDiffer}
 
--- two texts of two parts each, where the first parts are as long
+-- two texts of two parts each; the first parts have the same length
 module _ (xs ys zs ws : List ℕ) (long : length xs ≡ length ys) (same : xs ++ zs ≡ ys ++ ws) where
   first_parts : xs ≡ ys
   first_parts = sym (take-append_seam xs zs) ∙ ap (take (length xs)) same
@@ -16,7 +16,7 @@ module _ (xs ys zs ws : List ℕ) (long : length xs ≡ length ys) (same : xs ++
   last_parts = sym (drop-append_seam xs zs) ∙ ap (drop (length xs)) same
       ∙ ap (λ n. drop n (ys ++ ws)) long ∙ drop-append_seam ys ws
 
--- a digit tells its value
+-- a digit determines its value
 digit-injective : (a b : ℕ) → hex_digit a ≡ hex_digit b → a ≡ b
 digit-injective a b e = grind (arith, nat_tests)
 
@@ -30,7 +30,7 @@ joined_again m n c e f = omega (arith, e, f)
 smaller : (count m : ℕ) → m < 16 ^ suc count → m / 16 < 16 ^ count
 smaller count m lt = omega (arith, lt)
 
--- so many digits tell a number of so many
+-- so many digits determine a number that has so many
 hex-injective : (count m n : ℕ) → m < 16 ^ count → n < 16 ^ count → hex count m ≡ hex count n
     → m ≡ n
 unfolding hex

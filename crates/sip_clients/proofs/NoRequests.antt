@@ -1,4 +1,4 @@
--- The client side of a call tells the user of no request that comes up.
+-- The client side of a call never tells the user of a request that comes up.
 use Rattle.std.proofs.Common.{◌≡◌, ℕ, Bool, true, false, cond, List, [], ◌∷◌, ◌++◌, refl}
 use Rattle.std.specs.Prelude.{Option, None, Some}
 use Rattle.std.specs.Map.{set_value}

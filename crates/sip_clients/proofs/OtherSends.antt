@@ -1,4 +1,4 @@
--- No CANCEL goes out but by a provisional response or a command to cancel, and no ACK but by a
+-- A CANCEL goes out only by a provisional response or a command to cancel, and an ACK only by a
 -- final response or a command.
 use Rattle.std.proofs.Common.{◌≡◌, ℕ, Bool, true, false, not, cond, ◌&&◌, ◌||◌, List, [], ◌∷◌, ◌++◌, map, refl, sym, ap, subst, ◌∙◌, append-nil}
 use Rattle.std.specs.Prelude.{Option, None, Some, Result, Ok, Err, codes, filter, if◌then◌else◌}
@@ -75,7 +75,7 @@ use Rattle.sip_clients.proofs.ReplyStories.{sent_method}
 use Rattle.sip_clients.proofs.StoryBegins.{HasNoCancel, beside, both_sent, none_sent, settled_no_cancel}
 use Rattle.sip_clients.proofs.WithoutStarts.{AreQuiet, ack_quiet, case_quiet, ended_quiet}
 
--- ---- outputs that are notices alone
+-- ---- outputs that are only notices
 
 abbrev IsNotice : CallOut → Type 0
 IsNotice (out.Notice notice) = Unit {0}

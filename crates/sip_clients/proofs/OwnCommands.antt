@@ -1,4 +1,4 @@
--- What commands of the user make on the client side of a call stays of its own Call-ID.
+-- Commands of the user on the client side of a call keep to its own Call-ID.
 use Rattle.std.proofs.Common.{◌≡◌, ℕ, Bool, true, false, cond, List, [], ◌++◌, refl, ◌∙◌}
 use Rattle.std.specs.Prelude.{Option, None, Some, IfSome, codes}
 use Rattle.sip_message.specs.declared.id.Id.{Id}

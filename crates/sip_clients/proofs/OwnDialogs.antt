@@ -1,4 +1,4 @@
--- A held dialog stays of its own Call-ID, and so do the requests that are sent in it and its end.
+-- A held dialog keeps its own Call-ID; the requests that are sent in it and its end have it too.
 use Rattle.std.proofs.Common.{◌≡◌, ℕ, ◌+◌, Bool, true, false, cond, List, [], ◌∷◌, refl, sym, ap, subst, ◌∙◌}
 use Rattle.std.specs.Prelude.{Option, None, Some, IfSome, codes}
 use Rattle.std.specs.Str.{bytes_eq}
@@ -47,13 +47,13 @@ content_kept message content = refl
 module _ (call_id : List ℕ) where
   -- ---- what a step makes
 
-  -- a request that is to be sent
+  -- a request to send
   abbrev pub IsServiceOf : SendOutcome → Type 0
   IsServiceOf (Sent sending) = sending.message.call_id ≡ call_id
   IsServiceOf Waits = Unit {0}
   IsServiceOf (Refused refusal) = Unit {0}
 
-  -- a dialog, and the request that is to be sent in it
+  -- a dialog, and the request to send in it
   abbrev pub IsOutcomeOf : Outcome → Type 0
   IsOutcomeOf done = IsDialogOf call_id done.0 × IsServiceOf done.1
 

@@ -1,5 +1,5 @@
--- What a response, the loss of a request and a tick make on the client side of a call stays of its
--- own Call-ID.
+-- A response, the loss of a request and a tick on the client side of a call keep to its own
+-- Call-ID.
 use Rattle.std.proofs.Common.{◌≡◌, ℕ, Bool, true, false, cond, List, [], ◌∷◌, ◌++◌, refl}
 use Rattle.std.specs.Prelude.{Option, None, Some, IfSome, not}
 use Rattle.std.specs.Map.{set_value, values_of}

@@ -1,4 +1,4 @@
--- Before the first INVITE is due to be removed a tick does nothing.
+-- Before the first INVITE is due to be removed, a tick does nothing.
 use Rattle.std.proofs.Common.{◌≡◌, ℕ, Bool, true, false, not, cond, ◌&&◌, ◌||◌, List, [], ◌∷◌, ◌++◌, refl, sym, ap, ◌∙◌}
 use Rattle.std.specs.Prelude.{Option, None, Some, fold, if◌then◌else◌}
 use Rattle.std.specs.List.{flat_map, list_any}
@@ -39,7 +39,7 @@ none_over : (now : ℕ) (clients : Clients) → is_due now (next_removal clients
     → list_any (is_over now) (values_of clients) ≡ false
 none_over now clients calm = sym (all_due now None (values_of clients)) ∙ calm
 
--- ---- lists of which none passes
+-- ---- lists in which nothing passes
 
 silent_step : (over : Bool) (outs change : List CallOut) → over ≡ false → change ≡ []
     → (if over then outs else []) ++ change ≡ []

@@ -1,4 +1,4 @@
--- A command in a dialog that is refused gives its notice alone, and changes nothing.
+-- A command in a dialog that is refused only gives its notice, and changes nothing.
 use Rattle.std.proofs.Common.{◌≡◌, ℕ, Bool, true, false, List, [], ◌∷◌, ◌++◌, map, refl, sym, ◌∙◌, ap}
 use Rattle.std.specs.Prelude.{Option, None, Some, codes}
 use Rattle.std.specs.List.{list_any}
@@ -64,7 +64,7 @@ pub end_told : (held : Option HeldDialog)
 end_told None = refl
 end_told (Some held) = refl
 
--- ---- a dialog in which a request isn't sent stays as it is
+-- ---- a dialog doesn't change if a request isn't sent in it
 
 requested_same : (event : Event) (method : List ℕ) (rack : Option RAck) (content : Content)
     (held : HeldDialog) (refusal : Refusal)
@@ -119,7 +119,7 @@ module _ (event : Event) (side : Side) where
   abbrev Lonely : List ℕ → ClientTaken → Type 0
   Lonely call_id taken = IsRefusedAlone side call_id event.id taken
 
-  -- where the request isn't sent, the dialogs are as they were
+  -- if the request isn't sent, the dialogs don't change
   abbrev Keeps : Dialogs → SendOutcome → Type 0
   Keeps dialogs service =
       (refusal : Refusal) → service ≡ Refused refusal → dialogs ≡ side.dialogs

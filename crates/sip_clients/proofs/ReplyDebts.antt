@@ -1,5 +1,4 @@
--- What a response leaves owed in the dialog of each name is what was owed before it, and what it
--- asks for.
+-- After a response the same is owed in the dialog of each name as before, and what it asks for.
 use Rattle.std.proofs.Common.{◌≡◌, inl, ℕ, Bool, false, not, ◌&&◌, List, [], ◌∷◌, ◌++◌, refl, sym, ap, ◌∙◌, append-nil}
 use Rattle.std.specs.Prelude.{Option, None, Some, if◌then◌else◌}
 use Rattle.std.specs.List.{list_any}
@@ -38,7 +37,7 @@ use Rattle.sip_clients.proofs.WithoutStarts.{none_started}
 
 module _ (event : Event) (id : Id) (call_id : List ℕ) (response : Message) (side : Side)
     (apart : AreApart side.dialogs) (named : AreNamed side.dialogs) where
-  -- by the status and the request
+  -- what a response asks for, by its status and its request
   abbrev owes_by : Option ℕ → Option Client → DialogId → List CallOut → List PendingRequest
   owes_by status o name outs = option_map_or (λ client. option_map_or
       (λ status. reply_owes status client response name (dialog_at name side.dialogs) outs)
@@ -72,7 +71,7 @@ module _ (event : Event) (id : Id) (call_id : List ℕ) (response : Message) (si
     abbrev clients : Clients
     clients = set_value (is_id id) side.clients done.0
 
-    -- what goes out so, by what becomes of the request
+    -- whether the request goes out
     abbrev out_by : DialogId → PendingRequest → Bool
     out_by name =
         given event id call_id response status client side.dialogs apart named name done.2 done.3

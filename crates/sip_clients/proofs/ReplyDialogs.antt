@@ -1,5 +1,5 @@
--- What a response makes happen in the dialog of each name, which stays, is over or is made anew,
--- and what is heard in it of the reliable provisional responses to the first INVITE.
+-- What a response makes happen in the dialog of each name, which goes on, ends or is made anew, and
+-- the latest RSeq of the first INVITE in it.
 use Rattle.std.proofs.Common.{◌≡◌, inl, inr, ℕ, Bool, true, false, ◌&&◌, cond, List, [], refl, sym, ap, subst, ◌∙◌}
 use Rattle.std.specs.Prelude.{Option, None, Some, if◌then◌else◌}
 use Rattle.indexmap.specs.IndexMap.{insert_entry}
@@ -69,7 +69,7 @@ success_keeps (ReInvite life) response held =
 success_keeps (InDialog life) response held = keeps_same held
 success_keeps OutOfDialog response held = keeps_same held
 
--- of a request whose kind is not First none is
+-- a response to any other request makes no dialog
 makes_first : (kind : RequestKind) (final again inside : Bool) (last_rseq rseq : Option ℕ)
     → may_make (if final then (if again then reply.Repeated
     else (if has_dialog kind None then reply.Accepted else reply.Late))
@@ -129,7 +129,7 @@ module _ (event : Option Id) (client : Client) (answer : ReceivedResponse)
       discharge_life (Prack number ((client.request).cseq).number)
       (automatic_body client answer.response) dialog
 
-  -- what happens in the dialog of its name where it is held, and in one that is opened
+  -- what happens in the dialog of its name, if it is held or opened
   abbrev pub case_life : ReplyCase → Life
   case_life reply.Repeated held = []
   case_life reply.Accepted held = success_brings client.kind answer.response held
@@ -198,7 +198,7 @@ module _ (event : Option Id) (client : Client) (answer : ReceivedResponse)
           (ack_owed client before answer).0
           (success_keeps client.kind answer.response held) (keeps before))
 
-  -- a reliable provisional response, whose PRACK is owed in the dialog that has heard it so
+  -- the dialog after a reliable provisional response, whose PRACK is owed in it
   abbrev prack_owes : ℕ → HeldDialog → HeldDialog
   prack_owes number held =
       (kept_pending answer.event (Prack number ((client.request).cseq).number)
@@ -259,7 +259,7 @@ module _ (event : Option Id) (client : Client) (answer : ReceivedResponse)
       subst (λ (life : List Happening). Keeps None life held held) (sym (none_either b))
       (keeps_same held)
 
-  -- where the dialog of its name is this one
+  -- if the dialog of its name is this one
   put_moves : (case : ReplyCase) (held : HeldDialog) (dialogs : Dialogs) → AreApart dialogs
       → GoesHere case (dialog_at answer.name dialogs) held
       → Answered case dialogs (insert_entry is_dialog_id dialogs answer.name held)

@@ -1,5 +1,5 @@
--- What happens in the dialog of each name where a request has a response: what the response does in
--- it, what goes out in it, and what is left owed in it.
+-- What happens in the dialog of each name by a response: what the response does in it, what goes
+-- out in it, and what is owed in it afterwards.
 use Rattle.std.proofs.Common.{◌≡◌, ℕ, Bool, true, false, not, ◌&&◌, cond, List, [], ◌++◌, refl, sym, ap, subst, ◌∙◌, append-nil, nat_le, nat_lt, inl, inr}
 use Rattle.std.specs.Prelude.{Option, None, Some, if◌then◌else◌}
 use Rattle.std.specs.Cmp.{first_so}
@@ -111,7 +111,7 @@ module _ (event : Event) (id : Id) (call_id : List ℕ) (response : Message) (st
     abbrev own : DialogId
     own = reply_name asker.kind asker response
 
-    -- the request when the response has come
+    -- the request after the response came
     abbrev client : Client
     client = after_response (is_final status) asker
 
@@ -140,7 +140,7 @@ module _ (event : Event) (id : Id) (call_id : List ℕ) (response : Message) (st
     opened_named None is so = so is
     opened_named (Some held) is so = named own held is
 
-    -- what goes out, in a dialog that is opened so
+    -- what goes out, in a dialog that is opened in this way
     abbrev case_cseqs : ReplyCase → Option HeldDialog → List CSeq
     case_cseqs reply.Repeated o = []
     case_cseqs reply.Accepted o = []
@@ -290,7 +290,7 @@ module _ (event : Event) (id : Id) (call_id : List ℕ) (response : Message) (st
             (success_brings client.kind response held) (success_final status)
             (not_last (is_final status) (is_success status) (is_invite_kind client.kind) last)
 
-    -- the last response does nothing in a dialog that stays
+    -- the last response does nothing in a dialog that goes on
     last_brings : is_last client.kind status ≡ true → (name : DialogId) (held : HeldDialog)
         → reply_brings status asker response name held ≡ []
     last_brings last name held =
@@ -429,7 +429,7 @@ module _ (event : Event) (id : Id) (call_id : List ℕ) (response : Message) (st
     early_here None = inr (refl, refl)
     early_here (Some held) = inl (refl, sym (append-nil held.pending_requests))
 
-    -- of each name
+    -- for each name
     abbrev LeavesIn : List PendingRequest → Dialogs → DialogId → Type 0
     LeavesIn left after name =
         Owes (Some event.id) (λ pending_requests. pending_requests
@@ -484,7 +484,7 @@ module _ (event : Event) (id : Id) (call_id : List ℕ) (response : Message) (st
         put_leaves [] (dialog_for_provisional client answer found) (early_here found) name
     case_leaves reply.Told name = nothing_left name
 
-    -- ---- by what is given
+    -- ---- by the outputs
 
     abbrev pub given : DialogId → List CallOut → ClientChange → PendingRequest → Bool
     given name outs change (Ack invite number) = list_any is_direct outs
@@ -517,7 +517,7 @@ module _ (event : Event) (id : Id) (call_id : List ℕ) (response : Message) (st
     case_given reply.Early so name same = refl
     case_given reply.Told so name same = refl
 
-    -- what is owed by what is given
+    -- what is owed, by the outputs
     abbrev pub leaves : DialogId → Replied → List PendingRequest
     leaves name done =
         if is_dialog_id own name && has_dialog asker.kind (dialog_at name dialogs)

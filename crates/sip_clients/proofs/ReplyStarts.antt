@@ -28,7 +28,7 @@ use Rattle.sip_clients.proofs.StartBounds.{waits_in, waits_for, waiting, how_man
 use Rattle.sip_clients.proofs.Tally.{tally_set, weight}
 use Rattle.sip_clients.proofs.WithoutStarts.{AreQuiet, none_started, ended_quiet, case_quiet}
 
--- what it asks and its CANCEL stay
+-- the kind and the CANCEL of a request don't change
 abbrev pub IsKept : Client → Client → Type 0
 IsKept before after = (after.kind ≡ before.kind) × (after.cancel ≡ before.cancel)
 
@@ -63,7 +63,8 @@ case_fresh reply.Passed client found answer = tt
 case_fresh reply.Early client found answer = tt
 case_fresh reply.Told client found answer = tt
 
--- what a response leaves of an INVITE's CANCEL, and what it starts
+-- the outputs of a response start nothing, the kind and the CANCEL of its request don't change, and
+-- a request that starts is a new one
 pub record Replies (client : Client) (done : Replied) : Type 0 where
   pub quiet : AreQuiet done.2
   pub kept : IsKept client done.0
@@ -90,7 +91,7 @@ replies client dialogs answer = by_last (is_last client.kind answer.status)
       fresh = case_fresh (reply_case client found answer) client found answer;
     }
 
--- a CANCEL that is freed waits no more
+-- a CANCEL that is freed no longer waits
 freed_weight : (final : Bool) (state : Cancelling) (id : Id)
     → weight (is_id id) (freed_by final state)
     + weight (is_id id) (waits_in (cancelling_after final state))

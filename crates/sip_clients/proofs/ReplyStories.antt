@@ -1,4 +1,4 @@
--- A response adds to the stories of the held client requests what it makes of these.
+-- A response changes the held client requests as it adds to their stories.
 use Rattle.std.proofs.Common.{◌≡◌, ℕ, ◌+◌, Bool, true, false, cond, ◌&&◌, ◌||◌, List, [], ◌∷◌, ◌++◌, map, refl, sym, ap, subst, ◌∙◌}
 use Rattle.std.specs.Prelude.{Option, None, Some, codes, filter, fold, if◌then◌else◌}
 use Rattle.std.specs.List.{list_any}
@@ -313,7 +313,7 @@ module _ (event : Event) (id : Id) (call_id : List ℕ) (response : Message) (st
   abbrev case_taken : ReplyCase → ClientTaken
   case_taken case = taken_with freed (case_done case)
 
-  -- where nothing is taken
+  -- if nothing is taken
   quiet_same : fold client_happened client (provisional_more [] (freed_out client freed))
       ≡ after_response false client
   quiet_same =
@@ -520,7 +520,7 @@ module _ (event : Event) (id : Id) (call_id : List ℕ) (response : Message) (st
       (reply_told event id status client response side.dialogs taken.1 stories)
   reply_on = by_last (is_last client.kind status) refl
 
-  -- ---- what happens goes with what happened before
+  -- ---- what happens is allowed by what happened before
 
   -- the record that the story tells is what is held
   is_told : (story : ClientStory) → lookup (is_id id) stories ≡ Some story

@@ -1,4 +1,4 @@
--- What a call ensures where it answers Ok, carried on.
+-- What follows from what a call ensures if it returns Ok.
 use Rattle.std.specs.Prelude.{Result, Ok, Err, IfOk, OnOk}
 
 pub on_ok : {T E : Type 0} (r : Result T E) (P Q : Type 0) → OnOk r P → (P → Q) → OnOk r Q

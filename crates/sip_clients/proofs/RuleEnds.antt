@@ -1,4 +1,4 @@
--- The rules of how a client request ends are the steps.
+-- How a client request ends: the rules say the same as the steps.
 use Rattle.std.proofs.Common.{◌≡◌, ℕ, Bool, true, false, cond, ◌&&◌, ◌||◌, List, [], ◌∷◌, ◌++◌, refl, ap}
 use Rattle.std.specs.Prelude.{Option, None, Some, filter, not, if◌then◌else◌}
 use Rattle.std.specs.List.{flat_map, list_any}

@@ -1,4 +1,4 @@
--- The rules of the user's commands are the steps.
+-- The user's commands: the rules say the same as the steps.
 use Rattle.std.proofs.Common.{◌≡◌, ℕ, Bool, true, false, ◌&&◌, ◌||◌, List, [], ◌∷◌, ◌++◌, refl, sym, ap, ◌∙◌}
 use Rattle.std.specs.Prelude.{Option, None, Some, Err, codes, filter, find, fold, is_some, nat_le, not, if◌then◌else◌}
 use Rattle.std.specs.Map.{set_value}
@@ -243,7 +243,7 @@ started_by change.Stays = []
 started_by change.Over = []
 started_by (change.Starts client) = client ∷ []
 
--- the same of the step
+-- the same for the step
 abbrev pub served_by : Event → List ℕ → DialogId → PendingRequest → List PendingRequest
     → List PendingRequest → Outcome
     → rule.PendingOutcome
@@ -342,7 +342,7 @@ owed_kept event (Prack rseq number) None held = refl
 owed_kept event (Ack invite number) (Some content) held = refl
 owed_kept event (Prack rseq number) (Some content) held = refl
 
--- where nothing is sent the dialog is as it was but for what is owed
+-- if nothing is sent, the dialog doesn't change but for what is owed
 dropped : (pending : PendingRequest) (held after : HeldDialog) (o : SendOutcome)
     → after.pending_requests ≡ held.pending_requests
     → dialog_by o (filter (λ other. not (is_same_pending pending other)) held.pending_requests)

@@ -1,4 +1,4 @@
--- The rule of a response is the step.
+-- A response: the rule says the same as the step.
 use Rattle.std.proofs.Common.{◌≡◌, ℕ, ◌+◌, Bool, true, false, cond, ◌&&◌, ◌||◌, List, [], ◌∷◌, ◌++◌, refl, sym, ap, ◌∙◌, append-nil}
 use Rattle.std.specs.Prelude.{Option, None, Some, ◌==◌, fold, nat_le, nat_lt, not, option_map, option_to_list, if◌then◌else◌}
 use Rattle.std.specs.Map.{remove_entry, set_value}
@@ -222,7 +222,7 @@ success_again message held = by_ended (is_ended held.dialog.state) (contact_uri 
     by_ended false None is target = rw (target, is) refl
     by_ended false (Some uri) is target = rw (target, is) refl
 
--- the next RSeq is taken, and any other is passed over
+-- the next RSeq is taken, any other is dropped
 abbrev is_next : Option ℕ → ℕ → Bool
 is_next last rseq = option_map_or (λ last. rseq == last + 1) last true
 
@@ -566,7 +566,7 @@ module _ (life : DialogReference) (given : ReceivedResponse) (side : Side) (canc
         ap (ours own side cancel) told.0 ∙ stays own side cancel client side.dialogs (notice own)
         ∙ ap (theirs own side cancel) (sym told.1)
 
-    -- it has no dialog, or comes in none, or that has ended
+    -- the response has no dialog, or its dialog has ended
     told_by : (client : Client) (held : HeldDialog) (d l : Bool) → is_final own.status ≡ false
         → dialog_at life.name side.dialogs ≡ Some held → is_dialog_response own ≡ d
         → is_id held.created_by life.created_by ≡ l → (d && l) ≡ false → IsTold (again client)
@@ -652,7 +652,7 @@ freed_same false invite NotAsked = refl
 freed_same false invite (Waits id) = refl
 freed_same false invite Sent = refl
 
--- one to a request that is held
+-- a response to a held request
 taken_same : (answer : ReceivedResponse) (side : Side) (client : Client)
     → (let final = is_final answer.status in
     put answer.id side
@@ -679,7 +679,7 @@ taken_same answer side client =
     ∙ ap (λ name. reply_settled (record answer { name = name }) client side)
     (name_same client.kind client answer.response)
 
--- what becomes of it by its status, and by the request that is held
+-- the effect of a response, by its status and the held request
 abbrev rule_by : Event → Id → List ℕ → Message → Side → Option ℕ → Option Client → ClientTaken
 rule_by event id call_id message side status held =
     option_map_or (λ status. option_map_or (λ (client : Client).

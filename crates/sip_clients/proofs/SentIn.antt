@@ -1,5 +1,4 @@
--- What the client side sends in the dialog of a name: the request that is made in that dialog, and
--- nothing else.
+-- The client side sends in the dialog of a name only the request that is made in that dialog.
 use Rattle.std.proofs.Common.{◌≡◌, ℕ, ◌+◌, Bool, true, false, not, ◌&&◌, ◌||◌, cond, List, [], ◌∷◌, refl, sym, ap, ◌∙◌, append-nil}
 use Rattle.std.specs.Prelude.{Option, None, Some, codes, drop, if◌then◌else◌}
 use Rattle.std.specs.List.{cons_option}
@@ -46,7 +45,7 @@ use Rattle.sip_clients.proofs.Served.{served_in}
 
 -- ---- one request
 
--- with the number after the local CSeq
+-- the CSeq of a request with the next number
 abbrev pub next_cseq : List ℕ → Dialog → CSeq
 next_cseq method dialog = cseq_for (dialog.local_cseq + 1) method
 
@@ -76,19 +75,19 @@ module _ (name own : DialogId) where
   acknowledged dialog number content event named =
       made_in name own dialog (codes "ACK") number content (branch_of event) event.local named
 
--- ---- what becomes of a request
+-- ---- the outcome of a request
 
 abbrev pub service_cseqs : DialogId → SendOutcome → List CSeq
 service_cseqs name (Sent sending) = cons_option (cseq_of_request name sending.message) []
 service_cseqs name Waits = []
 service_cseqs name (Refused refusal) = []
 
--- one of this method is sent, unless the dialog refuses it
+-- a request of this method is sent, unless the dialog refuses it
 abbrev pub asks : List ℕ → Option DialogFault → Dialog → List CSeq
 asks method None dialog = next_cseq method dialog ∷ []
 asks method (Some fault) dialog = []
 
--- a PRACK takes a number where it is sent
+-- a PRACK takes a number if it is sent
 abbrev pub discharge_cseqs : PendingRequest → Option Content → Dialog → List CSeq
 discharge_cseqs (Ack invite number) offer dialog = []
 discharge_cseqs (Prack rseq number) None dialog = []
@@ -99,12 +98,12 @@ abbrev pub unless_refused : Option Refusal → List ℕ → Dialog → List CSeq
 unless_refused None method dialog = next_cseq method dialog ∷ []
 unless_refused (Some refusal) method dialog = []
 
--- a request of the user does so
+-- so does a request of the user
 abbrev pub request_cseqs : List ℕ → Dialog → List CSeq
 request_cseqs method dialog =
     unless_refused (first_refusal (request_refusals dialog method) None) method dialog
 
--- so it happens in the dialog
+-- this happens in the dialog by an ACK or PRACK
 abbrev pub discharge_life : PendingRequest → Option Content → Dialog → List Happening
 discharge_life pending offer dialog = requests_made (discharge_cseqs pending offer dialog)
 
@@ -204,9 +203,9 @@ module _ (name own : DialogId) (event : Event) (held : HeldDialog)
       (drop 1 (request_refusals held.dialog method))
       none))
 
--- ---- what is given
+-- ---- the outputs
 
--- where a dialog of the name is held
+-- if a dialog of the name is held
 pub served_sent : (own : DialogId) (serve : HeldDialog → Outcome) (otherwise : SendOutcome)
     (cseqs : HeldDialog → List CSeq) (dialogs : Dialogs) (name : DialogId)
     → ((held : HeldDialog) → dialog_at own dialogs ≡ Some held

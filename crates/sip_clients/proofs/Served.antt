@@ -1,4 +1,4 @@
--- What is to be sent in the dialog of a name, where that is held, and where it isn't.
+-- A request to send in the dialog of a name, whether that is held or not.
 use Rattle.std.proofs.Common.{◌≡◌, Bool, true, false, ◌&&◌, ◌||◌, [], ◌∷◌, List, refl, ap, ◌∙◌, sym, cond}
 use Rattle.std.specs.Prelude.{Option, None, Some, if◌then◌else◌, codes, nat_le, ℕ, Result, Ok, Err, find}
 use Rattle.std.specs.Map.{set_value}
@@ -32,7 +32,7 @@ use Rattle.sip_clients.specs.Clients.{paid_or_refused}
 
 -- ---- the commands Ack and Prack
 
--- what holds of a refusal and of each pending_outcome holds of what becomes of the command
+-- what is true of a refusal, and of each ACK or PRACK that is owed, is true of the command
 pub paid_either : (P : ClientTaken → Type 0) (event : Event) (command : DialogBody)
     (pay : PendingRequest → Side → ClientTaken) (side : Side) (o : Result PendingRequest Refusal)
     → ((refusal : Refusal) → P (side, refused event.id command.call_id refusal))
@@ -73,7 +73,7 @@ module _ (name : DialogId) (serve : HeldDialog → Outcome) (otherwise : SendOut
       by_found None = refl
       by_found (Some held) = refl
 
-  -- where a dialog stays as it is that refuses, all do
+  -- if a dialog that refuses doesn't change, no dialog does
   pub refused_same : (refusal : Refusal)
       → ((held : HeldDialog) → (serve held).1 ≡ Refused refusal → (serve held).0 ≡ held)
       → (served_at name serve otherwise dialogs).1 ≡ Refused refusal
@@ -126,7 +126,7 @@ sent_by method None sending held = refl
 sent_by method (Some fault) sending held = refl
 
 module _ (event : Event) (method : List ℕ) (content : Content) (held : HeldDialog) where
-  -- its method isn't the user's to send in this dialog
+  -- the user can't send its method in this dialog
   abbrev pub is_bad : Bool
   is_bad = is_own_kind method
       || (is_early (held.dialog).state && is_bad_early (held.dialog).side method)

@@ -1,5 +1,5 @@
--- Which transactions a step of the client side may start, and under which ids: at most one under
--- that of its event and under that of each command whose CANCEL waited.
+-- Which transactions a step of the client side may start: at most one under the id of its event,
+-- and one under the id of each command whose CANCEL waited.
 use Rattle.std.proofs.Common.{◌≡◌, ℕ, ◌+◌, ◌≤◌, cond, List, [], ◌∷◌, ◌++◌, map, refl, sym, ap, subst, ◌∙◌, append-nil, arith}
 use Rattle.std.specs.Prelude.{Option, None, Some, count_by, filter_map}
 use Rattle.std.specs.List.{AllByRecursion}
@@ -58,9 +58,9 @@ how_many id ids = count_by (is_id id) ids
 abbrev pub ids_of : List (Id × Key) → List Id
 ids_of started = map (λ start. start.0) started
 
--- A step that starts transactions of clients alone. Each is under the id of the event, where the
--- step is one of a response or of a command, or under that of a command whose CANCEL waited and
--- waits no more, and each of these ids is used up by it.
+-- A step that starts only client transactions. Each has the id of the event, if the step is by a
+-- response or a command, or that of a command whose CANCEL no longer waits. It uses each of these
+-- ids at most once.
 pub record Fits (own : Option Id) (before : Clients) (outs : List CallOut) (after : Clients)
     : Type 0 where
   pub of_clients : AllClients (starts outs)
@@ -68,7 +68,7 @@ pub record Fits (own : Option Id) (before : Clients) (outs : List CallOut) (afte
       → how_many id (ids_of (starts outs)) + how_many id (waiting after)
       ≤ weight (is_id id) own + how_many id (waiting before)
 
--- the same for any number of each id
+-- the same, if each id may be used so often
 pub record Within (allowed : Id → ℕ) (started : List (Id × Key)) (after : Clients) : Type 0 where
   pub of_clients : AllClients started
   pub few : (id : Id)
@@ -161,7 +161,7 @@ pub at_most_same : (clients : Clients) (id : Id)
     → how_many id (waiting clients) ≤ how_many id (waiting clients)
 at_most_same clients id = omega arith
 
--- a request that is just sent waits for no CANCEL
+-- no CANCEL of a request that was just sent waits
 with_fewer : (id : Id) (client : Client) → client.cancel ≡ cancel.NotAsked
     → (clients : Clients) (of : Id)
     → how_many of (waiting (with_client id client clients)) ≤ how_many of (waiting clients)
@@ -200,7 +200,7 @@ started_within event client clients fresh =
     (str_to_ascii_lowercase (top_branch client.request)) ((client.request).cseq).method clients
     fresh (nothing clients clients (at_most_same clients))
 
--- a request that was just sent waits for no CANCEL, and has heard nothing
+-- a request that was just sent waits for no CANCEL, and no RSeq came for it
 abbrev pub StartsFresh : ClientChange → Type 0
 StartsFresh Stays = Unit {0}
 StartsFresh Over = Unit {0}

@@ -1,4 +1,4 @@
--- The stories of the held client requests: one that lives on, one that is over, one that begins.
+-- The stories of the held client requests: one goes on, one ends, one begins.
 use Rattle.std.proofs.Common.{◌≡◌, Bool, false, ◌||◌, cond, List, [], ◌∷◌, ◌++◌, map, refl, sym, ap, ◌∙◌, append-nil}
 use Rattle.std.specs.Prelude.{Option, None, Some, filter, fold, unwrap_or}
 use Rattle.std.specs.List.{list_any}
@@ -133,7 +133,7 @@ start_silent : (id : Id) (client : Client)
 unfolding start_command
 start_silent id client = refl
 
--- what is sent by an event is for this
+-- what a request that an event sends is for
 pub record IsSentFor (event : Event) (sent_for : Message → RequestKind) (client : Client) : Type 0
   where
     pub fresh : client ≡ client_for event.id (sent_for client.request) client.request client.to
@@ -174,7 +174,7 @@ settled_no_cancel event id (Starts client) clients none =
     ap (filter is_cancel_out) (start_sent event.id client)
     ∙ ap (λ b. cond b (sent_as event.id client ∷ []) []) none
 
--- ---- the CANCEL that is sent beside
+-- ---- the CANCEL that is sent last
 
 abbrev pub freed_out : Client → Option Id → List Outgoing
 freed_out invite freed =

@@ -1,4 +1,4 @@
--- What happens to a client request goes with what happened to it before.
+-- What happens to a client request is allowed by what happened to it before.
 use Rattle.std.proofs.Common.{◌≡◌, ℕ, Bool, true, false, cond, ◌||◌, List, [], ◌∷◌, ◌++◌, map, refl, sym, ap, subst, ◌∙◌, append-nil, append_assoc}
 use Rattle.std.specs.Prelude.{Option, None, Some, IfSome, fold, is_some, take, if◌then◌else◌}
 use Rattle.std.specs.List.{list_any}
@@ -42,7 +42,7 @@ each_both story before (h ∷ life) more first second = (
       second),
 )
 
--- the one after these
+-- a happening after these
 pub fits_at : (story : ClientStory) (before first later : List ClientHappening)
     (h : ClientHappening) → EachFits story before (first ++ h ∷ later)
     → Fits story (before ++ first) h
@@ -54,7 +54,7 @@ fits_at story before (g ∷ first) later h fits =
 
 -- ---- the stories
 
--- what the request was sent as is what counts
+-- only the request as it was sent counts
 fits_kept : (story : ClientStory) (life before : List ClientHappening) (h : ClientHappening)
     → Fits story before h → Fits (record story { life = life }) before h
 fits_kept story life before (AsksCancel id) fits =
@@ -131,7 +131,7 @@ none_success (GetsSuccessAgain name ∷ life) none = absurd (true≢false none)
 none_success (_ ∷ life) none = none_success life none
 
 module _ (story : ClientStory) where
-  -- where a command still waits, the request is an INVITE and no 2xx came
+  -- if a command still waits, the request is an INVITE and no 2xx came
   asked_fit : (before life : List ClientHappening) (id : Id) → EachFits story before life
       → asked_first life ≡ Some id → IsAskedFor story (before ++ life)
   asked_fit before [] id fits is = absurd cc
@@ -151,7 +151,7 @@ module _ (story : ClientStory) where
 
   -- ---- the CANCEL
 
-  -- it may go out next, but for a provisional response
+  -- the CANCEL may go out as soon as a provisional response has come
   pub record IsReady (before : List ClientHappening) (id : Id) : Type 0 where
     pub asked_so : IsAskedFor story before
     pub alone : list_any is_cancel_sent before ≡ false

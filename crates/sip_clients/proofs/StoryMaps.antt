@@ -1,5 +1,4 @@
--- Entries whose values are read by a function: what is done to the entries is done to what is read
--- of them.
+-- Entries whose values are read by a function: a change of the entries is a change of what is read.
 use Rattle.std.proofs.Common.{◌≡◌, Bool, true, false, cond, List, [], ◌∷◌, map, refl, ap}
 use Rattle.std.specs.Prelude.{filter}
 use Rattle.std.specs.Cmp.{IsEquivalence}
@@ -53,7 +52,7 @@ module _ {K A B : Type 0} (f : A → B) where
       ]
 
 module _ {K X : Type 0} where
-  -- what is removed may be changed before
+  -- a change of an entry doesn't matter if it is removed afterwards
   pub remove_set : (test : K → Bool) (es : List (K × X)) (x : X)
       → remove_entry test (set_value test es x) ≡ remove_entry test es
   remove_set test [] x = refl
@@ -61,7 +60,7 @@ module _ {K X : Type 0} where
       by_bool (test e.0) (λ is. rw is (rw is refl))
       (λ is. rw is (rw is (ap (λ es. e ∷ es) (remove_set test es x))))
 
-  -- what is put under a key twice is what was put last
+  -- if two values are put under a key, the last one counts
   pub insert_twice : {eq : K → K → Bool} (laws : IsEquivalence eq) (es : List (K × X)) (k : K)
       (x y : X) → insert_entry eq (insert_entry eq es k x) k y ≡ insert_entry eq es k y
   insert_twice laws [] k x y = let same = laws.refl k in rw same refl

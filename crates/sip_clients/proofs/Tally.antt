@@ -1,4 +1,4 @@
--- How many of the values of entries, seen so, pass a test: after a change of one entry.
+-- How many values of entries, read by a function, pass a test after a change of one entry.
 use Rattle.std.proofs.Common.{◌≡◌, ℕ, ◌+◌, ◌≤◌, Bool, true, false, cond, List, [], ◌∷◌, refl, sym, ap, arith}
 use Rattle.std.specs.Prelude.{Option, None, Some, filter, filter_map, count_by}
 use Rattle.std.specs.List.{cons_option}
@@ -42,7 +42,7 @@ over_later w before after total is later = omega arith
 -- ---- entries
 
 module _ {Y : Type 0} (p : Y → Bool) where
-  -- of a value that may not be there
+  -- 1 if a value is there and passes, otherwise 0
   abbrev pub weight : Option Y → ℕ
   weight None = 0
   weight (Some y) = cond (p y) 1 0
@@ -63,7 +63,7 @@ module _ {K X Y : Type 0} (f : X → Option Y) (p : Y → Bool) where
   more : (k : K) (x : X) (es : List (K × X)) → tally ((k, x) ∷ es) ≡ of_value f p x + tally es
   more k x es = count_option p (f x) (filter_map f (values_of es))
 
-  -- ---- the value of one is another
+  -- ---- one value is replaced
 
   set_step : (b : Bool) (e : K × X) (es set : List (K × X)) (x y : X) (found : Option X)
       → cond b (Some e.1) found ≡ Some x
@@ -87,7 +87,7 @@ module _ {K X Y : Type 0} (f : X → Option Y) (p : Y → Bool) where
       set_step (test e.0) e es (set_value test es y) x y (lookup test es) is
       (tally_set test es x y)
 
-  -- one is changed so that it counts for at most so much more
+  -- after a change of one value the count grows by at most so much
   pub tally_changed : (test : K → Bool) (change : X → X) (extra : ℕ)
       → ((x : X) → of_value f p (change x) ≤ of_value f p x + extra) → (es : List (K × X))
       → tally (option_map_or (λ x. set_value test es (change x)) (lookup test es) es)

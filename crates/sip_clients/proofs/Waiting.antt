@@ -47,7 +47,7 @@ use Rattle.sip_clients.proofs.ReplyStarts.{replies}
 use Rattle.sip_clients.proofs.StartBounds.{StartsFresh, said_fresh}
 use Rattle.sip_clients.proofs.StoryBegins.{beside}
 
--- what was just sent waits for nothing
+-- a CANCEL of a request that was just sent doesn't wait
 fresh_waits : (client : Client) → client.cancel ≡ cancel.NotAsked → WaitsForProvisional client
 fresh_waits client is id waits = absurd (asked_for (sym is ∙ waits))
   where
@@ -83,7 +83,7 @@ beside_waits invite (Some id) done all =
 
 -- ---- a response
 
--- after a response none waits
+-- after a response no CANCEL waits
 never_waits : (final : Bool) (state : Cancelling) (id : Id)
     → cancelling_after final state ≡ cancel.Waits id → ⊥
 never_waits final cancel.NotAsked id is = absurd cc

@@ -1,4 +1,4 @@
--- What the client side makes without starting a transaction or telling of a request.
+-- What the client side does without starting a transaction or telling of a request.
 use Rattle.std.proofs.Common.{◌≡◌, ℕ, ◌+◌, ◌≤◌, Bool, true, false, not, cond, List, [], ◌∷◌, ◌++◌, map, refl, sym, subst, ◌∙◌}
 use Rattle.std.specs.Prelude.{Option, None, Some, codes, filter, if◌then◌else◌}
 use Rattle.std.specs.List.{AllByRecursion, cons_option}
@@ -63,7 +63,7 @@ none_shown (out.Notice notice ∷ outs) quiet =
 none_shown (out.Command id command ∷ outs) quiet = absurd quiet.0
 none_shown (out.Direct to bytes ∷ outs) quiet = none_shown outs quiet.1
 
--- ---- what is told beside it
+-- ---- what is told of a request
 
 pub request_said_quiet : (event : Event) (call_id : List ℕ) (name : DialogId)
     (service : SendOutcome)
@@ -183,13 +183,13 @@ silent_fits own before outs after none fewer =
     (subst (λ started. Within (λ id. weight (is_id id) own + how_many id (waiting before)) started
     after) (sym none) (own_nothing own before after fewer))
 
--- where nothing is started and no request changes
+-- if nothing is started and no request changes
 pub stays_quiet : (own : Option Id) (clients : Clients) (outs : List CallOut) → starts outs ≡ []
     → Fits own clients outs clients
 stays_quiet own clients outs none =
     silent_fits own clients outs clients none (at_most_same clients)
 
--- what starts nothing may stand before
+-- outputs that start nothing may come first
 pub quiet_then : (own : Option Id) (before : Clients) (xs ys : List CallOut) (after : Clients)
     → starts xs ≡ [] → Fits own before ys after → Fits own before (xs ++ ys) after
 quiet_then own before xs ys after none step = record {

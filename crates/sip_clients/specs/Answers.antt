@@ -1,5 +1,4 @@
--- The 2xx responses that came to an INVITE, by the dialog that each is of (RFC 3261, section
--- 13.2.2.4).
+-- The 2xx responses to an INVITE, by the dialog of each (RFC 3261, section 13.2.2.4).
 use Rattle.std.specs.Prelude.{Bool, List, Option}
 use Rattle.std.specs.Map.{lookup}
 use Rattle.std.specs.Option.{is_some, option_and_then}
@@ -7,7 +6,7 @@ use Rattle.sip_common.specs.declared.held_dialog.DialogId.{DialogId}
 use Rattle.sip_common.specs.Dialogs.{is_dialog_id}
 use Rattle.sip_clients.specs.declared.answers.SentAck.{SentAck}
 
--- each with its ACK once that was sent
+-- the dialogs, each with its ACK once that was sent
 abbrev pub AnswerList : Type 0
 AnswerList = List (DialogId × Option SentAck)
 

@@ -21,12 +21,12 @@ use Rattle.sip_clients.specs.ReceivedResponse.{is_invite_kind}
 
 -- ---- the CANCEL
 
--- that of an INVITE, which the event of this id asked for: a request outside of dialogs, with the
--- branch of the INVITE, to where that was sent
+-- the CANCEL of an INVITE, for which the event of this id asked: a request outside of dialogs, with
+-- the branch and the address of the INVITE
 abbrev pub cancel_client : Id → Client → Client
 cancel_client id invite = client_for id OutOfDialog (cancel_of invite.request) invite.to
 
--- it is sent: it is held, and its transaction starts after what was told
+-- the CANCEL, if any, is held, and its transaction starts after what was told
 abbrev pub sent_beside : Option Client → Clients × List CallOut → Clients × List CallOut
 sent_beside None done = done
 sent_beside (Some cancel) done =
@@ -34,20 +34,20 @@ sent_beside (Some cancel) done =
 
 -- ---- the command
 
--- it is sent at once where a provisional response came, and otherwise waits for one
+-- the CANCEL is sent at once if a provisional response came, and otherwise waits for one
 abbrev pub asking_case : Bool → Cancelling → CancelCase
 asking_case provisional NotAsked = if provisional then case.Starts else case.Waits
 asking_case provisional (Waits id) = case.Repeated
 asking_case provisional Sent = case.Repeated
 
--- of an INVITE alone, and not once a 2xx came
+-- only an INVITE without a 2xx can be cancelled
 abbrev pub cancel_case : Client → CancelCase
 cancel_case client =
     if not (is_invite_kind client.kind) then case.Refused NoSuchRequest
     else if is_some client.removal then case.Refused AlreadyFinal
     else asking_case client.provisional client.cancel
 
--- with what was asked of its cancelling
+-- the INVITE with this state of its cancelling
 abbrev pub asked : Cancelling → Client → Client
 asked cancel client = record client { cancel = cancel }
 
@@ -56,7 +56,7 @@ abbrev pub refusing : Event → Cancel → Refusal → Clients → Clients × Li
 refusing event command refusal clients =
     (clients, refused event.id command.call_id refusal)
 
--- case by case: refused; asked before; it waits for a provisional response; it goes out
+-- the command by its case: refused; asked before; its CANCEL waits; or its CANCEL goes out
 abbrev pub cancelled_as : CancelCase → Event → Cancel → Client → Clients → Clients × List CallOut
 cancelled_as (case.Refused refusal) event command invite clients =
     refusing event command refusal clients
@@ -67,18 +67,18 @@ cancelled_as case.Starts event command invite clients =
     sent_beside (Some (cancel_client event.id invite))
     (client_changed command.id (asked Sent) clients, [])
 
--- of the INVITE that is held, or of none
+-- the command for a held request, or for none
 abbrev pub cancelled_of : Option Client → Event → Cancel → Clients → Clients × List CallOut
 cancelled_of None event command clients = refusing event command NoSuchRequest clients
 cancelled_of (Some invite) event command clients =
     cancelled_as (cancel_case invite) event command invite clients
 
--- the command
+-- the command Cancel
 abbrev pub cancelled : Event → Cancel → Clients → Clients × List CallOut
 cancelled event command clients =
     cancelled_of (client_at command.id clients) event command clients
 
--- it does nothing to the dialogs
+-- the same beside the dialogs, which don't change
 abbrev pub cancel_by_user : Event → Cancel → Side → ClientTaken
 cancel_by_user event command side =
     let after = cancelled event command side.clients in
@@ -86,13 +86,13 @@ cancel_by_user event command side =
 
 -- ---- a response
 
--- a CANCEL that waits is sent after a provisional response, and forgotten after a final one
+-- a CANCEL that waits is sent after a provisional response, and discarded after a final one
 abbrev pub cancelling_after : Bool → Cancelling → Cancelling
 cancelling_after final NotAsked = NotAsked
 cancelling_after final (Waits id) = if final then NotAsked else Sent
 cancelling_after final Sent = Sent
 
--- the INVITE when the response has come
+-- the INVITE after a response came
 abbrev pub after_response : Bool → Client → Client
 after_response final client = record client {
   provisional = client.provisional || not final;
@@ -105,7 +105,7 @@ freed_by final NotAsked = None
 freed_by final (Waits id) = if final then None else Some id
 freed_by final Sent = None
 
--- the CANCEL that waited for it
+-- the CANCEL that waited for the response
 abbrev pub cancel_freed : Bool → Client → Option Client
 cancel_freed final invite =
     option_map (λ id. cancel_client id invite) (freed_by final invite.cancel)

@@ -21,9 +21,9 @@ Clients = List (Id × Client)
 abbrev pub client_at : Id → Clients → Option Client
 client_at id clients = lookup (is_id id) clients
 
--- A request that was just sent: no provisional response came, no CANCEL was asked for, no RSeq was
--- taken (of a re-INVITE; otherwise the dialog has it), no 2xx came, no removal is set. `answers`
--- has each dialog with a 2xx, with its ACK, or None where that wasn't sent.
+-- A request that was just sent: no response came, and no CANCEL was asked for. `last_rseq` is for a
+-- re-INVITE; otherwise the dialog has it. `answers` has each dialog with a 2xx, and its ACK, or
+-- None if that wasn't sent.
 abbrev pub client_for : Id → RequestKind → Message → Addr → Client
 client_for id kind request to =
     record {
@@ -43,23 +43,23 @@ pub record Side : Type 0 where
   pub dialogs : Dialogs
   pub clients : Clients
 
--- what is held after something happened, and what is told of it
+-- what is held after something happened, and what is told and sent
 abbrev pub ClientTaken : Type 0
 ClientTaken = Side × List CallOut
 
 -- ---- for steps and laws: `run` needs nothing of what follows
 
--- that is changed so
+-- the requests after this change of the one with this id
 abbrev pub client_changed : Id → (Client → Client) → Clients → Clients
 client_changed id change clients =
     option_map_or (λ client. set_value (is_id id) clients (change client))
     (client_at id clients) clients
 
--- all but the request of this id
+-- the requests without that of this id
 abbrev pub without_client : Id → Clients → Clients
 without_client id clients = remove_entry (is_id id) clients
 
--- with the request of this id
+-- the requests with this one under this id
 abbrev pub with_client : Id → Client → Clients → Clients
 with_client id client clients = insert_entry is_id clients id client
 

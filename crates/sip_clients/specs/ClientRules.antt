@@ -1,5 +1,5 @@
--- What is true of the life of a client request: when its CANCEL goes out, and which it is, and what
--- ACK answers a 2xx that comes again (RFC 3261, sections 9.1 and 13.2.2.4).
+-- What is true of the life of a client request: when its CANCEL goes out and what it is, and which
+-- ACK answers a retransmitted 2xx (RFC 3261, sections 9.1 and 13.2.2.4).
 use Rattle.std.specs.Prelude.{◌≡◌, ℕ, true, false, List, [], ◌∷◌, ◌++◌, None, Some}
 use Rattle.std.specs.List.{AllByRecursion, list_any}
 use Rattle.sip_message.specs.HopByHop.{cancel_of}
@@ -18,9 +18,9 @@ use Rattle.sip_clients.specs.ClientTelling.{ClientStories, AreTold}
 use Rattle.sip_clients.specs.Clients.{status_of}
 use Rattle.sip_clients.specs.ReceivedResponse.{is_invite_kind}
 
--- A CANCEL that goes out after this life is the only one, of an INVITE to which a provisional
--- response came and no 2xx. It goes out under the id of the command that asked for it first, with
--- the branch of the INVITE, to where that was sent.
+-- A CANCEL that goes out after this life is the only one. Its INVITE had a provisional response and
+-- no 2xx. It goes out under the id of the first command that asked for it, with the branch and the
+-- address of the INVITE.
 pub record IsCancelOf (story : ClientStory) (before : List ClientHappening) (cancel : Outgoing)
     : Type 0 where
   pub inviting : is_invite_kind story.kind ≡ true
@@ -37,26 +37,26 @@ pub record IsAskedFor (story : ClientStory) (before : List ClientHappening) : Ty
   pub inviting : is_invite_kind story.kind ≡ true
   pub unanswered : first_success before ≡ None
 
--- What happens goes with what happened before; an ACK that answers a 2xx again is the one that went
--- out for it.
+-- What happens is allowed by what happened before. An ACK that answers a retransmitted 2xx is the
+-- one that went out for it.
 abbrev pub Fits : ClientStory → List ClientHappening → ClientHappening → Type 0
 Fits story before (AsksCancel id) = IsAskedFor story before
 Fits story before (SendsCancel cancel) = IsCancelOf story before cancel
 Fits story before (SendsAckAgain name ack) = ack_of name (answers_of before) ≡ Some ack
 Fits story before _ = Unit {0}
 
--- so does each thing, from what happened before
+-- the same for each in turn, after those before it
 abbrev pub EachFits : ClientStory → List ClientHappening → List ClientHappening → Type 0
 EachFits story before [] = Unit {0}
 EachFits story before (h ∷ later) =
     Fits story before h × EachFits story (before ++ h ∷ []) later
 
--- all that happens to each request does
+-- the same for all that happened to each request
 abbrev pub AllLive : ClientStories → Type 0
 AllLive stories =
     AllByRecursion (λ (entry : Id × ClientStory). EachFits entry.1 [] entry.1.life) stories
 
--- Where that is so, and what is held is what the stories say, it is so after the step.
+-- If this is true, and what is held is what the stories say, it is true after the step.
 abbrev pub HoldsRules : (Side → ClientTaken)
     → (Side → List CallOut → ClientStories → ClientStories) → Type 0
 HoldsRules step telling = (side : Side) (stories : ClientStories) → AreTold side.clients stories
@@ -69,12 +69,12 @@ abbrev pub WaitsForProvisional : Client → Type 0
 WaitsForProvisional client =
     (id : Id) → client.cancel ≡ Waits id → client.provisional ≡ false
 
--- of each request
+-- the same for each request
 abbrev pub AllWait : Clients → Type 0
 AllWait clients =
     AllByRecursion (λ (entry : Id × Client). WaitsForProvisional entry.1) clients
 
--- where that is so of what is held, it is so after the step
+-- if this is true of what is held, it is true after the step
 abbrev pub KeepsWaiting : (Side → ClientTaken) → Type 0
 KeepsWaiting step = (side : Side) → AllWait side.clients → AllWait ((step side).0).clients
 
@@ -88,7 +88,7 @@ SendsNoCancel step = (side : Side) → cancels_out (step side).1 ≡ []
 abbrev pub SendsNoAck : (Side → ClientTaken) → Type 0
 SendsNoAck step = (side : Side) → acks_out (step side).1 ≡ []
 
--- a step by a response sends no CANCEL where that is final, and no ACK where it isn't
+-- a final response sends no CANCEL, and any other sends no ACK
 abbrev pub SendsByStatus : Message → (Side → ClientTaken) → Type 0
 SendsByStatus response step = (side : Side) (status : ℕ)
     → status_of response.start ≡ Some status

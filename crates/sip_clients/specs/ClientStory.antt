@@ -1,6 +1,6 @@
--- A client request as it was sent, and what happened to it since: each field of the record that is
--- held is read off that (RFC 3261, sections 9.1, 13.2.2.4 and 17.1.1; RFC 3262, section 4). Moments
--- are in ms.
+-- A client request as it was sent, and what happened to it since. Each field of the held record
+-- follows from that (RFC 3261, sections 9.1, 13.2.2.4 and 17.1.1; RFC 3262, section 4). Moments are
+-- in ms.
 use Rattle.std.specs.Prelude.{ℕ, ◌+◌, ◌*◌, Bool, true, false, List, [], ◌∷◌, ◌++◌, filter_map, fold, Option, None, Some, if◌then◌else◌}
 use Rattle.std.specs.List.{last_or, list_any}
 use Rattle.std.specs.Option.{option_map, option_map_or}
@@ -18,7 +18,7 @@ use Rattle.sip_clients.specs.declared.client.RequestKind.TheVariants.{InitialInv
 use Rattle.sip_clients.specs.Answers.{AnswerList}
 use Rattle.sip_clients.specs.ClientLife.{ClientHappening, AsksCancel, GetsProvisional, GetsSuccess, GetsSuccessAgain, SendsAck, SendsCancel, TakesReliable}
 
--- the event that sent it, what it is for, the request and where it went, and what happened to it
+-- the event that sent it, what it is for, the request and its address, and what happened to it
 -- since
 pub record ClientStory : Type 0 where
   pub id : Id
@@ -48,7 +48,8 @@ abbrev pub rseq_taken : ClientHappening → Option ℕ
 rseq_taken (TakesReliable rseq) = Some rseq
 rseq_taken _ = None
 
--- the last of them; those to the first INVITE of a call stand in the dialogs that it makes
+-- the last RSeq that was taken; for the first INVITE of a call it is kept in the dialogs that it
+-- makes
 abbrev pub last_rseq : RequestKind → List ClientHappening → Option ℕ
 last_rseq InitialInvite life = None
 last_rseq _ life = last_or None (filter_map rseq_taken life)
@@ -59,14 +60,14 @@ first_success [] = None
 first_success (GetsSuccess name moment ∷ later) = Some moment
 first_success (_ ∷ later) = first_success later
 
--- by one thing after another: the dialogs of the 2xx responses, as they came first, each with the
--- ACK that went out last for it
+-- after one happening: the dialogs of the 2xx responses, in the order of their first ones, each
+-- with the last ACK that went out for it
 abbrev pub with_answer : AnswerList → ClientHappening → AnswerList
 with_answer answers (GetsSuccess name moment) = insert_entry is_dialog_id answers name None
 with_answer answers (SendsAck name ack) = insert_entry is_dialog_id answers name (Some ack)
 with_answer answers _ = answers
 
--- all of them
+-- after all that happened
 abbrev pub answers_of : List ClientHappening → AnswerList
 answers_of life = fold with_answer [] life
 
@@ -83,7 +84,7 @@ asked_first (AsksCancel id ∷ later) =
     if list_any is_success_response later then asked_first later else Some id
 asked_first (_ ∷ later) = asked_first later
 
--- it went out; or it was asked for and waits for a provisional response; or neither
+-- the CANCEL went out; or it was asked for and waits for a provisional response; or neither
 abbrev pub cancelling_of : List ClientHappening → Cancelling
 cancelling_of life =
     if list_any is_cancel_sent life then Sent else option_map_or Waits (asked_first life) NotAsked

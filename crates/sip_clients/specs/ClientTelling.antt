@@ -1,5 +1,5 @@
--- What each input of the client side adds to the stories of the client requests that are held: to
--- which of them something happens, and what; which begin, and which are over.
+-- What each input of the client side adds to the stories of the held client requests: to which of
+-- them something happens, and what; which begin, and which are over.
 use Rattle.std.specs.Prelude.{◌≡◌, ℕ, Bool, not, ◌&&◌, List, [], ◌∷◌, ◌++◌, map, filter, fold, Option, None, Some, Result, Ok, Err, if◌then◌else◌}
 use Rattle.std.specs.List.{list_any}
 use Rattle.std.specs.Map.{lookup, remove_entry, set_value}
@@ -39,7 +39,7 @@ use Rattle.sip_clients.specs.Tick.{is_over}
 abbrev pub ClientStories : Type 0
 ClientStories = List (Id × ClientStory)
 
--- what is held is what they say
+-- the held requests are what the stories say
 abbrev pub AreTold : Clients → ClientStories → Type 0
 AreTold clients stories = clients ≡ map (λ entry. (entry.0, client_told entry.1)) stories
 
@@ -62,11 +62,11 @@ begin_story sent_for stories sent =
       life = [];
     }
 
--- so is each, by what it is for
+-- the same for each request that goes out, by what it is for
 abbrev pub begin_stories : (Message → RequestKind) → List CallOut → ClientStories → ClientStories
 begin_stories sent_for outs stories = fold (begin_story sent_for) stories (requests_out outs)
 
--- in the dialog of a name, which is held or which the event makes
+-- a request in the dialog of a name, which is held or which the event makes
 abbrev pub for_dialog : Event → DialogId → Dialogs → Message → RequestKind
 for_dialog event name dialogs request =
     kind_in record {
@@ -81,7 +81,7 @@ for_dialog_or_cancel event name dialogs request =
 
 -- ---- a response
 
--- a reliable provisional one is taken where the user is told of it and its dialog is there or made
+-- a reliable provisional response is taken if the user is told of it and its dialog is held or made
 abbrev pub reliable_taken : ℕ → Client → Message → Option HeldDialog → List CallOut
     → List ClientHappening
 reliable_taken status client response found outs =
@@ -89,7 +89,7 @@ reliable_taken status client response found outs =
     then option_map_or (λ rseq. TakesReliable rseq ∷ [])
     (provisional_number (Some status) response) [] else []
 
--- a 2xx of a dialog, which comes first or again, and the ACKs that go out for it
+-- the first 2xx of a dialog, or a retransmitted one, and the ACKs that go out for it
 abbrev pub success_happens : Bool → DialogId → ℕ → List CallOut → List ClientHappening
 success_happens again name moment outs =
     if again then GetsSuccessAgain name ∷ map (SendsAckAgain name) (acks_out outs)
@@ -104,7 +104,7 @@ response_happens event status client response name found outs =
     else GetsProvisional ∷ reliable_taken status client response found outs
     ++ map SendsCancel (cancels_out outs)
 
--- the last response to it ends its story
+-- the last response to a request ends its story
 abbrev pub reply_told : Event → Id → ℕ → Client → Message → Dialogs → List CallOut
     → ClientStories → ClientStories
 reply_told event id status client response dialogs outs stories =
@@ -144,20 +144,20 @@ abbrev pub in_dialog_told : Event → DialogId → Side → List CallOut → Cli
 in_dialog_told event name side outs stories =
     begin_stories (for_dialog event name side.dialogs) outs stories
 
--- the INVITE that an ACK is owed to
+-- the INVITE of an owed ACK
 abbrev pub invite_owed : Result PendingRequest Refusal → Option Id
 invite_owed (Ok (Ack invite number)) = Some invite
 invite_owed (Ok (Prack rseq number)) = None
 invite_owed (Err refusal) = None
 
--- the command Ack, for the oldest 2xx of its dialog that is owed one
+-- the command Ack, for the oldest 2xx of its dialog without an ACK
 abbrev pub ack_told : DialogBody → Side → List CallOut → ClientStories → ClientStories
 ack_told command side outs stories =
     let name = name_in command.local_tag command.remote_tag in
     option_map_or (λ invite. happens_to invite (map (SendsAck name) (acks_out outs)) stories)
     (invite_owed (pending_for kind.Ack name side.dialogs)) stories
 
--- the command Cancel, where it isn't refused
+-- the command Cancel, if it isn't refused
 abbrev pub cancel_told : Event → Cancel → List CallOut → ClientStories → ClientStories
 cancel_told event command outs stories =
     if list_any is_refusal outs then stories
@@ -166,13 +166,13 @@ cancel_told event command outs stories =
 
 -- ---- a tick
 
--- those whose time is over are removed
+-- the requests whose time is over are removed
 abbrev pub ticked_told : ℕ → ClientStories → ClientStories
 ticked_told now stories = filter (λ entry. not (is_over now (client_told entry.1))) stories
 
 -- ---- a step
 
--- Where what is held is what the stories say, it is after the step what they say then.
+-- If what is held is what the stories say, it is so after the step.
 abbrev pub HoldsStories : (Side → ClientTaken)
     → (Side → List CallOut → ClientStories → ClientStories) → Type 0
 HoldsStories step telling = (side : Side) (stories : ClientStories) → AreTold side.clients stories

@@ -1,5 +1,5 @@
--- The client side of one Call-ID: what each response, loss and command does to the held dialogs and
--- the held client requests, and what is told of it.
+-- The client side of one Call-ID: what each response, failure, timeout and command does to the held
+-- dialogs and the held client requests, and what is told.
 use Rattle.std.specs.Prelude.{ℕ, Bool, List, [], ◌∷◌, ◌++◌, Option, None, Some, Result, Ok, Err, if◌then◌else◌}
 use Rattle.std.specs.Map.{set_value}
 use Rattle.indexmap.specs.IndexMap.{insert_entry}
@@ -44,7 +44,7 @@ abbrev pub started : Event → Client → Clients → Clients × List CallOut
 started event client clients =
     (with_client event.id client clients, start_command event.id client ∷ [])
 
--- what becomes of the requests after a response to that of an id, or after a command
+-- the requests after a response to that of this id, or after a command
 abbrev pub settled : Event → Id → ClientChange → Clients → Clients × List CallOut
 settled event id Stays clients = (clients, [])
 settled event id Over clients = (without_client id clients, [])
@@ -52,7 +52,7 @@ settled event id (Starts client) clients = started event client clients
 
 -- ---- a response
 
--- the name of the dialog that it makes, or that its request was sent in
+-- the name of the dialog that a response makes, or that its request was sent in
 abbrev pub reply_name : RequestKind → Client → Message → DialogId
 reply_name InitialInvite client response =
     dialog_id_of_tags (tag_of (client.request).from) (tag_of response.to)
@@ -66,27 +66,28 @@ abbrev pub status_of : StartLine → Option ℕ
 status_of (start.Request uri) = None
 status_of (start.Response status reason) = Some status
 
--- the requests, and what is told: what becomes of them, and last the CANCEL that waited for it
+-- the requests and the outputs after their change, and after the CANCEL that waited for the
+-- response
 abbrev pub reply_ended : Event → Id → ClientChange → Option Client → Clients → List CallOut
     → Clients × List CallOut
 reply_ended event id change cancel clients told =
     let after = settled event id change clients in sent_beside cancel (after.0, told ++ after.1)
 
--- what is held and told after it has done this to the request of this id and to the dialogs
+-- what is held and told after a response that did this to the request of this id and to the dialogs
 abbrev pub side_after : Event → Id → Side → Option Client → Replied → ClientTaken
 side_after event id side cancel done =
     let clients = set_value (is_id id) side.clients done.0 in
     let after = reply_ended event id done.3 cancel clients done.2 in
     (record { dialogs = done.1; clients = after.0 }, after.1)
 
--- one to this request
+-- a response to this request
 abbrev pub reply_settled : ReceivedResponse → Client → Side → ClientTaken
 reply_settled reply client side =
     let final = is_final reply.status in
     side_after reply.event reply.id side (cancel_freed final client)
     (reply_taken (after_response final client) side.dialogs reply)
 
--- a response with all that comes up with it
+-- a response with all that its case needs
 abbrev pub reply_of : Event → Id → List ℕ → DialogId → ℕ → Message → ReceivedResponse
 reply_of event id call_id name status response = record {
   event = event;
@@ -97,7 +98,7 @@ reply_of event id call_id name status response = record {
   response = response;
 }
 
--- a response to the request that is held, or to none
+-- a response to a held request, or to none
 abbrev pub found_taken : Event → Id → List ℕ → Message → Option ℕ → Option Client → Side
     → ClientTaken
 found_taken event id call_id response None client side = nothing_done side
@@ -106,7 +107,7 @@ found_taken event id call_id response (Some status) (Some client) side =
     let name = reply_name client.kind client response in
     reply_settled (reply_of event id call_id name status response) client side
 
--- where its request isn't held, nothing happens
+-- a response that comes up; if its request isn't held, nothing happens
 abbrev pub response_taken : Event → Id → List ℕ → Message → Side → ClientTaken
 response_taken event id call_id response side =
     found_taken event id call_id response (status_of response.start) (client_at id side.clients)
@@ -114,7 +115,7 @@ response_taken event id call_id response side =
 
 -- ---- a request is lost: its transaction timed out, or its message could not be sent
 
--- a request that timed out, or could not be sent, is over, and so is what ends with it
+-- a request that timed out, or could not be sent, is over, with all that ends with it
 abbrev pub lost_of : Id → Bool → Option Client → Side → ClientTaken
 lost_of id timed_out None side =
     (record { dialogs = side.dialogs; clients = without_client id side.clients }, [])
@@ -122,7 +123,7 @@ lost_of id timed_out (Some client) side =
     let ended = ended_with client timed_out side.dialogs in
     (record { dialogs = ended.0; clients = without_client id side.clients }, ended.1)
 
--- the request of this id
+-- the request of this id is lost
 abbrev pub request_lost : Id → Bool → Side → ClientTaken
 request_lost id timed_out side = lost_of id timed_out (client_at id side.clients) side
 
@@ -134,7 +135,7 @@ invite_taken event invite clients =
     started event (client_for event.id InitialInvite (invite_of event invite) invite.address)
     clients
 
--- the command Plain: a request outside of dialogs, unless its method is none of a user's
+-- the command Plain: a request outside of dialogs, unless the user can't send its method
 abbrev pub plain_taken : Event → PlainCommand → Clients → Clients × List CallOut
 plain_taken event plain clients =
     if is_bad_outside plain.method then (clients, refused event.id plain.call_id BadMethod)
@@ -143,7 +144,7 @@ plain_taken event plain clients =
 
 -- ---- commands in a dialog
 
--- what is told, what is sent, and then the ends of dialogs
+-- the outputs: what is told, what is sent, and then the ends of dialogs
 abbrev pub request_settled : Event → List CallOut → ClientChange → List CallOut → Clients
     → Clients × List CallOut
 request_settled event outs change ends clients =
@@ -157,32 +158,32 @@ request_by_user event command side =
     let after = request_settled event told.1 told.2 told.3 side.clients in
     (record { dialogs = told.0; clients = after.0 }, after.1)
 
--- the ACK that the user gave is that of its 2xx
+-- the INVITE keeps the user's ACK for its 2xx
 abbrev pub acked_with : DialogId → SentAck → Client → Client
 acked_with name ack client =
     record client { answers = insert_entry is_dialog_id client.answers name (Some ack) }
 
--- the ACK is kept, to be sent again where the 2xx comes again
+-- the ACK is kept, to be sent again if the 2xx is retransmitted
 abbrev pub ack_kept : PendingRequest → DialogId → Option SentAck → Clients → Clients
 ack_kept (Ack invite number) name None clients = clients
 ack_kept (Ack invite number) name (Some ack) clients =
     client_changed invite (acked_with name ack) clients
 ack_kept (Prack rseq number) name ack clients = clients
 
--- the user's ACK for a 2xx that is owed one
+-- the user's ACK for a 2xx that waits for it
 abbrev pub ack_paid : Event → DialogBody → DialogId → PendingRequest → Side → ClientTaken
 ack_paid event command name pending side =
     let told = ack_asked event name pending command side.dialogs in
     (record { dialogs = told.0; clients = ack_kept pending name told.2 side.clients }, told.1)
 
--- the user's PRACK for a response that is owed one
+-- the user's PRACK for a response that waits for it
 abbrev pub prack_paid : Event → DialogBody → DialogId → PendingRequest → Side → ClientTaken
 prack_paid event command name pending side =
     let told = prack_asked event name pending command side.dialogs in
     let after = settled event event.id told.2 side.clients in
     (record { dialogs = told.0; clients = after.0 }, told.1 ++ after.1)
 
--- where nothing is owed the command is refused
+-- if nothing is owed the command is refused
 abbrev pub paid_or_refused : Event → DialogBody → (PendingRequest → Side → ClientTaken)
     → Result PendingRequest Refusal
     → Side
@@ -191,14 +192,14 @@ paid_or_refused event command pay (Err refusal) side =
     (side, refused event.id command.call_id refusal)
 paid_or_refused event command pay (Ok pending) side = pay pending side
 
--- each serves the oldest response of the dialog that is owed one
+-- the command Ack, for the oldest 2xx of its dialog without an ACK
 abbrev pub ack_by_user : Event → DialogBody → Side → ClientTaken
 ack_by_user event command side =
     let name = name_in command.local_tag command.remote_tag in
     paid_or_refused event command (ack_paid event command name)
     (pending_for kind.Ack name side.dialogs) side
 
--- the command Prack, for the oldest response of its dialog that is owed one
+-- the command Prack, for the oldest reliable response of its dialog without a PRACK
 abbrev pub prack_by_user : Event → DialogBody → Side → ClientTaken
 prack_by_user event command side =
     let name = name_in command.local_tag command.remote_tag in

@@ -41,25 +41,25 @@ abbrev pub is_own_kind : List ℕ → Bool
 is_own_kind method = bytes_eq method (codes "ACK") || bytes_eq method (codes "CANCEL")
     || bytes_eq method (codes "PRACK")
 
--- not outside of dialogs
+-- methods that Plain doesn't send
 abbrev pub is_bad_outside : List ℕ → Bool
 is_bad_outside method =
     is_own_kind method || bytes_eq method (codes "INVITE") || bytes_eq method (codes "BYE")
 
--- the side that the INVITE came to
+-- the callee's side
 abbrev pub is_callee : Side → Bool
 is_callee Caller = false
 is_callee Callee = true
 
--- not in an early dialog; the callee ends one by its answer (RFC 3261, section 15)
+-- methods that aren't sent in an early dialog; the callee ends one by its answer (RFC 3261, section
+-- 15)
 abbrev pub is_bad_early : Side → List ℕ → Bool
 is_bad_early side method =
     bytes_eq method (codes "INVITE") || (is_callee side && bytes_eq method (codes "BYE"))
 
 -- ---- a request
 
--- the conditions under which one of this method is refused, in the order in which they are looked
--- at
+-- the conditions under which a request of this method is refused, in the order of their tests
 abbrev pub request_refusals : Dialog → List ℕ → List (Bool × Refusal)
 request_refusals dialog method =
     (is_own_kind method, BadMethod)
@@ -69,19 +69,19 @@ request_refusals dialog method =
     ∷ (nat_le 2147483647 dialog.local_cseq, SequenceUsedUp)
     ∷ []
 
--- it is refused, or sent and takes the next number
+-- a request is refused, or is sent and takes the next number
 abbrev pub sent_unless : Option Refusal → OutgoingRequest → HeldDialog → Outcome
 sent_unless (Some refusal) sending held = (held, Refused refusal)
 sent_unless None sending held =
     (lived (Requests ((sending.message).cseq).method ∷ []) held, Sent sending)
 
--- in this dialog
+-- a request in this dialog
 unfoldable pub request_in_held : Event → List ℕ → Content → HeldDialog → Outcome
 request_in_held event method content held =
     sent_unless (first_refusal (request_refusals held.dialog method) None)
     (sending_in event method None content held) held
 
--- in the dialog of this name
+-- a request in the dialog of this name
 unfoldable pub requested_at : DialogId → Event → DialogRequest → Dialogs → Dialogs × SendOutcome
 requested_at name event command dialogs =
     served_at name (request_in_held event command.method command.content) (Refused NoSuchDialog)
@@ -94,7 +94,8 @@ bye_ended name method (Sent sending) dialogs =
 bye_ended name method Waits dialogs = (dialogs, [])
 bye_ended name method (Refused refusal) dialogs = (dialogs, [])
 
--- the dialogs after it, what is told, the request that is sent, and the end that is told last
+-- after a request: the dialogs, what is told, the request that is sent, and the end that is told
+-- last
 abbrev pub request_asked : Event → DialogId → DialogRequest → Dialogs
     → Dialogs × List CallOut × ClientChange × List CallOut
 request_asked event name command dialogs =
@@ -105,26 +106,26 @@ request_asked event name command dialogs =
 
 -- ---- an ACK or a PRACK
 
--- the refusal where nothing of a kind is owed
+-- the refusal if nothing of a kind is owed
 abbrev pub nothing_pending : PendingKind → Refusal
 nothing_pending kind.Ack = NothingToAck
 nothing_pending kind.Prack = NothingToPrack
 
--- the debt, or that refusal
+-- what is owed, or that refusal
 abbrev pub debt_or_refusal : PendingKind → Option PendingRequest → Result PendingRequest Refusal
 debt_or_refusal kind None = Err (nothing_pending kind)
 debt_or_refusal kind (Some pending) = Ok pending
 
--- the oldest debt of a kind
+-- the oldest ACK or PRACK that is owed in a dialog
 abbrev pub oldest_pending : PendingKind → HeldDialog → Result PendingRequest Refusal
 oldest_pending kind held = debt_or_refusal kind (find (is_of kind) held.pending_requests)
 
--- the oldest debt of a kind in the dialog of this name, or why there is none
+-- the oldest ACK or PRACK that is owed in the dialog of this name, or why there is none
 abbrev pub pending_for : PendingKind → DialogId → Dialogs → Result PendingRequest Refusal
 pending_for kind name dialogs =
     option_map_or (oldest_pending kind) (dialog_at name dialogs) (Err NoSuchDialog)
 
--- the dialogs after the ACK, what is told or sent, and the ACK where it is sent
+-- the dialogs after the ACK, what is told or sent, and the ACK if it is sent
 abbrev pub ack_asked : Event → DialogId → PendingRequest → DialogBody → Dialogs
     → Dialogs × List CallOut × Option SentAck
 ack_asked event name pending command dialogs =

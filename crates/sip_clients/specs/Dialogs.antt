@@ -36,19 +36,18 @@ dialog_by_response client reply = record {
   pending_requests = [];
 }
 
--- the dialog that a provisional response comes in, by the held one of its name: that, or one that
--- it makes
+-- the dialog of a provisional response: the held one of its name, or one that it makes
 abbrev pub dialog_for_provisional : Client → ReceivedResponse → Option HeldDialog → HeldDialog
 dialog_for_provisional client reply None = dialog_by_response client reply
 dialog_for_provisional client reply (Some held) = held
 
 -- ---- a 2xx
 
--- the 2xx to a re-INVITE refreshes the target where it has a Contact
+-- the 2xx to a re-INVITE refreshes the target if it has a Contact
 abbrev pub refreshed : Message → HeldDialog → HeldDialog
 refreshed response held = retargeted (contact_uri response) held
 
--- that to the first INVITE confirms the dialog of its name, or makes it
+-- the 2xx to the first INVITE confirms the dialog of its name
 abbrev pub accepted_in : RequestKind → Message → HeldDialog → HeldDialog
 accepted_in InitialInvite response held = confirmed response held
 accepted_in (ReInvite life) response held = refreshed response held
@@ -60,40 +59,39 @@ abbrev pub accepted : Client → ReceivedResponse → Option HeldDialog → Held
 accepted client reply None = dialog_by_response client reply
 accepted client reply (Some held) = accepted_in client.kind reply.response held
 
--- ---- what is heard and paid in a dialog
+-- ---- what comes and is sent in a dialog
 
 -- a reliable provisional response with this RSeq came
 abbrev pub hearing : ℕ → HeldDialog → HeldDialog
 hearing rseq held =
     record held { last_rseq = latest_after (offered held.last_rseq rseq) held.last_rseq rseq }
 
--- something is to be sent in the dialog of this name, if it is held: the dialogs after it, and what
--- becomes of it
+-- a request to send in the dialog of this name, if that is held: the dialogs, and the outcome
 abbrev pub served_at : DialogId → (HeldDialog → Outcome) → SendOutcome → Dialogs → Dialogs
     × SendOutcome
 served_at name serve otherwise dialogs =
     option_map_or (λ held. (set_value (is_dialog_id name) dialogs (serve held).0, (serve held).1))
     (dialog_at name dialogs) (dialogs, otherwise)
 
--- what is owed in it
+-- the same for an ACK or PRACK that is owed in it
 abbrev pub paid_at : DialogId → Event → PendingRequest → Content → Dialogs → Dialogs × SendOutcome
 paid_at name event pending content dialogs =
     served_at name (paid event pending content) Waits dialogs
 
 -- ---- what ends with a client request
 
--- this dialog life ends
+-- the dialog of this reference ends, if it is still held
 abbrev pub life_ended : DialogReference → Dialogs → Dialogs × List CallOut
 life_ended life dialogs = if lives dialogs life then ended_at life.name dialogs else (dialogs, [])
 
--- the dialog that it was sent in, where it ends that
+-- the dialog that the request was sent in ends, if the condition is true
 abbrev pub own_ended : RequestKind → Bool → Dialogs → Dialogs × List CallOut
 own_ended InitialInvite ends dialogs = (dialogs, [])
 own_ended (ReInvite life) ends dialogs = if ends then life_ended life dialogs else (dialogs, [])
 own_ended (InDialog life) ends dialogs = if ends then life_ended life dialogs else (dialogs, [])
 own_ended OutOfDialog ends dialogs = (dialogs, [])
 
--- the early dialogs that it made, and then that one
+-- the early dialogs that the request made end, and then that one
 abbrev pub ended_with : Client → Bool → Dialogs → Dialogs × List CallOut
 ended_with client ends dialogs =
     let early = early_ended client.id dialogs in

@@ -3,10 +3,10 @@ use Rattle.std.specs.Prelude.{ℕ, List, ◌++◌, codes}
 use Rattle.sip_clients.specs.declared.event.Event.{Event}
 use Rattle.sip_clients.specs.Name.{name_of}
 
--- the branch: the cookie and a made name, of index 0
+-- the branch: the cookie and the made name of index 0
 unfoldable pub branch_of : Event → List ℕ
 branch_of event = codes "z9hG4bK" ++ name_of event.seed event.id 0
 
--- the From tag of a request outside of dialogs, of index 1
+-- the From tag of a request outside of dialogs: the made name of index 1
 abbrev pub from_tag_of : Event → List ℕ
 from_tag_of event = name_of event.seed event.id 1

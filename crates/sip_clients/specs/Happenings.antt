@@ -1,6 +1,5 @@
--- What a response makes happen in the held dialog of a name, and how a dialog opens by it (RFC
--- 3261, sections 12.1.2, 12.2.1.2 and 13.2.2.4). The requests that go out in a dialog are read off
--- what is given.
+-- What a response makes happen in the held dialog of a name, and how it opens a dialog (RFC 3261,
+-- sections 12.1.2, 12.2.1.2 and 13.2.2.4). The requests that go out in a dialog are in the outputs.
 use Rattle.std.specs.Prelude.{ℕ, Bool, not, ◌&&◌, List, [], Option, Some, if◌then◌else◌}
 use Rattle.std.specs.Option.{option_map, option_map_or}
 use Rattle.sip_message.specs.declared.id.Id.{Id}
@@ -19,8 +18,8 @@ use Rattle.sip_clients.specs.Client.{Clients, client_at}
 use Rattle.sip_clients.specs.Clients.{reply_name, status_of}
 use Rattle.sip_clients.specs.ReceivedResponse.{has_dialog}
 
--- the 2xx to the first INVITE confirms the dialog, and that to a re-INVITE gives it another target
--- where it has a Contact
+-- the 2xx to the first INVITE confirms the dialog; the 2xx to a re-INVITE gives it another target
+-- if it has a Contact
 abbrev pub success_brings : RequestKind → Message → HeldDialog → List Happening
 success_brings InitialInvite response held = confirms response held
 success_brings (ReInvite life) response held = retargets (contact_uri response) held
@@ -31,7 +30,7 @@ success_brings OutOfDialog response held = []
 abbrev pub is_first_success : ℕ → Client → DialogId → Bool
 is_first_success status client name = is_success status && not (has_answer name client.answers)
 
--- it does something in the dialog that it is of, where that is the dialog of the request
+-- what a response does in its dialog, if that is the dialog of the request
 abbrev pub reply_brings : ℕ → Client → Message → DialogId → HeldDialog → List Happening
 reply_brings status client response name held =
     let own = reply_name client.kind client response in
@@ -47,7 +46,7 @@ response_brings id response clients name held =
     (status_of response.start) [])
     (client_at id clients) []
 
--- the opening of a dialog that it makes is that request with it
+-- the opening of the dialog that the response makes: the request and the response
 abbrev pub response_opens : Id → Message → Clients → Option Opening
 response_opens id response clients =
     option_map (λ client. ByResponse client.request response) (client_at id clients)

@@ -1,4 +1,4 @@
--- Names that the agent makes: its tags, and its branches behind their cookie (RFC 3261, sections
+-- Names that the agent makes: its tags, and its branches after the cookie (RFC 3261, sections
 -- 8.1.1.7 and 19.3).
 use Rattle.std.specs.Prelude.{◌≡◌, ◌<◌, ◌^◌, ℕ, ◌+◌, ◌*◌, ◌/◌, ◌%◌, zero, suc, List, [], ◌∷◌, ◌++◌}
 use Rattle.rand_chacha.specs.ChaCha.{word_at, key_of}
@@ -10,12 +10,12 @@ unfoldable pub hex : ℕ → ℕ → List ℕ
 hex zero number = []
 hex (suc count) number = hex count (number / 16) ++ hex_digit (number % 16) ∷ []
 
--- the word of ChaCha20 (10 double rounds; rand_chacha, ChaCha) that a name ends in, so that it
+-- the last part of a name, a word of ChaCha20 (10 double rounds; rand_chacha, ChaCha), so that it
 -- can't be guessed: the seed is the key, the round the stream, and each place has 16 words
 abbrev pub word_of_name : List ℕ → Id → ℕ → ℕ
 word_of_name seed id index = word_at 10 (key_of seed) id.round (16 * id.place + index)
 
--- the round, the place, the index and the word; names differ by the first three alone
+-- the round, the place, the index and the word; the first three already make names differ
 abbrev pub name_of : List ℕ → Id → ℕ → List ℕ
 name_of seed id index =
     ((hex 16 id.round ++ hex 16 id.place) ++ hex 1 index) ++ hex 8 (word_of_name seed id index)

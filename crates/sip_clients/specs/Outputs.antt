@@ -46,15 +46,14 @@ client_of event name sending =
     sending.message)
     sending.message sending.to
 
--- what is told of it, and the request that is sent
+-- what is told, and the request that is sent
 abbrev pub request_said : Event → List ℕ → DialogId → SendOutcome → List CallOut × ClientChange
 request_said event call_id name (Sent sending) = ([], Starts (client_of event name sending))
 request_said event call_id name Waits = ([], Stays)
 request_said event call_id name (Refused refusal) =
     (refused event.id call_id refusal, Stays)
 
--- a request is sent through a transaction of its own, under this id and with the branch of the
--- request
+-- a request is sent through a transaction of its own, under this id and the branch of the request
 unfoldable pub start_command : Id → Client → CallOut
 start_command id client =
     out.Command id
@@ -71,7 +70,7 @@ sent_ack sending = record { to = sending.to; bytes = written sending.message }
 abbrev pub direct : SentAck → CallOut
 direct ack = out.Direct ack.to ack.bytes
 
--- what is told of it or sent for it, and the ACK where it is sent
+-- what is told or sent for an ACK, and the ACK if it is sent
 abbrev pub ack_said : Event → List ℕ → SendOutcome → List CallOut × Option SentAck
 ack_said event call_id (Sent sending) = (direct (sent_ack sending) ∷ [], Some (sent_ack sending))
 ack_said event call_id Waits = ([], None)

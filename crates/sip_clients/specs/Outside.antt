@@ -29,7 +29,7 @@ bare_request event call_id method uri from to =
       max_forwards = Some MAX_FORWARDS;
     }
 
--- with this agent's address as Contact
+-- a request with this agent's address as Contact
 abbrev pub with_contact : Addr → Message → Message
 with_contact local message = record message { contacts = contact_of local ∷ [] }
 
@@ -39,11 +39,11 @@ supporting support.None message = message
 supporting support.Supported message = record message { supported = codes "100rel" ∷ [] }
 supporting support.Required message = record message { require = codes "100rel" ∷ [] }
 
--- with a route set that is known before (RFC 3261, section 8.1.2)
+-- a request with preloaded routes (RFC 3261, section 8.1.2)
 abbrev pub through : List NameAddr → Message → Message
 through routes message = record message { routes = routes }
 
--- the INVITE that the user asks for
+-- the INVITE that the user asks for, without routes and content
 abbrev pub bare_invite : Event → Invite → Message
 bare_invite event invite =
     supporting invite.support (with_contact event.local
@@ -55,7 +55,7 @@ abbrev pub invite_of : Event → Invite → Message
 invite_of event invite =
     with_content_of (through invite.routes (bare_invite event invite)) invite.content
 
--- the request of another method that the user asks for
+-- the request of another method that the user asks for, without routes and content
 abbrev pub bare_plain : Event → Plain → Message
 bare_plain event plain =
     bare_request event plain.call_id plain.method plain.request_uri plain.from plain.to

@@ -1,5 +1,5 @@
--- What is owed in the held dialog of a name after a response, and after a command of the user, read
--- off what is given (RFC 3261, section 13.2.2.4; RFC 3262, section 4).
+-- What is owed in the held dialog of a name after a response, and after a command of the user, by
+-- the outputs (RFC 3261, section 13.2.2.4; RFC 3262, section 4).
 use Rattle.std.specs.Prelude.{ℕ, Bool, true, false, not, ◌&&◌, List, [], ◌∷◌, Option, Some, codes, filter, find, if◌then◌else◌}
 use Rattle.std.specs.List.{list_any}
 use Rattle.std.specs.Option.{option_map, option_map_or}
@@ -29,7 +29,7 @@ use Rattle.sip_clients.specs.ReceivedResponse.{has_dialog}
 
 -- ---- what goes out
 
--- an ACK: it alone goes out without a transaction
+-- an ACK; only an ACK goes out without a transaction
 abbrev pub is_direct : CallOut → Bool
 is_direct (out.Direct to bytes) = true
 is_direct _ = false
@@ -45,7 +45,7 @@ goes_out kind.Prack name outs = list_any is_of_prack (cseqs_in name outs)
 
 -- ---- a response
 
--- which of the two is owed
+-- whether an ACK or a PRACK is owed
 abbrev pub debt_kind : PendingRequest → PendingKind
 debt_kind (Ack invite number) = kind.Ack
 debt_kind (Prack rseq number) = kind.Prack
@@ -57,13 +57,13 @@ asked_for status client response =
     if is_success status then Some (Ack client.id number)
     else option_map (λ rseq. Prack rseq number) (provisional_number (Some status) response)
 
--- it is owed where the user is told of the response, and it doesn't go out at once
+-- the ACK or PRACK is owed if the user is told of the response and it doesn't go out at once
 abbrev pub owed_if_told : DialogId → List CallOut → PendingRequest → List PendingRequest
 owed_if_told name outs pending =
     if list_any is_response outs && not (goes_out (debt_kind pending) name outs) then pending
     ∷ [] else []
 
--- what a response leaves owed in the dialog of the name, where its INVITE is the first one, which
+-- what a response leaves owed in the dialog of the name, if its INVITE is the first one, which
 -- makes dialogs, or was sent in that dialog
 abbrev pub reply_owes : ℕ → Client → Message → DialogId → Option HeldDialog → List CallOut
     → List PendingRequest
@@ -71,7 +71,7 @@ reply_owes status client response name found outs =
     if is_dialog_id (reply_name client.kind client response) name && has_dialog client.kind found
     then option_map_or (owed_if_told name outs) (asked_for status client response) [] else []
 
--- the same of the response to the request of this id
+-- the same for the response to the request of this id
 abbrev pub response_owes : Id → Message → Clients → DialogId → Option HeldDialog → List CallOut
     → List PendingRequest
 response_owes id response clients name found outs =
@@ -82,14 +82,14 @@ response_owes id response clients name found outs =
 
 -- ---- a command of the user
 
--- the oldest of the kind is owed no more
+-- the oldest one of the kind is no longer owed
 abbrev pub oldest_paid : PendingKind → List PendingRequest → List PendingRequest
 oldest_paid kind pending_requests =
     option_map_or (λ pending. filter (λ other. not (is_same_pending pending other))
     pending_requests)
     (find (is_of kind) pending_requests) pending_requests
 
--- so it is after a command for the dialog of the name, where one of the kind goes out
+-- the same after a command for the dialog of the name, if one of the kind goes out
 abbrev pub command_pays : PendingKind → DialogBody → DialogId → List CallOut → List PendingRequest
     → List PendingRequest
 command_pays kind command name outs pending_requests =

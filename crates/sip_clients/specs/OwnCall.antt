@@ -1,5 +1,5 @@
--- What is held and told on the client side of a call is of its own Call-ID: each request has that
--- of its call, and one that follows another, or is sent in a dialog, that of the other or of the
+-- What is held and told on the client side of a call has its own Call-ID: each request has that of
+-- its call, and one that follows another, or is sent in a dialog, that of the other or of the
 -- dialog (RFC 3261, sections 8.1.1.4, 9.1, 12.1.2 and 12.2.1.1).
 use Rattle.std.specs.Prelude.{◌≡◌, ℕ, List}
 use Rattle.std.specs.List.{AllByRecursion}
@@ -25,13 +25,13 @@ pub record IsSideOf (call_id : List ℕ) (side : Side) : Type 0 where
 
 -- ---- what a step does
 
--- where all that is held is of this Call-ID, so is all that is held and told after the step
+-- if all that is held has this Call-ID, so does all that is held and told after the step
 abbrev pub KeepsTo : List ℕ → (Side → ClientTaken) → Type 0
 KeepsTo call_id step =
     (side : Side) → IsSideOf call_id side
     → IsSideOf call_id (step side).0 × AreNoticesOf call_id (step side).1
 
--- a step of the client requests alone does nothing to the dialogs
+-- a step that only changes client requests doesn't change the dialogs
 abbrev pub on_side : (Clients → Clients × List CallOut) → Side → ClientTaken
 on_side step side =
     (record side { clients = (step side.clients).0 }, (step side.clients).1)

@@ -1,5 +1,5 @@
--- A reliable provisional response that comes to an INVITE in one life of a dialog, and whether the
--- user is told of it (RFC 3262, section 4).
+-- A reliable provisional response to an INVITE in one life of a dialog, and whether the user is
+-- told of it (RFC 3262, section 4).
 use Rattle.std.specs.Prelude.{ℕ, Bool, true, false, ◌&&◌, not, ◌==◌, List, [], Option, None, Some, filter, map, if◌then◌else◌}
 use Rattle.sip_message.specs.declared.id.Id.{Id}
 use Rattle.sip_message.specs.declared.message.Message.{Message}
@@ -21,7 +21,7 @@ pub data AnInvite : Type 0 where
   OfTheCall : AnInvite
   InTheDialog : Id → AnInvite
 
--- The request has this id and asks so, and this response to it is of this life of a dialog.
+-- The request of this id is this INVITE, and the response to it is of this life of a dialog.
 abbrev pub is_for : AnInvite → DialogReference → Id → Client → RequestKind → Message → Bool
 is_for OfTheCall life id client InitialInvite response =
     is_dialog_id life.name (reply_name InitialInvite client response)
@@ -37,7 +37,7 @@ provisional_number (Some status) response =
     else if not (status == 100) && has_to_tag response then rseq_of response
     else None
 
--- the RSeq of such a response to the request that is held
+-- the RSeq of such a response to this held request
 abbrev pub number_for : AnInvite → DialogReference → Id → Message → Client → Option ℕ
 number_for invite life id response client =
     if is_for invite life id client client.kind response
@@ -48,11 +48,11 @@ abbrev pub is_response : CallOut → Bool
 is_response (Notice (notice.Response call_id id status local_tag remote_tag body)) = true
 is_response _ = false
 
--- it came in the life: the dialog is held after it
+-- the RSeq counts if it came in the life: the dialog is held after it
 abbrev pub in_life : Bool → Option ℕ → Option ℕ
 in_life lives number = if lives then number else None
 
--- the RSeq as often as the user is told of a response
+-- the RSeq, as often as the user is told of a response
 abbrev pub told_of : Option ℕ → List CallOut → List ℕ
 told_of None outs = []
 told_of (Some number) outs = map (λ out. number) (filter is_response outs)

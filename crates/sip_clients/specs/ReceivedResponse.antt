@@ -27,11 +27,11 @@ is_invite_kind (ReInvite life) = true
 is_invite_kind (InDialog life) = false
 is_invite_kind OutOfDialog = false
 
--- the final response of its request, or one that rejects an INVITE
+-- the last response to a request: final, but no 2xx to an INVITE
 abbrev pub is_last : RequestKind → ℕ → Bool
 is_last kind status = is_final status && not (is_invite_kind kind && is_success status)
 
--- by the held dialog of its name, if there is one: the dialog of an INVITE is held, or may be made
+-- the dialog of an INVITE is held, or may be made (`found`: the held one of the response's name)
 abbrev pub has_dialog : RequestKind → Option HeldDialog → Bool
 has_dialog InitialInvite found = true
 has_dialog (ReInvite life) found =
@@ -46,7 +46,7 @@ heard_of (ReInvite life) client found = client.last_rseq
 heard_of (InDialog life) client found = client.last_rseq
 heard_of OutOfDialog client found = client.last_rseq
 
--- a provisional response is reliable where it requires `100rel` and has an RSeq
+-- the RSeq of a reliable provisional response: it requires `100rel` and has an RSeq
 abbrev pub rseq_of : Message → Option ℕ
 rseq_of response = if requires_100rel response then response.rseq else None
 
@@ -56,25 +56,26 @@ is_dialog_response reply = not (reply.status == 100) && has_to_tag reply.respons
 
 -- ---- which case it is
 
--- a 2xx to an INVITE: it came before; its dialog stands or begins; or it comes late
+-- a 2xx to an INVITE: it came before; its dialog is held or begins; or it comes too late
 abbrev pub success_case : Client → Option HeldDialog → DialogId → ReplyCase
 success_case client found name =
     if has_answer name client.answers then Repeated
     else if has_dialog client.kind found then Accepted
     else Late
 
--- by its RSeq it is the next one, or it is passed over (RFC 3262, section 4)
+-- a reliable provisional response is the next one by its RSeq, or it is dropped (RFC 3262, section
+-- 4)
 abbrev pub offer_case : Offer → ℕ → ReplyCase
 offer_case Taken rseq = Reliable rseq
 offer_case Repeat rseq = Passed
 offer_case Gap rseq = Passed
 
--- by the latest RSeq and its own, where it has one
+-- a provisional response of a dialog, by the latest RSeq and by its own, if it has one
 abbrev pub reliable_case : Option ℕ → Option ℕ → ReplyCase
 reliable_case last_rseq None = Early
 reliable_case last_rseq (Some rseq) = offer_case (offered last_rseq rseq) rseq
 
--- of a response that isn't the last: the first case that fits
+-- the case of a response that isn't the last: the first that fits
 abbrev pub reply_case : Client → Option HeldDialog → ReceivedResponse → ReplyCase
 reply_case client found reply =
     if is_final reply.status then success_case client found reply.name

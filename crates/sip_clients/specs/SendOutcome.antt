@@ -1,5 +1,5 @@
--- What becomes of a request that is to be sent in a dialog (RFC 3261, sections 12.2.1 and 13.2.2.4;
--- RFC 3262, section 4).
+-- The outcome of a request to send in a dialog (RFC 3261, sections 12.2.1 and 13.2.2.4; RFC 3262,
+-- section 4).
 use Rattle.std.specs.Prelude.{ℕ, ◌+◌, List, [], ◌∷◌, Option, None, Some, codes}
 use Rattle.sip_dialog.specs.declared.fault.DialogFault.{DialogFault}
 use Rattle.sip_dialog.specs.declared.fault.DialogFault.TheVariants as fault
@@ -22,7 +22,7 @@ use Rattle.sip_clients.specs.declared.send_outcome.SendOutcome.{SendOutcome}
 use Rattle.sip_clients.specs.declared.send_outcome.SendOutcome.TheVariants.{Sent, Waits, Refused}
 use Rattle.sip_clients.specs.Event.{branch_of}
 
--- a dialog after a request that is to be sent in it, and what becomes of that
+-- a dialog after a request to send in it, and the outcome
 abbrev pub Outcome : Type 0
 Outcome = HeldDialog × SendOutcome
 
@@ -35,21 +35,21 @@ refusal_for_fault fault.SequenceUsedUp = refusal.SequenceUsedUp
 refusal_for_fault fault.OutOfOrder = refusal.SequenceUsedUp
 refusal_for_fault fault.NoMemory = refusal.SequenceUsedUp
 
--- sent, or refused as the dialog does
+-- sent, or refused for the dialog's reason
 abbrev pub service_by : Option DialogFault → OutgoingRequest → SendOutcome
 service_by None sending = Sent sending
 service_by (Some fault) sending = Refused (refusal_for_fault fault)
 
--- with this RAck
+-- a message with this RAck
 abbrev pub with_rack : Option RAck → Message → Message
 with_rack rack message = record message { rack = rack }
 
--- a request of this method takes the next number, where it is sent
+-- a request of this method takes the next number, if it is sent
 abbrev pub happens_by_sending : List ℕ → Option DialogFault → List Happening
 happens_by_sending method None = Requests method ∷ []
 happens_by_sending method (Some fault) = []
 
--- a request of this method as it goes out, with a RAck where it is a PRACK
+-- a request of this method as it goes out, with a RAck if it is a PRACK
 abbrev pub sending_in : Event → List ℕ → Option RAck → Content → HeldDialog → OutgoingRequest
 sending_in event method rack content held = record {
   message = with_rack rack (request_in held.dialog method (held.dialog.local_cseq + 1) content
@@ -58,7 +58,7 @@ sending_in event method rack content held = record {
   created_by = held.created_by;
 }
 
--- it is sent, or refused as the dialog does
+-- a request is sent, or refused for the dialog's reason
 abbrev pub requested : Event → List ℕ → Option RAck → Content → HeldDialog → Outcome
 requested event method rack content held = (
   lived (happens_by_sending method (request_fault held.dialog method)) held,
@@ -85,8 +85,7 @@ discharged_with event (Ack invite number) content held = (held, acked event held
 discharged_with event (Prack rseq number) content held =
     prack_requested event rseq number content held
 
--- what is owed is discharged with the content that its request carries; without one it waits for
--- the user
+-- the ACK or PRACK goes out with its content; without one it waits for the user
 unfoldable pub discharged : Event → PendingRequest → Option Content → HeldDialog → Outcome
 discharged event pending None held = (held, Waits)
 discharged event pending (Some content) held = discharged_with event pending content held

@@ -1,5 +1,5 @@
--- A tick: the INVITEs that are removed, and the end of the dialogs that are early still (RFC 3261,
--- section 13.2.2.4; RFC 6026, section 7.2).
+-- A tick: the INVITEs that are removed, and the end of their dialogs that are still early (RFC
+-- 3261, section 13.2.2.4; RFC 6026, section 7.2).
 use Rattle.std.specs.Prelude.{ℕ, Bool, false, not, ◌&&◌, nat_le, List, [], Option, None, filter, fold, if◌then◌else◌}
 use Rattle.std.specs.List.{flat_map, list_any}
 use Rattle.std.specs.Map.{values_of}
@@ -15,7 +15,7 @@ use Rattle.sip_clients.specs.Client.{Clients, Side, ClientTaken}
 abbrev pub is_over : ℕ → Client → Bool
 is_over now client = option_map_or (λ moment. nat_le moment now) client.removal false
 
--- a dialog is early still when an INVITE that made it is removed
+-- a dialog is still early when the INVITE that made it is removed
 abbrev pub ends_early_at : ℕ → Clients → HeldDialog → Bool
 ends_early_at now clients held =
     list_any (λ client. is_over now client && is_early_of client.id held) (values_of clients)
@@ -28,16 +28,16 @@ dialogs_left now dialogs clients = filter (λ entry. not (ends_early_at now clie
 abbrev pub clients_left : ℕ → Clients → Clients
 clients_left now clients = filter (λ entry. not (is_over now entry.1)) clients
 
--- the end of each is told, of one INVITE after the other
+-- the ends of the early dialogs of one INVITE are told
 abbrev pub early_ends_told : ℕ → Dialogs → Client → List CallOut
 early_ends_told now dialogs client =
     if is_over now client then (early_ended client.id dialogs).1 else []
 
--- the ends that the user is told of
+-- all ends that are told, INVITE by INVITE
 abbrev pub over_notices : ℕ → Dialogs → Clients → List CallOut
 over_notices now dialogs clients = flat_map (early_ends_told now dialogs) (values_of clients)
 
--- INVITEs that had their first 2xx 64 times T1 ago are removed with their early dialogs
+-- INVITEs whose first 2xx came 64*T1 ago are removed with their early dialogs
 abbrev pub clients_ticked : Side → ℕ → ClientTaken
 clients_ticked side now = (
   record {

@@ -1,4 +1,4 @@
-//! The 2xx responses that came to an INVITE, by the dialog that each is of.
+//! The 2xx responses to an INVITE, by the dialog of each.
 
 ghost use Rattle.std.specs.Prelude.{◌≡◌, [], IfOk, OnOk};
 ghost use Rattle.std.specs.Option.{option_copied};
@@ -13,8 +13,8 @@ use sip_text::Text;
 use std::alloc::{AllocError, Global};
 use std::marker::Model;
 
-/// An ACK that was sent: its bytes go out again each time its 2xx comes again (RFC 3261, section
-/// 13.2.2.4).
+/// An ACK that was sent: its bytes go out again each time its 2xx is retransmitted (RFC 3261,
+/// section 13.2.2.4).
 pub struct SentAck {
     pub to: Addr,
     pub bytes: Text,
@@ -43,7 +43,7 @@ impl Model for Answers {
 }
 
 impl Answers {
-    /// None came. Takes no memory.
+    /// No 2xx came. Takes no memory.
     pub(crate) fn new(alloc: Global) -> Answers
         ensures { result ≡ [] }
     {
@@ -52,14 +52,14 @@ impl Answers {
         }
     }
 
-    /// Whether one of this dialog came.
+    /// Whether a 2xx of this dialog came.
     pub(crate) fn contains(&self, name: &DialogId) -> bool
         ensures { result ≡ spec.has_answer name.now self.now }
     {
         self.acks.get(name).is_some()
     }
 
-    /// The ACK that was sent for that of this dialog, if one was.
+    /// The ACK that was sent for the 2xx of this dialog, if one was sent.
     pub(crate) fn ack(&self, name: &DialogId) -> Option<&SentAck>
         ensures { option_copied result ≡ spec.ack_of name.now self.now }
     {
@@ -69,7 +69,7 @@ impl Answers {
         }
     }
 
-    /// Notes one of this dialog, with its ACK where one was sent.
+    /// Notes a 2xx of this dialog, with its ACK if one was sent.
     pub(crate) fn note(&mut self, name: DialogId, ack: Option<SentAck>) -> Result<(), AllocError>
         ensures { OnOk result (self.new ≡ insert_entry is_dialog_id self.old name ack) }
     {

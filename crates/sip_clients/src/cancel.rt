@@ -14,11 +14,11 @@ use sip_common::{CallOut, Cancel, Refusal};
 use sip_message::{Id, cancel_for};
 use std::alloc::{AllocError, Global};
 
-/// What becomes of a command to cancel a client request.
+/// The outcome of a command to cancel a client request.
 #[derive(Clone, Copy)]
 pub(crate) enum CancelCase {
     Refused(Refusal),
-    /// It was asked for already.
+    /// The CANCEL was already asked for.
     Repeated,
     /// It waits for a provisional response.
     Waits,
@@ -28,7 +28,7 @@ pub(crate) enum CancelCase {
 
 // ---- the CANCEL
 
-// That of an INVITE which the event of this id asked for.
+// The CANCEL of an INVITE, for which the event of this id asked.
 fn made_cancel(alloc: Global, id: Id, invite: &Client) -> Result<Client, AllocError>
     ensures { IfOk result (λ cancel. cancel ≡ spec.cancel_client id invite.now) }
 {
@@ -36,7 +36,7 @@ fn made_cancel(alloc: Global, id: Id, invite: &Client) -> Result<Client, AllocEr
     Ok(client_for(alloc, id, RequestKind::OutOfDialog, message, invite.to))
 }
 
-/// It is sent, where there is one: it is held, and its transaction starts after what was told.
+/// Sends the CANCEL, if there is one: it is held, and its transaction starts after what was told.
 pub(crate) fn send_beside(
     alloc: Global,
     clients: &mut ClientMap,
@@ -122,8 +122,8 @@ fn ask(clients: &mut ClientMap, id: Id, cancel: Cancelling)
 
 // ---- a response
 
-/// Notes that a response to a request has come, which may be its final one. The CANCEL that waited
-/// for it is to be sent.
+/// Notes that a response to a request has come, which may be its final one. Returns the CANCEL that
+/// waited for it, to be sent.
 pub(crate) fn note_reply(
     alloc: Global,
     client: &mut Client,

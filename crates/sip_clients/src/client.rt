@@ -25,27 +25,27 @@ pub enum RequestKind {
 #[derive(Clone, Copy)]
 pub enum Cancelling {
     NotAsked,
-    /// By the event of this id; it waits for a provisional response.
+    /// By the event of this id. The CANCEL waits for a provisional response.
     Waits(Id),
     Sent,
 }
 
-/// A request that was sent, and of whose responses the user is told.
+/// A request that was sent. The user is told of its responses.
 pub struct Client {
     /// The event that sent it, by which it is found.
     pub id: Id,
     pub kind: RequestKind,
     pub request: Message,
-    /// Where it was sent.
+    /// The address to which it was sent.
     pub to: Addr,
     /// Whether a provisional response to it came.
     pub provisional: bool,
     pub cancel: Cancelling,
-    /// Of a re-INVITE the latest RSeq that was taken, if any.
+    /// For a re-INVITE: the latest RSeq that was taken, if any.
     pub last_rseq: Inbound,
     /// The 2xx responses to an INVITE.
     pub answers: Answers,
-    /// After the first of them: the moment in ms at which it is removed.
+    /// Set by the first 2xx: the moment in ms at which the INVITE is removed.
     pub removal: Option<u64>,
 }
 

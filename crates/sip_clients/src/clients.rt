@@ -27,11 +27,11 @@ use std::alloc::{AllocError, Global};
 use std::marker::Model;
 use std::mem;
 
-/// The requests that were sent under one Call-ID and are held, in the order in which they were
-/// sent. What they do to the dialogs of the Call-ID is done to those that are handed in (RFC 3261,
-/// sections 8.1, 12.2.1, 13.2 and 17.1; RFC 3262, section 4).
+/// The held requests that were sent under one Call-ID, in the order in which they were sent. They
+/// change the dialogs of the Call-ID that are handed in (RFC 3261, sections 8.1, 12.2.1, 13.2 and
+/// 17.1; RFC 3262, section 4).
 ///
-/// After want of memory no request is held; of the dialogs it isn't known what was done to them.
+/// After memory ran out no request is held, and it isn't known what was done to the dialogs.
 pub struct Clients {
     alloc: Global,
     requests: ClientMap,
@@ -81,8 +81,8 @@ impl Clients {
         mem::replace(&mut self.requests, IndexMap::new(self.alloc))
     }
 
-    /// The moment `now`, in ms, has come: an INVITE is removed 64*T1 after its first 2xx, and its
-    /// dialogs that are early still end.
+    /// The moment `now`, in ms, has come: INVITEs are removed 64*T1 after their first 2xx, and
+    /// those of their dialogs that are still early end.
     pub fn tick(&mut self, dialogs: &mut Dialogs, now: u64) -> Result<Vec<CallOut>, AllocError>
         ensures taken { IfOk result (λ outs.
             (record { dialogs = dialogs.new.entries; clients = self.new }, outs.items)
@@ -125,8 +125,8 @@ impl Clients {
     }
 
     /// The transaction of the request that the event `id` sent timed out, or its message could not
-    /// be sent: it is held no more. The early dialogs that it made end, and the dialog that it was
-    /// sent in where it timed out (RFC 3261, section 12.2.1.2).
+    /// be sent: it is no longer held. The early dialogs that it made end. If it timed out, the
+    /// dialog that it was sent in ends too (RFC 3261, section 12.2.1.2).
     pub fn fail_request(
         &mut self,
         dialogs: &mut Dialogs,
@@ -204,8 +204,8 @@ impl Clients {
         Ok(outs)
     }
 
-    /// The user cancels an INVITE: at once where a provisional response to it came, and otherwise
-    /// when the first comes (RFC 3261, section 9.1).
+    /// The user cancels an INVITE: at once if a provisional response to it came, otherwise when the
+    /// first one comes (RFC 3261, section 9.1).
     pub fn cancel(&mut self, event: Event, command: &Cancel) -> Result<Vec<CallOut>, AllocError>
         ensures taken { IfOk result (λ outs. (dialogs : Dialogs)
             → (record { dialogs = dialogs; clients = self.new }, outs.items)
@@ -219,7 +219,7 @@ impl Clients {
         Ok(outs)
     }
 
-    /// The user gives the ACK of the oldest 2xx of a dialog that is owed one (RFC 3261, section
+    /// The user gives the ACK of the oldest 2xx of a dialog that waits for it (RFC 3261, section
     /// 13.2.2.4).
     pub fn ack(
         &mut self,
@@ -239,8 +239,8 @@ impl Clients {
         Ok(outs)
     }
 
-    /// The user gives the PRACK of the oldest reliable provisional response of a dialog that is
-    /// owed one (RFC 3262, section 4).
+    /// The user gives the PRACK of the oldest reliable provisional response of a dialog that waits
+    /// for it (RFC 3262, section 4).
     pub fn prack(
         &mut self,
         dialogs: &mut Dialogs,
@@ -293,7 +293,7 @@ fn plain_told(
     start(alloc, requests, event, client)
 }
 
-// What becomes of the requests after one in a dialog, and what is told in which order.
+// The requests after one in a dialog, and the outputs in their order.
 fn finish_request(
     alloc: Global,
     requests: &mut ClientMap,
@@ -309,7 +309,7 @@ fn finish_request(
     Ok(outs)
 }
 
-// An ACK is sent, or why not is told.
+// Sends an ACK, or tells why not.
 fn take_ack(
     alloc: Global,
     requests: &mut ClientMap,
@@ -348,7 +348,7 @@ fn pay_ack(
     Ok(outs)
 }
 
-// A PRACK is sent, or why not is told.
+// Sends a PRACK, or tells why not.
 fn take_prack(
     alloc: Global,
     requests: &mut ClientMap,

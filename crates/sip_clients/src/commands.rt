@@ -33,7 +33,7 @@ pub(crate) fn name_in(
     DialogId::of_tags(alloc, tag_bytes(local), tag_bytes(remote))
 }
 
-// The bytes of a tag, none where it is absent.
+// The bytes of a tag, none if it is absent.
 fn tag_bytes(tag: &Option<Token>) -> &[u8]
     ensures { result.now ≡ tag_text tag.now }
 {
@@ -45,8 +45,8 @@ fn tag_bytes(tag: &Option<Token>) -> &[u8]
 
 // ---- a request
 
-/// What becomes of a request that the user asks for in the dialog of this name: what is told, the
-/// request that is sent, and what is told last, of the end of the dialog.
+/// The outcome of a request that the user asks for in the dialog of this name: what is told, the
+/// request that is sent, and last the end of the dialog, if it ends.
 pub(crate) fn request_told(
     alloc: Global,
     dialogs: &mut Dialogs,
@@ -133,7 +133,7 @@ fn is_bad_in(held: &HeldDialog, method: &Token) -> bool
         || (held.dialog.state() == DialogState::Early && is_bad_early(held.dialog.side(), method))
 }
 
-// A request that the user sends by another command.
+// Whether the user sends a request of this method by a command of its own.
 fn is_own_kind(method: &Token) -> bool
     ensures { result ≡ spec.is_own_kind method.now }
 {
@@ -149,7 +149,7 @@ fn is_bad_early(side: Side, method: &Token) -> bool
         || (side == Side::Callee && method.as_slice() == b"BYE".as_slice())
 }
 
-/// Whether a method isn't for a request outside of dialogs.
+/// Whether a request of this method isn't sent outside of dialogs.
 pub(crate) fn is_bad_outside(method: &Token) -> bool
     ensures { result ≡ spec.is_bad_outside method.now }
 {
@@ -177,7 +177,7 @@ fn bye_end(
 
 // ---- an ACK or a PRACK
 
-/// The debt of a kind that is the oldest of the dialog of this name, or why there is none.
+/// The oldest ACK or PRACK that is owed in the dialog of this name, or why there is none.
 pub(crate) fn pending_for(
     dialogs: &Dialogs,
     name: &DialogId,
@@ -209,7 +209,7 @@ fn nothing_pending(kind: PendingKind) -> Refusal
     }
 }
 
-/// What becomes of an ACK that the user gives: what is told or sent, and the ACK where it is sent.
+/// The outcome of an ACK that the user gives: what is told or sent, and the ACK if it is sent.
 pub(crate) fn ack_told(
     alloc: Global,
     dialogs: &mut Dialogs,
@@ -230,7 +230,7 @@ pub(crate) fn ack_told(
     ack_said(alloc, event, &command.call_id, service)
 }
 
-/// What becomes of a PRACK that the user gives: what is told, and the request that is sent.
+/// The outcome of a PRACK that the user gives: what is told, and the request that is sent.
 pub(crate) fn prack_told(
     alloc: Global,
     dialogs: &mut Dialogs,

@@ -36,7 +36,7 @@ pub(crate) fn made_dialog(
     })
 }
 
-/// A dialog that was made is held by this name.
+/// Holds a dialog that was made under this name.
 pub(crate) fn hold(
     dialogs: &mut Dialogs,
     name: DialogId,
@@ -49,8 +49,8 @@ pub(crate) fn hold(
     Ok(())
 }
 
-/// The first 2xx of a held dialog confirms it, or refreshes the target of that of a re-INVITE (RFC
-/// 3261, sections 13.2.2.4 and 12.2.1.2).
+/// The first 2xx of a held dialog confirms it, or, to a re-INVITE, refreshes its target (RFC 3261,
+/// sections 13.2.2.4 and 12.2.1.2).
 pub(crate) fn accept(
     held: &mut HeldDialog,
     kind: &RequestKind,
@@ -83,7 +83,7 @@ pub(crate) fn hear(held: &mut HeldDialog, rseq: u32)
     let _ = held.last_rseq.offer(rseq);
 }
 
-/// Serves what is owed in the dialog of this name by the user's command.
+/// Sends what is owed in the dialog of this name, as the user's command asks.
 pub(crate) fn pay_at(
     alloc: Global,
     dialogs: &mut Dialogs,
@@ -103,8 +103,8 @@ pub(crate) fn pay_at(
     pay(alloc, held, event, pending, content)
 }
 
-/// What ends with a client request: the early dialogs that it made, and the dialog that it was sent
-/// in where it `ends`.
+/// Ends what ends with a client request: the early dialogs that it made, and, if `ends`, the dialog
+/// that it was sent in.
 pub(crate) fn end_with(
     alloc: Global,
     dialogs: &mut Dialogs,

@@ -1,4 +1,4 @@
-//! What an event brings along to the requests that it makes.
+//! What an event gives to the requests that it makes.
 
 ghost use Rattle.std.specs.Prelude.{◌≡◌, ◌++◌, IfOk, codes};
 ghost use Rattle.sip_clients.specs.Event as spec;
@@ -21,7 +21,7 @@ const FROM_TAG_NAME: u8 = 1;
 pub struct Event {
     /// The agent's own address.
     pub local: Addr,
-    /// The key of the words that made names end in.
+    /// The key of the words at the end of made names.
     pub seed: [u8; 32],
     pub id: Id,
     pub moment: u64,

@@ -62,7 +62,7 @@ pub(crate) fn take_response(
     settle_reply(alloc, clients, event, id, told)
 }
 
-/// What is told of a response, what becomes of the requests, and the CANCEL that waited for it.
+/// The outputs of a response, how the requests change, and the CANCEL that waited for it.
 type Told = (Vec<CallOut>, ClientChange, Option<Client>);
 
 fn reply_to(
@@ -98,7 +98,7 @@ fn settle_reply(
     send_beside(alloc, clients, cancel, outs)
 }
 
-/// What becomes of the requests after a response to that of an id, or after a command.
+/// Changes the requests after a response to that of this id, or after a command.
 pub(crate) fn settle(
     alloc: Global,
     clients: &mut ClientMap,
@@ -119,7 +119,7 @@ pub(crate) fn settle(
     }
 }
 
-/// A request is sent.
+/// Sends a request.
 pub(crate) fn start(
     alloc: Global,
     clients: &mut ClientMap,
@@ -134,7 +134,7 @@ pub(crate) fn start(
     one(alloc, out)
 }
 
-/// A request is held under this id.
+/// Holds a request under this id.
 pub(crate) fn hold(clients: &mut ClientMap, id: Id, client: Client) -> Result<(), AllocError>
     ensures { OnOk result (clients.new.entries ≡ with_client id client clients.old.entries) }
 {
@@ -142,7 +142,7 @@ pub(crate) fn hold(clients: &mut ClientMap, id: Id, client: Client) -> Result<()
     Ok(())
 }
 
-// The request that the event of this id sent is held no more.
+// Takes out the request that the event of this id sent.
 fn take(clients: &mut ClientMap, id: Id) -> Option<Client>
     ensures client { result ≡ client_at id clients.old.entries }
     ensures left { clients.new.entries ≡ without_client id clients.old.entries }
@@ -150,7 +150,7 @@ fn take(clients: &mut ClientMap, id: Id) -> Option<Client>
     clients.shift_remove(&id)
 }
 
-/// A request is held no more, and what ends with it ends.
+/// A request is no longer held, and what ends with it ends.
 pub(crate) fn fail_request(
     alloc: Global,
     clients: &mut ClientMap,
@@ -171,7 +171,8 @@ pub(crate) fn fail_request(
     }
 }
 
-/// The ACK that the user gave is that of its 2xx, and goes out again each time this comes again.
+/// The ACK that the user gave is kept for its 2xx, and goes out again each time this is
+/// retransmitted.
 pub(crate) fn note_ack(
     clients: &mut ClientMap,
     pending: PendingRequest,

@@ -29,14 +29,14 @@ ghost use Rattle.sip_clients.specs.SendOutcome.{sending_in};
 ghost use Rattle.sip_clients.specs.OwnCall.{KeepsTo, on_side};
 ghost use Rattle.sip_clients.specs.Tick.{next_removal, clients_ticked};
 
-/// Names of different rounds, places or indexes differ, whatever the seeds.
+/// Names of different rounds, places or indexes differ, whatever the seeds are.
 pub fn names_differ()
     ensures { NamesDiffer }
 {}
 
 /// The top Via of a request that is made has the branch that its event makes (RFC 3261, section
-/// 8.1.1.7), and that of a CANCEL is the top Via of its INVITE (section 9.1). The transaction of
-/// each is started with that branch.
+/// 8.1.1.7). The top Via of a CANCEL is that of its INVITE (section 9.1). The transaction of each
+/// is started with that branch.
 pub fn each_request_has_its_branch()
     ensures invite { (event : Event) (invite : Invite)
         → top_via (invite_of event invite) ≡ Some (agent_via event.local (branch_of event)) }
@@ -49,16 +49,15 @@ pub fn each_request_has_its_branch()
         → top_via (cancel_client id invite).request ≡ top_via invite.request }
 {}
 
-/// Before the moment at which an INVITE is due to be removed a tick does nothing and says nothing.
+/// Before the moment at which an INVITE is removed, a tick does nothing and says nothing.
 pub fn quiet_until_due()
     ensures { (side : Side) (now : ℕ) → is_due now (next_removal side.clients) ≡ false
         → clients_ticked side now ≡ nothing_done side }
 {}
 
-/// Where each held dialog, and the request of each held client request, has the Call-ID of its
-/// call, that is still so after a response, the loss of a request, a command of the user or a tick,
-/// and every notice that the user is given has it too (RFC 3261, sections 8.1.1.4, 9.1, 12.1.2 and
-/// 12.2.1.1).
+/// If each held dialog, and the request of each held client request, has the Call-ID of its call,
+/// this is still true after a response, the loss of a request, a command of the user or a tick.
+/// Each notice has it too (RFC 3261, sections 8.1.1.4, 9.1, 12.1.2 and 12.2.1.1).
 pub fn each_notice_is_of_its_call()
     ensures response { (event : Event) (id : Id) (call_id : List ℕ) (response : Message)
         → KeepsTo call_id (response_taken event id call_id response) }
@@ -80,9 +79,9 @@ pub fn each_notice_is_of_its_call()
         (λ side. clients_ticked side now) }
 {}
 
-/// Where each held client request is what its story says, so it is after a response, the loss of a
-/// request, a command of the user or a tick: what they add to the stories is told by what comes,
-/// and by what goes out (RFC 3261, sections 9.1, 13.2.2.4 and 17.1.1; RFC 3262, section 4).
+/// If each held client request is what its story says, this is still true after a response, the
+/// loss of a request, a command of the user or a tick. What these add to the stories follows from
+/// what comes and what goes out (RFC 3261, sections 9.1, 13.2.2.4 and 17.1.1; RFC 3262, section 4).
 pub fn each_client_request_is_told()
     ensures response { (event : Event) (id : Id) (call_id : List ℕ) (response : Message)
         → HoldsStories (response_taken event id call_id response)
@@ -111,11 +110,11 @@ pub fn each_client_request_is_told()
         (λ side outs stories. ticked_told now stories) }
 {}
 
-/// In the story of each held client request what happens goes with what happened before, and so it
-/// does after each step. A CANCEL goes out once, after a provisional response and before any 2xx,
-/// under the id of the command that asked for it first, with the branch of its INVITE and to where
-/// that was sent (RFC 3261, section 9.1). An ACK that answers a 2xx that comes again has the same
-/// bytes, and goes to the same address, as the one that went out for it (section 13.2.2.4).
+/// In the story of each held client request, what happens is allowed by what happened before; this
+/// is still true after each step. A CANCEL goes out once, after a provisional response and before
+/// any 2xx, under the id of the first command that asked for it, with the branch and the address of
+/// its INVITE (RFC 3261, section 9.1). An ACK that answers a retransmitted 2xx has the same bytes,
+/// and goes to the same address, as the one that went out for it (section 13.2.2.4).
 pub fn each_client_request_keeps_the_rules()
     ensures response { (event : Event) (id : Id) (call_id : List ℕ) (response : Message)
         → HoldsRules (response_taken event id call_id response)
@@ -144,8 +143,8 @@ pub fn each_client_request_keeps_the_rules()
         (λ side outs stories. ticked_told now stories) }
 {}
 
-/// No CANCEL goes out but by a provisional response or a command Cancel, and no ACK of a 2xx but by
-/// a final response or a command Ack.
+/// A CANCEL goes out only by a provisional response or a command Cancel, and an ACK of a 2xx only
+/// by a final response or a command Ack.
 pub fn no_other_step_sends_a_cancel_or_an_ack()
     ensures response { (event : Event) (id : Id) (call_id : List ℕ) (response : Message)
         → SendsByStatus response (response_taken event id call_id response) }
@@ -171,8 +170,8 @@ pub fn no_other_step_sends_a_cancel_or_an_ack()
         × SendsNoAck (λ side. clients_ticked side now) }
 {}
 
-/// A CANCEL that was asked for waits only while no provisional response came: where that is so of
-/// each held client request, it is so after each step (RFC 3261, section 9.1).
+/// A CANCEL that was asked for waits only while no provisional response came. If this is true of
+/// each held client request, it is true after each step (RFC 3261, section 9.1).
 pub fn a_cancel_waits_for_a_provisional()
     ensures response { (event : Event) (id : Id) (call_id : List ℕ) (response : Message)
         → KeepsWaiting (response_taken event id call_id response) }

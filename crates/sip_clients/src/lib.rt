@@ -1,9 +1,10 @@
 //! The client side of one Call-ID: the requests that were sent and wait for their responses, the
-//! dialogs that these make, and the names that the agent makes.
+//! dialogs that the responses make, and the names that the agent makes.
 #![tactic(auto)]
 
 mod answers;
 mod cancel;
+mod chacha;
 mod client;
 mod clients;
 mod commands;

@@ -3,16 +3,14 @@
 ghost use Rattle.std.specs.Prelude.{◌≡◌, ◌<◌, ◌≤◌, ◌^◌, ◌++◌, IfOk, OnOk};
 ghost use Rattle.sip_clients.specs.Name.{hex, name_of, word_of_name};
 
-use rand_chacha::ChaCha20Rng;
-use rand_core::SeedableRng;
-use rand_core::utils::NextWord;
+use crate::chacha::word_at;
 use sip_message::{Id, Token};
 use sip_text::{Text, hex_digit};
 use std::alloc::{AllocError, Global};
 
-/// The name of an index that an event makes: 16 hexadecimal digits of the round, 16 of the place,
-/// one of the index, and 8 of a word of the ChaCha20 stream of the round under the seed, so that
-/// two names differ and no peer can guess one.
+/// The name of an index that an event makes. It has 16 hexadecimal digits of the round, 16 of the
+/// place, one of the index, and 8 of a word of the ChaCha20 stream of the round under the seed. So
+/// two names differ, and no peer can guess one.
 pub fn made_name(alloc: Global, seed: [u8; 32], id: Id, index: u8) -> Result<Token, AllocError>
     requires { index < 16 }
     ensures { IfOk result (λ name. name ≡ name_of seed id index) }
@@ -46,15 +44,12 @@ pub(crate) fn push_name(
     Ok(())
 }
 
-// The word of a name: each place has 16 of them.
+// The word of a name. Each place has 16 words.
 fn word_of(seed: [u8; 32], id: Id, index: u8) -> u32
     requires { index < 16 }
     ensures { result ≡ word_of_name seed id index }
 {
-    let mut rng = ChaCha20Rng::from_seed(seed);
-    rng.set_stream(id.round);
-    rng.set_word_pos(16 * u128::from(id.place) + u128::from(index));
-    rng.next_word()
+    word_at(&seed, id.round, u64::from(id.place), index)
 }
 
 // Appends the last so many hexadecimal digits of a number.

@@ -16,7 +16,7 @@ use sip_text::{Boxed, Text};
 use sip_transactions::Command;
 use std::alloc::{AllocError, Global};
 
-/// What becomes of the client requests after a response or a command.
+/// How the client requests change after a response or a command.
 #[derive(Drop)]
 pub(crate) enum ClientChange {
     Stays,
@@ -26,7 +26,7 @@ pub(crate) enum ClientChange {
     Starts(Client),
 }
 
-/// How the user is told of a response.
+/// The notice of a response.
 pub(crate) fn response_notice(
     alloc: Global,
     reply: &ReceivedResponse,
@@ -96,7 +96,7 @@ fn kind_in(life: DialogReference, message: &Message) -> RequestKind
     }
 }
 
-/// What is told of an ACK or sent for it, and the ACK where it is sent.
+/// What is told of an ACK or sent for it, and the ACK if it is sent.
 pub(crate) fn ack_said(
     alloc: Global,
     event: Event,

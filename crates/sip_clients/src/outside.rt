@@ -57,7 +57,8 @@ fn bare_plain(alloc: Global, event: Event, plain: &Plain) -> Result<Message, All
     bare_request(alloc, event, call_id, method, uri, from, to)
 }
 
-// An INVITE has a Contact, and names its use of reliable provisional responses.
+// Adds to an INVITE the Contact, and the use of reliable provisional responses that the user asks
+// for.
 fn calling(
     alloc: Global,
     local: Addr,

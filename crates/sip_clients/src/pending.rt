@@ -1,4 +1,4 @@
-//! What is owed in a dialog, and how it is discharged.
+//! What is owed in a dialog, and how it is sent.
 
 ghost use Rattle.std.specs.Prelude.{◌≡◌, IfOk, OnOk, filter, find, not};
 ghost use Rattle.std.specs.Option.{option_copied};
@@ -12,14 +12,14 @@ use sip_text::Series;
 use std::alloc::{AllocError, Global};
 use std::mem;
 
-/// A kind of debt.
+/// What may be owed: an ACK or a PRACK.
 #[derive(Clone, Copy)]
 pub(crate) enum PendingKind {
     Ack,
     Prack,
 }
 
-/// Discharges what a response asks for; it stays owed where it isn't sent.
+/// Sends what a response asks for. It stays owed if it isn't sent.
 #[tactic(auto, unfolding(crate::specs::Pending::kept_pending))]
 pub(crate) fn owe(
     alloc: Global,
@@ -50,7 +50,7 @@ fn keep_unless_sent(
     }
 }
 
-/// Serves what is owed by the user's command; it is owed no more where it is sent.
+/// Sends what is owed, as the user's command asks. If it is sent, it is no longer owed.
 #[tactic(auto, unfolding(crate::specs::Pending::paid))]
 pub(crate) fn pay(
     alloc: Global,
@@ -123,7 +123,7 @@ fn is_same(pending: PendingRequest, other: PendingRequest) -> bool
     }
 }
 
-/// The oldest debt of a kind.
+/// The oldest one of a kind that is owed.
 pub(crate) fn oldest(
     pending_requests: &[PendingRequest],
     kind: PendingKind,

@@ -1,4 +1,4 @@
-//! What a response does to its client request and to the held dialogs, and what is told of it.
+//! What a response does to its client request and to the held dialogs, and what is told.
 
 ghost use Rattle.std.specs.Prelude.{◌≡◌, ◌≤◌, ◌^◌, IfOk, OnOk, None, Some};
 ghost use Rattle.sip_clients.specs.Replied as spec;
@@ -43,7 +43,7 @@ pub(crate) fn take_reply(
     }
 }
 
-// The dialog of its name is held.
+// A response whose dialog is held.
 fn take_in(
     alloc: Global,
     client: &mut Client,
@@ -68,7 +68,7 @@ fn take_in(
     }
 }
 
-// None is held: it makes one where it comes in one.
+// A response whose dialog isn't held. It makes the dialog, if it is of one.
 fn take_new(
     alloc: Global,
     client: &mut Client,
@@ -115,7 +115,7 @@ fn told(alloc: Global, reply: &ReceivedResponse) -> Result<(Vec<CallOut>, Client
     ))
 }
 
-// The request is over, and what ends with it ends.
+// The last response: the request is over, and what ends with it ends.
 fn finish(
     alloc: Global,
     client: &Client,
@@ -137,7 +137,7 @@ fn ends_dialog(status: u16) -> bool
     status == NOT_THERE || status == TIMED_OUT
 }
 
-// A 2xx that came before gets the same ACK again.
+// A retransmitted 2xx gets the same ACK again.
 fn repeat(
     alloc: Global,
     client: &Client,
@@ -184,7 +184,7 @@ fn told_of_prack(
     Ok((outs, said.1))
 }
 
-// Its PRACK is owed in its dialog.
+// The PRACK of a response is owed in its dialog, or sent.
 #[tactic(auto, unfolding(crate::specs::Replied::prack_owed))]
 fn owe_prack(
     alloc: Global,
@@ -207,7 +207,7 @@ fn owe_prack(
     owe(alloc, held, reply.event, pending, offer)
 }
 
-// The dialog of a first INVITE keeps what came in it.
+// The dialog of a first INVITE keeps the RSeq that came in it.
 fn hear_first(held: &mut HeldDialog, kind: &RequestKind, rseq: u32)
     ensures { held.new ≡ spec.heard_first kind.now rseq held.old }
 {
@@ -217,7 +217,7 @@ fn hear_first(held: &mut HeldDialog, kind: &RequestKind, rseq: u32)
     }
 }
 
-// An INVITE in a dialog keeps itself what came for it.
+// An INVITE in a dialog keeps its own latest RSeq.
 fn hear_again(client: &mut Client, rseq: u32)
     ensures { client.new ≡ spec.heard_again client.old.kind rseq client.old }
 {
@@ -229,9 +229,9 @@ fn hear_again(client: &mut Client, rseq: u32)
     }
 }
 
-// The content of what a response asks for: without a body where the INVITE had an offer or the
-// response has none. Otherwise it has to be the answer to the offer in the response, which the user
-// gives (RFC 3261, section 13.2.1; RFC 3262, section 5).
+// The content of what a response asks for: without a body if the INVITE had an offer or the
+// response has no body. Otherwise it must be the answer to the offer in the response, which the
+// user gives (RFC 3261, section 13.2.1; RFC 3262, section 5).
 fn automatic_body(alloc: Global, client: &Client, response: &Message) -> Option<Content>
     ensures { result ≡ spec.automatic_body client.now response.now }
 {
@@ -261,7 +261,7 @@ fn accepted(
     Ok((outs, ClientChange::Stays))
 }
 
-// Its ACK is owed in its dialog.
+// The ACK of a 2xx is owed in its dialog, or sent.
 #[tactic(auto, unfolding(crate::specs::Replied::ack_owed))]
 fn owe_ack(
     alloc: Global,

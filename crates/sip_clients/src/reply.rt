@@ -14,7 +14,7 @@ use sip_message::{CallId, Id, Message, StartLine, StatusCode};
 use sip_reliable::{Inbound, Offer};
 use std::alloc::{AllocError, Global};
 
-/// The status of the response by which a request is under way.
+/// The status of a response that only says that the request arrived.
 const TRYING: u16 = 100;
 
 /// A response that came up.
@@ -23,7 +23,7 @@ pub(crate) struct ReceivedResponse {
     /// The request that it answers.
     pub(crate) id: Id,
     pub(crate) call_id: CallId,
-    /// The dialog that it makes, or that its request was sent in.
+    /// The name of the dialog that it makes, or that its request was sent in.
     pub(crate) name: DialogId,
     pub(crate) status: StatusCode,
     pub(crate) response: Message,
@@ -68,27 +68,27 @@ pub(crate) fn reply_name(
     }
 }
 
-/// What a response to a held client request is that isn't the last (RFC 3261, sections 12.2.1.2,
-/// 13.2.2 and 17.1; RFC 3262, section 4).
+/// The cases of a response to a held client request that isn't the last (RFC 3261, sections
+/// 12.2.1.2, 13.2.2 and 17.1; RFC 3262, section 4).
 #[derive(Clone, Copy)]
 pub(crate) enum ReplyCase {
-    /// A 2xx that came before, to an INVITE.
+    /// A retransmitted 2xx to an INVITE.
     Repeated,
     /// The first 2xx of a dialog, to an INVITE.
     Accepted,
-    /// The first 2xx to an INVITE in a dialog that has ended.
+    /// The first 2xx to a re-INVITE whose dialog has ended.
     Late,
-    /// A reliable provisional one that is the next of its dialog, with its RSeq.
+    /// A reliable provisional response that is the next of its dialog, with its RSeq.
     Reliable(u32),
-    /// A reliable provisional one that came before, or that others have to come before.
+    /// A reliable provisional response that is a retransmission or out of order: it is dropped.
     Passed,
-    /// Another provisional one of a dialog.
+    /// Another provisional response of a dialog.
     Early,
-    /// A provisional one of no dialog.
+    /// A provisional response of no dialog.
     Told,
 }
 
-/// Whether a response is the final one of its request, or rejects an INVITE.
+/// Whether a response is the last one of its request: final, but no 2xx to an INVITE.
 pub(crate) fn is_last(kind: &RequestKind, status: u16) -> bool
     ensures { result ≡ spec.is_last kind.now status }
 {
@@ -159,7 +159,7 @@ fn has_dialog(kind: &RequestKind, found: Option<&HeldDialog>) -> bool
     }
 }
 
-// The reliable provisional responses that came before in the same dialog to the same INVITE.
+// The latest RSeq that came in the same dialog to the same INVITE.
 fn heard_of(client: &Client, found: Option<&HeldDialog>) -> Inbound
     ensures { result ≡ spec.heard_of client.now.kind client.now (option_copied found.entry) }
 {

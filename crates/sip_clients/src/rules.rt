@@ -1,4 +1,4 @@
-//! The steps of the client side are the rules of `specs/Rules`.
+//! The steps of the client side do what the rules of `specs/Rules` say.
 
 ghost use Rattle.std.specs.Prelude.{◌≡◌, ℕ, Bool, List};
 ghost use Rattle.sip_message.specs.declared.id.Id.{Id};
@@ -17,9 +17,9 @@ ghost use Rattle.sip_clients.specs.Rules.Requests.{ack_command, cancel_command, 
 ghost use Rattle.sip_clients.specs.Rules.Responses.{response_received};
 ghost use Rattle.sip_clients.specs.Tick.{clients_ticked, next_removal};
 
-/// What a response, the loss of a request and a tick do to the client requests and the dialogs of a
-/// Call-ID, and what is told and sent of it, is what the rules say (RFC 3261, sections 12.2.1.2,
-/// 13.2.2 and 13.2.2.4; RFC 3262, section 4; RFC 6026, section 7.2).
+/// A response, the loss of a request and a tick do to the client requests and the dialogs of a
+/// Call-ID what the rules say, and tell and send what they say (RFC 3261, sections 12.2.1.2, 13.2.2
+/// and 13.2.2.4; RFC 3262, section 4; RFC 6026, section 7.2).
 pub fn responses_and_ends_are_by_the_rules()
     ensures response { (event : Event) (id : Id) (call_id : List ℕ) (response : Message)
         (side : Side) → response_received event id call_id response side
@@ -30,9 +30,9 @@ pub fn responses_and_ends_are_by_the_rules()
     ensures removal { (clients : Clients) → client_due clients ≡ next_removal clients }
 {}
 
-/// What a command of the user does to them, which request goes out, and why it is refused, is what
-/// the rules say (RFC 3261, sections 8.1.1, 9.1, 12.2.1.1, 13.2.1, 13.2.2.4 and 15.1.1; RFC 3262,
-/// section 4).
+/// A command of the user does to them what the rules say, and sends the same request or is refused
+/// for the same reason (RFC 3261, sections 8.1.1, 9.1, 12.2.1.1, 13.2.1, 13.2.2.4 and 15.1.1; RFC
+/// 3262, section 4).
 pub fn commands_are_by_the_rules()
     ensures invite { (event : Event) (invite : Invite) (clients : Clients)
         → invite_command event invite clients ≡ invite_taken event invite clients }

@@ -1,4 +1,4 @@
-//! What becomes of a request that is to be sent in a dialog.
+//! The outcome of a request to send in a dialog.
 
 ghost use Rattle.std.specs.Prelude.{◌≡◌, ◌∷◌, ◌++◌, [], ℕ, IfOk, List, OnOk, Option, Some, codes};
 ghost use Rattle.sip_dialog.specs.declared.fault.DialogFault.{DialogFault};
@@ -22,7 +22,7 @@ pub(crate) struct OutgoingRequest {
     pub(crate) created_by: Id,
 }
 
-/// What becomes of a request that is to be sent in a dialog.
+/// The outcome of a request to send in a dialog.
 #[derive(Drop)]
 pub(crate) enum SendOutcome {
     Sent(OutgoingRequest),
@@ -32,7 +32,7 @@ pub(crate) enum SendOutcome {
 }
 
 impl OutgoingRequest {
-    /// The request, and where it goes.
+    /// The request, and its address.
     pub(crate) fn into_parts(self) -> (Message, Addr)
         ensures { result ≡ (self.message, self.to) }
     {
@@ -55,7 +55,7 @@ impl Drop for OutgoingRequest {
     }
 }
 
-/// Sends a request of this method, with a RAck where it is a PRACK.
+/// Sends a request of this method, with a RAck if it is a PRACK.
 pub(crate) fn request(
     alloc: Global,
     held: &mut HeldDialog,
@@ -137,7 +137,7 @@ fn prack(
     request(alloc, held, event, method, Some(rack), content)
 }
 
-// Why a dialog refused, or want of memory.
+// Why a dialog refused a request, or that memory ran out.
 fn refused_by(fault: DialogFault) -> Result<SendOutcome, AllocError>
     ensures service { (found : Option DialogFault) (sending : OutgoingRequest) → fault
         ≡ or_no_memory found
@@ -157,7 +157,7 @@ fn refused_by(fault: DialogFault) -> Result<SendOutcome, AllocError>
     }
 }
 
-/// Discharges a debt with the content that its request carries; without one it waits for the user.
+/// Sends an ACK or PRACK with its content. Without a content it waits for the user.
 #[tactic(auto, unfolding(crate::specs::SendOutcome::discharged))]
 pub(crate) fn discharge(
     alloc: Global,

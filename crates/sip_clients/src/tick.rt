@@ -1,4 +1,4 @@
-//! A tick: the INVITEs that are removed, and the end of the dialogs that are early still.
+//! A tick: the INVITEs that are removed, and the end of their dialogs that are still early.
 
 ghost use Rattle.std.specs.Prelude.{◌≡◌, IfOk, not};
 ghost use Rattle.sip_clients.specs.Tick as spec;
@@ -17,7 +17,7 @@ fn is_over(client: &Client, now: u64) -> bool
     client.removal.is_some_and(|moment| moment <= now)
 }
 
-/// How the user is told of the dialogs that end.
+/// The notices of the dialogs that end.
 pub(crate) fn over_notices(
     alloc: Global,
     dialogs: &Dialogs,
@@ -50,7 +50,7 @@ fn notices_of(
     }
 }
 
-/// The dialogs that are early still of an INVITE that is removed end.
+/// Removes the dialogs that are still early when their INVITE is removed.
 pub(crate) fn drop_dialogs(dialogs: &mut Dialogs, clients: &ClientMap, now: u64)
     ensures { dialogs.new.entries ≡ spec.dialogs_left now dialogs.old.entries clients.now.entries }
 {
@@ -70,7 +70,7 @@ fn ends_at(clients: &ClientMap, now: u64, held: &HeldDialog) -> bool
         && is_early_of(held, client.id))
 }
 
-/// The INVITEs that are due to be removed go.
+/// Removes the INVITEs that are due.
 pub(crate) fn drop_clients(clients: &mut ClientMap, now: u64)
     ensures { clients.new.entries ≡ spec.clients_left now clients.old.entries }
 {

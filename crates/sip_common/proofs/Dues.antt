@@ -1,4 +1,4 @@
--- The earlier of two moments is due where one of them is.
+-- The earlier of two moments is due if one of them is.
 use Rattle.std.proofs.Common.{◌≡◌, ℕ, Bool, true, false, ◌||◌, min, nat_le, refl, sym, arith}
 use Rattle.std.specs.Prelude.{Option, None, Some}
 use Rattle.std.proofs.lemmas.Grind.{common_steps}

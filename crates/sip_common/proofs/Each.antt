@@ -1,5 +1,4 @@
--- What holds of each element of a list, or of the value of each entry, and still does after a
--- change.
+-- What is true of each element of a list, or of the value of each entry, stays true after a change.
 use Rattle.std.proofs.Common.{◌≡◌, Bool, true, false, cond, List, [], ◌∷◌, ◌++◌, map, subst}
 use Rattle.std.specs.Prelude.{Option, None, Some, IfSome, filter, find}
 use Rattle.std.specs.List.{AllByRecursion, flat_map}
@@ -44,7 +43,7 @@ module _ {X : Type 0} (P : X → Type 0) where
       → find test xs ≡ Some y → P y
   found test xs y all is = subst (λ o. IfSome o P) is (first_one test xs all)
 
--- where what holds of each element gives what holds of all that it maps to
+-- if P of an element gives Q of what it maps to, then P of all elements gives Q of all results
 module _ {X Y : Type 0} (P : X → Type 0) (Q : Y → Type 0) where
   pub mapped : (f : X → Y) → ((x : X) → P x → Q (f x)) → (xs : List X) → AllByRecursion P xs
       → AllByRecursion Q (map f xs)
@@ -74,7 +73,7 @@ module _ {K X : Type 0} (P : X → Type 0) where
   found_one test (e ∷ es) each =
       found_step P (test e.0) e.1 (lookup test es) each.0 (found_one test es each.1)
 
-  -- the value of one is another
+  -- one value is replaced
   pub each_set : (test : K → Bool) (es : List (K × X)) (x : X) → P x → EachValue es
       → EachValue (set_value test es x)
   each_set test [] x new each = tt

@@ -1,5 +1,4 @@
--- Which dialogs are held after something, and of whose end the user is told: what makes dialogs and
--- what ends them, of each name.
+-- For each name: which dialogs are held after a step, and of which ends the user is told.
 use Rattle.std.proofs.Common.{◌≡◌, ℕ, ◌+◌, Bool, true, false, not, ◌&&◌, ◌||◌, cond, List, [], ◌∷◌, ◌++◌, map, refl, sym, ap, ◌∙◌, arith}
 use Rattle.std.specs.Prelude.{Option, None, Some, count_by, filter, filter_map, fold, is_some}
 use Rattle.std.specs.List.{AllByRecursion}
@@ -76,11 +75,11 @@ told_one name own held named =
 
 -- ---- one dialog
 
--- whether the dialog of a name is left, where those end of which this is true
+-- whether a dialog is held and stays, if those end that pass the test
 abbrev pub left_of : (HeldDialog → Bool) → Option HeldDialog → Bool
 left_of ends found = option_map_or (λ held. not (ends held)) found false
 
--- whether it ends
+-- whether a dialog is held and ends
 abbrev pub ended_of : (HeldDialog → Bool) → Option HeldDialog → Bool
 ended_of ends found = option_map_or ends found false
 
@@ -109,7 +108,7 @@ left_all true (Some held) = refl
 left_all false None = refl
 left_all false (Some held) = refl
 
--- whether one is held is all that counts, where all or none end
+-- if all end or none does, it only matters whether one is held
 left_alike : (b : Bool) (x y : Option HeldDialog) → is_some x ≡ is_some y
     → left_of (λ held. b) x ≡ left_of (λ held. b) y
 left_alike b None None same = refl
@@ -145,14 +144,14 @@ happened_name dialog (Refreshes uri) = refl
 happened_name dialog (Confirms response) = confirmed_name dialog.side dialog response
 happened_name dialog Ends = refl
 
--- what happens in a dialog leaves it its name
+-- a dialog keeps its name, whatever happens in it
 pub lived_name : (dialog : Dialog) (life : List Happening)
     → name_of_dialog (fold happened dialog life) ≡ name_of_dialog dialog
 lived_name dialog [] = refl
 lived_name dialog (one ∷ life) =
     lived_name (happened dialog one) life ∙ happened_name dialog one
 
--- so a change that leaves each its name
+-- dialogs keep their names if a change keeps the name of each
 pub changed_named : (own : DialogId) (change : HeldDialog → HeldDialog)
     → ((held : HeldDialog) → name_of_dialog (change held).dialog ≡ name_of_dialog held.dialog)
     → (dialogs : Dialogs) → AreNamed dialogs → AreNamed (dialog_changed own change dialogs)
@@ -187,7 +186,7 @@ filtered_named p dialogs apart named name held at =
     by_found None is found = absurd cc
     by_found (Some before) is found = named name held (is ∙ by_test before (p before) found)
 
--- the same, of the entries
+-- the same for the entries
 abbrev pub EachNamed : Dialogs → Type 0
 EachNamed dialogs = AllByRecursion
     (λ (entry : DialogId × HeldDialog). is_dialog_id entry.0 (name_of_dialog entry.1.dialog) ≡ true)
@@ -274,7 +273,7 @@ told_filtered p name (entry ∷ dialogs) apart named =
 
 -- ---- all dialogs
 
--- in the dialogs of which names something is so
+-- a test of dialogs, by name
 abbrev pub Which : Type 0
 Which = DialogId → HeldDialog → Bool
 
@@ -284,7 +283,7 @@ no_name name = false
 abbrev pub none_ends : Which
 none_ends name held = false
 
--- a dialog is held then where it is opened, or was held and isn't ended; each end is told once
+-- afterwards a dialog is held if it was opened, or was held and didn't end; each end is told once
 pub record Goes (opens : DialogId → Bool) (ends : Which) (before after : Dialogs)
     (outs : List CallOut) : Type 0 where
   pub held : (name : DialogId) → is_some (dialog_at name after)
@@ -339,7 +338,7 @@ goes_changed own change dialogs outs none =
     goes_kept dialogs (dialog_changed own change dialogs) outs (changed_held own change dialogs)
     none
 
--- something more is given, that tells of no end
+-- further outputs come first, which tell of no end
 pub goes_before : (opens : DialogId → Bool) (ends : Which) (before after : Dialogs)
     (xs ys : List CallOut) → names_ended xs ≡ [] → Goes opens ends before after ys
     → Goes opens ends before after (xs ++ ys)
@@ -364,7 +363,7 @@ goes_beside opens ends before after xs ys none goes = record {
 
 -- ---- what ends dialogs
 
--- the dialog of a name ends, which has the name of its tags
+-- the dialog of a name ends; it has the name of its tags
 pub goes_removed : (own : DialogId) (dialogs : Dialogs) → AreApart dialogs → AreNamed dialogs
     → Goes no_name (λ name held. is_dialog_id own name) dialogs (ended_at own dialogs).0
     (ended_at own dialogs).1
@@ -443,7 +442,7 @@ goes_named_then ends before middle after outs same goes = record {
       (same name));
 }
 
--- those that pass a test end, and then others
+-- those that pass one test end, and then those that pass another
 left_then : (p e : HeldDialog → Bool) (o : Option HeldDialog)
     → left_of e (option_filter (λ held. not (p held)) o)
     ≡ left_of (λ held. p held || e held) o

@@ -1,4 +1,4 @@
--- Entries under keys that differ: what is found under a key after a change of one entry.
+-- What is found under a key after a change of one entry, in a list whose keys differ.
 use Rattle.std.proofs.Common.{◌≡◌, Bool, true, false, cond, List, [], ◌∷◌, refl, sym, ap, subst, ◌∙◌}
 use Rattle.std.specs.Prelude.{Option, None, Some, IsSome, filter}
 use Rattle.std.specs.Cmp.{IsEquivalence}
@@ -82,7 +82,7 @@ module _ {K X : Type 0} {eq : K → K → Bool} (laws : IsEquivalence eq) where
   found_inserted k q v (e ∷ es) =
       insert_step k q v e es (eq k e.0) refl (found_inserted k q v es)
 
-  -- ---- the keys differ still
+  -- ---- the keys still differ
 
   pub apart_changed : (k : K) (change : X → X) (es : List (K × X)) (o : Option X) → Apart es
       → Apart (option_map_or (λ x. set_value (eq k) es (change x)) o es)
@@ -140,7 +140,7 @@ module _ {K X : Type 0} {eq : K → K → Bool} (laws : IsEquivalence eq) where
       put_apart k v e es (eq k e.0) refl apart
       (apart_inserted k v es (IsDistinct-tail eq e.0 (keys_of es) apart))
 
-  -- ---- what holds of what is found before and after, where nothing changes and where it is gone
+  -- ---- a relation of what is found before and after, if nothing changes or an entry is gone
 
   module _ (R : Option X → Option X → Type 0) (stays : (o : Option X) → R o o)
       (ends : (o : Option X) → R o None) where

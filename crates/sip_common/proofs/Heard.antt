@@ -1,5 +1,5 @@
--- The dialog of a name before and after something: it stays with what happened in it and what was
--- heard in it, is over, or is made anew.
+-- The dialog of a name before and after a step: it goes on with what happened in it and its latest
+-- RSeq, it ends, or it is made anew.
 use Rattle.std.proofs.Common.{◌≡◌, ◌⊎◌, inl, inr, ℕ, Bool, true, false, ◌&&◌, cond, List, [], ◌∷◌, refl, sym, ap, subst, ◌∙◌, nat_eq}
 use Rattle.std.specs.Prelude.{Option, None, Some, filter, fold}
 use Rattle.std.specs.Cmp.{IsEquivalence, first_so, second_so}
@@ -66,11 +66,11 @@ tag_kept (b ∷ bs) = refl
 
 -- ---- one dialog
 
--- what happened fits the dialog before it, and makes of it the one after it
+-- what happened fits the dialog before, and leads to the dialog after
 abbrev pub Grows : Dialog → List Happening → Dialog → Type 0
 Grows before life after = AllFit before life × (after ≡ fold happened before life)
 
--- what was heard last, where this number may have come
+-- the latest RSeq, if this number may have come
 abbrev pub heard_with : Option ℕ → Option ℕ → Option ℕ
 heard_with None last_rseq = last_rseq
 heard_with (Some number) last_rseq = latest_after (offered last_rseq number) last_rseq number
@@ -90,13 +90,13 @@ abbrev pub KeptFrom : Option ℕ → Life → HeldDialog → Option HeldDialog �
 KeptFrom came life after None = ⊥
 KeptFrom came life after (Some before) = Keeps came (life before) before after
 
--- it was there and this happened in it, or it is over
+-- the dialog was there and this happened in it, or it is no longer held
 abbrev pub Stays : Option ℕ → Life → Option HeldDialog → Option HeldDialog → Type 0
 Stays came life before None = Unit {0}
 Stays came life before (Some after) = KeptFrom came life after before
 
--- an event made it by an opening, and this happened in it since; where one of the name was held
--- before, nothing did
+-- an event made it by an opening, and this happened in it since; nothing did if one of the name was
+-- held before
 abbrev pub Begins : Option Id → (Opening → Type 0) → Option ℕ → List Happening → Option HeldDialog
     → Option HeldDialog → Type 0
 Begins event Opens came life before None = ⊥
@@ -153,11 +153,11 @@ Lives = DialogId → Life
 abbrev pub quiet : Lives
 quiet name held = []
 
--- this in the dialog of this name alone
+-- this happens only in the dialog of this name
 abbrev pub in_one : DialogId → Life → Lives
 in_one name life other held = cond (is_dialog_id name other) (life held) []
 
--- their names differ still, and of each name the dialog stays, or is over
+-- their names still differ, and the dialog of each name goes on or is no longer held
 pub record Leads (lives : Lives) (before after : Dialogs) : Type 0 where
   pub apart : AreApart after
   pub stays : (name : DialogId)
@@ -178,7 +178,7 @@ leads_then lives x y z first second =
           (first.stays name) (later.stays name);
     }
 
--- the same lives, of what is held
+-- lives can be replaced by others that agree on the held dialogs
 pub leads_as : (lives others : Lives) (before after : Dialogs)
     → ((name : DialogId) (held : HeldDialog) → dialog_at name before ≡ Some held
     → lives name held ≡ others name held)
@@ -238,7 +238,8 @@ abbrev pub OpensBy : Option Opening → DialogId → Opening → Type 0
 OpensBy start name opening =
     (start ≡ Some opening) × (is_dialog_id name (name_of_dialog (opened opening)) ≡ true)
 
--- of each name the dialog stays, is over, or was made by the event; a number may have come in it
+-- the dialog of each name goes on, is no longer held, or was made by the event; an RSeq may have
+-- come in it
 pub record Moves (event : Option Id) (start : Option Opening) (came : DialogId → Option ℕ)
     (lives : Lives) (begun : DialogId → List Happening) (before after : Dialogs) : Type 0 where
   pub apart : AreApart after
@@ -255,7 +256,7 @@ pub moves_led : (event : Option Id) (start : Option Opening) (begun : DialogId �
 moves_led event start begun lives before after leads =
     record { apart = leads.apart; goes = λ name. inl (leads.stays name) }
 
--- the same lives, of what is held, and of what is made
+-- lives can be replaced by others that agree on the held and the made dialogs
 pub moves_as : (event : Option Id) (start : Option Opening) (came : DialogId → Option ℕ)
     (lives others : Lives) (begun later : DialogId → List Happening) (before after : Dialogs)
     → ((name : DialogId) (held : HeldDialog) → dialog_at name before ≡ Some held
@@ -281,7 +282,7 @@ moves_as event start came lives others begun later before after same same_begun 
         inr (subst (λ (life : List Happening).
         Begins event (OpensBy start name) (came name) life x (Some y)) (same_begun name) begins)
 
--- what has the tags of a dialog of the name has the name
+-- tags of a dialog with this name give the name
 pub same_name : (name other tags : DialogId) → is_dialog_id name tags ≡ true
     → is_dialog_id name other ≡ true → is_dialog_id other tags ≡ true
 same_name name other tags own same = sym (name_laws.congr name other tags same) ∙ own

@@ -1,4 +1,4 @@
--- What happens in a dialog makes of its record what it adds to its story.
+-- What happens in a dialog changes its record as it is added to the story.
 use Rattle.std.proofs.Common.{◌≡◌, ℕ, Bool, true, false, not, cond, List, [], ◌∷◌, ◌++◌, refl, sym, ap, subst, ◌∙◌}
 use Rattle.std.specs.Prelude.{Option, None, Some, Ok, is_some, fold}
 use Rattle.std.proofs.lemmas.List.{append-nil, append_assoc}
@@ -49,7 +49,7 @@ happened_on opening life happen.Ends fits =
     end_stands (dialog_after opening life) (ended_now (dialog_after opening life)) refl opening
     life refl
 
--- so what more makes of the dialog is the dialog after more
+-- the same for all that happens after a story
 pub all_on : (opening : Opening) (life more : List Happening)
     → AllFit (dialog_after opening life) more
     → fold happened (dialog_after opening life) more ≡ dialog_after opening (life ++ more)

@@ -1,5 +1,5 @@
--- What is owed in the dialog of a name before and after something: it changed in the dialog that
--- was there, which may be over, or in one that is made anew.
+-- What is owed in the dialog of a name before and after a step: it changed in the dialog that was
+-- there, which may have ended, or in one that is made anew.
 use Rattle.std.proofs.Common.{◌≡◌, ◌⊎◌, inl, inr, Bool, List, [], refl, ◌∙◌}
 use Rattle.std.specs.Prelude.{Option, None, Some, filter}
 use Rattle.std.specs.Map.{remove_entry}
@@ -20,7 +20,7 @@ KeptOwed change after (Some before) =
     (after.created_by ≡ before.created_by) × (after.pending_requests
     ≡ change before.pending_requests)
 
--- it was there and what is owed in it changed so, or it is over
+-- the dialog was there and what is owed in it changed in this way, or it is no longer held
 abbrev pub OwesStill : (List PendingRequest → List PendingRequest) → Option HeldDialog
     → Option HeldDialog → Type 0
 OwesStill change before None = Unit {0}
@@ -32,7 +32,7 @@ OwesAnew event change None = ⊥
 OwesAnew event change (Some after) =
     (event ≡ Some after.created_by) × (after.pending_requests ≡ change [])
 
--- that, or the event made it and nothing was owed in it before
+-- the same, or the event made it and nothing was owed in it before
 abbrev pub Owes : Option Id → (List PendingRequest → List PendingRequest) → Option HeldDialog
     → Option HeldDialog
     → Type 0
@@ -76,7 +76,7 @@ owes_as event change other x (Some y) same (inr begins) = inr (begins.0, begins.
 
 -- ---- all dialogs
 
--- of each name what is owed is the same
+-- for each name the same is owed
 abbrev pub OweSame : Dialogs → Dialogs → Type 0
 OweSame before after = (name : DialogId)
     → OwesStill unchanged (dialog_at name before) (dialog_at name after)

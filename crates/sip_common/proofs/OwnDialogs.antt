@@ -1,4 +1,5 @@
--- What happens to the dialogs of a Call-ID keeps them of it, and tells what is of it.
+-- The dialogs of a Call-ID still belong to it after any change, and so do the notices of their
+-- ends.
 use Rattle.std.proofs.Common.{◌≡◌, ℕ, List, [], ◌∷◌, not, refl, ◌∙◌}
 use Rattle.std.specs.Prelude.{Option, None, Some, IfSome, filter, fold}
 use Rattle.std.specs.Map.{values_of}

@@ -1,4 +1,4 @@
--- The transactions of clients that outputs start; the ends of dialogs start none.
+-- The client transactions that outputs start; the ends of dialogs start none.
 use Rattle.std.proofs.Common.{◌≡◌, ℕ, List, [], ◌∷◌, ◌++◌, map, refl, sym, ap, subst, ◌∙◌}
 use Rattle.std.specs.Prelude.{Option, None, Some, filter, filter_map}
 use Rattle.std.specs.List.{cons_option, flat_map}
@@ -16,7 +16,7 @@ use Rattle.sip_common.specs.declared.item.CallOut.TheVariants as out
 use Rattle.sip_common.specs.Dialogs.{Dialogs, dialog_at, early_ended, ended_at, ended_notice, is_early_of}
 use Rattle.sip_common.specs.Sent.{NumberedFrom, cseq_of_output, cseqs_in, requests_made, sent_in}
 
--- a transaction of a client that is started, by its id and its key
+-- the client transaction that a command starts, by its id and its key
 abbrev pub start_of : Id → Order → Option (Id × Key)
 start_of id (order.Start key call_id message to) = Some (id, key)
 start_of id (order.Answer key message) = None

@@ -1,4 +1,4 @@
--- The requests that outputs tell the user of; the ends of dialogs tell of none.
+-- The requests of which outputs tell the user; the ends of dialogs tell of none.
 use Rattle.std.proofs.Common.{◌≡◌, List, [], ◌∷◌, ◌++◌, map, refl, ◌∙◌}
 use Rattle.std.specs.Prelude.{Option, None, Some, filter, filter_map}
 use Rattle.std.specs.Map.{values_of}

@@ -25,7 +25,7 @@ use Rattle.sip_common.specs.Ids.{is_id}
 abbrev pub Dialogs : Type 0
 Dialogs = List (DialogId × HeldDialog)
 
--- two dialog IDs are the same
+-- two dialog IDs are the same; `dialog_id_of_tags` makes them, in lower case
 abbrev pub is_dialog_id : DialogId → DialogId → Bool
 is_dialog_id name other =
     pointwise nat_eq name.local other.local && pointwise nat_eq name.remote other.remote
@@ -34,13 +34,13 @@ is_dialog_id name other =
 abbrev pub dialog_at : DialogId → Dialogs → Option HeldDialog
 dialog_at name dialogs = lookup (is_dialog_id name) dialogs
 
--- the held dialog of this ID is changed so
+-- the held dialogs after this change of the one with this ID
 abbrev pub dialog_changed : DialogId → (HeldDialog → HeldDialog) → Dialogs → Dialogs
 dialog_changed name change dialogs =
     option_map_or (λ held. set_value (is_dialog_id name) dialogs (change held))
     (dialog_at name dialogs) dialogs
 
--- the dialog that this event made is held still, and not a later one of the same ID
+-- the dialog that the event of this reference made is still held, not a later one of the same ID
 abbrev pub lives : Dialogs → DialogReference → Bool
 lives dialogs reference =
     option_map_or (λ held. is_id held.created_by reference.created_by)
@@ -59,11 +59,11 @@ dialog_of_request request name dialogs =
 
 -- ---- how it ends
 
--- a tag, empty where there is none
+-- a tag, empty if there is none
 abbrev pub tag_text : Option (List ℕ) → List ℕ
 tag_text tag = unwrap_or tag []
 
--- an end is told with the tags as they were spelled when the dialog was made
+-- the notice of an end has the tags as they were spelled when the dialog was made
 abbrev pub ended_notice : HeldDialog → CallOut
 ended_notice held =
     Notice
@@ -98,43 +98,43 @@ happened dialog (Refreshes uri) = with_target dialog uri
 happened dialog (Confirms response) = confirmed_by dialog response
 happened dialog Ends = ended_now dialog
 
--- after one thing after another
+-- a held dialog after all of this, in order
 abbrev pub lived : List Happening → HeldDialog → HeldDialog
 lived life held = record held { dialog = fold happened held.dialog life }
 
--- its number is above those that came before (RFC 3261, section 12.2.2)
+-- a number is above those that came before (RFC 3261, section 12.2.2)
 abbrev pub takes : HeldDialog → ℕ → Bool
 takes held number = not (is_some (accept_fault held.dialog number))
 
--- where that is so it is accepted, and is the greatest that came
+-- if so, it is accepted, and is now the greatest that came
 abbrev pub numbers : ℕ → HeldDialog → List Happening
 numbers number held = if takes held number then Accepts number ∷ [] else []
 
--- a dialog that isn't over gets another target
+-- a dialog that hasn't ended gets another target
 abbrev pub retargets : Option (List ℕ) → HeldDialog → List Happening
 retargets None held = []
 retargets (Some uri) held = if is_some (ended_fault held.dialog) then [] else Refreshes uri ∷ []
 
--- a re-INVITE with a Contact gives it another
+-- a re-INVITE with a Contact gives the dialog another target
 abbrev pub refreshes : Message → HeldDialog → List Happening
 refreshes request held = if is_invite request then retargets (contact_uri request) held else []
 
--- a request in it: its number is noted, and it refreshes the target where its method does
+-- a request in the dialog: its number is noted, and a re-INVITE refreshes the target
 abbrev pub happenings_by_request : Message → HeldDialog → List Happening
 happenings_by_request request held = numbers request.cseq.number held ++ refreshes request held
 
--- a 2xx confirms a dialog that isn't over
+-- a 2xx confirms a dialog that hasn't ended
 abbrev pub confirms : Message → HeldDialog → List Happening
 confirms response held = if is_some (ended_fault held.dialog) then [] else Confirms response ∷ []
 
--- the dialog after a request in it
+-- a held dialog after a request in it
 abbrev pub visited : Message → HeldDialog → HeldDialog
 visited request held = lived (happenings_by_request request held) held
 
--- with another target
+-- a held dialog with another target
 abbrev pub retargeted : Option (List ℕ) → HeldDialog → HeldDialog
 retargeted uri held = lived (retargets uri held) held
 
--- after a 2xx
+-- a held dialog after a 2xx
 abbrev pub confirmed : Message → HeldDialog → HeldDialog
 confirmed response held = lived (confirms response held) held

@@ -1,4 +1,4 @@
--- The record of a dialog and its story: both say the same of all that happened in it, on either
+-- The record of a dialog says the same as its story, whatever happened in the dialog, on either
 -- side of a call (RFC 3261, section 12).
 use Rattle.std.specs.Prelude.{◌≡◌, ℕ, List, [], ◌∷◌, ◌++◌, Option, None, fold}
 use Rattle.sip_message.specs.declared.message.Message.{Message}
@@ -18,19 +18,19 @@ Fits dialog (Refreshes uri) = Unit {0}
 Fits dialog (Confirms response) = ended_fault dialog ≡ None
 Fits dialog Ends = Unit {0}
 
--- the same of each, after those before it
+-- the same for each in turn, after those before it
 abbrev pub AllFit : Dialog → List Happening → Type 0
 AllFit dialog [] = Unit {0}
 AllFit dialog (one ∷ life) = Fits dialog one × AllFit (happened dialog one) life
 
--- what a request of the peer, a 2xx and a Contact make happen fits
+-- a dialog refuses nothing that a request of the peer, a 2xx or a Contact makes happen
 pub record CasesFit (held : HeldDialog) : Type 0 where
   pub happenings_by_request : (request : Message) → AllFit held.dialog
       (happenings_by_request request held)
   pub confirms : (response : Message) → AllFit held.dialog (confirms response held)
   pub retargets : (uri : Option (List ℕ)) → AllFit held.dialog (retargets uri held)
 
--- a record that stands for a story stands, after more that fits, for the story with that
+-- If a record stands for a story and more happens that fits, it stands for the longer story.
 abbrev pub StandsForItsStory : Type 0
 StandsForItsStory = (opening : Opening) (life more : List Happening)
     → AllFit (dialog_after opening life) more

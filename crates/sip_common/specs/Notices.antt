@@ -1,4 +1,4 @@
--- Notices that more than one part of a call gives or is asked for.
+-- Notices that several parts of a call use.
 use Rattle.std.specs.Prelude.{ℕ, List, [], ◌∷◌, Option, None, Some}
 use Rattle.sip_message.specs.declared.id.Id.{Id}
 use Rattle.sip_common.specs.declared.item.CallOut.{CallOut}
@@ -12,7 +12,7 @@ refused event call_id refusal = Notice (Refused call_id event.place refusal) ∷
 
 -- ---- for steps and laws: `run` needs nothing of what follows
 
--- the request that an output tells the user of
+-- the request of which an output tells the user
 abbrev pub request_told_by : CallOut → Option Id
 request_told_by (Notice (Request call_id id method local_tag remote_tag body)) = Some id
 request_told_by _ = None

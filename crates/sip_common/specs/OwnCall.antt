@@ -1,4 +1,4 @@
--- One Call-ID: what of a call is of it (RFC 3261, section 8.1.1.4).
+-- What belongs to one Call-ID (RFC 3261, section 8.1.1.4).
 use Rattle.std.specs.Prelude.{◌≡◌, ℕ, List}
 use Rattle.std.specs.List.{AllByRecursion}
 use Rattle.sip_transactions.specs.declared.output.Kind.{Kind}
@@ -29,7 +29,7 @@ call_of_notice (Cancel call_id id) = call_id
 call_of_notice (Ended call_id local_tag remote_tag) = call_id
 call_of_notice (Refused call_id place refusal) = call_id
 
--- a notice has that Call-ID; what goes to the network is no notice
+-- an output is a notice with this Call-ID, or no notice at all
 abbrev pub IsNoticeOf : List ℕ → CallOut → Type 0
 IsNoticeOf call_id (out.Notice notice) = call_of_notice notice ≡ call_id
 IsNoticeOf call_id (out.Command id command) = Unit {0}
@@ -49,7 +49,7 @@ AreDialogsOf call_id dialogs =
 
 -- ---- what happens
 
--- a request that comes up has that Call-ID; of any other message nothing is asked
+-- a request that comes up has this Call-ID; nothing is said of anything else
 abbrev pub IsKindOf : List ℕ → Kind → Type 0
 IsKindOf call_id (kind.Request request reply_to) = request.call_id ≡ call_id
 IsKindOf call_id (kind.Ack ack) = Unit {0}
@@ -57,7 +57,7 @@ IsKindOf call_id (kind.Response response) = Unit {0}
 IsKindOf call_id kind.Timeout = Unit {0}
 IsKindOf call_id kind.Failed = Unit {0}
 
--- what a transaction of that Call-ID hands up, or a command of the user for it
+-- what a transaction of this Call-ID hands up, or a command of the user for this Call-ID
 abbrev pub IsItemOf : List ℕ → Item → Type 0
 IsItemOf call_id (Up up) = (up.call_id ≡ call_id) × IsKindOf call_id up.kind
 IsItemOf call_id (User command) = call_of_command command ≡ call_id

@@ -3,7 +3,7 @@ use Rattle.std.specs.Prelude.{ℕ, Bool, List, [], ◌∷◌, Option, Some, if�
 use Rattle.sip_common.specs.declared.refusal.Refusal.{Refusal}
 use Rattle.sip_common.specs.declared.refusal.Refusal.TheVariants.{CallInUse, NoSuchCall, NoSuchDialog, NoSuchRequest, AlreadyFinal, BadStatus, ReliablePending, NotSupported, NothingToAck, NothingToPrack, SequenceUsedUp, StrictRoute, DialogEnded, BadMethod}
 
--- the refusal of the first condition that holds, and otherwise this
+-- the refusal of the first condition that is true, or the given one if none is
 abbrev pub first_refusal : List (Bool × Refusal) → Option Refusal → Option Refusal
 first_refusal [] otherwise = otherwise
 first_refusal ((holds, refusal) ∷ others) otherwise =

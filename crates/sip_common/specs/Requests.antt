@@ -7,7 +7,7 @@ use Rattle.sip_message.specs.declared.message.Message.{Message}
 use Rattle.sip_message.specs.Party.{tag_of}
 use Rattle.sip_common.specs.declared.held_dialog.DialogId.{DialogId}
 
--- the method, which also stands in CSeq; a message where the two differ isn't read
+-- the method, taken from CSeq; a message whose request line has another one isn't read
 abbrev pub is_method : List ℕ → Message → Bool
 is_method method request = bytes_eq request.cseq.method method
 
@@ -27,7 +27,7 @@ is_cancel request = is_method (codes "CANCEL") request
 abbrev pub is_prack : Message → Bool
 is_prack request = is_method (codes "PRACK") request
 
--- it has a To tag: it was sent inside a dialog
+-- a request has a To tag: it was sent inside a dialog
 abbrev pub has_to_tag : Message → Bool
 has_to_tag request = not (length (tag_of request.to) == 0)
 
@@ -47,7 +47,7 @@ supports_100rel request = list_any is_100rel request.supported || requires_100re
 abbrev pub is_unknown_option : List ℕ → Bool
 is_unknown_option option = not (is_100rel option)
 
--- the To tag of the answers to a request: its own, or the one made (RFC 3261, section 8.2.6.2)
+-- the To tag of the answers to a request: its own, or else the made one (RFC 3261, section 8.2.6.2)
 abbrev pub local_tag_of : Message → List ℕ → List ℕ
 local_tag_of request made = if length (tag_of request.to) == 0 then made else tag_of request.to
 
@@ -56,7 +56,7 @@ abbrev pub dialog_id_of_tags : List ℕ → List ℕ → DialogId
 dialog_id_of_tags local remote =
     record { local = str_to_ascii_lowercase local; remote = str_to_ascii_lowercase remote }
 
--- the ID of the dialog that a request is in, or that its response makes
+-- the ID of the dialog that a request is in, or that its response makes; the To tag is local
 abbrev pub dialog_id_of : Message → List ℕ → DialogId
 dialog_id_of request made = dialog_id_of_tags (local_tag_of request made) (tag_of request.from)
 

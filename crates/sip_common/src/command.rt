@@ -10,13 +10,13 @@ use std::alloc::AllocError;
 #[derive(Clone, Copy, PartialEq, Eq)]
 pub enum ProvisionalSupport {
     None,
-    /// `100rel` stands in Supported.
+    /// With `100rel` in Supported.
     Supported,
-    /// `100rel` stands in Require.
+    /// With `100rel` in Require.
     Required,
 }
 
-/// Whether a provisional response is to be sent reliably (RFC 3262, section 3).
+/// Whether a provisional response should be sent reliably (RFC 3262, section 3).
 #[derive(Clone, Copy, PartialEq, Eq)]
 pub enum Reliability {
     Plain,
@@ -66,14 +66,14 @@ pub struct Respond {
     pub call_id: CallId,
     /// The request that is answered.
     pub id: Id,
-    /// Any number: one outside 101 to 699 is refused.
+    /// The status. Numbers outside 101 to 699 are refused.
     pub status: u16,
     pub reliability: Reliability,
     pub content: Content,
     pub reason: Reason,
 }
 
-/// What an ACK or a PRACK of a dialog is to carry. An absent tag is the empty tag.
+/// Sends an ACK or a PRACK in a dialog, with this content. An absent tag is the empty tag.
 pub struct DialogBody {
     pub call_id: CallId,
     pub local_tag: Option<Token>,
@@ -104,7 +104,7 @@ impl UserCommand {
     ghost use Rattle.std.specs.Prelude.{◌≡◌};
     ghost use Rattle.sip_common.specs.Command.{call_of_command};
 
-    /// The Call-ID of the call that is meant.
+    /// The Call-ID of the call that the command is for.
     pub fn call_id(&self) -> &CallId
         ensures { result.now ≡ call_of_command self.now }
     {

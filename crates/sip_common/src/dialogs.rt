@@ -16,7 +16,7 @@ use std::alloc::{AllocError, Global};
 /// The held dialogs by name, in the order in which they were made.
 pub type Dialogs = IndexMap<DialogId, HeldDialog>;
 
-/// Whether a number is above those that came in the dialog before.
+/// Whether a CSeq number is above those that came in the dialog before.
 pub fn takes(held: &HeldDialog, number: u32) -> bool
     ensures { result ≡ spec.takes held.now number }
 {
@@ -28,7 +28,7 @@ pub fn takes(held: &HeldDialog, number: u32) -> bool
     }
 }
 
-/// Whether the dialog that was made so is still held.
+/// Whether the dialog of this reference is still held.
 pub fn lives(dialogs: &Dialogs, life: &DialogReference) -> bool
     ensures { result ≡ spec.lives dialogs.now.entries life.now }
 {
@@ -38,7 +38,7 @@ pub fn lives(dialogs: &Dialogs, life: &DialogReference) -> bool
     }
 }
 
-/// The dialog of this name, as it is now, where the request is inside of one.
+/// A reference to the held dialog of this name, if the request has a To tag.
 pub fn dialog_of_request(
     dialogs: &Dialogs,
     request: &Message,
@@ -127,7 +127,7 @@ pub fn confirm_dialog(held: &mut HeldDialog, response: &Message) -> Result<(), A
     }
 }
 
-/// The dialog of this name ends, which is told where there is one.
+/// Ends the dialog of this name and tells the user, if there is one.
 pub fn end(
     alloc: Global,
     dialogs: &mut Dialogs,
@@ -143,7 +143,7 @@ pub fn end(
     Ok(outs)
 }
 
-/// The early dialogs that an INVITE made end, which is told of each.
+/// Ends the early dialogs that an INVITE made, and tells the user of each.
 pub fn end_early(
     alloc: Global,
     dialogs: &mut Dialogs,
@@ -157,7 +157,7 @@ pub fn end_early(
     Ok(outs)
 }
 
-/// How the user is told that the early dialogs of an INVITE end.
+/// The notices of the end of the early dialogs of an INVITE.
 pub fn early_notices(
     alloc: Global,
     dialogs: &Dialogs,
@@ -195,7 +195,7 @@ pub fn is_early_of(held: &HeldDialog, invite: Id) -> bool
     }
 }
 
-// How the user is told of an end.
+// The notice of the end of a dialog.
 fn ended_notice(alloc: Global, held: &HeldDialog) -> Result<CallOut, AllocError>
     ensures { IfOk result (λ out. out ≡ spec.ended_notice held.now) }
 {

@@ -11,8 +11,8 @@ use sip_reliable::Inbound;
 use sip_text::{Series, Text};
 use std::alloc::{AllocError, Global};
 
-/// What a dialog is found by: its local and its remote tag in lower case, since tags are compared
-/// without case (RFC 3261, sections 7.3.1 and 12). A tag that isn't there is empty.
+/// The name by which a dialog is found: its local and its remote tag in lower case, since tags are
+/// compared without case (RFC 3261, sections 7.3.1 and 12). A missing tag is empty.
 #[derive(PartialEq, Eq, Hash)]
 pub struct DialogId {
     pub local: Text,
@@ -34,15 +34,15 @@ impl DialogId {
 /// A dialog, from the event that made it to the one that ends it.
 pub struct HeldDialog {
     pub dialog: Dialog,
-    /// Where its requests go when the URI of their next hop names no address.
+    /// The address of its requests if the URI of their next hop names no IPv4 address.
     pub address: Addr,
     /// The INVITE that made it.
     pub invite: Id,
-    /// The event that made it. It tells this dialog from another under the same name.
+    /// The event that made it. This distinguishes the dialog from another one with the same name.
     pub created_by: Id,
-    /// The latest RSeq of those of that INVITE that was taken in it, if any.
+    /// The latest RSeq to that INVITE that was taken in the dialog, if any.
     pub last_rseq: Inbound,
-    /// The requests that are owed in it, the oldest first.
+    /// The ACKs and PRACKs that are owed in it, the oldest first.
     pub pending_requests: Series<PendingRequest>,
 }
 

@@ -4,7 +4,7 @@ use crate::refusal::Refusal;
 use sip_message::{CallId, Id, StatusCode, Token};
 use sip_text::Text;
 
-/// What the user is told of a call. A tag is empty where the message has none.
+/// What the user is told of a call. A tag is empty if the message has none.
 #[derive(Drop)]
 pub enum Notice {
     /// A request came up and is held.
@@ -44,17 +44,17 @@ pub enum Notice {
         call_id: CallId,
         id: Id,
     },
-    /// A transaction's message could not be sent.
+    /// A message of a transaction could not be sent.
     Failed {
         call_id: CallId,
         id: Id,
     },
-    /// The 2xx to an INVITE was never acknowledged.
+    /// No ACK came for the 2xx to an INVITE.
     NoAck {
         call_id: CallId,
         id: Id,
     },
-    /// A reliable provisional response was never acknowledged.
+    /// No PRACK came for a reliable provisional response.
     NoPrack {
         call_id: CallId,
         id: Id,
@@ -70,7 +70,7 @@ pub enum Notice {
         local_tag: Text,
         remote_tag: Text,
     },
-    /// The command of this place was refused.
+    /// The command at this place in the round was refused.
     Refused {
         call_id: CallId,
         place: u32,

@@ -19,7 +19,7 @@ pub fn one(alloc: Global, out: CallOut) -> Result<Vec<CallOut>, AllocError>
     Ok(outs)
 }
 
-/// What is told first, and then what is told after it.
+/// The first outputs, and after them the later ones.
 pub fn joined(mut first: Vec<CallOut>, mut later: Vec<CallOut>) -> Result<Vec<CallOut>, AllocError>
     ensures { IfOk result (λ outs. outs.items ≡ first.items ++ later.items) }
 {

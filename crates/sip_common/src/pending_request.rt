@@ -2,7 +2,7 @@
 
 use sip_message::Id;
 
-/// A request that a response to an INVITE asks for and that hasn't been sent yet.
+/// A request that a response to an INVITE asked for and that hasn't been sent yet.
 #[derive(Clone, Copy, Drop)]
 pub enum PendingRequest {
     /// The ACK of a 2xx, to the INVITE of this id and CSeq number (RFC 3261, section 13.2.2.4).

@@ -1,23 +1,23 @@
 //! Why a command of the user is refused.
 
-/// Why a command was refused. Nothing else changes then.
+/// Why a command was refused. A refused command changes nothing.
 #[derive(Clone, Copy, Debug, PartialEq, Eq)]
 pub enum Refusal {
-    /// A call of that Call-ID is held already.
+    /// A call with this Call-ID is already held.
     CallInUse = 1,
-    /// No call of that Call-ID is held.
+    /// No call with this Call-ID is held.
     NoSuchCall = 2,
-    /// No dialog of those tags is held.
+    /// No dialog with these tags is held.
     NoSuchDialog = 3,
-    /// No request of that id is held.
+    /// No request with this id is held.
     NoSuchRequest = 4,
     /// The request has its final response.
     AlreadyFinal = 5,
     /// The status isn't from 101 to 699.
     BadStatus = 6,
-    /// A reliable provisional response isn't acknowledged yet.
+    /// A reliable provisional response still waits for its PRACK.
     ReliablePending = 7,
-    /// A reliable response can't be given to this request.
+    /// This request can't get a reliable response.
     NotSupported = 8,
     /// No ACK is owed.
     NothingToAck = 9,
@@ -29,7 +29,7 @@ pub enum Refusal {
     StrictRoute = 12,
     /// The dialog has ended.
     DialogEnded = 13,
-    /// The method can't be sent so.
+    /// A request with this method can't be sent by this command.
     BadMethod = 14,
 }
 

@@ -85,7 +85,7 @@ pub fn local_tag<'a>(request: &'a Message, made: &'a Token) -> &'a [u8]
     if own.is_empty() { made.as_slice() } else { own }
 }
 
-/// The To tag of a request, if it has one: without one its answers get the tag that is made for it.
+/// The To tag of a request, if it has one. If not, its answers get the tag that is made for it.
 pub fn own_tag(alloc: Global, request: &Message) -> Result<Option<Token>, AllocError>
     ensures { IfOk result (λ own. (made : List ℕ)
         → unwrap_or own made ≡ requests.local_tag_of request.now made) }

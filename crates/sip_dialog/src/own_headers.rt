@@ -79,7 +79,7 @@ fn via_parameters(alloc: Global, branch: Branch) -> Result<Series<Parameter>, Al
     };
     let branch = Parameter {
         name: Token::copy_of(alloc, b"branch")?,
-        value: Some(branch.into_value()),
+        value: Some(branch.into_value(alloc)?),
     };
     let mut parameters = Vec::new(alloc);
     parameters.push(rport)?;

@@ -21,7 +21,7 @@ or_true : (b : Bool) → (b || true) ≡ true
 or_true true = refl
 or_true false = refl
 
--- one value more of one header
+-- one more value of one header
 step_value : (d : Draft) (header : HeaderName) (value : List ℕ) (rest : Bool)
     (v : HeaderName → List (List ℕ)) (o : List (List ℕ × List ℕ))
     → continued (with_value d header value) rest v o

@@ -1,4 +1,4 @@
--- The first of several faults, also where each tells of one of the headers in their order.
+-- The first of several faults, also if each is about one of the headers, in their order.
 use Rattle.std.proofs.Common.{◌≡◌, inl, inr, Bool, true, false, ◌&&◌, List, [], ◌∷◌, ◌++◌, map, cond, Option, Some, None, Result, Ok, Err, find, refl, sym, ap}
 use Rattle.std.specs.List.{AllByRecursion, filter}
 use Rattle.std.proofs.lemmas.Option.{same_Some, none-some}

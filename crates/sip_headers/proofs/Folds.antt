@@ -1,4 +1,4 @@
--- Lines are read one after the other, with those that go on with them.
+-- Lines are read in order, each with those that continue it.
 use Rattle.std.proofs.Common.{◌≡◌, ℕ, zero, suc, Bool, true, false, cond, eqb, ◌&&◌, List, [], ◌∷◌, ◌++◌, length, take, Option, Some, None, refl, sym, subst, ap, ◌∙◌, ◌-◌, slice_index, arith}
 use Rattle.std.specs.List.{list_all, slice_split, onto_first, join_with_byte}
 use Rattle.std.specs.Option.{option_map}
@@ -78,7 +78,7 @@ onto_blank line [] rest section e = absurd cc
 onto_blank line (b ∷ bs) rest None e = refl
 onto_blank line (b ∷ bs) rest (Some s) e = rw e refl
 
--- the line goes on
+-- the next line continues the line
 pub goes_on : (line text more after : List ℕ) (total : Option Section)
     → line_at text ≡ Some (more, after) → begins_blank more ≡ true
     → onto_section line (section_at text) ≡ total
@@ -167,7 +167,7 @@ pub is_full_text : (text : List ℕ) → eqb (length text) 0 ≡ false → text 
 is_full_text [] e is = absurd cc
 is_full_text (b ∷ bs) e is = absurd cc
 
--- ---- a text that begins with no white space goes on with no line
+-- ---- a text that doesn't begin with white space continues no line
 
 abbrev unsome : Option (List ℕ × List ℕ) → List ℕ × List ℕ
 unsome None = ([], [])
@@ -222,7 +222,7 @@ pub ends_plain : (whole text : List ℕ) → begins_blank text ≡ false
     → onto_section whole (section_at text) ≡ behind_line whole (whole_section (section_at text))
 ends_plain whole text plain = plain_by whole text (line_at text) refl plain
 
--- ---- the same of the lines, where no empty one has to end them
+-- ---- the same for the lines, if no empty one has to end them
 
 lines_behind : (part : List ℕ) (parts : List (List ℕ)) → HasFirst parts
     → lines_from (part ∷ parts) ≡ onto_lines (strip_carriage_return part) (lines_from parts)

@@ -1,4 +1,4 @@
--- The first fault of header lines is the one that is told.
+-- The fault of a draft is the first fault of its header lines.
 use Rattle.std.proofs.Common.{◌≡◌, ◌<◌, ◌⊎◌, inl, inr, ℕ, Bool, true, false, ◌||◌, ltb, List, [], ◌∷◌, ◌++◌, map, length, cond, Option, Some, None, Result, Ok, Err, refl, sym, ap, subst, ◌∙◌, arith}
 use Rattle.std.specs.Prelude.{is_none}
 use Rattle.std.specs.List.{AllZip, AllByRecursion, list_any}
@@ -78,7 +78,7 @@ any_one : {A : Type 0} (p : A → Bool) (xs : List A) → list_any p xs ≡ true
 any_one p [] e = absurd cc
 any_one p (x ∷ xs) e = any_by x (p x) (list_any p xs) p refl (any_one p xs) e
 
--- where all lines are header lines, none of the other headers is lost
+-- if all lines are header lines, none of the other headers is lost
 none_lost : (lines : List (List ℕ)) → has_bad_line lines ≡ false
     → is_none (draft_of lines).others ≡ true → ⊥
 none_lost lines good none =
@@ -225,7 +225,7 @@ bad_by_name lines false e (inr found) =
     (same_values named.0 lines named.1 found.0) found.1 in
     inr (named.0, named.1, (found.0, bad))
 
--- behind BadHeader all lines are header lines
+-- after BadHeader all lines are header lines
 behind : (lines : List (List ℕ)) (b : Bool) → has_bad_line lines ≡ b → (BadByLine lines → ⊥)
     → AllByRecursion (Same lines) (missing_faults ++ repeated_faults)
 behind lines true e good = absurd (good (inl (no_good_lines lines e)))

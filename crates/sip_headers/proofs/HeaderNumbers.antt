@@ -21,7 +21,7 @@ use Rattle.sip_headers.specs.Numbers.{via_draft, rack_draft, headers_with, numbe
 use Rattle.sip_headers.specs.declared.numbers.Numbers.{Numbers}
 use Rattle.sip_headers.specs.declared.slot.Slot.TheVariants.{Once}
 
--- the two words of a RAck that are to be numbers
+-- the two words of a RAck in the places of numbers
 abbrev rack_words : RAckDraft → List Numeral
 rack_words rack = rack.rseq ∷ (rack.cseq ∷ [])
 

@@ -1,4 +1,4 @@
--- Lines that are header lines, and those of their headers that stay as they stand.
+-- Header lines, and those of their headers that are kept as they are.
 use Rattle.std.proofs.Common.{◌≡◌, ◌⊎◌, inl, inr, ℕ, Bool, true, false, List, [], ◌∷◌, ◌++◌, cond, Option, Some, None, fold, refl, sym, ap, subst, ◌∙◌, append_assoc}
 use Rattle.std.specs.Prelude.{is_none}
 use Rattle.std.specs.List.{AllZip, AllByRecursion}
@@ -53,7 +53,7 @@ pub no_good_lines : (lines : List (List ℕ)) → has_bad_line lines ≡ true
     → AllByRecursion IsSomeHeaderLine lines → ⊥
 no_good_lines lines e all = let f : true ≡ false = sym e ∙ good_lines lines all in cc
 
--- ---- headers that stay as they stand
+-- ---- headers that are kept as they are
 
 abbrev pub with_other : Option (List Header) → List ℕ × List ℕ → Option (List Header)
 with_other list other = listed list (other_from other.0 other.1)
@@ -143,7 +143,7 @@ kept_of : (others : List (List ℕ × List ℕ))
 kept_of [] all = ([], tt)
 kept_of (o ∷ os) all = let more = kept_of os all.1 in (all.0.0 ∷ more.0, (all.0.1, more.1))
 
--- where each of the other headers can stay, none is lost
+-- if each of the other headers can be kept, none is lost
 pub others_list_from : (lines : List (List ℕ))
     → AllByRecursion (λ other. (header : Header) × IsOther header other) (others_of lines)
     → is_none (draft_of lines).others ≡ true → ⊥

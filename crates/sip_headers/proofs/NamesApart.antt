@@ -1,4 +1,4 @@
--- No name is one of two headers of the table.
+-- No name belongs to two headers of the table.
 use Rattle.std.proofs.Common.{◌≡◌, ℕ, Bool, true, false, cond, eqb, List, [], ◌∷◌, map, Option, Some, None, refl, sym, ap, subst, ◌∙◌, inl, inr}
 use Rattle.std.specs.Prelude.{find, ◌||◌}
 use Rattle.std.specs.Char.{to_ascii_lowercase}
@@ -121,7 +121,7 @@ not_found header text (Some other) e is =
     true≢false (sym (found_passes (λ h. is_named h text) headers header
     (e ∙ ap Some (sym (same_is header other same)))) ∙ is))
 
--- the header of a name is this one just where the name is one of this header
+-- the header of a name is this one exactly if the name is one of its names
 pub named_by_table : (header : HeaderName) (text : List ℕ)
     → option_map_or (is_same header) (header_named text) false ≡ is_named header text
 named_by_table header text = by (is_named header text) refl

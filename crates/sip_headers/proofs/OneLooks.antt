@@ -1,4 +1,4 @@
--- A draft whose headers all stand as they may has no fault.
+-- A draft whose headers are all there as they may be has no fault.
 use Rattle.std.proofs.Common.{◌≡◌, Bool, true, false, not, List, [], ◌∷◌, Option, Some, None, Ok, refl, sym, subst}
 use Rattle.std.specs.Prelude.{is_some}
 use Rattle.std.proofs.lemmas.Bool.{and_parts}

@@ -1,4 +1,4 @@
--- A header line that is of no header of the table can stay as it stands.
+-- A header line whose header isn't in the table can be kept as it is.
 use Rattle.std.proofs.Common.{◌≡◌, inl, inr, ℕ, Bool, true, false, not, cond, ◌&&◌, ◌||◌, List, [], ◌∷◌, Option, Some, None, IsTrue, refl, sym, ap, ◌∙◌, codes}
 use Rattle.std.specs.Prelude.{is_none, is_some}
 use Rattle.std.specs.List.{AllByRecursion, AllZip, list_all}
@@ -134,7 +134,7 @@ fits_by_parts line (Some parts) name value read same =
     refl
     same
 
--- of a line that is one of no header of the table, the name and the value can stay
+-- the name and the value of a line whose header isn't in the table can be kept
 pub other_fits : (line name value : List ℕ) → class_from line ≡ other name value
     → IsTrue (is_other_name (long_name name)) × IsTrue (is_header_value value)
 other_fits line name value same = fits_by_parts line (line_from line) name value refl same

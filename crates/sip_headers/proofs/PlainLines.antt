@@ -1,4 +1,4 @@
--- Header lines that stand in a text as they are.
+-- Header lines without folds.
 use Rattle.std.proofs.Common.{◌≡◌, ◌⊎◌, inl, inr, ◌<◌, ◌-◌, ℕ, zero, suc, Bool, true, false, not, cond, eqb, List, [], ◌∷◌, ◌++◌, length, take, drop, Some, None, refl, sym, ap, ◌∙◌, append_assoc, slice_index, arith}
 use Rattle.std.specs.List.{list_all}
 use Rattle.std.specs.Option.{option_map}
@@ -50,7 +50,7 @@ none_before test (b ∷ bs) (suc k) lt none =
 
 -- ---- a line with its end
 
--- the last byte, or 0 where there is none
+-- the last byte, or 0 if there is none
 abbrev last_byte : List ℕ → ℕ
 last_byte text = slice_index text (length text - 1)
 

@@ -1,4 +1,4 @@
--- What is missing or repeated in a draft is so in its lines.
+-- What is missing or repeated in a draft is missing or repeated in its lines.
 use Rattle.std.proofs.Common.{◌≡◌, ℕ, Bool, false, ◌&&◌, ltb, List, [], ◌∷◌, ◌++◌, length, cond, Option, Some, None, find, refl, sym, ap, ◌∙◌, arith}
 use Rattle.std.specs.List.{AllByRecursion, flat_map, list_any}
 use Rattle.std.proofs.lemmas.Bool.{or_parts, lt-ltb}

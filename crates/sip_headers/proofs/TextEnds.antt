@@ -1,4 +1,4 @@
--- The ends of the texts that are written, and what it is that a value is read as it was written.
+-- The ends of written texts, and what it means that a value is read as it was written.
 use Rattle.std.proofs.Common.{◌≡◌, ℕ, Bool, true, false, cond, ◌&&◌, List, [], ◌∷◌, ◌++◌, Option, Some, None, refl, sym, ap, subst, ◌∙◌}
 use Rattle.std.specs.Char.{is_ascii_digit}
 use Rattle.std.specs.List.{list_all}
@@ -25,7 +25,7 @@ Full text = text ≡ [] → ⊥
 pub full_cons : (b : ℕ) (bs : List ℕ) → Full (b ∷ bs)
 full_cons b bs e = absurd cc
 
--- the end of what stands behind
+-- the end of what follows
 pub end_behind : (front text : List ℕ) → Full text → End text → End (front ++ text)
 end_behind front [] full e = absurd (full refl)
 end_behind front (b ∷ bs) full e = longer_end front b bs e
@@ -33,7 +33,7 @@ end_behind front (b ∷ bs) full e = longer_end front b bs e
 pub kept_by : (b : ℕ) (bs : List ℕ) → is_blank b ≡ false → End (b ∷ bs) → trimmed (b ∷ bs) ≡ b ∷ bs
 kept_by b bs e f = ap trimmed_end (starts_full b bs e) ∙ f
 
--- a text of solid bytes, and what stands behind it
+-- a text of solid bytes, and what follows it
 pub kept_behind : (front text : List ℕ) → Full front → solid front ≡ true → End (front ++ text)
     → trimmed (front ++ text) ≡ front ++ text
 kept_behind [] text full s e = absurd (full refl)
@@ -48,7 +48,7 @@ pub plain_both : (xs ys : List ℕ) → has_no_line_byte xs ≡ true → has_no_
     → has_no_line_byte (xs ++ ys) ≡ true
 plain_both xs ys p q = list_all-append _ xs ys ∙ and_from _ _ p q
 
--- nothing but such bytes before the end
+-- only solid bytes before the end
 pub end_after : (front text : List ℕ) → solid front ≡ true → End text → End (front ++ text)
 end_after [] text s e = e
 end_after (b ∷ bs) text s e =

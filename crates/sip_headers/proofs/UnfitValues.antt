@@ -1,4 +1,4 @@
--- A header that the draft holds as unfit has a value that isn't in its form, and no other has one.
+-- A header is unfit in the draft exactly if it has a value that isn't in its form.
 use Rattle.std.proofs.Common.{◌≡◌, ◌<◌, ℕ, zero, suc, true, false, List, [], ◌∷◌, length, get_or, Option, Some, None, sym, subst, arith}
 use Rattle.std.specs.List.{AllZip, AllByRecursion}
 use Rattle.sip_parts.specs.HeaderEntry.{headers}

@@ -1,4 +1,4 @@
--- What is written of numbers, Call-IDs, CSeq and RAck values is read again.
+-- What is written for numbers, Call-IDs, CSeq and RAck values is read as these.
 use Rattle.std.proofs.Common.{◌≡◌, ◌^◌, ◌<◌, ℕ, true, ltb, List, [], ◌∷◌, ◌++◌, decimal, Some, None, refl, ap, subst, ◌∙◌, append_assoc, arith}
 use Rattle.std.specs.Prelude.{option_and_then}
 use Rattle.std.specs.Char.{is_ascii_digit}

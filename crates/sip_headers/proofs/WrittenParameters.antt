@@ -1,4 +1,4 @@
--- What is written of parameters is read again.
+-- What is written for parameters is read as these.
 use Rattle.std.proofs.Common.{◌≡◌, ℕ, true, false, cond, eqb, ◌||◌, List, [], ◌∷◌, ◌++◌, Option, Some, None, refl, sym, ap, subst, ◌∙◌, append_assoc}
 use Rattle.std.specs.Prelude.{option_and_then, IfSome, IsTrue}
 use Rattle.std.specs.List.{AllByRecursion}

@@ -1,4 +1,4 @@
--- What is written of a list of tokens is read again.
+-- What is written for a list of tokens is read as that list.
 use Rattle.std.proofs.Common.{◌≡◌, ℕ, true, List, [], ◌∷◌, ◌++◌, codes, Some, refl, sym, ap, subst, ◌∙◌, append_assoc}
 use Rattle.std.specs.Prelude.{option_and_then, IsTrue}
 use Rattle.std.specs.List.{AllByRecursion, flat_map}
@@ -25,7 +25,7 @@ more_tokens tokens = flat_map (λ token. codes ", " ++ token) tokens
 pub token_passes_comma : (token : List ℕ) → is_token token ≡ true → Passes (Byte 44) token
 token_passes_comma token is = token_passes 44 comma_marks.token token is
 
--- a token behind a space, or none
+-- a token after a space, or none
 spaced_read : (token : List ℕ) → is_token token ≡ true
     → sequence.token_from (32 ∷ token) ≡ Some token
 spaced_read token is = token_read token is

@@ -1,4 +1,4 @@
--- What is written of Via values is read again.
+-- What is written for Via values is read as these.
 use Rattle.std.proofs.Common.{◌≡◌, ◌^◌, ◌<◌, ℕ, true, false, cond, not, eqb, List, [], ◌∷◌, ◌++◌, codes, decimal, Option, Some, None, refl, ap, subst, ◌∙◌, append_assoc, arith}
 use Rattle.std.specs.Prelude.{option_and_then, IfSome}
 use Rattle.std.specs.Char.{is_ascii_digit}

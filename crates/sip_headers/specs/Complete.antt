@@ -1,5 +1,5 @@
--- The first fault of a draft: a header that is missing, repeated or in another form. A draft
--- without one holds the headers of its lines.
+-- The first fault of a draft: a header that isn't in its form, is missing or is repeated. A draft
+-- without a fault holds the headers of its lines.
 use Rattle.std.specs.Prelude.{◌≡◌, ℕ, true, false, List, Option, Some, None, Result, Ok, Err, is_some, if◌then◌else◌}
 use Rattle.std.specs.Option.{option_map}
 use Rattle.sip_parts.specs.declared.header_name.HeaderName.{HeaderName}
@@ -13,13 +13,13 @@ use Rattle.sip_headers.specs.declared.slot.Slot.TheVariants.{Absent, Once, Twice
 
 -- ---- the first fault of header lines
 
--- what is missing comes before what is repeated
+-- a missing header comes before a repeated one
 abbrev pub first_fault : Option HeaderName → Option HeaderName → Option ReadFault
 first_fault (Some header) other = Some (fault.Missing header)
 first_fault None (Some header) = Some (fault.Repeated header)
 first_fault None None = None
 
--- the first fault of a draft, of the headers alone
+-- the first fault of a draft, by its headers
 unfoldable pub fault_in : Draft → Option ReadFault
 fault_in d = if has_bad_header d then Some fault.BadHeader else first_fault (missing d) (repeated d)
 
@@ -29,7 +29,7 @@ abbrev pub slot_of : {X : Type 0} → Option X → Slot X
 slot_of None = Absent
 slot_of (Some x) = Once x
 
--- the value of a header that stands once
+-- the value of a header that occurred once
 abbrev pub once : {X : Type 0} → Slot X → Option X
 once (Once x) = Some x
 once Absent = None
@@ -38,7 +38,7 @@ once Bad = None
 
 -- ---- all headers
 
--- each header that a message has stands once, and each list is in its form
+-- each mandatory header is there once, and each list is in its form
 pub record IsComplete (d : Draft) : Type 0 where
   pub vias : is_some d.vias ≡ true
   pub from : is_some (once d.from) ≡ true
@@ -56,7 +56,7 @@ pub record IsComplete (d : Draft) : Type 0 where
 abbrev pub method_in : Draft → Option (List ℕ)
 method_in d = option_map (λ cseq. cseq.method) (once d.cseq)
 
--- the draft of lines that have just these headers
+-- the draft of lines that have exactly these headers
 abbrev pub draft_with : Headers → Draft
 draft_with h = record {
   is_bad = false;
@@ -77,7 +77,7 @@ draft_with h = record {
   others = Some h.others;
 }
 
--- the draft, where it has no fault
+-- the draft, if it has no fault
 abbrev pub unless_fault : Option ReadFault → Draft → Result Draft ReadFault
 unless_fault (Some e) d = Err e
 unless_fault None d = Ok d

@@ -36,7 +36,7 @@ no_draft = record {
   others = Some [];
 }
 
--- one more value of a header
+-- a draft with one more value of a header
 abbrev pub with_value : Draft → HeaderName → List ℕ → Draft
 with_value d name.Via value = record d { vias = listed d.vias (vias_from value) }
 with_value d name.MaxForwards value =
@@ -56,7 +56,7 @@ with_value d name.RAck value = record d { rack = met d.rack (rack_from value) }
 with_value d name.ContentLength value =
     record d { content_length = met d.content_length (numeral_from value) }
 
--- three compact names stand for the long ones of headers that stay as they stand
+-- three compact names stand for the long ones of headers that are kept as they are
 unfoldable pub long_name : List ℕ → List ℕ
 long_name name =
     if str_eq_ignore_ascii_case name (codes "c") then codes "Content-Type"
@@ -64,7 +64,7 @@ long_name name =
     else (if str_eq_ignore_ascii_case name (codes "e") then codes "Content-Encoding"
     else name))
 
--- a header that stays as it stands, under its long name, as a list of one
+-- a header that is kept as it is, under its long name, as a list of one
 abbrev pub other_from : List ℕ → List ℕ → Option (List Header)
 other_from name value =
     if is_other_name (long_name name)
@@ -72,20 +72,20 @@ other_from name value =
     then Some ((record { name = long_name name; value = value }) ∷ []) else None)
     else None
 
--- one more header that stays as it stands
+-- a draft with one more header that is kept as it is
 abbrev pub with_other : Draft → List ℕ → List ℕ → Draft
 with_other d name value = record d { others = listed d.others (other_from name value) }
 
--- with one more header line
+-- a draft with one more header line
 abbrev pub with_class : Draft → Class → Draft
 with_class d bad = record d { is_bad = true }
 with_class d (known header value) = with_value d header value
 with_class d (other name value) = with_other d name value
 
--- one more line
+-- a draft with one more line
 abbrev pub with_line : Draft → List ℕ → Draft
 with_line d line = with_class d (class_from line)
 
--- all lines
+-- the draft of these lines
 abbrev pub draft_of : List (List ℕ) → Draft
 draft_of lines = fold with_line no_draft lines

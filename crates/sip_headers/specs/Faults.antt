@@ -1,5 +1,5 @@
--- Why lines have no headers: the faults in their order, and what each says of the lines (RFC 3261,
--- sections 7.3 and 8.1.1).
+-- Why lines aren't the headers of a message: the faults in order, and the condition of each (RFC
+-- 3261, sections 7.3 and 8.1.1).
 use Rattle.std.specs.Prelude.{◌≡◌, ◌<◌, ◌⊎◌, ℕ, List, [], ◌∷◌, ◌++◌, map, length, Result, Ok, Err}
 use Rattle.std.specs.List.{AllByRecursion}
 use Rattle.sip_parts.specs.HeaderEntry.{headers_where, is_needed, is_single}
@@ -17,17 +17,17 @@ use Rattle.sip_headers.specs.Slot.{HasBad}
 
 -- ---- the first of several faults
 
--- the first of these faults whose condition holds
+-- the first of these faults whose condition is true
 abbrev pub IsFirst : (ReadFault → Type 0) → List ReadFault → ReadFault → Type 0
 IsFirst C [] fault = ⊥
 IsFirst C (other ∷ others) fault =
     ((fault ≡ other) × C other) ⊎ ((C other → ⊥) × IsFirst C others fault)
 
--- none of the conditions holds
+-- none of the conditions is true
 abbrev pub NoneHolds : (ReadFault → Type 0) → List ReadFault → Type 0
 NoneHolds C faults = AllByRecursion (λ fault. C fault → ⊥) faults
 
--- a value where no condition holds, otherwise the first fault
+-- a value if no condition is true, otherwise the first fault
 abbrev pub Decides : {X : Type 0} → (ReadFault → Type 0) → List ReadFault → Result X ReadFault
     → Type 0
 Decides C faults (Ok x) = NoneHolds C faults
@@ -59,7 +59,7 @@ HasBadHeader lines =
     ⊎ OfHeaderLines (λ named. (header : HeaderName) × HasBadValue header (values_of header named))
     lines
 
--- what a fault says of the lines
+-- the condition of each fault
 abbrev pub HeaderCondition : List (List ℕ) → ReadFault → Type 0
 HeaderCondition lines fault.BadHeader = HasBadHeader lines
 HeaderCondition lines (fault.Missing header) =
@@ -68,8 +68,8 @@ HeaderCondition lines (fault.Repeated header) =
     OfHeaderLines (λ named. 1 < length (values_of header named)) lines
 HeaderCondition lines other = ⊥
 
--- the faults in their order: the five headers that each message has, and the eight that stand at
--- most once
+-- the faults in order: BadHeader, the missing mandatory headers, and the repeated headers that may
+-- occur once
 abbrev pub header_faults : List ReadFault
 header_faults =
     fault.BadHeader ∷ (map fault.Missing (headers_where is_needed)

@@ -14,7 +14,7 @@ abbrev pub with_line_of : List ℕ → List ℕ → Option Section → Option Se
 with_line_of [] rest more = Some ([], rest)
 with_line_of (b ∷ bs) rest more = option_map (λ s. ((b ∷ bs) ∷ s.0, s.1)) more
 
--- the same, of a text that is split at each LF
+-- the same for a text that is split at each LF
 abbrev pub section_from : List (List ℕ) → Option Section
 section_from [] = None
 section_from (last ∷ []) = None
@@ -22,19 +22,18 @@ section_from (part ∷ (next ∷ parts)) =
     with_line_of (strip_carriage_return part) (join_with_byte 10 (next ∷ parts))
     (section_from (next ∷ parts))
 
--- the lines up to the first empty one; nothing where there is no empty line
+-- the lines up to the first empty one; nothing if there is no empty line
 abbrev pub section_at : List ℕ → Option Section
 section_at text = section_from (slice_split (λ b. b == 10) text)
 
--- a line, and those that follow: one that begins with a space or tab goes on with the line before
--- it
+-- a line and those after it: a line that begins with a space or tab continues the one before
 abbrev pub folded_onto : List ℕ → List (List ℕ) → List (List ℕ)
 folded_onto line [] = line ∷ []
 folded_onto line (next ∷ lines) =
     if begins_blank next then folded_onto (joined line next) lines
     else line ∷ folded_onto next lines
 
--- the lines, each with those that go on with it
+-- the lines, each with those that continue it
 abbrev pub whole_lines : List (List ℕ) → List (List ℕ)
 whole_lines [] = []
 whole_lines (line ∷ lines) = folded_onto line lines

@@ -12,8 +12,8 @@ use Rattle.sip_headers.specs.declared.header_line.LineClass.TheVariants as decla
 
 -- ---- one line
 
--- A name, a colon, and a value: the name is a token with white space behind it, the value a text
--- without CR and LF, with white space round it.
+-- A name, a colon, and a value: the name is a token with white space after it, the value a text
+-- without CR and LF, with white space around it.
 abbrev pub IsHeaderLine : List ℕ × List ℕ → List ℕ → Type 0
 IsHeaderLine parts line =
     OnCut (Byte 58) (Both (Of (Passing is_token) trimmed_end)
@@ -25,13 +25,13 @@ line_from line =
     on_cut (Byte 58) (both (reading_of (passing is_token) trimmed_end)
     (told trimmed (passing has_no_line_byte))) never line
 
--- the name, and what stands behind the colon
+-- the name, and what follows the colon
 abbrev pub name_before_colon : List ℕ → Option (List ℕ × List ℕ)
 name_before_colon line =
     on_cut (Byte 58) (both (reading_of (passing is_token) trimmed_end) (λ rest. Some rest)) never
     line
 
--- ---- what it is
+-- ---- the class of a line
 
 -- a line that is no header line, a value of a header of the table, or another header
 pub data Class : Type 0 where
@@ -39,17 +39,17 @@ pub data Class : Type 0 where
   known : HeaderName → List ℕ → Class
   other : List ℕ → List ℕ → Class
 
--- by the header that the name stands for
+-- the class of a line, by the header of its name
 abbrev pub class_by_name : List ℕ → List ℕ → Option HeaderName → Class
 class_by_name name value None = other name value
 class_by_name name value (Some header) = known header value
 
--- by the name and the value, where the line has them
+-- the class of a line, by its name and its value, if it has them
 abbrev pub class_by_parts : Option (List ℕ × List ℕ) → Class
 class_by_parts None = bad
 class_by_parts (Some parts) = class_by_name parts.0 parts.1 (header_named parts.0)
 
--- what a line is
+-- the class of a line
 abbrev pub class_from : List ℕ → Class
 class_from line = class_by_parts (line_from line)
 

@@ -1,5 +1,5 @@
--- The headers of a message: what its header lines say together, where each value is in its header's
--- form and none is missing or stands too often (RFC 3261, sections 7.3 and 20).
+-- The headers of a message: what its header lines say together, if each value is in its header's
+-- form and no header is missing or occurs too often (RFC 3261, sections 7.3 and 20).
 use Rattle.std.specs.Prelude.{◌≡◌, ℕ, IsTrue, List, [], ◌∷◌, Option}
 use Rattle.std.specs.List.{AllZip}
 use Rattle.std.specs.Option.{option_to_list}
@@ -22,7 +22,7 @@ use Rattle.sip_headers.specs.Draft.{long_name}
 use Rattle.sip_headers.specs.Named.{OfHeaderLines, others_in, values_of}
 use Rattle.sip_headers.specs.Slot.{Many}
 
--- words in the places of numbers
+-- the headers, with words in the places of numbers
 pub record Headers : Type 0 where
   pub vias : List ViaDraft
   pub max_forwards : Option Numeral
@@ -40,7 +40,7 @@ pub record Headers : Type 0 where
   pub content_length : Option Numeral
   pub others : List Header
 
--- ---- how often a header's lines stand
+-- ---- how often a header occurs
 
 -- one line, with this value
 abbrev pub One : {X : Type 0} → (X → List ℕ → Type 0) → X → List (List ℕ) → Type 0
@@ -50,7 +50,7 @@ One P x values = AllZip P (x ∷ []) values
 abbrev pub AtMostOne : {X : Type 0} → (X → List ℕ → Type 0) → Option X → List (List ℕ) → Type 0
 AtMostOne P value values = AllZip P (option_to_list value) values
 
--- ---- a header that stays as it stands
+-- ---- a header that is kept as it is
 
 -- its long name, and its value
 pub record IsOther (header : Header) (parts : List ℕ × List ℕ) : Type 0 where
@@ -61,7 +61,7 @@ pub record IsOther (header : Header) (parts : List ℕ × List ℕ) : Type 0 whe
 
 -- ---- the table
 
--- Of each header the values are in its form, and no more than it may have; there is a Via.
+-- The values of each header are in its form, and no more than it may have; there is a Via.
 pub record AreRows (h : Headers) (values : HeaderName → List (List ℕ))
     (further : List (List ℕ × List ℕ)) : Type 0 where
   pub some_via : h.vias ≡ [] → ⊥

@@ -24,15 +24,15 @@ is_same name.RAck name.RAck = true
 is_same name.ContentLength name.ContentLength = true
 is_same one another = false
 
--- of header lines, each a name and a value: the values under the names of one header, in order
+-- the values of one header among header lines (each a name and a value), in order
 abbrev pub values_of : HeaderName → List (List ℕ × List ℕ) → List (List ℕ)
 values_of header named = map (λ line. line.1) (filter (λ line. is_named header line.0) named)
 
--- those whose names are of no header of the table, in order
+-- the header lines whose name isn't in the table, in order
 abbrev pub others_in : List (List ℕ × List ℕ) → List (List ℕ × List ℕ)
 others_in named = filter (λ line. is_none (header_named line.0)) named
 
--- all lines are header lines, and of their names and values this holds
+-- all lines are header lines, and P is true of their names and values
 abbrev pub OfHeaderLines : (List (List ℕ × List ℕ) → Type 0) → List (List ℕ) → Type 0
 OfHeaderLines P lines =
     (named : List (List ℕ × List ℕ)) × AllZip IsHeaderLine named lines × P named

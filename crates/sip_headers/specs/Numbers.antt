@@ -33,7 +33,7 @@ via_draft via = record {
 abbrev pub rack_draft : RAck → RAckDraft
 rack_draft rack = record { rseq = Number rack.rseq; cseq = Number rack.cseq; method = rack.method }
 
--- those of a message, and this Content-Length
+-- the headers of a message, and this Content-Length
 abbrev pub headers_with : Message → Option ℕ → Headers
 headers_with m length = record {
   vias = map via_draft m.vias;
@@ -55,7 +55,7 @@ headers_with m length = record {
 
 -- ---- words in the places of numbers
 
--- the numbers of the headers but those of the Via values
+-- the words in the places of numbers, but for those of the Via values
 abbrev pub number_words : Headers → List Numeral
 number_words h =
     h.cseq.number ∷ (option_to_list h.max_forwards
@@ -63,12 +63,12 @@ number_words h =
     (option_to_list h.rack)
     ++ option_to_list h.content_length)))
 
--- the number
+-- the number of a word
 abbrev pub known : Numeral → Option ℕ
 known (Number n) = Some n
 known NotANumber = None
 
--- the port: a number of at most 65535
+-- the port of a word: a number of at most 65535
 abbrev pub port_of : Numeral → Option ℕ
 port_of word = known word >>= λ n. if nat_lt 65535 n then None else Some n
 
@@ -80,7 +80,7 @@ are_numbers h =
 
 -- ---- the numbers, read
 
--- of a header that stands at most once
+-- the number of a header that may occur once
 abbrev pub known_slot : Slot Numeral → Option (Option ℕ)
 known_slot Absent = Some None
 known_slot (Once word) = known word >>= λ n. Some (Some n)
@@ -91,14 +91,14 @@ known_slot Bad = None
 abbrev pub known_both : Numeral → Numeral → Option (Option (ℕ × ℕ))
 known_both one other = known one >>= λ a. known other >>= λ b. Some (Some (a, b))
 
--- the numbers of a RAck, where there is one
+-- the numbers of a RAck, if there is one
 abbrev pub known_rack : Slot RAckDraft → Option (Option (ℕ × ℕ))
 known_rack Absent = Some None
 known_rack (Once rack) = known_both rack.rseq rack.cseq
 known_rack Twice = None
 known_rack Bad = None
 
--- all numbers of a draft, where each word that is to be one is
+-- all numbers of a draft, if each word in a number's place is one
 unfoldable pub numbers_in : Draft → Option Numbers
 numbers_in d = do
   cseq ← once d.cseq
@@ -115,7 +115,7 @@ numbers_in d = do
     content_length = content_length;
   })
 
--- the port, where there is one
+-- the port, if there is one
 abbrev pub known_port : Option Numeral → Option (Option ℕ)
 known_port None = Some None
 known_port (Some word) = port_of word >>= λ n. Some (Some n)

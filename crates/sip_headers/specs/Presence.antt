@@ -1,5 +1,4 @@
--- Headers that are missing, or stand in a message more often than they may (RFC 3261, sections
--- 7.3.1 and 8.1.1).
+-- Headers that are missing, or occur more often than they may (RFC 3261, sections 7.3.1 and 8.1.1).
 use Rattle.std.specs.Prelude.{Bool, true, false, ◌&&◌, ◌||◌, List, [], ◌∷◌, Option, Some, None, find, is_none}
 use Rattle.std.specs.List.{list_any}
 use Rattle.sip_parts.specs.HeaderEntry.{entry, headers, is_needed}
@@ -11,20 +10,20 @@ use Rattle.sip_headers.specs.declared.faults.Presence.TheVariants.{Nowhere, Fitt
 use Rattle.sip_headers.specs.declared.slot.Slot.{Slot}
 use Rattle.sip_headers.specs.declared.slot.Slot.TheVariants.{Absent, Once, Twice, Bad}
 
--- of a header that stands at most once
+-- the presence of a header that may occur once
 abbrev pub slot_presence : {X : Type 0} → Slot X → Presence
 slot_presence Absent = Nowhere
 slot_presence (Once x) = Fitting
 slot_presence Twice = Repeated
 slot_presence Bad = Unfit
 
--- of a header whose values are a list
+-- the presence of a header whose values are a list
 abbrev pub list_presence : {X : Type 0} → Option (List X) → Presence
 list_presence None = Unfit
 list_presence (Some []) = Nowhere
 list_presence (Some (x ∷ xs)) = Fitting
 
--- of each header that may be missing or repeated
+-- the presence of each header that may be missing or repeated
 abbrev pub presence_of : Draft → HeaderName → Presence
 presence_of d name.Via = list_presence d.vias
 presence_of d name.From = slot_presence d.from
@@ -41,17 +40,17 @@ presence_of d name.Route = list_presence d.routes
 presence_of d name.Require = list_presence d.require
 presence_of d name.Supported = list_presence d.supported
 
--- it is missing
+-- the header is missing
 abbrev pub is_nowhere : Presence → Bool
 is_nowhere Nowhere = true
 is_nowhere presence = false
 
--- it is repeated
+-- the header is repeated
 abbrev pub is_repeated : Presence → Bool
 is_repeated Repeated = true
 is_repeated presence = false
 
--- a line of it has another form
+-- a line of the header has another form
 abbrev pub is_unfit : Presence → Bool
 is_unfit Unfit = true
 is_unfit presence = false
@@ -61,11 +60,11 @@ abbrev pub has_bad_header : Draft → Bool
 has_bad_header d =
     d.is_bad || is_none d.others || list_any (λ header. is_unfit (presence_of d header)) headers
 
--- the first header of the table that each message has and that isn't there
+-- the first mandatory header of the table that isn't there
 abbrev pub missing : Draft → Option HeaderName
 missing d = find (λ header. is_needed (entry header).kind && is_nowhere (presence_of d header))
     headers
 
--- the first header of the table that is there twice and may not be
+-- the first header of the table that is there twice and may occur once
 abbrev pub repeated : Draft → Option HeaderName
 repeated d = find (λ header. is_repeated (presence_of d header)) headers

@@ -13,7 +13,7 @@ use Rattle.sip_headers.specs.Named.{is_same}
 use Rattle.sip_headers.specs.Slot.{IsSlot, IsList}
 use Rattle.sip_headers.specs.declared.draft.Draft.{Draft}
 
--- the line's value before those that follow, where the line is of this header
+-- the value of a line, if it is of this header, before those that follow
 abbrev pub before_values : HeaderName → Class → List (List ℕ) → List (List ℕ)
 before_values header bad values = values
 before_values header (known named value) values =
@@ -25,7 +25,7 @@ abbrev pub values : HeaderName → List (List ℕ) → List (List ℕ)
 values header [] = []
 values header (line ∷ lines) = before_values header (class_from line) (values header lines)
 
--- one more of the headers that stay as they stand
+-- the header of a line, if it is kept as it is, before those that follow
 abbrev pub before_others : Class → List (List ℕ × List ℕ) → List (List ℕ × List ℕ)
 before_others (other name value) others = (name, value) ∷ others
 before_others class others = others
@@ -34,7 +34,7 @@ abbrev pub has_no_values : List (List ℕ) → Bool
 has_no_values [] = true
 has_no_values (value ∷ values) = false
 
--- the names and values of the headers that stay as they stand
+-- the names and values of the headers that are kept as they are
 abbrev pub others_of : List (List ℕ) → List (List ℕ × List ℕ)
 others_of [] = []
 others_of (line ∷ lines) = before_others (class_from line) (others_of lines)
@@ -48,17 +48,17 @@ abbrev pub has_bad_line : List (List ℕ) → Bool
 has_bad_line [] = false
 has_bad_line (line ∷ lines) = is_bad_class (class_from line) (has_bad_line lines)
 
--- the first header of the table that each message has and that has no value
+-- the first mandatory header of the table that has no value
 abbrev pub missing_in : List (List ℕ) → Option HeaderName
 missing_in lines =
     find (λ header. is_needed (entry header).kind && has_no_values (values header lines)) headers
 
--- the first header of the table that has two values and may have one
+-- the first header of the table that has more than one value and may have one
 abbrev pub repeated_in : List (List ℕ) → Option HeaderName
 repeated_in lines = find (λ header. is_single (entry header).kind
     && nat_lt 1 (length (values header lines))) headers
 
--- The draft says of each header what its values are.
+-- The draft holds the values of each header.
 pub record IsDraftOf (d : Draft) (lines : List (List ℕ)) : Type 0 where
   pub bad_is : d.is_bad ≡ has_bad_line lines
   pub vias : IsList AreVias d.vias (values name.Via lines)

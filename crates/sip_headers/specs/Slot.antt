@@ -1,10 +1,10 @@
--- What was met of a header, line by line.
+-- What was found of a header so far, line by line.
 use Rattle.std.specs.Prelude.{◌≡◌, ◌≤◌, ℕ, List, [], ◌∷◌, ◌++◌, Option, Some, None, fold, length}
 use Rattle.std.specs.List.{AllZip, IsAmong, flat_map}
 use Rattle.sip_headers.specs.declared.slot.Slot.{Slot}
 use Rattle.sip_headers.specs.declared.slot.Slot.TheVariants.{Absent, Once, Twice, Bad}
 
--- one more line of a header that stands at most once, and its value where it is in the form
+-- one more line of a header that may occur once, and its value if it is in the form
 abbrev pub met : {X : Type 0} → Slot X → Option X → Slot X
 met Bad value = Bad
 met slot None = Bad

@@ -19,8 +19,8 @@ use sip_values::{
 };
 use std::alloc::{AllocError, Global};
 
-/// What the header lines of a message say, as far as they were met. A list is None where one of its
-/// lines isn't in the header's form.
+/// What the header lines of a message say so far. A list is None if one of its lines isn't in the
+/// header's form.
 pub struct Draft {
     /// A line is no header line.
     pub is_bad: bool,
@@ -89,14 +89,14 @@ impl Draft {
         }
     }
 
-    /// Adds what one more line says.
+    /// Adds one more line.
     pub fn add(&mut self, alloc: Global, line: &[u8]) -> Result<(), AllocError>
         ensures { OnOk result (self.new ≡ drafts.with_line self.old line.now) }
     {
         self.add_class(alloc, class_of(line))
     }
 
-    /// Adds what a line of this class says.
+    /// Adds a line of this class.
     #[inline(always)]
     pub(crate) fn add_class(
         &mut self,
@@ -238,7 +238,7 @@ impl<T: Drop> Slot<T> {
     }
 }
 
-/// The header that stays as it stands, under its long name.
+/// The header that is kept as it is, under its long name.
 fn other_header(alloc: Global, name: &[u8], value: &[u8]) -> Result<Header, AllocError>
     requires name { IsTrue (is_other_name (drafts.long_name name.now)) }
     requires value { IsTrue (is_header_value value.now) }
@@ -250,8 +250,8 @@ fn other_header(alloc: Global, name: &[u8], value: &[u8]) -> Result<Header, Allo
     })
 }
 
-/// The long name where the name is one of three compact names, in any case of the letters: of
-/// Content-Type, Subject and Content-Encoding (RFC 3261, section 7.3.3). Any other name itself.
+/// The long name, if the name is the compact name of Content-Type, Subject or Content-Encoding, in
+/// any case of the letters (RFC 3261, section 7.3.3). Otherwise the name itself.
 #[tactic(auto, unfolding(crate::specs::Draft::long_name))]
 pub fn long_name(name: &[u8]) -> &[u8]
     ensures { result.now ≡ drafts.long_name name.now }

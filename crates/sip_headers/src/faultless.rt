@@ -33,12 +33,12 @@ impl Model for Faultless {
 }
 
 impl Faultless {
-    /// The draft, where it has no fault.
+    /// The draft, if it has no fault.
     ///
     /// # Errors
     ///
-    /// BadHeader where a line is no header line, or a value isn't in its header's form; Missing for
-    /// the first header that isn't there; Repeated for the first that is there twice.
+    /// BadHeader if a line is no header line, or a value isn't in its header's form; Missing for
+    /// the first mandatory header that isn't there; Repeated for the first that is there twice.
     pub fn new(draft: Box<Draft>) -> Result<Faultless, ReadFault>
         ensures { result ≡ complete.faultless draft.value }
     {
@@ -48,7 +48,7 @@ impl Faultless {
         }
     }
 
-    /// The numbers, or None where a word in a number's place isn't one.
+    /// The numbers, or None if a word in a number's place isn't one.
     pub fn numbers(&self) -> Option<Numbers>
         ensures { result ≡ numbered.numbers_in self.now }
     {

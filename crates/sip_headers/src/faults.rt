@@ -1,4 +1,4 @@
-//! Headers that are missing, or stand in a message more often than they may.
+//! Headers that are missing, or occur in a message more often than they may.
 ghost use Rattle.std.specs.Prelude.{◌≡◌, find, ◌&&◌, IfNone, is_some};
 ghost use Rattle.sip_headers.specs.Complete as complete;
 ghost use Rattle.sip_headers.specs.Steps.OneLook as one_look;
@@ -12,12 +12,12 @@ use sip_message::ReadFault;
 use sip_parts::{HeaderKind, HeaderName};
 use sip_text::Series;
 
-/// How often a header's lines were met.
+/// How often a header was found.
 #[derive(Clone, Copy, Debug, PartialEq, Eq)]
 pub enum Presence {
     /// Not yet.
     Nowhere,
-    /// Once, or as often as a list's lines may stand.
+    /// Once, or, for a list, any number of times.
     Fitting,
     /// Twice or more.
     Repeated,
@@ -63,7 +63,7 @@ impl<T> Slot<T> {
         matches!(self, Slot::Once(_))
     }
 
-    /// Whether it stands at most once, in its form.
+    /// Whether it occurred at most once, in its form.
     fn is_at_most_once(&self) -> bool
         ensures { result ≡ one_look.is_at_most_once self.now }
     {
@@ -87,7 +87,7 @@ fn list_presence<T>(list: &Option<Series<T>>) -> Presence
 }
 
 impl Draft {
-    /// How often the header's lines were met.
+    /// How often the header was found.
     pub fn presence(&self, header: HeaderName) -> Presence
         ensures { result ≡ presence.presence_of self.now header }
     {
@@ -146,7 +146,8 @@ impl Draft {
         }
     }
 
-    /// Whether each line is a header line, and each header stands as it may, in one look at each.
+    /// Whether each line is a header line, and each header is there as it may be, in one look at
+    /// each.
     fn is_whole(&self) -> bool
         ensures { result ≡ one_look.is_whole self.now }
     {
@@ -174,7 +175,7 @@ impl Draft {
             && self.cseq.is_once()
     }
 
-    /// The first header that each message has and that isn't there.
+    /// The first mandatory header that isn't there.
     pub fn missing(&self) -> Option<HeaderName>
         ensures { result ≡ presence.missing self.now }
     {
@@ -182,7 +183,7 @@ impl Draft {
             && self.presence(*header).is_nowhere())
     }
 
-    /// The first header that stands at most once and is there twice.
+    /// The first header that may occur once and is there twice.
     pub fn repeated(&self) -> Option<HeaderName>
         ensures { result ≡ presence.repeated self.now }
     {

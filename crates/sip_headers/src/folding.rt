@@ -12,9 +12,9 @@ use crate::header_line::plain_line;
 use sip_text::{begins_blank, next_line, trimmed_end, trimmed_start};
 use std::alloc::{AllocError, Global};
 
-/// A line without folds. Nothing is copied where it had none.
+/// A line without folds. Nothing is copied if it had none.
 pub enum Whole<'a> {
-    /// It stands in the text as it is.
+    /// It is a part of the text as it is.
     Plain(&'a [u8]),
     /// It was put together.
     Folded(Vec<u8>),
@@ -40,7 +40,7 @@ impl Whole<'_> {
         }
     }
 
-    /// The line with one space where it goes on.
+    /// The line and its continuation, with one space between them.
     fn joined(self, alloc: Global, more: &[u8]) -> Result<Vec<u8>, AllocError>
         ensures { IfOk result (λ whole. whole.items
             ≡ folds.joined (whole_now self.entry) more.now) }
@@ -55,7 +55,7 @@ impl Whole<'_> {
     }
 }
 
-/// The line with those lines of the text that go on with it, and the text behind them.
+/// The line with those lines of the text that continue it, and the text after them.
 pub fn whole_line<'a>(
     alloc: Global,
     line: &'a [u8],
@@ -92,7 +92,7 @@ fn without_blank_end(mut line: Vec<u8>) -> Vec<u8>
     line
 }
 
-/// What the header lines say, on the heap, and the text behind the empty line that ends them. None
+/// What the header lines say, on the heap, and the text after the empty line that ends them. None
 /// without an empty line.
 pub fn gather(alloc: Global, text: &[u8]) -> Result<Option<(Box<Draft>, &[u8])>, AllocError>
     ensures { IfOk result (λ found. option_map (λ g. (g.0.value, g.1.now)) found
@@ -105,7 +105,7 @@ pub fn gather(alloc: Global, text: &[u8]) -> Result<Option<(Box<Draft>, &[u8])>,
     Ok(Some((draft, rest)))
 }
 
-/// Adds the header lines, and gives the text behind the empty line that ends them.
+/// Adds the header lines, and returns the text after the empty line that ends them.
 fn add_section<'a>(
     alloc: Global,
     draft: &mut Draft,
@@ -126,8 +126,7 @@ fn add_section<'a>(
     Ok(None)
 }
 
-/// Adds the header lines that stand in the text as they are, as far as one follows another, and
-/// gives the text behind them.
+/// Adds the header lines without folds at the start of the text, and returns the text after them.
 fn add_plain<'a>(alloc: Global, draft: &mut Draft, text: &'a [u8]) -> Result<&'a [u8], AllocError>
     ensures same { IfOk result (λ rest. steps.drafted_at draft.new rest.now
         ≡ steps.drafted_at draft.old text.now) }

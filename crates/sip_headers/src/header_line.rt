@@ -16,9 +16,9 @@ use sip_text::{
 pub enum LineClass<'a> {
     /// No header line.
     Bad,
-    /// A value of a header that is read into a field of its own.
+    /// A value of a header that is parsed into a field of its own.
     Known(HeaderName, &'a [u8]),
-    /// A header that stays as it stands: its name and its value.
+    /// A header that is kept as it is: its name and its value.
     Other(&'a [u8], &'a [u8]),
 }
 
@@ -42,8 +42,8 @@ fn class_named<'a>(name: &'a [u8], value: &'a [u8]) -> LineClass<'a>
     }
 }
 
-/// What the first line of the text is, and what follows it, where it is a header line that stands
-/// in the text as it is. None where it is none, or has to be looked at more closely.
+/// What the first line of the text is, and what follows it, if it is a header line without folds.
+/// None if it isn't, or needs a closer look.
 pub(crate) fn plain_line(text: &[u8]) -> Option<(LineClass<'_>, &[u8])>
     ensures { IfSome result (λ found.
         plain.IsPlainLine text.now (header_lines.class_now found.0) found.1.now) }
@@ -56,7 +56,7 @@ pub(crate) fn plain_line(text: &[u8]) -> Option<(LineClass<'_>, &[u8])>
     Some((class_named(name, trimmed(value)), after))
 }
 
-/// What stands before the first CR or LF, and the text behind it, where it ends a line.
+/// What comes before the first CR or LF, and the text after the line end, if it is one.
 fn before_line_end(text: &[u8]) -> Option<(&[u8], &[u8])>
     ensures { IfSome result (λ parts. plain.IsPlainEnd text.now parts.0.now parts.1.now) }
 {
@@ -66,7 +66,7 @@ fn before_line_end(text: &[u8]) -> Option<(&[u8], &[u8])>
     Some((line, after))
 }
 
-/// What stands behind CR LF or LF, with which the text begins.
+/// What follows CR LF or LF, with which the text begins.
 fn behind_line_end(text: &[u8]) -> Option<&[u8]>
     ensures { option_copied result ≡ plain.behind_line_end text.now }
 {
@@ -85,7 +85,7 @@ fn behind_feed(text: &[u8]) -> Option<&[u8]>
     }
 }
 
-/// A name, white space, a colon, and a value with white space round it, which is cut off.
+/// A name, white space, a colon, and a value without the white space around it.
 fn parts_of(line: &[u8]) -> Option<(&[u8], &[u8])>
     ensures { both_now result ≡ header_lines.line_from line.now }
 {
@@ -96,7 +96,7 @@ fn parts_of(line: &[u8]) -> Option<(&[u8], &[u8])>
     Some((name, trimmed(value)))
 }
 
-/// A name, and what stands behind its colon.
+/// A name, and what follows its colon.
 fn name_in(line: &[u8]) -> Option<(&[u8], &[u8])>
     ensures { both_now result ≡ header_lines.name_before_colon line.now }
 {
@@ -106,7 +106,7 @@ fn name_in(line: &[u8]) -> Option<(&[u8], &[u8])>
     }
 }
 
-/// The same, where white space may stand before the colon.
+/// The same, with white space allowed before the colon.
 fn cut_at_colon(line: &[u8]) -> Option<(&[u8], &[u8])>
     ensures { both_now result ≡ header_lines.name_before_colon line.now }
 {

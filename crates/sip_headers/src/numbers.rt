@@ -10,7 +10,7 @@ use sip_text::Series;
 use sip_values::{Numeral, RAckDraft, ViaDraft};
 use std::alloc::{AllocError, Global};
 
-/// The numbers of a message, beside the ports of its Via values.
+/// The numbers of a message, without the ports of its Via values.
 #[derive(Clone, Copy)]
 pub struct Numbers {
     pub max_forwards: Option<u32>,
@@ -22,8 +22,8 @@ pub struct Numbers {
 }
 
 impl Draft {
-    /// The numbers, or None where a word in a number's place isn't one, or a header doesn't stand
-    /// as often as it has to.
+    /// The numbers, or None if a word in a number's place isn't one, or a header doesn't occur as
+    /// often as it has to.
     #[tactic(auto, unfolding(crate::specs::Numbers::numbers_in))]
     pub fn numbers(&self) -> Option<Numbers>
         ensures { result ≡ numbered.numbers_in self.now }
@@ -109,7 +109,7 @@ fn known_rack(slot: &Slot<RAckDraft>) -> Option<Option<(u32, u32)>>
     }
 }
 
-/// The Via values with their ports, or None where a word in a port's place isn't one.
+/// The Via values with their ports, or None if a word in a port's place isn't one.
 pub fn with_ports(
     alloc: Global,
     drafts: Series<ViaDraft>,

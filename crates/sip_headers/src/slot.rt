@@ -1,4 +1,4 @@
-//! What was met of a header so far.
+//! What was found of a header so far.
 ghost use Rattle.std.specs.Prelude.{◌≡◌, ◌++◌, IfOk, OnOk};
 ghost use Rattle.sip_headers.specs.Slot as slots;
 
@@ -6,7 +6,7 @@ use sip_text::Series;
 use sip_values::Row;
 use std::alloc::{AllocError, Global};
 
-/// The value of a header that stands at most once, as far as its lines were met.
+/// The value of a header that may occur once, by its lines so far.
 #[derive(Drop)]
 pub enum Slot<T> {
     /// No line yet.
@@ -19,7 +19,7 @@ pub enum Slot<T> {
     Bad,
 }
 
-/// Reads one more line of a header that stands at most once.
+/// Reads one more line of a header that may occur once.
 pub fn read_once<R: Row>(
     alloc: Global,
     slot: &mut Slot<R::Value>,
@@ -39,7 +39,7 @@ pub fn read_once<R: Row>(
     Ok(())
 }
 
-/// Reads one more line of a list. None where a line isn't in the form.
+/// Reads one more line of a list. None if a line isn't in the form.
 pub fn read_list<T: Drop, R: Row<Value = Series<T>>>(
     alloc: Global,
     values: &mut Option<Series<T>>,
@@ -52,7 +52,7 @@ pub fn read_list<T: Drop, R: Row<Value = Series<T>>>(
     Ok(())
 }
 
-/// Both lists, or None where one of them is None.
+/// Both lists joined, or None if one of them is None.
 fn listed<T: Drop>(
     before: Option<Series<T>>,
     more: Option<Series<T>>,

@@ -1,4 +1,4 @@
--- IP addresses: what is read is spelled so, and what is spelled so is read.
+-- IP addresses: what is read is spelled that way, and that spelling is read.
 use Rattle.std.proofs.Common.{◌≡◌, ℕ, suc, ◌≤◌, true, false, eqb, leb, List, [], ◌∷◌, ◌++◌, Some, refl, sym, ap, subst, ◌∙◌, append_assoc, arith, codes, decimal}
 use Rattle.std.specs.Char.{is_ascii_digit}
 use Rattle.std.proofs.lemmas.Bool.{and_parts, and_from, leb-true, le-leb, not_from_false}
@@ -97,7 +97,7 @@ ip_again (a ∷ b ∷ c ∷ d ∷ e ∷ es) fits = absurd (omega (arith, fits.0)
 pub ip_reads : Reads IsIp ip_text ip_at
 ip_reads = record { took = ip_took; again = ip_again }
 
--- an IP address has digits and dots alone
+-- an IP address has only digits and dots
 pub ip_no : (at : ℕ) (ip : List ℕ) → is_ascii_digit at ≡ false → eqb 46 at ≡ false
     → IsIp ip → has_no at (ip_text ip) ≡ true
 ip_no at [] no_digit other fits = absurd (omega (arith, fits.0))

@@ -1,4 +1,4 @@
--- An IP address as a parameter's value, and a branch that a stamp leaves alone.
+-- An IP address is a parameter's value, and a stamp doesn't change the branch.
 use Rattle.std.proofs.Common.{◌≡◌, ℕ, ◌<◌, ◌^◌, Bool, true, false, cond, not, List, [], ◌∷◌, ◌++◌, length, Some, None, refl, sym, ap, ◌∙◌, IsTrue, codes, decimal, slice_index, arith, length-append}
 use Rattle.std.specs.List.{list_all}
 use Rattle.std.specs.Char.{is_ascii_digit}
@@ -63,7 +63,7 @@ ip_is_value ip p q r s =
     (run_from_all is_value_byte (ip_text ip) (ip_nonempty ip s)
     (ip_passes is_value_byte digit_value_byte refl ip p q r s))
 
--- no name is both
+-- no name equals both of two different names
 not_both : (name a b : List ℕ) → (str_to_ascii_lowercase a ≡ str_to_ascii_lowercase b → ⊥)
     → str_eq_ignore_ascii_case name a ≡ true → str_eq_ignore_ascii_case name b ≡ false
 not_both name a b differ is = false_from_ne_true _
@@ -161,7 +161,7 @@ unfolding are_vias
 kept_top [] parameters same h = h
 kept_top (via ∷ vias) parameters same h = ap has_cookie same ∙ h
 
--- a stamp leaves the branch
+-- a stamp doesn't change the branch
 pub stamp_leaves : (source : Addr) (vias : List Via) (via : Via) → slice_get vias 0 ≡ Some via
     → value_named branch (stamped_parameters source via) ≡ first_branch vias
 stamp_leaves source [] via e = absurd cc

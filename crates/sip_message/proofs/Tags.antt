@@ -1,4 +1,4 @@
--- A tag at the end of parameters that have none.
+-- A tag is added at the end of parameters that have none.
 use Rattle.std.proofs.Common.{◌≡◌, ℕ, Bool, true, false, cond, List, [], ◌∷◌, ◌++◌, Some, None, refl, ap, ◌∙◌, IsTrue, codes}
 use Rattle.std.specs.Prelude.{find}
 use Rattle.std.specs.Str.{str_eq_ignore_ascii_case}
@@ -15,7 +15,7 @@ step : {X : Type 0} (p : X → Bool) (x : X) (xs : List X) (y : X) (b : Bool)
 step p x xs y true none rest = absurd cc
 step p x xs y false none rest = rest none
 
--- what isn't found before it is looked for in the last element
+-- if no earlier element passes, only the last one may be found
 pub find-push : {X : Type 0} (p : X → Bool) (xs : List X) (y : X) → find p xs ≡ None
     → find p (xs ++ y ∷ []) ≡ cond (p y) (Some y) None
 find-push p [] y none = refl

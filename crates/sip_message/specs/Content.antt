@@ -33,7 +33,7 @@ no_headers = record { contacts = []; supported = []; require = []; others = [] }
 abbrev pub content_of_body : List ℕ → Content
 content_of_body body = content_with no_headers body
 
--- where a content without a header keeps no list
+-- a content without headers keeps no list
 abbrev pub content_of : Option ContentHeaders → List ℕ → Content
 content_of None body = content_of_body body
 content_of (Some headers) body = content_with headers body
@@ -46,13 +46,13 @@ content_type = record { name = codes "Content-Type"; value = codes "application/
 abbrev pub is_content_type : Header → Bool
 is_content_type header = str_eq_ignore_ascii_case header.name (codes "Content-Type")
 
--- the headers of a body, which is SDP where none of them says its type
+-- the headers of a body; if none of them says its type, it is SDP
 abbrev pub with_type_of : List ℕ → List Header → List Header
 with_type_of [] headers = headers
 with_type_of (byte ∷ bytes) headers =
     if list_any is_content_type headers then headers else headers ++ content_type ∷ []
 
--- the contacts of the content, or the agent's own where it has none
+-- the contacts of the content, or the agent's own if it has none
 abbrev pub contacts_of_content : List NameAddr → List NameAddr → List NameAddr
 contacts_of_content own [] = own
 contacts_of_content own (contact ∷ contacts) = contact ∷ contacts

@@ -1,5 +1,5 @@
--- The requests that follow another in its own hop, to where it was sent: the ACK of a response of
--- 300 to 699 (RFC 3261, section 17.1.1.3) and CANCEL (RFC 3261, section 9.1).
+-- The requests that follow another one on its own hop, to the same address: the ACK of a response
+-- of 300 to 699 (RFC 3261, section 17.1.1.3) and CANCEL (RFC 3261, section 9.1).
 use Rattle.std.specs.Prelude.{ℕ, List, Some, codes, take}
 use Rattle.sip_message.specs.declared.message.TheConstants.{MAX_FORWARDS}
 use Rattle.sip_message.specs.declared.cseq.CSeq.{CSeq}
@@ -7,12 +7,12 @@ use Rattle.sip_message.specs.declared.message.Message.{Message}
 use Rattle.sip_message.specs.declared.party.Party.{Party}
 use Rattle.sip_message.specs.Message.{bare}
 
--- the request's number, with this method
+-- the request's CSeq number, with this method
 abbrev pub cseq_of : List ℕ → Message → CSeq
 cseq_of method request = record { number = (request.cseq).number; method = method }
 
--- Request-URI, From, Call-ID, CSeq number and Route of the request, and its top Via alone, with
--- this method and this To
+-- Request-URI, From, Call-ID, CSeq number, Route and only the top Via of the request, with this
+-- method and this To
 abbrev pub hop_by_hop_of : List ℕ → Message → Party → Message
 hop_by_hop_of method request to =
     let via = take 1 request.vias in

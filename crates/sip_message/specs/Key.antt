@@ -1,4 +1,4 @@
--- What tells transactions apart (RFC 3261, sections 17.1.3 and 17.2.3).
+-- The key that identifies a transaction (RFC 3261, sections 17.1.3 and 17.2.3).
 use Rattle.std.specs.Prelude.{ℕ, List, []}
 use Rattle.std.specs.Str.{str_to_ascii_lowercase}
 use Rattle.std.specs.declared.cmp.Ordering.{Ordering}
@@ -44,7 +44,7 @@ abbrev pub method_in : Key → List ℕ
 method_in (Client branch method) = method
 method_in (Server branch sent_by method) = method
 
--- by side, branch, host, port and method
+-- keys in order: by side, branch, host, port and method
 abbrev pub key_cmp : Key → Key → Ordering
 key_cmp =
     then_cmp (then_cmp (then_cmp (then_cmp (on side_of nat_cmp) (on branch_in (slice_cmp nat_cmp)))

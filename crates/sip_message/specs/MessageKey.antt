@@ -12,7 +12,7 @@ use Rattle.sip_message.specs.TopVia.{top_branch, top_host, top_port}
 unfoldable pub transaction_method : List ℕ → List ℕ
 transaction_method method = if bytes_eq method (codes "ACK") then codes "INVITE" else method
 
--- the key of these parts: of a request that of a server transaction, of a response a client's
+-- the key from these parts: of a request a server transaction's, of a response a client's
 abbrev pub key_at : StartLine → List ℕ → List ℕ → ℕ → List ℕ → Key
 key_at (Request uri) branch host port method =
     server_key branch host port (transaction_method method)

@@ -4,15 +4,15 @@ use Rattle.sip_parts.specs.declared.parameter.Parameter.{Parameter}
 use Rattle.sip_message.specs.declared.party.Party.{Party}
 use Rattle.sip_parts.specs.Tag.{tag_in}
 
--- the tag, empty where there is none
+-- the tag, empty if there is none
 abbrev pub tag_of : Party → List ℕ
 tag_of party = tag_in party.parameters
 
--- the parameter `tag`, where there is a tag
+-- the parameter `tag`, if there is a tag
 abbrev pub tag_alone : Option (List ℕ) → List Parameter
 tag_alone None = []
 tag_alone (Some tag) = (record { name = codes "tag"; value = Some tag }) ∷ []
 
--- the party of a URI, with no display text, and with a tag where there is one
+-- the party of a URI, with no display text, and with a tag if there is one
 abbrev pub party_of : List ℕ → Option (List ℕ) → Party
 party_of uri tag = record { display = []; uri = uri; parameters = tag_alone tag }

@@ -15,7 +15,7 @@ tag_parameter tag = record { name = codes "tag"; value = Some tag }
 unfoldable pub is_tagged : Party → Bool
 is_tagged party = is_some (parameter_named (codes "tag") party.parameters)
 
--- the party with this tag as its last parameter, where it had none
+-- the party with this tag as its last parameter, if it had none
 unfoldable pub tagged : Party → List ℕ → Party
 tagged party tag = if is_tagged party then party
     else record party { parameters = party.parameters ++ tag_parameter tag ∷ [] }

@@ -1,4 +1,4 @@
--- The rules that every message keeps (RFC 3261, section 25.1).
+-- The rules that every message satisfies (RFC 3261, section 25.1).
 use Rattle.std.specs.Prelude.{◌≤◌, ◌<◌, ◌^◌, IsTrue, IfSome}
 use Rattle.std.specs.List.{AllByRecursion}
 use Rattle.sip_text.specs.Token.{is_token}
@@ -59,7 +59,7 @@ pub record IsRAck (rack : RAck) : Type 0 where
   pub cseq : rack.cseq < 2 ^ 32
   pub method : IsTrue (is_token rack.method)
 
--- What every message keeps.
+-- The rules that every message satisfies.
 pub record IsMessage (m : Message) : Type 0 where
   pub start : IsStartLine m.start
   pub top : IsTrue (are_vias m.vias)

@@ -1,4 +1,4 @@
--- The top Via of a message, and who sent the message by it (RFC 3261, sections 18.1.1 and 18.2.1).
+-- The top Via of a message, which says who sent it (RFC 3261, sections 18.1.1 and 18.2.1).
 use Rattle.std.specs.Prelude.{ℕ, Bool, false, List, [], Option, ◌&&◌, ◌==◌, unwrap_or}
 use Rattle.std.specs.List.{slice_get}
 use Rattle.std.specs.Option.{option_map_or}
@@ -21,11 +21,11 @@ top_branch message = option_map_or branch_of (top_via message) []
 abbrev pub top_host : Message → List ℕ
 top_host message = option_map_or (λ via. via.host) (top_via message) []
 
--- the port of the sent-by, 5060 where it is absent
+-- the port of the sent-by, 5060 if it is absent
 abbrev pub port_of : Via → ℕ
 port_of via = unwrap_or via.port 5060
 
--- the port of its sent-by, 5060 where it says none
+-- the port of its sent-by, 5060 if it has none
 abbrev pub top_port : Message → ℕ
 top_port message = option_map_or port_of (top_via message) 5060
 

@@ -5,7 +5,7 @@ use Rattle.sip_parts.specs.declared.parameter.Parameter.{Parameter}
 use Rattle.sip_message.specs.declared.via.Via.{Via}
 use Rattle.sip_parts.specs.Parameters.{value_named}
 
--- the branch, empty where there is none
+-- the branch, empty if there is none
 abbrev pub branch_of : Via → List ℕ
 branch_of via = value_named (codes "branch") via.parameters
 
@@ -13,7 +13,7 @@ branch_of via = value_named (codes "branch") via.parameters
 unfoldable pub has_cookie : List ℕ → Bool
 has_cookie branch = str_eq_ignore_ascii_case (take 7 branch) (codes "z9hG4bK")
 
--- at least one value, and the first has such a branch
+-- there is at least one value, and the branch of the first has the cookie
 unfoldable pub are_vias : List Via → Bool
 are_vias [] = false
 are_vias (via ∷ vias) = has_cookie (branch_of via)

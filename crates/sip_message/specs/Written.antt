@@ -25,11 +25,11 @@ value_text (Some value) = codes "=" ++ value
 unfoldable pub parameter_text : Parameter → List ℕ
 parameter_text p = codes ";" ++ p.name ++ value_text p.value
 
--- parameters, one behind the other
+-- parameters, one after the other
 abbrev pub parameters_text : List Parameter → List ℕ
 parameters_text parameters = flat_map parameter_text parameters
 
--- `:` and the port, where there is one
+-- `:` and the port, if there is one
 abbrev pub port_text : Option ℕ → List ℕ
 port_text None = []
 port_text (Some port) = codes ":" ++ decimal port
@@ -39,12 +39,12 @@ unfoldable pub via_text : Via → List ℕ
 via_text via = codes "SIP/2.0/" ++ via.transport ++ codes " " ++ via.host ++ port_text via.port
     ++ parameters_text via.parameters
 
--- the display text with a space behind it, where there is one
+-- the display text and a space, if there is one
 abbrev pub display_part : List ℕ → List ℕ
 display_part [] = []
 display_part (b ∷ bs) = (b ∷ bs) ++ codes " "
 
--- the display text and a space where it isn't empty, then `<URI>`, then the parameters
+-- the display text and a space, if it isn't empty, then `<URI>`, then the parameters
 unfoldable pub address_text : List ℕ → List ℕ → List Parameter → List ℕ
 address_text display uri parameters =
     display_part display ++ codes "<" ++ uri ++ codes ">" ++ parameters_text parameters
@@ -62,7 +62,7 @@ abbrev pub address_line : List ℕ → NameAddr → List ℕ
 address_line name address =
     header_line name (address_text address.display address.uri address.parameters)
 
--- a number's line, where there is a number
+-- a number's line, if there is a number
 abbrev pub number_line : List ℕ → Option ℕ → List ℕ
 number_line name None = []
 number_line name (Some number) = header_line name (decimal number)
@@ -71,7 +71,7 @@ number_line name (Some number) = header_line name (decimal number)
 abbrev pub joined : List ℕ → List (List ℕ) → List ℕ
 joined first others = first ++ flat_map (λ token. codes ", " ++ token) others
 
--- one line of tokens, where there is one
+-- one line of tokens, if there is one
 abbrev pub tokens_line : List ℕ → List (List ℕ) → List ℕ
 tokens_line name [] = []
 tokens_line name (token ∷ tokens) = header_line name (joined token tokens)
@@ -84,7 +84,7 @@ cseq_text cseq = decimal cseq.number ++ codes " " ++ cseq.method
 unfoldable pub rack_text : RAck → List ℕ
 rack_text rack = decimal rack.rseq ++ codes " " ++ decimal rack.cseq ++ codes " " ++ rack.method
 
--- the RAck line, where there is a RAck
+-- the RAck line, if there is a RAck
 abbrev pub rack_line : Option RAck → List ℕ
 rack_line None = []
 rack_line (Some rack) = header_line (codes "RAck") (rack_text rack)

@@ -53,8 +53,8 @@ fn push_octet(text: &mut ArrayVec<u8, 15>, octet: u8)
         .unwrap();
 }
 
-/// The IP address that stands as four decimal numbers with dots between them, or None where the
-/// text is none. Takes no memory.
+/// The IP address that is written as four decimal numbers with dots between them, or None if the
+/// text isn't one. Takes no memory.
 #[tactic(auto, unfolding(crate::specs::Ip::ip_at))]
 pub fn ip_in(text: &[u8]) -> Option<[u8; 4]>
     ensures { result ≡ ip_at text.now }

@@ -13,13 +13,13 @@ use std::marker::Model;
 
 /// The headers that a user gives a message of his own.
 pub struct ContentHeaders {
-    /// Where there are any, they stand in place of the agent's own Contact.
+    /// If there are any, they replace the agent's own Contact.
     pub contacts: Series<NameAddr>,
     /// After the agent's own, in Supported.
     pub supported: Series<Token>,
     /// After the agent's own, in Require.
     pub require: Series<Token>,
-    /// In order. By their type none of them is a header that the profile reads.
+    /// In order. By their type none of them is a header that is parsed.
     pub others: Series<Header>,
 }
 
@@ -45,7 +45,7 @@ impl ContentHeaders {
             && self.others.is_empty()
     }
 
-    // Puts them and this body into a message.
+    // Puts these headers and this body into a message.
     #[tactic(auto, unfolding(crate::specs::Content::with_content_of))]
     fn put_into(self, alloc: Global, body: Text, message: &mut Message) -> Result<(), AllocError>
         ensures { OnOk result
@@ -71,7 +71,7 @@ impl ContentHeaders {
 /// What a user puts into a message of his own: headers, and the body. A contract sees the record
 /// of all of them.
 pub struct Content {
-    // None where there is no header: commands are moved often, and most have none.
+    // None if there is no header: commands are moved often, and most have none.
     headers: Option<Boxed<ContentHeaders>>,
     body: Text,
 }
@@ -87,7 +87,7 @@ impl Model for Content {
 impl Content {
     ghost use Rattle.sip_message.specs.Content.{content_of_body, content_with, with_content_of};
 
-    /// These headers, and this body. Takes memory where there is a header.
+    /// These headers, and this body. Takes memory if there is a header.
     pub fn new(alloc: Global, headers: ContentHeaders, body: Text) -> Result<Content, AllocError>
         ensures { IfOk result (λ content. content ≡ content_with headers body) }
     {
@@ -106,7 +106,7 @@ impl Content {
         }
     }
 
-    /// Gives it these headers in place of those that it has. Takes memory where there is a header.
+    /// Replaces its headers by these. Takes memory if there is a header.
     pub fn set_headers(&mut self, alloc: Global, headers: ContentHeaders) -> Result<(), AllocError>
         ensures { OnOk result (self.new ≡ content_with headers self.old.body) }
     {
@@ -183,8 +183,8 @@ impl Content {
     }
 }
 
-// The headers of a body: `Content-Type: application/sdp` as the last of them, where there is a
-// body and none of them says its type.
+// The headers of a body, with `Content-Type: application/sdp` at the end if there is a body and
+// none of them says its type.
 fn with_type(
     alloc: Global,
     body: &Text,

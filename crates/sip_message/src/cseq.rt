@@ -4,7 +4,7 @@ ghost use Rattle.std.specs.Prelude.{◌≡◌};
 use sip_parts::Token;
 use std::alloc::AllocError;
 
-/// A number in the order of a dialog's requests, and a method.
+/// A sequence number and a method.
 pub struct CSeq {
     pub number: u32,
     pub method: Token,

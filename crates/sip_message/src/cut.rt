@@ -2,9 +2,9 @@
 
 ghost use Rattle.std.specs.Prelude.{◌≡◌, ◌<◌, ◌≤◌, ℕ, List};
 
-/// Says in which of several shards a name lies.
+/// Says to which of several shards a name belongs.
 ///
-/// The answer depends on nothing but the name and the number of shards.
+/// The answer depends only on the name and the number of shards.
 pub trait Cut {
     /// The shard of a name.
     ghost shard_of: { Self → List ℕ → ℕ → ℕ };

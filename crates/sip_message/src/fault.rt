@@ -6,8 +6,8 @@ use sip_parts::HeaderName;
 use std::alloc::{AllocError, AllocFailed};
 use std::fmt;
 
-/// What is wrong with a text. The fault is the first of these whose condition holds; NoMemory may
-/// stand in place of the fault that would have followed.
+/// What is wrong with a text. The fault is the first of these whose condition is true; NoMemory may
+/// be returned in place of the fault that would have followed.
 #[derive(Clone, Copy, Debug, PartialEq, Eq)]
 pub enum ReadFault {
     /// It has more than 65,535 bytes.
@@ -16,13 +16,13 @@ pub enum ReadFault {
     NoEmptyLine,
     /// The start line is neither a request line nor a status line.
     BadStartLine,
-    /// A header line isn't one, or a header's value isn't in the form of its header, numbers aside.
+    /// A line isn't a header line, or the value of a header isn't in its form (numbers aside).
     BadHeader,
-    /// A header that each message has isn't there.
+    /// A mandatory header is missing.
     Missing(HeaderName),
-    /// A header that stands at most once is there twice.
+    /// A header that is allowed once is there twice.
     Repeated(HeaderName),
-    /// A word in a number's place isn't a number, or is too large a one.
+    /// A word in the place of a number isn't a number, or the number is too large.
     BadNumber,
     /// The top Via's branch doesn't begin with `z9hG4bK`.
     OldBranch,
@@ -30,7 +30,7 @@ pub enum ReadFault {
     MethodMismatch,
     /// Fewer bytes follow the empty line than the Content-Length says.
     Truncated,
-    /// A growth was refused.
+    /// Memory ran out.
     NoMemory,
 }
 

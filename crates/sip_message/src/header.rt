@@ -1,10 +1,10 @@
-//! Headers that stay as they stand (RFC 3261, section 7.3.1).
+//! Headers that are kept as they are (RFC 3261, section 7.3.1).
 ghost use Rattle.std.specs.Prelude.{◌≡◌};
 
 use sip_parts::{HeaderValue, OtherName};
 use std::alloc::AllocError;
 
-/// A header that isn't read into a field of its own.
+/// A header that isn't parsed into a field of its own.
 pub struct Header {
     pub name: OtherName,
     pub value: HeaderValue,

@@ -1,4 +1,4 @@
-//! The requests that follow another in its own hop: the ACK of a response that isn't a success (RFC
+//! The requests that follow another one on its own hop: the ACK of a response of 300 to 699 (RFC
 //! 3261, section 17.1.1.3), and CANCEL (RFC 3261, section 9.1).
 ghost use Rattle.std.specs.Prelude.{◌≡◌, IfOk, take};
 ghost use Rattle.sip_message.specs.HopByHop as spec;
@@ -12,7 +12,7 @@ use sip_text::Series;
 use std::alloc::{AllocError, Global};
 
 /// The ACK that the client of an INVITE sends for a response of 300 to 699: the start line, From,
-/// Call-ID, CSeq number and Route of the request, its top Via alone, the To of the response, and no
+/// Call-ID, CSeq number and Route of the request, only its top Via, the To of the response, and no
 /// body.
 #[tactic(auto, unfolding(sip_text::specs::Token::is_token, sip_text::specs::Token::is_token_byte))]
 pub fn ack_for(alloc: Global, request: &Message, response: &Message) -> Result<Message, AllocError>
@@ -22,8 +22,8 @@ pub fn ack_for(alloc: Global, request: &Message, response: &Message) -> Result<M
     hop_by_hop(alloc, request, to, Token::copy_of(alloc, b"ACK")?)
 }
 
-/// The CANCEL of a request: its start line, From, To, Call-ID, CSeq number and Route, its top Via
-/// alone, and no body.
+/// The CANCEL of a request: its start line, From, To, Call-ID, CSeq number and Route, only its top
+/// Via, and no body.
 #[tactic(auto, unfolding(sip_text::specs::Token::is_token, sip_text::specs::Token::is_token_byte))]
 pub fn cancel_for(alloc: Global, request: &Message) -> Result<Message, AllocError>
     ensures { IfOk result (λ made. made ≡ spec.cancel_of request.now) }

@@ -12,8 +12,8 @@ use sip_text::byte_order;
 use std::alloc::{AllocError, Global};
 use std::cmp::Ordering;
 
-/// What tells transactions apart. Client keys come before server keys, then
-/// the order is by branch, host, port and method.
+/// What identifies a transaction. Client keys come before server keys; then keys are in the order
+/// of branch, host, port and method.
 pub enum Key {
     /// A client's: its top branch, and the method of its CSeq.
     Client {

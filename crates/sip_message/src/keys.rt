@@ -55,7 +55,7 @@ fn invite(alloc: Global) -> Result<Token, AllocError>
     Token::copy_of(alloc, b"INVITE")
 }
 
-/// The port of a Via, 5060 where it names none.
+/// The port of a Via, 5060 if it names none.
 pub(crate) fn port_of(via: &Via) -> u16
     ensures { result ≡ top.port_of via.now }
 {

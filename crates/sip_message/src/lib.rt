@@ -1,4 +1,4 @@
-//! SIP messages: their types, their writing, responses, the stamp of their source, and the keys of
+//! SIP messages: their types, their text, responses, the stamp of their source, and the keys of
 //! their transactions.
 #![tactic(auto)]
 

@@ -13,7 +13,7 @@ use sip_parts::{CallId, Token};
 use sip_text::{Series, Text};
 use std::alloc::{AllocError, Global};
 
-/// How many hops a made request may take (RFC 3261, section 8.1.1.6).
+/// The Max-Forwards of a made request (RFC 3261, section 8.1.1.6).
 pub const MAX_FORWARDS: u32 = 70;
 
 /// A request or a response. Lists are in the order of the message; the top Via is the first.
@@ -88,10 +88,10 @@ impl Message {
         &self.cseq.method
     }
 
-    /// The message with what the user puts into it: his contacts in place of the agent's own where
-    /// there are any, his other headers after the agent's own, and his body, which is SDP where no
-    /// Content-Type says otherwise. What is there is moved, and memory is taken only where both
-    /// have values, or for that type.
+    /// The message with what the user puts into it: the user's contacts in place of the agent's
+    /// own, if there are any, the user's other headers after the agent's own, and the user's body,
+    /// which is SDP if no Content-Type says otherwise. Values are moved; memory is taken only if
+    /// both have values, or for the Content-Type.
     pub fn with_content(mut self, alloc: Global, content: Content) -> Result<Message, AllocError>
         ensures { IfOk result (λ made. made ≡ with_content_of self content) }
     {
@@ -100,7 +100,8 @@ impl Message {
     }
 }
 
-// Written out, so that a message is dropped by one call wherever a value that holds one is.
+// Written out, so that a message is dropped by one call, wherever a value that holds one is
+// dropped.
 impl Drop for Message {
     fn drop(self) {
         let Message {

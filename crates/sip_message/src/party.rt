@@ -17,7 +17,7 @@ pub struct Party {
 impl Party {
     ghost use Rattle.sip_message.specs.Party.{tag_of, party_of};
 
-    /// The party of this URI, without a display text, and with this tag where there is one.
+    /// The party of this URI, without a display text, and with this tag if there is one.
     pub fn new(alloc: Global, uri: Uri, tag: Option<Token>) -> Result<Party, AllocError>
         ensures { IfOk result (λ party. party ≡ party_of uri tag) }
     {
@@ -28,7 +28,7 @@ impl Party {
         })
     }
 
-    /// The tag: empty where there is none.
+    /// The tag: empty if there is none.
     pub fn tag(&self) -> &[u8]
         ensures { result.now ≡ tag_of self.now }
     {

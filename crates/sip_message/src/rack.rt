@@ -4,7 +4,8 @@ ghost use Rattle.std.specs.Prelude.{◌≡◌};
 use sip_parts::Token;
 use std::alloc::AllocError;
 
-/// The RSeq that a PRACK acknowledges, and the CSeq of the request that it answered.
+/// The RSeq that a PRACK acknowledges, and the CSeq of the request that the acknowledged response
+/// answers.
 pub struct RAck {
     pub rseq: u32,
     pub cseq: u32,

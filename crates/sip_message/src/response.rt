@@ -15,7 +15,7 @@ use sip_parts::{
 use std::alloc::{AllocError, Global};
 
 /// The response to the request: its Via, From, To, Call-ID and CSeq, no other header and no body.
-/// To gets the tag as its last parameter where it has none and the status isn't 100.
+/// To gets the tag as its last parameter, if it has none and the status isn't 100.
 #[tactic(auto, unfolding(crate::specs::Response::response_of))]
 pub fn response_to(
     alloc: Global,
@@ -49,7 +49,7 @@ fn answering_to(
     tagged(alloc, to, tag)
 }
 
-/// The party with this tag as its last parameter, where it has none.
+/// The party with this tag as its last parameter, if it has none.
 #[tactic(auto, unfolding(crate::specs::Response::tagged))]
 pub(crate) fn tagged(alloc: Global, party: &Party, tag: &Token) -> Result<Party, AllocError>
     ensures { IfOk result (λ made. made ≡ response.tagged party.now tag.now) }

@@ -12,11 +12,11 @@ use sip_parts::{Parameter, ParameterValue, Token, parameter_named};
 use sip_text::{Series, decimal, token_eq};
 use std::alloc::{AllocError, Global};
 
-/// Notes the source in the top Via, and gives the address that the answer goes to. Where the first
-/// `rport` has no value, it gets the source port, `received` the source IP, and the answer goes to
-/// the source; otherwise `received` is set where the Via names another host than the source IP, and
-/// the answer goes to the source IP and the port of the sent-by. The other values stay as they are,
-/// and nothing is copied where nothing changes. Without memory the message stays as it is.
+/// Notes the source in the top Via, and returns the address to which the answer goes. If the first
+/// `rport` has no value, it gets the source port, `received` gets the source IP, and the answer
+/// goes to the source. Otherwise `received` is set if the Via names a host other than the source
+/// IP, and the answer goes to the source IP and the port of the sent-by. The other values don't
+/// change, and nothing is copied if nothing changes. If memory runs out the message doesn't change.
 #[tactic(auto, unfolding(crate::specs::Source::stamped, crate::specs::Source::answer_address))]
 pub fn stamp_source(alloc: Global, message: &mut Message, source: Addr) -> Result<Addr, AllocError>
     ensures stamped { OnOk result (message.new ≡ source_of.stamped message.old source) }
@@ -53,7 +53,7 @@ fn asks_port(via: &Via) -> bool
     }
 }
 
-/// The parameters with the source, or None where they stay as they are.
+/// The parameters with the source, or None if they don't change.
 #[tactic(auto, unfolding(crate::specs::Source::stamped_parameters))]
 fn stamped_parameters(
     alloc: Global,
@@ -98,8 +98,8 @@ fn with_port(
     with_value(alloc, parameters, b"rport", &port)
 }
 
-/// The parameters, of which the first of this name gets the value; where there is none a new one
-/// stands last.
+/// The parameters after the first one of this name got the value; if there is none, a new one is
+/// added at the end.
 fn with_value(
     alloc: Global,
     parameters: &[Parameter],

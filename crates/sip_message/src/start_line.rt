@@ -4,7 +4,7 @@ ghost use Rattle.std.specs.Prelude.{◌≡◌};
 use sip_parts::{Reason, RequestUri, StatusCode};
 use std::alloc::AllocError;
 
-/// A request line, whose method is that of the CSeq, or a status line.
+/// A request line or a status line. The method of a request line is that of the CSeq.
 pub enum StartLine {
     Request { uri: RequestUri },
     Response { status: StatusCode, reason: Reason },

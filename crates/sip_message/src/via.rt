@@ -5,7 +5,7 @@ use sip_parts::{Host, Parameter, Token, value_named};
 use sip_text::Series;
 use std::alloc::AllocError;
 
-/// One value of a Via: a hop that the request made.
+/// One value of a Via: a hop of the request.
 pub struct Via {
     pub transport: Token,
     pub host: Host,
@@ -16,7 +16,7 @@ pub struct Via {
 impl Via {
     ghost use Rattle.sip_message.specs.Via.{branch_of};
 
-    /// The branch: empty where there is none.
+    /// The branch: empty if there is none.
     pub fn branch(&self) -> &[u8]
         ensures { result.now ≡ branch_of self.now }
     {

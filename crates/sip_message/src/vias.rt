@@ -31,7 +31,7 @@ impl Model for Vias {
 }
 
 impl Vias {
-    /// These values, or None where there is none, or the first has no such branch.
+    /// These values, or None if there is none, or the first has no such branch.
     pub fn new(vias: Series<Via>) -> Option<Vias>
         ensures { SomeIff result (IsTrue (via.are_vias vias)) vias }
     {
@@ -58,7 +58,7 @@ impl Vias {
         &self.vias.as_slice()[0]
     }
 
-    /// Gives the top value other parameters, which have the same branch.
+    /// Replaces the parameters of the top value by others with the same branch.
     #[tactic(auto, unfolding(crate::specs::Via::are_vias), using(crate::proofs::Stamps::kept_top))]
     pub(crate) fn set_top_parameters(&mut self, alloc: Global, parameters: Series<Parameter>)
         requires { value_named (codes "branch") parameters ≡ via.first_branch self.old }

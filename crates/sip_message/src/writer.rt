@@ -15,7 +15,7 @@ use sip_parts::{Parameter, Token};
 use sip_text::decimal;
 use std::alloc::{AllocError, Global};
 
-/// How many bytes are reserved for all that stands before a body.
+/// How many bytes are reserved for all that comes before a body.
 const ROOM_FOR_HEADERS: usize = 512;
 
 /// The one text of the message: its start line, its headers in a fixed order, an empty line and its
@@ -33,7 +33,7 @@ pub fn write(alloc: Global, message: &Message) -> Result<Vec<u8>, AllocError>
     Ok(out)
 }
 
-// How many bytes are reserved for a message, so that few of them grow as they are written.
+// How many bytes are reserved for a message, so that few texts grow while they are written.
 fn room_for(message: &Message) -> usize {
     ROOM_FOR_HEADERS.saturating_add(message.body.len())
 }

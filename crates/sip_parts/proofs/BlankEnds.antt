@@ -109,7 +109,7 @@ full_has_none text full = (bytes_eq-Decides (trimmed text) text).1 (full_kept te
 pub trimmed_has_none : (text : List ℕ) → has_no_blank_ends (trimmed text) ≡ true
 trimmed_has_none text = full_has_none (trimmed text) (trimmed_full text)
 
--- such a text begins with another byte than a blank, and its end stays
+-- such a text doesn't begin or end with a blank
 pub ends_kept : (b : ℕ) (bs : List ℕ) → has_no_blank_ends (b ∷ bs) ≡ true
     → (is_blank b ≡ false) × (trimmed_end (b ∷ bs) ≡ b ∷ bs)
 ends_kept b bs is =

@@ -24,7 +24,7 @@ none_of test (c ∷ cs) b fail h =
     let parts = and_parts (not (test c)) (list_all (λ c. not (test c)) cs) fail in
     step test c cs b (eqb c b) refl parts.0 h (none_of test cs b parts.1 h)
 
--- what passes the one test passes the other
+-- if each byte that passes one test passes the other, so do texts
 pub all_weaker : (p q : ℕ → Bool) → ((b : ℕ) → p b ≡ true → q b ≡ true) → (text : List ℕ)
     → list_all p text ≡ true → list_all q text ≡ true
 all_weaker p q weaker [] h = refl

@@ -1,4 +1,4 @@
--- A text has a byte that passes a test, or has none.
+-- Whether a text has a byte that passes a test.
 use Rattle.std.proofs.Common.{◌≡◌, ℕ, zero, suc, ◌<◌, Bool, true, false, not, List, [], ◌∷◌, length, Option, Some, None, refl, sym, arith}
 use Rattle.std.specs.List.{list_all}
 use Rattle.std.specs.Prelude.{is_some}
@@ -22,7 +22,7 @@ one_passes test (b ∷ bs) (suc k) lt is =
     let rest : list_all (λ b. not (test b)) bs ≡ false = one_passes test bs k (omega arith) is in
     rw rest (and-false (not (test b)))
 
--- no byte passes the test exactly where none is found first
+-- no byte passes the test exactly if none is found
 pub none_found : (test : ℕ → Bool) (text : List ℕ) (found : Option ℕ) (answer : Bool)
     → not answer ≡ is_some found → IsFirstByte test text found
     → answer ≡ list_all (λ b. not (test b)) text

@@ -1,4 +1,4 @@
--- A text that was brought into lower case has no capital.
+-- A text in lower case has no capital.
 use Rattle.std.proofs.Common.{◌≡◌, ℕ, true, not, List, [], ◌∷◌, refl, arith}
 use Rattle.std.proofs.lemmas.Bool.Decides.{nat_tests}
 use Rattle.std.specs.Char.{to_ascii_lowercase, is_ascii_uppercase}

@@ -10,10 +10,10 @@ use Rattle.sip_parts.specs.HeaderValue.{has_no_blank_ends}
 unfoldable pub is_display_text_byte : ℕ → Bool
 is_display_text_byte b = not (is_among (codes "\r\n<>\",") b)
 
--- a quoted string, or bytes of one class without blanks at their ends
+-- a quoted string, or bytes of one class without blanks at the ends
 abbrev pub is_display : (ℕ → Bool) → List ℕ → Bool
 is_display is_byte text = is_quoted text || (has_no_blank_ends text && list_all is_byte text)
 
--- such a text of such bytes
+-- a display text of these bytes
 unfoldable pub is_display_text : List ℕ → Bool
 is_display_text text = is_display is_display_text_byte text

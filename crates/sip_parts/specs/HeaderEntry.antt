@@ -1,5 +1,5 @@
--- The one table of the headers that are read into fields of their own (RFC 3261, sections 7.3.3 and
--- 20; RFC 3262, section 7).
+-- The one table of the headers that are parsed into fields of their own (RFC 3261, sections 7.3.3
+-- and 20; RFC 3262, section 7).
 use Rattle.std.specs.Prelude.{ℕ, Bool, true, false, ◌||◌, List, [], ◌∷◌, Option, Some, None, codes, find}
 use Rattle.std.specs.Option.{option_map}
 use Rattle.std.specs.List.{filter}
@@ -10,14 +10,13 @@ use Rattle.sip_parts.specs.declared.header_entry.HeaderKind.TheVariants.{Once, A
 use Rattle.sip_parts.specs.declared.header_name.HeaderName.{HeaderName}
 use Rattle.sip_parts.specs.declared.header_name.HeaderName.TheVariants.{Via, From, To, CallId, CSeq, MaxForwards, ContentLength, RSeq, RAck, Contact, RecordRoute, Route, Require, Supported}
 
--- a long name, a compact name where there is one, and how often the header's lines may stand in a
--- message
+-- a long name, a compact name if there is one, and how often the header may occur in a message
 pub record Entry : Type 0 where
   pub name : List ℕ
   pub compact : Option (List ℕ)
   pub kind : HeaderKind
 
--- the entry of a long name, a compact name (or none) and how often its lines may stand
+-- the entry of a long name, a compact name (or none) and how often the header may occur
 abbrev row : List ℕ → Option (List ℕ) → HeaderKind → Entry
 row name compact kind = record { name = name; compact = compact; kind = kind }
 
@@ -38,7 +37,7 @@ entry RSeq = row (codes "RSeq") None AtMostOnce
 entry RAck = row (codes "RAck") None AtMostOnce
 entry ContentLength = row (codes "Content-Length") (Some (codes "l")) AtMostOnce
 
--- all headers, in the order in which one that is missing or repeated is looked for; then the lists
+-- all headers, in the order in which a missing or repeated one is looked for; then the lists
 abbrev pub headers : List HeaderName
 headers =
     Via ∷ From ∷ To ∷ CallId ∷ CSeq ∷ MaxForwards ∷ ContentLength ∷ RSeq ∷ RAck ∷ Contact
@@ -50,7 +49,7 @@ abbrev pub entry_now : HeaderEntry → Entry
 entry_now e =
     record { name = e.name.now; compact = option_map (λ c. c.now) e.compact; kind = e.kind }
 
--- it is this word, if there is one, in any case of the letters
+-- the name is this word, if there is one, in any case of the letters
 abbrev pub is_word_of : List ℕ → Option (List ℕ) → Bool
 is_word_of name None = false
 is_word_of name (Some word) = str_eq_ignore_ascii_case name word
@@ -65,13 +64,13 @@ is_named header name =
 abbrev pub header_named : List ℕ → Option HeaderName
 header_named name = find (λ header. is_named header name) headers
 
--- the message isn't one without it
+-- the header is mandatory
 abbrev pub is_needed : HeaderKind → Bool
 is_needed Once = true
 is_needed NeededList = true
 is_needed kind = false
 
--- it stands at most once
+-- the header may occur once
 abbrev pub is_single : HeaderKind → Bool
 is_single Once = true
 is_single AtMostOnce = true

@@ -1,4 +1,4 @@
--- The names of the headers that are read into fields of their own (RFC 3261, sections 7.3.1 and
+-- The names of the headers that are parsed into fields of their own (RFC 3261, sections 7.3.1 and
 -- 7.3.3).
 use Rattle.std.specs.Prelude.{ℕ, List}
 use Rattle.sip_parts.specs.HeaderEntry.{entry}

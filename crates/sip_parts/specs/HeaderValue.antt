@@ -1,15 +1,15 @@
--- The value of a header that stays as it stands (RFC 3261, section 7.3.1).
+-- The value of a header that is kept as it is (RFC 3261, section 7.3.1).
 use Rattle.std.specs.Prelude.{ℕ, Bool, not, ◌&&◌, List}
 use Rattle.std.specs.List.{list_all}
 use Rattle.std.specs.Str.{bytes_eq}
 use Rattle.sip_text.specs.Character.{is_line_byte}
 use Rattle.sip_text.specs.Trimmed.{trimmed}
 
--- without blanks at its ends it is the same text
+-- a text without blanks at its ends
 abbrev pub has_no_blank_ends : List ℕ → Bool
 has_no_blank_ends text = bytes_eq (trimmed text) text
 
--- neither CR nor LF stands in it
+-- a text without CR and LF
 abbrev pub has_no_line_byte : List ℕ → Bool
 has_no_line_byte text = list_all (λ b. not (is_line_byte b)) text
 

@@ -12,7 +12,7 @@ is_host_byte b = not (is_among (codes " \t\r\n:;,[\"<>") b)
 unfoldable pub is_bracket_byte : ℕ → Bool
 is_bracket_byte b = not (is_among (codes " \t\r\n,;]\"<>") b)
 
--- whether a text that was cut at its first `]` ends there and has nothing else in brackets
+-- whether a text that was cut at its first `]` ends there, with bytes for brackets before it
 abbrev pub is_closed : Option (List ℕ × List ℕ) → Bool
 is_closed None = false
 is_closed (Some (inside, [])) = list_all is_bracket_byte inside

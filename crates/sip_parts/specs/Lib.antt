@@ -11,3 +11,4 @@ pub mod HeaderEntry
 pub mod HeaderName
 pub mod LowerText
 pub mod OtherName
+pub mod TokenPlace

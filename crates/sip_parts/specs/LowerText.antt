@@ -3,6 +3,6 @@ use Rattle.std.specs.Prelude.{ℕ, Bool, not, List}
 use Rattle.std.specs.Char.{is_ascii_uppercase}
 use Rattle.std.specs.List.{list_all}
 
--- no letter of it is a capital
+-- a text without capital letters
 unfoldable pub is_lower_text : List ℕ → Bool
 is_lower_text text = list_all (λ b. not (is_ascii_uppercase b)) text

@@ -1,4 +1,4 @@
--- Lists of parameters (RFC 3261, section 7.3.1). Of several with one name the first counts.
+-- Lists of parameters (RFC 3261, section 7.3.1). If several have the same name, the first counts.
 use Rattle.std.specs.Prelude.{ℕ, List, [], Option, Some, None, find, unwrap_or}
 use Rattle.std.specs.Str.{str_eq_ignore_ascii_case}
 use Rattle.sip_parts.specs.declared.parameter.Parameter.{Parameter}
@@ -7,11 +7,11 @@ use Rattle.sip_parts.specs.declared.parameter.Parameter.{Parameter}
 abbrev pub parameter_named : List ℕ → List Parameter → Option Parameter
 parameter_named name parameters = find (λ p. str_eq_ignore_ascii_case p.name name) parameters
 
--- a parameter's value, empty where there is none
+-- a parameter's value, empty if there is none
 abbrev pub value_or_nothing : Option Parameter → List ℕ
 value_or_nothing None = []
 value_or_nothing (Some p) = unwrap_or p.value []
 
--- the value of the first parameter of this name, empty where there is none
+-- the value of the first parameter of this name, empty if there is none
 unfoldable pub value_named : List ℕ → List Parameter → List ℕ
 value_named name parameters = value_or_nothing (parameter_named name parameters)

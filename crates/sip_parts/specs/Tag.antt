@@ -4,7 +4,7 @@ use Rattle.sip_text.specs.Token.{is_token}
 use Rattle.sip_parts.specs.declared.parameter.Parameter.{Parameter}
 use Rattle.sip_parts.specs.Parameters.{parameter_named, value_named}
 
--- the tag, empty where there is none
+-- the tag, empty if there is none
 abbrev pub tag_in : List Parameter → List ℕ
 tag_in parameters = value_named (codes "tag") parameters
 
@@ -18,6 +18,6 @@ abbrev pub is_good_tag : Option Parameter → Bool
 is_good_tag None = true
 is_good_tag (Some p) = is_token_value p.value
 
--- the first parameter `tag`, where there is one, has a token as its value
+-- the first parameter `tag`, if there is one, has a token as its value
 unfoldable pub has_good_tag : List Parameter → Bool
 has_good_tag parameters = is_good_tag (parameter_named (codes "tag") parameters)

@@ -3,7 +3,7 @@ use Rattle.std.specs.Prelude.{ℕ, Bool, not, List, codes}
 use Rattle.sip_text.specs.Character.{is_among}
 use Rattle.sip_text.specs.Token.{is_run}
 
--- neither white space nor an angle bracket nor a quote
+-- a byte of a URI: no white space, angle bracket or quote
 unfoldable pub is_uri_byte : ℕ → Bool
 is_uri_byte b = not (is_among (codes " \t\r\n<>\"") b)
 

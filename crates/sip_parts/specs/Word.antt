@@ -3,7 +3,7 @@ use Rattle.std.specs.Prelude.{ℕ, Bool, not, List, codes}
 use Rattle.sip_text.specs.Character.{is_among}
 use Rattle.sip_text.specs.Token.{is_run}
 
--- neither a space or tab nor CR or LF
+-- a byte of a word: no space, tab, CR or LF
 unfoldable pub is_word_byte : ℕ → Bool
 is_word_byte b = not (is_among (codes " \t\r\n") b)
 

@@ -1,4 +1,4 @@
-//! A text that keeps a rule of the grammar by its type.
+//! A text that satisfies a rule of the grammar by its type.
 ghost use Rattle.std.specs.Prelude.{◌≡◌, ℕ, Bool, List, IfOk, IsTrue, nat_eq};
 ghost use Rattle.std.specs.Option.{SomeIff};
 ghost use Rattle.std.specs.Cmp.{partial_equiv_from_equiv, partial_order_from_own_ties};
@@ -14,17 +14,17 @@ use std::cmp::Ordering;
 use std::hash::{Hash, Hasher};
 use std::marker::{Model, PhantomData};
 
-/// A rule that a text may keep.
+/// A rule that a text may satisfy.
 pub trait Rule {
-    // Whether a text keeps it.
+    // Whether a text satisfies it.
     ghost holds: { List ℕ → Bool };
 
-    /// Whether the text keeps it.
+    /// Whether the text satisfies it.
     fn test(text: &[u8]) -> bool
         ensures { result ≡ holds text.now };
 }
 
-/// A text that keeps a rule. Compared byte by byte.
+/// A text that satisfies a rule. Compared byte by byte.
 pub struct Checked<R: Rule> {
     text: Text,
     rule: PhantomData<R>,
@@ -41,7 +41,7 @@ impl<R: Rule> Model for Checked<R> {
 }
 
 impl<R: Rule> Checked<R> {
-    /// The text, where it keeps the rule.
+    /// The text, if it satisfies the rule.
     pub fn new(text: Text) -> Option<Checked<R>>
         ensures { SomeIff result (IsTrue (R.holds text)) text }
     {
@@ -55,7 +55,7 @@ impl<R: Rule> Checked<R> {
         }
     }
 
-    /// The text, which keeps the rule.
+    /// The text, which satisfies the rule.
     pub fn from_text(text: Text) -> Checked<R>
         requires { IsTrue (R.holds text) }
         ensures { result ≡ text }
@@ -66,7 +66,7 @@ impl<R: Rule> Checked<R> {
         }
     }
 
-    /// A copy of the text, which keeps the rule.
+    /// A copy of the text, which satisfies the rule.
     pub fn copy_of(alloc: Global, text: &[u8]) -> Result<Checked<R>, AllocError>
         requires { IsTrue (R.holds text.now) }
         ensures { IfOk result (λ made. made ≡ text.now) }

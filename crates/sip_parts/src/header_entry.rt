@@ -1,4 +1,4 @@
-//! The table of the headers that are read into fields of their own (RFC 3261, sections 7.3.3 and
+//! The table of the headers that are parsed into fields of their own (RFC 3261, sections 7.3.3 and
 //! 20; RFC 3262, section 7).
 ghost use Rattle.std.specs.Prelude.{◌≡◌, ◌==◌, ℕ, List, IfNone, IfSome, find, length, true};
 ghost use Rattle.std.specs.Option.{option_map};
@@ -7,7 +7,7 @@ ghost use Rattle.sip_parts.specs.HeaderEntry as table;
 use crate::header_name::HeaderName;
 use sip_text::token_eq;
 
-/// How often a header's lines may stand in a message.
+/// How often a header may occur in a message.
 #[derive(Clone, Copy, Debug, PartialEq, Eq)]
 pub enum HeaderKind {
     /// One line.
@@ -25,14 +25,13 @@ pub enum HeaderKind {
 pub struct HeaderEntry {
     /// Its long name, as it is written.
     pub name: &'static str,
-    /// Its compact name, where it has one.
+    /// Its compact name, if it has one.
     pub compact: Option<&'static str>,
     pub kind: HeaderKind,
 }
 
 impl HeaderName {
-    /// All of them, in the order in which one that is missing or repeated is looked for; then the
-    /// lists.
+    /// All of them, in the order in which a missing or repeated one is looked for; then the lists.
     pub const ALL: [HeaderName; 14] = [
         HeaderName::Via,
         HeaderName::From,
@@ -86,8 +85,8 @@ impl HeaderName {
         token_eq(name, entry.name.as_bytes()) || is_word_of(name, entry.compact)
     }
 
-    /// The header of this name, or None where the name is another one.
-    // Apart, since a loop over lines that has it within keeps less in registers.
+    /// The header of this name, or None if the name is another one.
+    // A function of its own, since a loop over lines that contains it keeps less in registers.
     #[inline(never)]
     pub fn of(name: &[u8]) -> Option<HeaderName>
         ensures { result ≡ table.header_named name.now }
@@ -98,7 +97,7 @@ impl HeaderName {
         }
     }
 
-    /// The header of this long name, letter for letter as it is written.
+    /// The header of this long name, if it is written exactly as in the table.
     fn of_exact_name(name: &[u8]) -> Option<HeaderName>
         ensures { IfSome result (λ header. name.now ≡ (table.entry header).name) }
     {
@@ -130,9 +129,9 @@ impl HeaderName {
         named_in(HeaderName::of_length(name.len()), name)
     }
 
-    /// Those that have a name of so many bytes, in the order of the table.
+    /// The headers that have a name of so many bytes, in the order of the table.
     fn of_length(bytes: usize) -> &'static [HeaderName]
-        // A name of this length is found among them where it is found at all.
+        // A name of this length is found among them if it is found at all.
         ensures { (name : List ℕ) → length name ≡ bytes
             → find (λ header. table.is_named header name) result.now ≡ table.header_named name }
     {

@@ -1,8 +1,8 @@
-//! The headers that are read into fields of their own (RFC 3261, section 20).
+//! The headers that are parsed into fields of their own (RFC 3261, section 20).
 ghost use Rattle.std.specs.Prelude.{◌≡◌};
 ghost use Rattle.sip_parts.specs.HeaderName as names;
 
-/// A header that is read into a field of its own.
+/// A header that is parsed into a field of its own.
 #[derive(Clone, Copy, Debug, PartialEq, Eq)]
 pub enum HeaderName {
     Via,

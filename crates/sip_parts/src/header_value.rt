@@ -1,4 +1,4 @@
-//! The value of a header that stays as it stands (RFC 3261, section 7.3.1).
+//! The value of a header that is kept as it is (RFC 3261, section 7.3.1).
 ghost use Rattle.std.specs.Prelude.{◌≡◌};
 ghost use Rattle.sip_parts.specs.HeaderValue as rule;
 

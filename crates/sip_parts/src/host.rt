@@ -58,7 +58,7 @@ impl ByteClass for BracketBytes {
     }
 }
 
-// An x at the place of each byte of a host without brackets.
+// An x in the place of each byte of a host without brackets.
 #[rattlefmt::skip]
 static HOST_BYTES: [u8; 256] = *b"\
     xxxxxxxxx..xx.xxxxxxxxxxxxxxxxxx\

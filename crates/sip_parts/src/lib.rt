@@ -1,4 +1,4 @@
-//! The parts of SIP messages: texts that keep a rule of the grammar by their type.
+//! The parts of SIP messages: texts that satisfy a rule of the grammar by their type.
 #![tactic(auto)]
 
 mod call_id;
@@ -39,6 +39,6 @@ pub use party_parameters::PartyParameters;
 pub use reason::{Reason, ReasonRule};
 pub use request_uri::{RequestUri, RequestUriRule};
 pub use status_code::StatusCode;
-pub use token::{Token, TokenRule};
+pub use token::Token;
 pub use uri::{Uri, UriBytes, UriRule, is_uri};
 pub use word::is_word;

@@ -20,8 +20,7 @@ impl Rule for LowerTextRule {
     }
 }
 
-/// A text without capitals, so that texts that are equal but for the case of their letters are the
-/// same.
+/// A text without capitals: texts that differ only in the case of their letters become the same.
 pub type LowerText = Checked<LowerTextRule>;
 
 impl Checked<LowerTextRule> {

@@ -1,4 +1,4 @@
-//! The name of a header that stays as it stands (RFC 3261, section 7.3.1).
+//! The name of a header that is kept as it is (RFC 3261, section 7.3.1).
 ghost use Rattle.std.specs.Prelude.{◌≡◌};
 ghost use Rattle.sip_parts.specs.OtherName as rule;
 
@@ -19,9 +19,8 @@ impl Rule for OtherNameRule {
     }
 }
 
-/// The name of a header that isn't read into a field of its own: a token, and neither a name of
-/// such a header nor one of the compact names that stand for a longer one, in any case of the
-/// letters.
+/// The name of a header that isn't parsed into a field of its own: a token that is neither a name
+/// of a parsed header nor one of the compact names of a longer one, in any case of the letters.
 pub type OtherName = Checked<OtherNameRule>;
 
 /// Whether the text is such a name.

@@ -5,7 +5,7 @@ use crate::parameter_value::ParameterValue;
 use crate::token::Token;
 use std::alloc::AllocError;
 
-/// A parameter: a name, and a value where it has one.
+/// A parameter: a name, and a value if it has one.
 pub struct Parameter {
     pub name: Token,
     pub value: Option<ParameterValue>,

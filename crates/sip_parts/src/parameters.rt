@@ -15,7 +15,7 @@ pub fn parameter_named<'a>(parameters: &'a [Parameter], name: &[u8]) -> Option<&
         .find(|parameter| token_eq(parameter.name.as_slice(), name))
 }
 
-/// The value of the first parameter of this name: empty where there is no such parameter, or it has
+/// The value of the first parameter of this name: empty if there is no such parameter, or it has
 /// no value.
 #[tactic(auto, unfolding(crate::specs::Parameters::value_named))]
 pub fn value_named<'a>(parameters: &'a [Parameter], name: &[u8]) -> &'a [u8]

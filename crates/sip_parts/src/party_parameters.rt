@@ -9,7 +9,7 @@ use sip_text::{Series, is_token};
 use std::alloc::AllocError;
 use std::marker::Model;
 
-/// Parameters whose `tag`, where there is one, is a token. A contract sees them as their list.
+/// Parameters whose `tag`, if there is one, is a token. A contract sees them as their list.
 pub struct PartyParameters {
     parameters: Series<Parameter>,
 }
@@ -27,7 +27,7 @@ impl Model for PartyParameters {
 }
 
 impl PartyParameters {
-    /// These parameters, or None where the first parameter `tag` isn't a token.
+    /// These parameters, or None if the value of the first parameter `tag` isn't a token.
     pub fn new(parameters: Series<Parameter>) -> Option<PartyParameters>
         ensures { SomeIff result (IsTrue (tags.has_good_tag parameters)) parameters }
     {
@@ -61,7 +61,7 @@ impl PartyParameters {
         parameters
     }
 
-    /// The tag: empty where there is none.
+    /// The tag: empty if there is none.
     pub fn tag(&self) -> &[u8]
         ensures { result.now ≡ tags.tag_in self.now }
     {

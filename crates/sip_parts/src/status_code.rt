@@ -23,10 +23,10 @@ impl Model for StatusCode {
 }
 
 impl StatusCode {
-    /// The least one that is no provisional one.
+    /// The lowest status of a final response.
     pub const FIRST_FINAL: u16 = 200;
 
-    /// The least one that rejects a request.
+    /// The lowest status above 2xx.
     pub const FIRST_REJECTING: u16 = 300;
 
     /// The status code of this number, or None outside 100 to 699.

@@ -29,7 +29,7 @@ pub fn is_uri(text: &[u8]) -> bool
     is_run::<UriBytes>(text)
 }
 
-// An x at the place of each byte of a URI.
+// An x in the place of each byte of a URI.
 #[rattlefmt::skip]
 static URI_BYTES: [u8; 256] = *b"\
     xxxxxxxxx..xx.xxxxxxxxxxxxxxxxxx\

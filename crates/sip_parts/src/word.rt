@@ -12,7 +12,7 @@ pub fn is_word(text: &[u8]) -> bool
     is_run::<WordBytes>(text)
 }
 
-// An x at the place of each byte of a word.
+// An x in the place of each byte of a word.
 #[rattlefmt::skip]
 static WORD_BYTES: [u8; 256] = *b"\
     xxxxxxxxx..xx.xxxxxxxxxxxxxxxxxx\

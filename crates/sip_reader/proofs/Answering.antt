@@ -1,4 +1,4 @@
--- What reading gives, as an answer about the text.
+-- What the result of reading says of the text.
 use Rattle.std.proofs.Common.{ℕ, List, Result, Ok, Err, refl, sym, subst}
 use Rattle.std.specs.Prelude.{IfOk, IfErr}
 use Rattle.sip_message.specs.declared.fault.ReadFault.{ReadFault}
@@ -16,7 +16,7 @@ pub is_found : (text : List ℕ) (r : Result Message ReadFault) → Gives r (mes
 is_found text (Ok m) given = spelled_takes text m given
 is_found text (Err e) given = tt
 
--- a fault in the place of a message is want of memory
+-- a fault in the place of a message is NoMemory
 not_failed : (e : ReadFault) (m : Message) → Fails e (Ok m) → Answers (Err e) m
 not_failed fault.NoMemory m given = tt
 not_failed e m given = absurd cc
@@ -31,7 +31,7 @@ is_only text r given m spelled =
     answered r m (subst (λ (read : Result Message ReadFault). Gives r read)
     (spelled_again text m spelled) given)
 
--- a fault that was told, want of memory aside, is the first
+-- a fault, other than NoMemory, is the first
 failed : (text : List ℕ) (e : ReadFault) → Fails e (message_at text) → TellsFault e text
 failed text fault.NoMemory given = tt
 failed text fault.TooLong given = told text fault.TooLong given

@@ -33,7 +33,7 @@ use Rattle.sip_headers.proofs.WrittenNumbers.{number_again, call_id_again, cseq_
 use Rattle.sip_headers.proofs.WrittenTokens.{tokens_again}
 use Rattle.sip_headers.proofs.WrittenVias.{via_again}
 
--- ---- one header after the other
+-- ---- one header after another
 
 slot_goes : {X : Type 0} (put : Slot X → Draft) (f : List ℕ → Option X) (x : X)
     (text value rest : List ℕ) → Again f x value
@@ -49,7 +49,7 @@ more_goes : {X : Type 0} (put : Option (List X) → Draft) (f : List ℕ → Opt
 more_goes put f front more text value rest again goes =
     goes_to (ap (λ o. put (listed (Some front) o)) again.read) goes
 
--- a number where there is one
+-- a number if there is one
 abbrev numbered : Option ℕ → Slot Numeral
 numbered n = slot_of (option_map (λ x. Number x) n)
 

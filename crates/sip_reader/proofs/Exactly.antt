@@ -1,4 +1,4 @@
--- What the clauses of reading say of an answer is that reading from left to right gives it.
+-- The clauses of `read` say that its result is what reading from left to right gives.
 use Rattle.std.proofs.Common.{◌≡◌, inl, inr, ℕ, List, [], ◌∷◌, Result, Ok, Err, refl, sym, ap, subst, ◌∙◌}
 use Rattle.std.specs.Prelude.{IfOk, IfErr}
 use Rattle.sip_message.specs.declared.fault.ReadFault.{ReadFault}
@@ -12,7 +12,7 @@ use Rattle.sip_reader.proofs.Answering.{gives_itself}
 use Rattle.sip_reader.proofs.FirstFaults.{first_fault, none_first}
 use Rattle.sip_reader.proofs.Spelled.{spelled_again}
 
--- one fault alone is the first
+-- only one fault is the first
 one_first : (C : ReadFault → Type 0) (es : List ReadFault) (e f : ReadFault) → IsFirst C es e
     → IsFirst C es f → e ≡ f
 one_first C [] e f is also = absurd is

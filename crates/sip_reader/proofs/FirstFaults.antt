@@ -1,4 +1,4 @@
--- The fault that is told is the first whose condition holds.
+-- The fault of reading is the first whose condition is true.
 use Rattle.std.proofs.Common.{◌≡◌, inl, inr, ℕ, Bool, true, false, cond, ltb, List, [], ◌∷◌, ◌++◌, length, Option, Some, None, Result, Ok, Err, refl, sym, ap, subst, ◌∙◌, arith}
 use Rattle.std.specs.List.{AllByRecursion}
 use Rattle.std.proofs.lemmas.Bool.{ltb-true, ltb-false}
@@ -37,7 +37,7 @@ use Rattle.sip_reader.proofs.Sections.{by_first_line}
 abbrev line_faults : List ReadFault
 line_faults = header_faults ++ last_faults
 
--- the conditions of header lines are those of the lines in a text: a condition is what it is
+-- the conditions of header lines are those of the lines in a text
 eq : {A : Type 0} → (A → A) × (A → A)
 eq = (λ x. x, λ x. x)
 

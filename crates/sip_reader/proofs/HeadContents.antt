@@ -30,7 +30,7 @@ spelled_with m content text is =
 
 -- ---- the rows of a message that was read
 
--- the values that stand in the text
+-- the values of a header in the text
 abbrev head_values : List ℕ → HeaderName → List (List ℕ)
 head_values text header = values_at (entry header).name (drop 1 (head_at text))
 
@@ -42,7 +42,7 @@ rows_said : (text : List ℕ) (m : Message) (is : Spells m text)
     → AreRows (headers_with m is.content_length) (head_values text) (others_in is.headers_are.0)
 rows_said text m is = known_said text m (head_values text) is (has_all text)
 
--- what holds of the values that stand in the text holds of these
+-- what is true of the values in the text is true of these
 of_values : (text : List ℕ) (header : HeaderName) (values : List (List ℕ))
     (P : List (List ℕ) → Type 0) → HasValues (entry header).name values text
     → P (head_values text header) → P values
@@ -50,7 +50,7 @@ of_values text header values P has holds =
     subst P (one_list text (entry header).name (head_values text header) values
     (has_all text header) has) holds
 
--- ---- headers that may stand once
+-- ---- headers that may occur once
 
 at_most_one : {X : Type 0} (P : X → List ℕ → Type 0) (o : Option X)
     (values : List (List ℕ)) → AllZip P (option_to_list o) values → length values ≤ 1

@@ -67,7 +67,7 @@ values_named text name m values is has =
     (subst (λ (lines : List (List ℕ)). AllZip (OrNone IsHeaderLine) has.0 (drop 1 lines))
     head_is has.1.parts_are))
 
--- ---- of a header outside of the table
+-- ---- a header outside of the table
 
 -- the values of the headers of this name
 abbrev pub values_like : List ℕ → List Header → List (List ℕ)
@@ -135,7 +135,7 @@ others_said text name m values is none has =
     values_named text name m values is has
     ∙ under_others name none is.headers_are.0 m.others is.headers_are.2.others
 
--- ---- of the headers of the table
+-- ---- the headers of the table
 
 kept_known : (b : Bool) (parts : List ℕ × List ℕ) (rest : List (List ℕ))
     (more : List (List ℕ × List ℕ)) → rest ≡ map (λ line. line.1) more

@@ -1,4 +1,4 @@
--- The last four faults, of lines that have headers, are decided in their order.
+-- The last four faults, of lines that have headers, are found in order.
 use Rattle.std.proofs.Common.{◌≡◌, inl, ℕ, ◌<◌, Bool, true, false, cond, List, [], ◌∷◌, length, codes, Option, Some, None, Result, Err, refl, sym, ap, subst, ◌∙◌, arith}
 use Rattle.std.proofs.lemmas.Bool.{true≢false}
 use Rattle.sip_text.specs.Forms.{each}
@@ -174,7 +174,7 @@ branch_decided start lines rest line h numbers vias is ns vs =
       start_decided start lines rest line h numbers good is ns,
     ))
 
--- reading goes on where the numbers are numbers
+-- reading goes on if the numbers are numbers
 assoc : (o : Option (List Via)) (f : List Via → Result Message ReadFault)
     → ((or_fault fault.BadNumber o >>= λ vs. or_fault fault.OldBranch (good_vias vs)) >>= f)
     ≡ (or_fault fault.BadNumber o >>= λ vs. or_fault fault.OldBranch (good_vias vs) >>= f)

@@ -1,4 +1,4 @@
--- The lines of a message are read as they lie in its text.
+-- The lines of a message are read as they are laid out in its text.
 use Rattle.std.proofs.Common.{◌≡◌, ◌⊎◌, inl, inr, ℕ, zero, suc, ◌-◌, ◌<◌, ◌≤◌, Bool, true, false, cond, eqb, ◌&&◌, List, [], ◌∷◌, ◌++◌, length, take, slice_index, replicate, Option, Some, None, refl, sym, ap, subst, ◌∙◌, arith}
 use Rattle.std.specs.List.{AllByRecursion}
 use Rattle.std.specs.Option.{option_map}
@@ -110,7 +110,7 @@ section_again (line ∷ lines) text rest all is =
 abbrev pub HasEnd : List ℕ → List ℕ → Type 0
 HasEnd text after = (text ≡ 10 ∷ after) ⊎ (text ≡ 13 ∷ (10 ∷ after))
 
--- it doesn't
+-- the text doesn't begin with a line end
 abbrev pub NoEnd : List ℕ → Type 0
 NoEnd text = (after : List ℕ) → HasEnd text after → ⊥
 
@@ -166,7 +166,7 @@ ends_none : NoEnd []
 ends_none after (inl e) = absurd cc
 ends_none after (inr e) = absurd cc
 
--- a text begins with a line end, or stays as it is
+-- a text begins with a line end, or nothing is skipped
 abbrev BeginsOrStays : List ℕ → Type 0
 BeginsOrStays text = ((after : List ℕ) × HasEnd text after)
     ⊎ (NoEnd text × (without_line_ends text ≡ text))
@@ -206,7 +206,7 @@ skip_line : (text after : List ℕ) → HasEnd text after
 skip_line text after (inl e) = ap without_line_ends e ∙ skip_lf after
 skip_line text after (inr e) = ap without_line_ends e
 
--- the empty lines that are skipped, and that no further one is
+-- the empty lines that are skipped; no further one follows
 pub record Skips (text : List ℕ) : Type 0 where
   pub skipped : ℕ
   pub before : (lines : List (List ℕ)) (rest : List ℕ) → IsLines (without_line_ends text) lines rest
@@ -266,7 +266,7 @@ skip_again (suc n) text start lines rest some_line is =
 
 -- ---- the whole
 
--- the first line behind the line ends that are skipped
+-- the first line after the line ends that are skipped
 pub begins_full : (text first after : List ℕ)
     → line_at (without_line_ends text) ≡ Some (first, after) → IsFull first
 begins_full text first after e none =
@@ -274,7 +274,7 @@ begins_full text first after e none =
     (subst (λ (xs : List ℕ). IsLine (without_line_ends text) xs after) none
     (line_takes (without_line_ends text) first after e)))
 
--- the lines of a text are its first line and those behind it
+-- the lines of a text are its first line and those after it
 pub first_onto : (text first after : List ℕ)
     → line_at (without_line_ends text) ≡ Some (first, after)
     → whole_section (section_at (without_line_ends text)) ≡ onto_section first (section_at after)

@@ -1,4 +1,4 @@
--- What is gathered of the lines behind the start line.
+-- What the lines after the start line give.
 use Rattle.std.proofs.Common.{◌≡◌, ℕ, false, List, length, Option, Some, None, Err, refl, sym, ap, ◌∙◌}
 use Rattle.std.specs.Prelude.{nat_lt}
 use Rattle.std.specs.Option.{option_map}
@@ -18,7 +18,7 @@ pub short_text : (text front : List ℕ) → nat_lt 65535 (length text) ≡ fals
     → front ≡ without_line_ends text → message_at text ≡ message_in front
 short_text text front short is = rw (short, is) refl
 
--- the first line, and those behind it
+-- the first line, and those after it
 section_by_line : (text : List ℕ) (line : Option (List ℕ × List ℕ))
     → line_at (without_line_ends text) ≡ line
     → message_of_section (whole_section (section_at (without_line_ends text)))
@@ -35,7 +35,7 @@ pub by_first_line : (text : List ℕ) → message_in (without_line_ends text)
 unfolding message_in
 by_first_line text = section_by_line text (line_at (without_line_ends text)) refl
 
--- the same by what the first line is
+-- the same, by the first line
 by_line : (text front : List ℕ) (line : Option (List ℕ × List ℕ)) → front ≡ without_line_ends text
     → line ≡ line_at front → message_in front
     ≡ (or_fault fault.NoEmptyLine line >>= λ p.

@@ -1,4 +1,4 @@
--- The lines that are found in a text, and the text without its folds, are those that are read.
+-- The lines of a text, and the text without its folds, agree with the lines that are read.
 use Rattle.std.proofs.Common.{◌≡◌, ℕ, true, false, cond, not, eqb, ◌&&◌, List, [], ◌∷◌, ◌++◌, length, take, drop, refl, sym, ap, subst, ◌∙◌, append_assoc}
 use Rattle.std.specs.List.{list_all, slice_split}
 use Rattle.std.specs.Str.Lines.{strip_carriage_return}
@@ -20,13 +20,13 @@ use Rattle.sip_values.proofs.Pieces.{by_bool}
 
 -- ---- the lines that are found
 
--- a text that ends in a line has its end
+-- a text that ends in a line has no other line end
 pub not_ended : (front after : List ℕ) → has_no 10 (front ++ (10 ∷ after)) ≡ true → ⊥
 not_ended front after free =
     false≢true (and_parts (has_no 10 front) (has_no 10 (10 ∷ after))
     (sym (list_all-append (λ b. not (eqb b 10)) front (10 ∷ after)) ∙ free)).1
 
--- lines that a text begins with are the first that are found in it
+-- the lines at the start of a text are its first lines
 pub found_first : (text : List ℕ) (lines : List (List ℕ)) (rest : List ℕ) → IsLines text lines rest
     → (found : List (List ℕ)) → AreLines found text
     → (after : List (List ℕ)) × (found ≡ lines ++ after) × AreLines after rest
@@ -105,7 +105,7 @@ end_behind (f ∷ front) b bs plain =
 
 -- ---- folds
 
--- a line that has its end stays as it is
+-- a line that has a line end isn't changed
 behind_end : (front line : List ℕ) (lines : List (List ℕ))
     → unfolded_from (front ++ (10 ∷ line)) lines ≡ front ++ (10 ∷ unfolded_from line lines)
 behind_end front line [] = refl
@@ -165,7 +165,7 @@ first_blank : (text line after : List ℕ) → (is : IsLine text line after)
 first_blank text line after is =
     sym (begins_same is.part) ∙ ap begins_blank (sym is.stripped)
 
--- a line that no other goes on with
+-- a line that no other continues
 ends_line : (line : List ℕ) → has_no 10 line ≡ true → (text next after : List ℕ)
     → (is : IsLine text next after) → begins_blank next ≡ false
     → IsLine (unfolded_from line (slice_split at_lf text)) (strip_carriage_return line)

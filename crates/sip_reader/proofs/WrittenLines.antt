@@ -1,4 +1,4 @@
--- The lines that are written are gathered one after the other.
+-- The lines that are written are added to the draft in order.
 use Rattle.std.proofs.Common.{◌≡◌, ℕ, ◌-◌, true, false, cond, not, ◌||◌, List, [], ◌∷◌, ◌++◌, map, length, codes, Option, Some, None, is_some, refl, sym, ap, subst, ◌∙◌, append_assoc, arith}
 use Rattle.std.specs.Prelude.{option_and_then}
 use Rattle.std.specs.List.{flat_map, AllByRecursion}
@@ -61,7 +61,7 @@ pub ended_line : (line rest : List ℕ) → has_no 10 line ≡ true
 ended_line line rest free =
     line_again (line ++ (13 ∷ (10 ∷ rest))) line rest (is_line line rest free)
 
--- the first line of the text doesn't go on with the line before it
+-- the first line of the text doesn't continue the line before it
 pub record Ready (text : List ℕ) : Type 0 where
   pub line : List ℕ
   pub after : List ℕ
@@ -71,7 +71,7 @@ pub record Ready (text : List ℕ) : Type 0 where
 abbrev pub gathered : Draft → List ℕ → Option (Draft × List ℕ)
 gathered d text = drafted_on d (whole_section (section_at text))
 
--- the lines at the start of the text make the one draft the other
+-- the lines at the start of the text lead from one draft to the other
 pub record Goes (d : Draft) (text : List ℕ) (e : Draft) (rest : List ℕ) : Type 0 where
   pub ready : Ready text
   pub same : gathered d text ≡ gathered e rest
@@ -202,7 +202,7 @@ header_goes d h value rest good ready =
     class_goes d (entry h).name value rest (known h value) (name_token h) good
     (ap (class_by_name (entry h).name value) (long_names h)) ready
 
--- ---- headers that stay as they stand
+-- ---- headers that are kept as they are
 
 no_header : (o : Option HeaderName) → is_some o ≡ false → o ≡ None
 no_header None e = refl

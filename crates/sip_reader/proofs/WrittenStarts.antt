@@ -1,4 +1,4 @@
--- The start line that is written for a message is spelled by its text.
+-- The start line that is written for a message spells that start line.
 use Rattle.std.proofs.Common.{◌≡◌, inl, ℕ, ◌≤◌, true, List, [], ◌∷◌, ◌++◌, length, codes, decimal, refl, sym, ap, ◌∙◌, append_assoc, arith}
 use Rattle.std.proofs.lemmas.Bool.{and_from}
 use Rattle.std.proofs.lemmas.Fmt.{length-decimal-le}

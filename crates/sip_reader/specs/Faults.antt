@@ -1,4 +1,4 @@
--- Why a text spells no message: the faults in their order, and what each says of the text.
+-- Why a text spells no message: the faults in order, and the condition of each.
 use Rattle.std.specs.Prelude.{◌≡◌, ◌<◌, ℕ, IsFalse, List, [], ◌∷◌, ◌++◌, length, Option, Some, None, codes}
 use Rattle.sip_parts.specs.Parameters.{value_named}
 use Rattle.sip_message.specs.Via.{has_cookie}
@@ -14,34 +14,34 @@ use Rattle.sip_headers.specs.Numbers.{are_numbers}
 use Rattle.sip_reader.specs.Layout.{Lays}
 use Rattle.sip_reader.specs.StartLine.{IsRequestLine, SpellsStart}
 
--- the text has lines up to an empty one, and this holds of the start line, of the header lines, and
--- of the rest
+-- the text has lines up to an empty one, and P is true of the start line, the header lines and the
+-- rest
 abbrev pub WithLines : (List ℕ → List (List ℕ) → List ℕ → Type 0) → List ℕ → Type 0
 WithLines P text =
     (start : List ℕ) × (lines : List (List ℕ)) × (rest : List ℕ) × Lays text start lines rest
     × P start lines rest
 
--- the lines have headers, and this holds of them
+-- the lines have headers, and P is true of them
 abbrev pub WithHeaders : (Headers → Type 0) → List (List ℕ) → Type 0
 WithHeaders P lines = (h : Headers) × AreHeaders h lines × P h
 
--- the branch of the first Via doesn't begin with `z9hG4bK`, or there is none
+-- the branch of the first Via doesn't begin with `z9hG4bK`, or is missing
 abbrev pub HasOldBranch : List ViaDraft → Type 0
 HasOldBranch [] = ⊥
 HasOldBranch (via ∷ vias) = IsFalse (has_cookie (value_named (codes "branch") via.parameters))
 
--- a request line with another method
+-- a request line has a method other than the CSeq
 abbrev pub HasOtherMethod : List ℕ → List ℕ → Type 0
 HasOtherMethod start cseq_method =
     (method : List ℕ) × (uri : List ℕ) × IsRequestLine method uri start × (method ≡ cseq_method → ⊥)
 
--- fewer bytes than the Content-Length says
+-- the rest has fewer bytes than the Content-Length says
 abbrev pub IsTruncated : Option Numeral → List ℕ → Type 0
 IsTruncated None rest = ⊥
 IsTruncated (Some NotANumber) rest = ⊥
 IsTruncated (Some (Number count)) rest = length rest < count
 
--- what a fault says of the start line, the header lines and the rest
+-- the condition of a fault, by the start line, the header lines and the rest
 abbrev pub LineCondition : List ℕ → List (List ℕ) → List ℕ → ReadFault → Type 0
 LineCondition start lines rest fault.BadStartLine =
     (says : StartLine) (method : List ℕ) → SpellsStart says method start → ⊥
@@ -53,7 +53,7 @@ LineCondition start lines rest fault.Truncated =
     WithHeaders (λ h. IsTruncated h.content_length rest) lines
 LineCondition start lines rest other = HeaderCondition lines other
 
--- what a fault says of a text
+-- the condition of a fault, by the text
 abbrev pub Condition : List ℕ → ReadFault → Type 0
 Condition text fault.TooLong = 65535 < length text
 Condition text fault.NoEmptyLine =
@@ -61,17 +61,17 @@ Condition text fault.NoEmptyLine =
 Condition text fault.NoMemory = ⊥
 Condition text other = WithLines (λ start lines rest. LineCondition start lines rest other) text
 
--- the faults in their order
+-- the faults in order
 abbrev pub faults : List ReadFault
 faults =
     fault.TooLong ∷ (fault.NoEmptyLine ∷ (fault.BadStartLine ∷ (header_faults
     ++ (fault.BadNumber ∷ (fault.OldBranch ∷ (fault.MethodMismatch ∷ (fault.Truncated ∷ [])))))))
 
--- the first of the faults whose condition holds
+-- the first of the faults whose condition is true
 abbrev pub IsFirstFault : ReadFault → List ℕ → Type 0
 IsFirstFault fault text = IsFirst (Condition text) faults fault
 
--- The fault is the first whose condition holds. Want of memory says nothing of a text.
+-- The fault is the first whose condition is true. NoMemory says nothing of a text.
 abbrev pub TellsFault : ReadFault → List ℕ → Type 0
 TellsFault fault.NoMemory text = Unit {0}
 TellsFault fault text = IsFirstFault fault text

@@ -18,7 +18,7 @@ use Rattle.sip_reader.specs.declared.first_line.FirstLine.{FirstLine}
 use Rattle.sip_reader.specs.declared.first_line.FirstLine.TheVariants as first
 use Rattle.sip_reader.specs.declared.header_line.HeaderLine.{HeaderLine}
 
--- the form of the value, or of no value where nothing has the form
+-- the text has this value's form; or, without a value, the form of none
 abbrev pub OrNone : {A X : Type 0} → (X → A → Type 0) → Option X → A → Type 0
 OrNone {X = X} P None a = (x : X) → P x a → ⊥
 OrNone P (Some x) a = P x a
@@ -30,14 +30,14 @@ abbrev pub is_full : List ℕ → Bool
 is_full [] = false
 is_full (b ∷ bs) = true
 
--- the lines from the first that isn't empty on
+-- the lines from the first non-empty one on
 abbrev pub from_full : List (List ℕ) → List (List ℕ)
 from_full [] = []
 from_full ([] ∷ lines) = from_full lines
 from_full ((b ∷ bs) ∷ lines) = (b ∷ bs) ∷ lines
 
--- The text's lines that have their end, from the first that isn't empty up to an empty one, or to
--- the last. A line that begins with white space goes on with the line before it.
+-- The text's lines that have a line end, from the first non-empty one up to an empty one, or to the
+-- last. A line that begins with white space continues the line before it.
 pub record IsHead (lines : List (List ℕ)) (text : List ℕ) : Type 0 where
   pub all : List (List ℕ)
   pub parts : AreLines all text
@@ -45,7 +45,7 @@ pub record IsHead (lines : List (List ℕ)) (text : List ℕ) : Type 0 where
 
 -- ---- the start line
 
--- The line says this, a request's method with it.
+-- The line says this, with the method if it is a request line.
 abbrev pub SpellsFirst : FirstLine (List ℕ) → List ℕ → Type 0
 SpellsFirst (first.Request method uri) line = IsRequestLine method uri line
 SpellsFirst (first.Response status reason) line = IsStatusLine status reason line
@@ -55,7 +55,7 @@ abbrev pub first_of : StartLine → List ℕ → FirstLine (List ℕ)
 first_of (Request uri) method = first.Request method uri
 first_of (Response status reason) method = first.Response status reason
 
--- what the first of the lines says; none where it is no start line, or there is no line
+-- what the first of the lines says; none if it is no start line, or there is no line
 abbrev pub IsFirst : Option (FirstLine (List ℕ)) → List (List ℕ) → Type 0
 IsFirst says [] = says ≡ None
 IsFirst says (line ∷ lines) = OrNone SpellsFirst says line
@@ -66,32 +66,31 @@ BeginsWith says text = (lines : List (List ℕ)) × IsHead lines text × IsFirst
 
 -- ---- the header lines
 
--- both of the same header of the table, or both of none and this holds
+-- both are the same header of the table, or neither is in the table and the test is true
 abbrev pub is_same_entry : Option HeaderName → Option HeaderName → Bool → Bool
 is_same_entry (Some header) (Some other) same = is_same header other
 is_same_entry None None same = same
 is_same_entry one another same = false
 
--- Two names, long or compact, of the same header: of the same one of the table, or both of none and
--- the long names are the same in any case of the letters.
+-- Two names, long or compact, of the same header: of the same one of the table, or neither is in
+-- the table and the long names are the same in any case of the letters.
 abbrev pub is_same_header : List ℕ → List ℕ → Bool
 is_same_header name other =
     is_same_entry (header_named name) (header_named other)
     (str_eq_ignore_ascii_case (long_name other) (long_name name))
 
--- the value of a header line, where its name is one of this header
+-- the value of a header line, if its name is one of this header
 abbrev pub value_under : List ℕ → Option (List ℕ × List ℕ) → Option (List ℕ)
 value_under name None = None
 value_under name (Some line) = if is_same_header name line.0 then Some line.1 else None
 
--- Of each line behind the first: its name and value where it is a header line, otherwise nothing.
+-- For each line after the first: its name and value if it is a header line, otherwise nothing.
 pub record HasParts (parts : List (Option (List ℕ × List ℕ))) (text : List ℕ) : Type 0 where
   pub lines : List (List ℕ)
   pub head_is : IsHead lines text
   pub parts_are : AllZip (OrNone IsHeaderLine) parts (drop 1 lines)
 
--- The values of a header in the text, in the order of its lines. A line that is no header line has
--- none.
+-- The values of a header in the text, in order. A line that is no header line has none.
 abbrev pub HasValues : List ℕ → List (List ℕ) → List ℕ → Type 0
 HasValues name values text =
     (parts : List (Option (List ℕ × List ℕ))) × HasParts parts text
@@ -101,7 +100,7 @@ HasValues name values text =
 abbrev pub header_line : List ℕ × List ℕ → HeaderLine
 header_line parts = record { name = parts.0; value = parts.1 }
 
--- The header lines of the text in their order, the name of each as it is written.
+-- The header lines of the text in order, with the name of each as it is written.
 abbrev pub HasHeaderLines : List HeaderLine → List ℕ → Type 0
 HasHeaderLines headers text =
     (parts : List (Option (List ℕ × List ℕ))) × HasParts parts text

@@ -1,5 +1,5 @@
--- Reading a message from left to right, with the first fault that is met. What is a message is said
--- in the relations of Spells.
+-- Reading a message from left to right, with the first fault that is found. Spells defines what a
+-- message is.
 use Rattle.std.specs.Prelude.{◌≡◌, ℕ, List, [], ◌∷◌, length, take, Option, Some, None, Result, Ok, Err, nat_lt, if◌then◌else◌}
 use Rattle.std.specs.Str.{bytes_eq}
 use Rattle.sip_text.specs.Forms.{each}
@@ -27,7 +27,7 @@ abbrev pub ◌>>=◌ : {A B : Type 0} → Result A ReadFault → (A → Result B
 (Ok x) >>= f = f x
 (Err e) >>= f = Err e
 
--- Reading tells this fault; want of memory may stand in place of anything.
+-- Reading gives this fault; NoMemory may be returned in place of anything.
 abbrev pub Fails : {Y : Type 0} → ReadFault → Result Y ReadFault → Type 0
 Fails fault.NoMemory read = Unit {0}
 Fails e read = read ≡ Err e
@@ -37,18 +37,18 @@ abbrev pub Gives : {X : Type 0} → Result X ReadFault → Result X ReadFault �
 Gives (Ok x) read = read ≡ Ok x
 Gives (Err e) read = Fails e read
 
--- the value, or the fault that there is none
+-- the value, or this fault if there is none
 abbrev pub or_fault : {A : Type 0} → ReadFault → Option A → Result A ReadFault
 or_fault e None = Err e
 or_fault e (Some x) = Ok x
 
 -- ---- the message
 
--- Vias of which the first has a branch with the mark of RFC 3261
+-- Vias whose first branch has the cookie
 abbrev pub good_vias : List Via → Option (List Via)
 good_vias vias = if are_vias vias then Some vias else None
 
--- the Vias, where their ports are numbers and the first has that mark
+-- the Vias, if their ports are numbers and the first branch has the cookie
 unfoldable pub vias_of : List ViaDraft → Result (List Via) ReadFault
 vias_of drafts = do
   vias ← or_fault fault.BadNumber (each via_with drafts)
@@ -65,7 +65,7 @@ unfoldable pub body_of : List ℕ → Option ℕ → Option (List ℕ)
 body_of text None = Some text
 body_of text (Some n) = if nat_lt (length text) n then None else Some (take n text)
 
--- of a draft without a fault, which has Via values and a CSeq
+-- the message of a start line, a draft without a fault, and what follows
 unfoldable pub message_of_draft : FirstLine (List ℕ) → Draft → List ℕ → Result Message ReadFault
 message_of_draft line d text = do
   numbers ← or_fault fault.BadNumber (numbers_in d)
@@ -76,25 +76,25 @@ message_of_draft line d text = do
   body ← or_fault fault.Truncated (body_of text numbers.content_length)
   or_fault fault.BadHeader (message_with start vias numbers d body)
 
--- the message of a start line, a draft of the headers and what follows
+-- the message of a start line as text, a draft of the headers, and what follows
 unfoldable pub message_of_lines : List ℕ → Draft → List ℕ → Result Message ReadFault
 message_of_lines start_line draft text = do
   start ← or_fault fault.BadStartLine (start_at start_line)
   d ← faultless draft
   message_of_draft start d text
 
--- the first line is the start line
+-- the message of lines, the first of which is the start line
 unfoldable pub message_of_section : Option Section → Result Message ReadFault
 message_of_section None = Err fault.NoEmptyLine
 message_of_section (Some ([], rest)) = Err fault.NoEmptyLine
 message_of_section (Some (start_line ∷ lines, rest)) =
     message_of_lines start_line (draft_of lines) rest
 
--- a text that doesn't begin with a line end
+-- the message of a text that doesn't begin with a line end
 unfoldable pub message_in : List ℕ → Result Message ReadFault
 message_in text = message_of_section (whole_section (section_at text))
 
--- the message of a text that isn't too long, line ends before it left out
+-- the message of a text that isn't too long; line ends at its start are skipped
 abbrev pub message_at : List ℕ → Result Message ReadFault
 message_at text =
     if nat_lt 65535 (length text) then Err fault.TooLong else message_in (without_line_ends text)

@@ -18,11 +18,11 @@ request_at method rest = do
   if is_version p.1 && (is_token method && is_word p.0) then Some (first.Request method p.0)
       else None
 
--- a status code is 100 to 699
+-- a status code, from 100 to 699
 abbrev pub code_from : ℕ → Option ℕ
 code_from number = if nat_lt number 100 || nat_lt 699 number then None else Some number
 
--- the same of a number that was read
+-- the same for a number that was read
 abbrev pub code_in : Result ℕ TextFault → Option ℕ
 code_in (Ok number) = code_from number
 code_in (Err fault) = None

@@ -30,7 +30,7 @@ pub record Spells (m : Message) (text : List ℕ) : Type 0 where
   pub branch_is : IsTrue (are_vias m.vias)
   pub body_is : IsBody content_length m.body rest
 
--- The answer is this message, unless memory was refused.
+-- The result is this message, unless memory ran out.
 abbrev pub Answers : Result Message ReadFault → Message → Type 0
 Answers (Ok read) m = read ≡ m
 Answers (Err fault.NoMemory) m = Unit {0}

@@ -9,11 +9,11 @@ use Rattle.sip_parts.specs.Reason.{is_reason}
 use Rattle.sip_message.specs.declared.start_line.StartLine.{StartLine}
 use Rattle.sip_message.specs.declared.start_line.StartLine.TheVariants.{Request, Response}
 
--- in any case of its letters
+-- the version, in any case of its letters
 abbrev pub is_version : List ℕ → Bool
 is_version text = str_eq_ignore_ascii_case text (codes "SIP/2.0")
 
--- a method, the Request-URI and the version, with a space between each two
+-- a method, the Request-URI and the version, with a space between two of them
 pub record IsRequestLine (method uri line : List ℕ) : Type 0 where
   pub version : List ℕ
   pub parts : line ≡ method ++ (32 ∷ (uri ++ (32 ∷ version)))
@@ -29,8 +29,8 @@ pub record IsStatusCode (status : ℕ) (text : List ℕ) : Type 0 where
   pub least : 100 ≤ status
   pub most : status ≤ 699
 
--- The version, a space, the status code, a space and the reason. Where the reason is empty the
--- space before it may be missing, which is this project's choice.
+-- The version, a space, the status code, a space and the reason. If the reason is empty, the space
+-- before it may be missing: this project's choice.
 pub record IsStatusLine (status : ℕ) (reason line : List ℕ) : Type 0 where
   pub version : List ℕ
   pub code : List ℕ
@@ -41,7 +41,7 @@ pub record IsStatusLine (status : ℕ) (reason line : List ℕ) : Type 0 where
   pub end_is : (end ≡ 32 ∷ reason) ⊎ ((end ≡ []) × (reason ≡ []))
   pub reason_is : IsTrue (is_reason reason)
 
--- The line is this start line; a request's method is given beside it.
+-- The line is this start line; the method is that of a request.
 abbrev pub SpellsStart : StartLine → List ℕ → List ℕ → Type 0
 SpellsStart (Request uri) method line = IsRequestLine method uri line
 SpellsStart (Response status reason) method line = IsStatusLine status reason line

@@ -5,8 +5,8 @@ use Rattle.sip_message.specs.Rules.{IsMessage}
 use Rattle.sip_message.specs.Written.{written}
 use Rattle.sip_message.specs.declared.message.Message.{Message}
 
--- The text is what is written for the message with this content, which keeps the rules of a message
--- and is not too long to be read.
+-- The text is what is written for the message with this content, which satisfies the rules of a
+-- message and isn't too long to be read.
 pub record IsWrittenWith (content : Content) (m : Message) (text : List ℕ) : Type 0 where
   pub good : IsMessage (with_content_of m content)
   pub text_is : text ≡ written (with_content_of m content)

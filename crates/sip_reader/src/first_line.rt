@@ -1,4 +1,4 @@
-//! The start line, read.
+//! A start line that was read.
 ghost use Rattle.std.specs.Prelude.{◌≡◌, IfOk, IsTrue};
 ghost use Rattle.sip_text.specs.Token.{is_token};
 ghost use Rattle.sip_message.specs.declared.fault.ReadFault.TheVariants as fault;
@@ -9,7 +9,7 @@ use sip_parts::{Reason, RequestUri, StatusCode, Token};
 use std::alloc::{AllocError, Global};
 use std::marker::Model;
 
-/// A method where it stands in the start line. A contract sees its text.
+/// A method as a part of the start line. A contract sees its text.
 #[derive(Drop)]
 pub(crate) struct Method<'a> {
     text: &'a [u8],
@@ -46,14 +46,14 @@ impl<'a> Method<'a> {
 /// the line, or as a `Token`.
 #[derive(Drop)]
 pub enum FirstLine<M> {
-    /// A request line. Its method is given as it stands here; in a message the CSeq has the same.
+    /// A request line, with its own method; in a message the CSeq has the same.
     Request { method: M, uri: RequestUri },
     /// A status line.
     Response { status: StatusCode, reason: Reason },
 }
 
 impl<'a> FirstLine<Method<'a>> {
-    /// The start line; a request's method has to be that of its CSeq.
+    /// The start line; the method of a request must be that of its CSeq.
     #[tactic(auto, unfolding(crate::specs::ReadMessage::start_line_of))]
     pub(crate) fn fitting(self, cseq_method: &Token) -> Result<StartLine, ReadFault>
         ensures { result ≡ reading.or_fault fault.MethodMismatch

@@ -1,4 +1,4 @@
-//! What a text says in its head, whether it spells a message or not (RFC 3261, section 7).
+//! What the head of a text says, whether the text spells a message or not (RFC 3261, section 7).
 ghost use Rattle.std.specs.Prelude.{◌≡◌, ◌<◌, IfOk, IfSome, length};
 ghost use Rattle.std.specs.Option.{option_copied};
 ghost use Rattle.sip_parts.specs.HeaderEntry.{header_named};
@@ -15,13 +15,13 @@ use sip_parts::{HeaderName, Token};
 use sip_text::{Series, Text, next_line, token_eq};
 use std::alloc::{AllocError, Global};
 
-/// What the start line of the text says, also of a text that spells no message: the first line that
-/// isn't empty, with the lines that go on with it. None where that is neither a request line nor a
-/// status line, or no line has its end (RFC 3261, sections 7.1 and 7.2).
+/// What the start line of the text says, also if the text spells no message. It is the first
+/// non-empty line, with the lines that continue it. None if that is neither a request line nor a
+/// status line, or no line has a line end (RFC 3261, sections 7.1 and 7.2).
 ///
 /// # Errors
 ///
-/// Memory was refused.
+/// Memory ran out.
 pub fn start_line(alloc: Global, text: &[u8]) -> Result<Option<FirstLine<Token>>, AllocError>
     ensures { IfOk result (λ first. head.BeginsWith first text.now) }
 {
@@ -34,15 +34,15 @@ pub fn start_line(alloc: Global, text: &[u8]) -> Result<Option<FirstLine<Token>>
     Ok(Some(first.into_owned(alloc)?))
 }
 
-/// The values of a header in the text, also in one that spells no message: of each header line of
-/// this name, the long or the compact one, in any case of the letters, in the order of the lines.
-/// A value is without its folds and without white space round it, and a list stays one text (RFC
-/// 3261, sections 7.3.1 and 7.3.3). The header lines are those behind the first line up to an empty
-/// one, or up to the last that has its end; a line that is no header line is passed over.
+/// The values of a header in the text, also if it spells no message: those of each header line of
+/// this name, the long or the compact one, in any case of the letters, in order. A value has no
+/// folds and no white space around it, and a list stays one text (RFC 3261, sections 7.3.1 and
+/// 7.3.3). The header lines are those after the first line up to an empty one, or up to the last
+/// that has a line end. A line that is no header line is skipped.
 ///
 /// # Errors
 ///
-/// Memory was refused.
+/// Memory ran out.
 pub fn header_values(alloc: Global, text: &[u8], name: &[u8]) -> Result<Series<Text>, AllocError>
     ensures { IfOk result (λ values. head.HasValues name.now values text.now) }
 {
@@ -52,14 +52,14 @@ pub fn header_values(alloc: Global, text: &[u8], name: &[u8]) -> Result<Series<T
     values_in(alloc, lines, name)
 }
 
-/// The header lines of the text, also of one that spells no message: those behind the first line up
-/// to an empty one, or up to the last that has its end, in their order; a line that is no header
-/// line is passed over. A name stays as it is written, and a value is without its folds and without
-/// white space round it (RFC 3261, sections 7.3.1 and 7.3.3).
+/// The header lines of the text, also if it spells no message: those after the first line up to an
+/// empty one, or up to the last that has a line end, in order. A line that is no header line is
+/// skipped. A name is kept as it is written; a value has no folds and no white space around it (RFC
+/// 3261, sections 7.3.1 and 7.3.3).
 ///
 /// # Errors
 ///
-/// Memory was refused.
+/// Memory ran out.
 pub fn header_lines(alloc: Global, text: &[u8]) -> Result<Series<HeaderLine>, AllocError>
     ensures { IfOk result (λ headers. head.HasHeaderLines headers text.now) }
 {
@@ -69,16 +69,16 @@ pub fn header_lines(alloc: Global, text: &[u8]) -> Result<Series<HeaderLine>, Al
     header_lines_in(alloc, lines)
 }
 
-/// The first line that isn't empty, with those that go on with it, and the text behind it. None
-/// where there is none.
+/// The first non-empty line, with those that continue it, and the text after it. None if there is
+/// none.
 fn first_line_of(alloc: Global, text: &[u8]) -> Result<Option<(Whole<'_>, &[u8])>, AllocError>
     ensures { IfOk result (λ found. reading.lines_found found ≡ reading.head_at text.now) }
 {
     next_whole(alloc, without_line_ends(text))
 }
 
-/// The first line of the text, with those that go on with it, and the text behind it. None where it
-/// is empty, or no line has its end.
+/// The first line of the text, with those that continue it, and the text after it. None if it is
+/// empty, or no line has a line end.
 fn next_whole(alloc: Global, text: &[u8]) -> Result<Option<(Whole<'_>, &[u8])>, AllocError>
     ensures lines { IfOk result (λ found.
         reading.lines_found found ≡ reading.whole_lines_at text.now) }
@@ -127,8 +127,8 @@ fn header_lines_in(alloc: Global, text: &[u8]) -> Result<Series<HeaderLine>, All
     Ok(headers)
 }
 
-/// The line's value, where it is a header line of this name. The header of the table that the name
-/// is of is given beside it.
+/// The line's value, if it is a header line of this name. `header` is the header of the table with
+/// this name.
 fn value_in<'a>(name: &[u8], header: Option<HeaderName>, line: &'a [u8]) -> Option<&'a [u8]>
     requires { header ≡ header_named name.now }
     ensures { option_copied result ≡ head.value_under name.now (line_from line.now) }

@@ -1,4 +1,4 @@
-//! A header line, read (RFC 3261, sections 7.3.1 and 7.3.3).
+//! A header line that was read (RFC 3261, sections 7.3.1 and 7.3.3).
 ghost use Rattle.std.specs.Prelude.{◌≡◌, IfOk, IfSome, IsTrue};
 ghost use Rattle.std.specs.Option.{option_map};
 ghost use Rattle.sip_text.specs.Cut.{both_now};
@@ -10,8 +10,8 @@ use sip_parts::{Token, has_no_line_byte};
 use sip_text::{Separator, Text, is_token, trimmed, trimmed_end};
 use std::alloc::{AllocError, Global};
 
-/// A header line: its name as it is written, and its value without its folds and without white
-/// space round it.
+/// A header line: its name as it is written, and its value without folds and without white space
+/// around it.
 #[derive(Clone, Drop)]
 pub struct HeaderLine {
     pub name: Token,
@@ -19,7 +19,7 @@ pub struct HeaderLine {
 }
 
 impl HeaderLine {
-    /// The header line that a line without folds is. None where it is none.
+    /// A line without folds as a header line. None if it isn't one.
     pub(crate) fn read(alloc: Global, line: &[u8]) -> Result<Option<HeaderLine>, AllocError>
         ensures { IfOk result (λ found. found ≡ option_map header_line (line_from line.now)) }
     {
@@ -33,7 +33,7 @@ impl HeaderLine {
     }
 }
 
-/// A name, and a value without white space round it.
+/// A name, and a value without white space around it.
 fn parts_of(line: &[u8]) -> Option<(&[u8], &[u8])>
     ensures parts { both_now result ≡ line_from line.now }
     ensures name { IfSome result (λ parts. IsTrue (is_token parts.0.now)) }

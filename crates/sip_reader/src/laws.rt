@@ -1,4 +1,4 @@
-//! Laws over the definitions of reading.
+//! Laws of the definitions of reading.
 ghost use Rattle.std.specs.Prelude.{◌≡◌, ◌≤◌, ℕ, IfOk, IsTrue, List, [], ◌∷◌, ◌++◌, Ok, Option, None, Some, length, map, replicate};
 ghost use Rattle.std.specs.List.{filter};
 ghost use Rattle.sip_text.specs.Lines.{AreLines};
@@ -32,26 +32,26 @@ pub fn one_message()
     ensures { (text : List ℕ) (m n : Message) → Spells m text → Spells n text → m ≡ n }
 {}
 
-/// Reading from left to right gives the message that the text spells; where it spells none, the
-/// first fault whose condition holds.
+/// Reading from left to right gives the message that the text spells. If it spells none, it gives
+/// the first fault whose condition is true.
 pub fn what_is_read()
     ensures found { (text : List ℕ) → IfOk (message_at text) (λ m. Spells m text) }
     ensures only { (text : List ℕ) (m : Message) → Spells m text → message_at text ≡ Ok m }
     ensures fault { (text : List ℕ) → Decides (Condition text) faults (message_at text) }
 {}
 
-/// Where a fault is told, no message is spelled.
+/// If a text has a fault, it spells no message.
 pub fn no_fault_of_a_message()
     ensures { (text : List ℕ) (m : Message) (fault : ReadFault) → Spells m text
         → IsFirstFault fault text → ⊥ }
 {}
 
-/// What is written for a message is read again as the same message, where it isn't too long.
+/// What is written for a message is read again as the same message, if it isn't too long.
 pub fn written_is_spelled()
     ensures { (m : Message) → IsMessage m → length (written m) ≤ 65535 → Spells m (written m) }
 {}
 
-/// The lines that are found in a text begin with those of its layout (RFC 3261, section 7).
+/// The lines of a text begin with those of its layout (RFC 3261, section 7).
 pub fn lines_are_laid()
     ensures { (text start rest : List ℕ) (lines found : List (List ℕ))
         → (lays : Lays text start lines rest) → AreLines found text
@@ -59,8 +59,8 @@ pub fn lines_are_laid()
         ++ (lays.first ∷ (lays.more ++ ([] ∷ [])))) ++ after) × AreLines after rest }
 {}
 
-/// Without its folds, the head of a message is the lines by which it is read, and the empty one
-/// that ends it (RFC 3261, section 7.3.1).
+/// Without its folds, the head of a message consists of the lines by which it is read, and the
+/// empty one that ends it (RFC 3261, section 7.3.1).
 pub fn folds_are_laid()
     ensures { (head start : List ℕ) (lines : List (List ℕ)) → Lays head start lines []
         → AreLines (start ∷ (lines ++ ([] ∷ []))) (unfolded (without_line_ends head)) }
@@ -79,10 +79,10 @@ pub fn one_head()
         → HasHeaderLines headers text → HasHeaderLines others text → headers ≡ others }
 {}
 
-/// The head of a text that spells a message says what the message says: its lines are the start
-/// line and the header lines of the layout, its first line is the start line, the values of each
-/// header of the table are those of the message, and those of another header are the values of the
-/// headers of its name.
+/// The head of a text that spells a message says what the message says. Its lines are the start
+/// line and the header lines of the layout, and its first line is the start line. The values of
+/// each header of the table are those of the message, and those of another header are the values of
+/// the headers of its name.
 pub fn head_of_a_message()
     ensures lines { (text start rest : List ℕ) (lines head : List (List ℕ))
         → Lays text start lines rest → IsHead head text → head ≡ start ∷ lines }
@@ -99,10 +99,10 @@ pub fn head_of_a_message()
         (filter (λ header. is_same_header name header.name) m.others) }
 {}
 
-/// What is written for a message with a content of the user's own has the content's headers behind
+/// What is written for a message with a content of the user's own has the content's headers after
 /// those of the message, in order: the headers of any name outside the table, the tokens of Require
-/// and those of Supported. The content's contacts stand in place of the message's, where it has
-/// any. No header of the table that may stand once stands twice.
+/// and those of Supported. The content's contacts replace those of the message, if it has any. No
+/// header of the table that may occur once is there twice.
 pub fn headers_of_a_content()
     ensures others { (m : Message) (content : Content) (text name : List ℕ)
         (values : List (List ℕ)) → IsWrittenWith content m text → header_named name ≡ None

@@ -15,20 +15,21 @@ use sip_text::{Series, Text, next_line};
 use sip_values::ViaDraft;
 use std::alloc::Global;
 
-/// The most bytes that a message has.
+/// The largest number of bytes of a message.
 pub const MAX_BYTES: usize = 65_535;
 
 /// The message that the text spells.
 ///
 /// # Errors
 ///
-/// The first of the faults of `ReadFault` whose condition holds; NoMemory may stand in its place.
+/// The first of the faults of `ReadFault` whose condition is true; NoMemory may be returned in its
+/// place.
 pub fn read(alloc: Global, text: &[u8]) -> Result<Message, ReadFault>
     // What is read is spelled by the text.
     ensures found { IfOk result (λ message. Spells message text.now) }
-    // What the text spells is read, unless memory is refused.
+    // What the text spells is read, unless memory runs out.
     ensures only { (message : Message) → Spells message text.now → Answers result message }
-    // A fault is the first whose condition holds.
+    // A fault is the first whose condition is true.
     ensures fault { IfErr result (λ fault. TellsFault fault text.now) }
 {
     read_text(alloc, text)
@@ -85,7 +86,7 @@ fn numbers_of(draft: &Faultless) -> Result<Numbers, ReadFault>
     }
 }
 
-/// The Via values with their ports; the branch of the first has to begin with `z9hG4bK`.
+/// The Via values with their ports; the branch of the first must begin with `z9hG4bK`.
 #[tactic(auto, unfolding(crate::specs::ReadMessage::vias_of))]
 fn vias_of(alloc: Global, drafts: Series<ViaDraft>) -> Result<Vias, ReadFault>
     ensures { reading.Gives result (reading.vias_of drafts) }
@@ -99,7 +100,7 @@ fn vias_of(alloc: Global, drafts: Series<ViaDraft>) -> Result<Vias, ReadFault>
     Ok(vias)
 }
 
-/// As many bytes as the Content-Length says; without it all of them.
+/// The body: as many bytes as the Content-Length says; without it all of them.
 #[tactic(auto, unfolding(crate::specs::ReadMessage::body_of))]
 fn body_of(alloc: Global, text: &[u8], length: Option<u32>) -> Result<Text, ReadFault>
     ensures { reading.Gives result

@@ -1,4 +1,4 @@
-//! The rules that every message keeps, since its parts do.
+//! Every message satisfies the rules, since its parts do.
 ghost use Rattle.std.specs.Prelude.{◌<◌, ◌^◌, IfSome, IsTrue};
 ghost use Rattle.std.specs.List.{AllByRecursion};
 ghost use Rattle.sip_text.specs.Token.{is_token};
@@ -7,7 +7,7 @@ ghost use Rattle.sip_message.specs.Rules as rules;
 use sip_message::{Header, Message, NameAddr, Party, RAck, StartLine, Via};
 use sip_parts::{Parameter, Token};
 
-/// A message keeps the rules of its parts.
+/// A message satisfies the rules of its parts.
 pub fn keeps_rules(message: &Message)
     ensures { rules.IsMessage message.now }
 {

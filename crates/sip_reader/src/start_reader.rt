@@ -1,4 +1,4 @@
-//! Start lines as text, read (RFC 3261, sections 7.1 and 7.2).
+//! Reading of start lines (RFC 3261, sections 7.1 and 7.2).
 ghost use Rattle.std.specs.Prelude.{◌≡◌, ◌≤◌, IfOk};
 ghost use Rattle.sip_reader.specs.ReadStart as reading;
 
@@ -7,7 +7,7 @@ use sip_parts::{Reason, RequestUri, StatusCode};
 use sip_text::{Text, cut, is_token, number_u32, token_eq};
 use std::alloc::{AllocError, Global};
 
-/// What the start line says, or None where it is neither a request line nor a status line.
+/// What the start line says, or None if it is neither a request line nor a status line.
 #[tactic(auto, unfolding(crate::specs::ReadStart::start_at))]
 pub(crate) fn start_of(
     alloc: Global,

@@ -7,7 +7,8 @@ use Rattle.sip_timers.specs.declared.estimate.TheConstants.{LIFETIME, T1}
 use Rattle.sip_reliable.specs.declared.provisional.Retransmission.{Retransmission}
 use Rattle.sip_reliable.specs.Happening.{Happening, Sends, Repeats, GivesUp, Acknowledges, Closes, is_among, is_giving_up, is_repeat_of}
 
--- Its RSeq, whether it has a body, and when it was sent. It is sent again until it is given up.
+-- Its RSeq, whether it has a body, when it was sent, and, until it is given up, when it is `due` to
+-- be sent again and how often it was (`repeats`).
 pub record Provisional : Type 0 where
   pub number : ℕ
   pub has_body : Bool

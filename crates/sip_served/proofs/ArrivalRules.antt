@@ -1,4 +1,4 @@
--- What comes up is taken by the rules as by its steps.
+-- What comes up: the rules say the same as the steps.
 use Rattle.std.proofs.Common.{◌≡◌, ℕ, ◌+◌, not, ◌&&◌, ◌||◌, Bool, true, false, cond, List, [], ◌∷◌, ◌++◌, refl, sym, ap, ◌∙◌}
 use Rattle.std.specs.Prelude.{◌==◌, Option, None, Some, codes, find, is_some, nat_le, option_map, unwrap_or, if◌then◌else◌}
 use Rattle.std.specs.Map.{set_value}
@@ -167,7 +167,7 @@ module _ (state : State) (call_id : List ℕ) (name : DialogId) (arrival : Arriv
   in_dialog h None at each = refl
   in_dialog h (Some held) at each = each held at
 
-  -- noted as the rule says, where the number is above
+  -- the request is noted as the rule says, if its number is above
   abbrev noted_rule : State
   noted_rule = record state {
     dialogs = dialog_changed name (after_request arrival.request) state.dialogs;

@@ -1,5 +1,5 @@
--- What each item of the server side makes of the INVITE of an id: it awaits its ACK as what is
--- given says.
+-- After each item of the server side the INVITE of an id awaits its ACK exactly if the outputs say
+-- so.
 use Rattle.std.proofs.Common.{◌≡◌, ℕ, Bool, true, false, ◌&&◌, ◌||◌, cond, List, [], ◌∷◌, map, refl, sym, ap, ◌∙◌, arith}
 use Rattle.std.specs.Prelude.{Option, None, Some, Result, Ok, Err, fold, is_none, nat_le, nat_lt, if◌then◌else◌}
 use Rattle.std.specs.Option.{option_map, option_map_or}

@@ -14,7 +14,7 @@ ChangesAt id index requests =
     (change : HeldRequest → HeldRequest) (held : HeldRequest) → slice_get requests index ≡ Some held
     → changed_at id change requests ≡ slice_set requests index (change held)
 
--- what was written at the place is the change
+-- what is written at the place is the change of the request of this id
 pub written : (seen requests : List HeldRequest) (id : Id) (index : ℕ) (held new : HeldRequest)
     (change : HeldRequest → HeldRequest) → seen ≡ requests → index < length seen
     → held ≡ get_or requests index held → new ≡ change held → ChangesAt id index seen
@@ -28,7 +28,8 @@ written seen requests id index held new change same within read after changes =
     subst (λ (ys : List HeldRequest). ChangesAt id index ys) same changes in
     ap (slice_set requests index) after ∙ sym (moved change held at)
 
--- an answer at the place of a request that isn't refused is the answer to the request of its id
+-- an answer that isn't refused, given at the place of a request, is the answer to the request of
+-- its id
 pub given : (state : State) (event : Id) (respond : Respond) (now index : ℕ) (held : HeldRequest)
     → find (has_id respond.id) state.requests ≡ Some held
     → refusal_for state.dialogs respond held ≡ None
@@ -42,7 +43,7 @@ given state event respond now index held found unrefused changes =
     ∙ sym (ap (by_refusal state event respond now held) unrefused)
     ∙ sym (ap (by_request state event respond now) found)
 
--- what holds of an answer, where one fact gives the other
+-- if P gives Q, and P is true of what a call returned, so is Q
 pub ok_mapped : {A E : Type 0} (P Q : A → Type 0) (answer : Result A E)
     → ((value : A) → P value → Q value) → IfOk answer P → IfOk answer Q
 ok_mapped P Q (Ok value) step holds = step value holds

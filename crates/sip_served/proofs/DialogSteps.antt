@@ -1,5 +1,5 @@
--- Each item of the server side: what it makes happen in the dialog of each name, which stays, is
--- over or is made anew.
+-- Each item of the server side: what it makes happen in the dialog of each name, which goes on,
+-- ends or is made anew.
 use Rattle.std.proofs.Common.{◌≡◌, ℕ, Bool, true, false, not, ◌&&◌, ◌==◌, cond, List, [], ◌∷◌, ◌++◌, length, refl, sym, ap, ◌∙◌, append-nil}
 use Rattle.std.specs.Prelude.{Option, None, Some, find, is_none, if◌then◌else◌}
 use Rattle.std.specs.Cmp.{first_so, second_so}
@@ -43,12 +43,12 @@ use Rattle.sip_common.proofs.Lives.{cases_fit}
 
 -- ---- a request that comes up, and an ACK
 
--- a request in a dialog is noted there
+-- a request in a dialog is noted in that dialog
 abbrev noted_life : Message → DialogId → Lives
 noted_life request name other held =
     cond (has_to_tag request) (in_one name (happenings_by_request request) other held) []
 
--- where the case is one of those
+-- whether a request of this case is noted in its dialog
 abbrev notes : ArrivalCase → Bool
 notes Merged = false
 notes BadExtension = false
@@ -149,7 +149,7 @@ module _ (requests : List HeldRequest) (request : Message) (held : HeldDialog)
 
 module _ (requests : List HeldRequest) (dialogs : Dialogs) (request : Message) (tag : List ℕ)
     (other : DialogId) (held : HeldDialog) (at : dialog_at other dialogs ≡ Some held) where
-  -- by whether it has a To tag
+  -- the name, by whether the request has a To tag
   abbrev name_by : Bool → DialogId
   name_by outside =
       dialog_id_of_tags (if outside then tag else tag_of request.to) (tag_of request.from)

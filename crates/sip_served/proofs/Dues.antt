@@ -63,7 +63,7 @@ success_says now held (Some success) =
 
 -- ---- one request
 
--- the 2xx changes nothing of the provisional responses, and neither the removal
+-- a tick of the 2xx changes neither the provisional responses nor the removal
 pub record Kept (held after : HeldRequest) : Type 0 where
   pub ledger : after.ledger ≡ held.ledger
   pub removal : after.removal ≡ held.removal
@@ -86,8 +86,7 @@ pub removal_due : (now : ℕ) (removal : Option ℕ)
 removal_due now None = refl
 removal_due now (Some moment) = grind (arith, common_steps)
 
--- something of a request is due where it is of its 2xx, or of its provisional responses, or its
--- removal
+-- something of a request is due if its 2xx, its provisional responses or its removal is due
 pub request_due_of : (now : ℕ) (held : HeldRequest)
     → is_due now (request_due held)
     ≡ ((is_due now (option_and_then success_moment held.success)

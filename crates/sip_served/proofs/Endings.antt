@@ -55,7 +55,7 @@ Closes ends state taken = Goes no_name ends state.dialogs (taken.0).dialogs take
 
 -- ---- a request that comes up
 
--- a request in a dialog is noted there
+-- a request in a dialog is noted in that dialog
 noted_held : (state : State) (name : DialogId) (request : Message) (other : DialogId)
     → is_some (dialog_at other (noted state name request).dialogs)
     ≡ is_some (dialog_at other state.dialogs)
@@ -173,7 +173,7 @@ bye_is_no_prack request is =
 
 module _ (requests : List HeldRequest) (dialogs : Dialogs) (request : Message) (tag : List ℕ)
     (name : DialogId) (held : HeldDialog) (at : dialog_at name dialogs ≡ Some held) where
-  -- by whether it has a To tag
+  -- the name, by whether the request has a To tag
   abbrev own : Bool → DialogId
   own outside = dialog_id_of_tags (if outside then tag else tag_of request.to) (tag_of request.from)
 
@@ -281,7 +281,7 @@ below_300 : (status : ℕ) → (nat_lt status 200 || (nat_le 200 status && nat_l
     → nat_le 300 status ≡ false
 below_300 status e = grind (arith, common_steps)
 
--- one that is of a dialog rejects nothing
+-- a response of a dialog isn't a rejection
 not_both : (request : HeldRequest) (status : ℕ) → makes_or_confirms_dialog request status ≡ true
     → rejects request status ≡ false
 not_both request status is =

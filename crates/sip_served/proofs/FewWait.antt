@@ -1,4 +1,4 @@
--- Of each held request few reliable provisional responses wait for their PRACK.
+-- Few reliable provisional responses to each held request wait for their PRACK.
 use Rattle.std.proofs.Common.{◌≡◌, ℕ, not, ◌==◌, List, [], ◌∷◌, map, refl, sym, subst}
 use Rattle.std.specs.Prelude.{Option, None, Some, find, fold}
 use Rattle.std.specs.List.{AllByRecursion}
@@ -42,7 +42,7 @@ use Rattle.sip_served.proofs.RequestLives.{success_alone}
 
 -- ---- one request
 
--- what holds of the responses to it that wait
+-- what is true of the responses to it that wait
 abbrev pub IsKept : HeldRequest → Type 0
 IsKept held = IsSound held.ledger.first held.ledger.next held.ledger.waiting
 

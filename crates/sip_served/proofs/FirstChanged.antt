@@ -1,4 +1,4 @@
--- What holds of each element of a list still does where the first that passes is changed.
+-- What is true of each element of a list stays true after a change of the first that passes a test.
 use Rattle.std.proofs.Common.{Bool, true, false, cond, List, [], ◌∷◌}
 use Rattle.std.specs.List.{AllByRecursion}
 use Rattle.sip_served.specs.State.{changed_first}

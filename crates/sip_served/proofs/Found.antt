@@ -1,4 +1,4 @@
--- The held requests: which is found after a step, and that its id stays.
+-- The held requests: which is found after a step, with the same id.
 use Rattle.std.proofs.Common.{◌≡◌, ℕ, Bool, true, false, cond, List, [], ◌∷◌, ◌++◌, refl, sym, ap, ◌∙◌}
 use Rattle.std.specs.Prelude.{Option, None, Some, find, if◌then◌else◌}
 use Rattle.std.specs.Option.{option_map, option_map_or}
@@ -29,7 +29,7 @@ same_found k q same (held ∷ requests) =
     id_laws.symm held.id q ∙ sym (id_laws.congr k q held.id same) ∙ id_laws.symm k held.id in
     λ i. cond (e i) (Some held) (same_found k q same requests i)
 
--- one more is found where none was before
+-- a new request is found if none was before
 pub found_more : (q : Id) (requests : List HeldRequest) (new : HeldRequest)
     → find (has_id q) (requests ++ new ∷ [])
     ≡ option_map_or (λ held. Some held) (find (has_id q) requests)

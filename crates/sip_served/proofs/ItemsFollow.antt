@@ -1,5 +1,5 @@
--- What is read of the request of an id after each item of the server side is what its outputs say,
--- where they say so at each change of a request.
+-- What is read of the request of an id after each item of the server side is what the outputs say,
+-- if the outputs of each change of a request say so.
 use Rattle.std.proofs.Common.{◌≡◌, ℕ, Bool, true, false, ◌&&◌, cond, List, [], ◌∷◌, ◌++◌, map, refl, sym, ap, subst, ◌∙◌}
 use Rattle.std.specs.Prelude.{Option, None, Some, filter, find, fold}
 use Rattle.std.specs.Map.{values_of}
@@ -76,7 +76,7 @@ module _ {X : Type 0} (reading : Reading X) (invite : Id) (told : IsTold X readi
 
   module _ (arrival : Arrival) (requests : List HeldRequest)
       (fresh : find (has_id arrival.id) requests ≡ None) where
-    -- it is answered, and nothing changes
+    -- the request is answered, and nothing changes
     answer_follows : (given : List CallOut) (key : Key) (response : Message)
         → out.Command arrival.id (order.Answer key response) ∷ [] ≡ given
         → Follows reading invite requests requests given
@@ -85,7 +85,7 @@ module _ {X : Type 0} (reading : Reading X) (invite : Id) (told : IsTold X readi
         (answer_first reading invite told.another arrival.id key response requests requests [] fresh
         (λ e. e) (same_follows reading invite requests [] (λ x. refl)))
 
-    -- it is answered, and another is changed
+    -- the request is answered, and another one changes
     other_follows : (of : Id) (change : HeldRequest → HeldRequest)
         → ((held : HeldRequest) → (change held).id ≡ held.id)
         → (given : List CallOut) (key : Key) (response : Message) (more : List CallOut)
@@ -107,7 +107,7 @@ module _ {X : Type 0} (reading : Reading X) (invite : Id) (told : IsTold X readi
         gone true = refl
         gone false = refl
 
-    -- it is held
+    -- the request is held
     held_follows : (held : HeldRequest) → reading.read held ≡ reading.none
         → (outs : List CallOut) → Silent reading outs
         → Follows reading invite requests (requests ++ held ∷ []) outs

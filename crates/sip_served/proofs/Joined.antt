@@ -1,4 +1,4 @@
--- Tokens with a comma and a space between them are a header's value.
+-- Tokens with a comma and a space between them are the value of a header.
 use Rattle.std.proofs.Common.{◌≡◌, ℕ, ◌+◌, ◌-◌, ◌<◌, ◌==◌, subst, Bool, true, false, not, cond, ◌&&◌, List, [], ◌∷◌, ◌++◌, length, get_or, refl, sym, ap, ◌∙◌, arith, length-append, append_assoc, codes}
 use Rattle.std.specs.Prelude.{if◌then◌else◌, IsTrue, slice_index}
 use Rattle.std.specs.List.{flat_map, join_by, list_all}
@@ -169,7 +169,7 @@ so_far_more text options option token so_far = record {
   rule = more_value text option so_far.rule token;
 }
 
--- an option is added where it passes the test
+-- an option is added if it is unknown
 pub added : (unknown : Bool) (text : List ℕ) (options : List (List ℕ)) (option : List ℕ)
     → IsTrue (is_token option) → SoFar text options
     → SoFar (cond unknown (with_one_more text option) text) (options

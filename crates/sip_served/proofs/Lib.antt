@@ -1,3 +1,4 @@
+pub mod Outside
 pub mod QuietBeforeDue
 pub mod ArrivalRules
 pub mod Awaiting

@@ -1,5 +1,5 @@
--- Lists whose elements are read by a function: what is done to the elements is done to what is read
--- of them.
+-- Lists whose elements are read by a function: a change of the elements is a change of what is
+-- read.
 use Rattle.std.proofs.Common.{◌≡◌, Bool, true, false, cond, List, [], ◌∷◌, ◌++◌, map, refl, ap}
 use Rattle.std.specs.Prelude.{Option, Some, filter, find, unwrap_or}
 use Rattle.std.specs.List.{AllByRecursion}
@@ -23,14 +23,14 @@ module _ {A B : Type 0} (f : A → B) where
         | false ↦ filter_mapped p xs
       ]
 
-  -- where each step is the step on what is read
+  -- if a change of each element is a change of what is read of it, the same is true of lists
   pub map_mapped : (P : B → Type 0) (g : B → B) (h : A → A)
       → ((x : A) → P (f x) → f (h x) ≡ g (f x)) → (xs : List A) → AllByRecursion P (map f xs)
       → map f (map h xs) ≡ map g (map f xs)
   map_mapped P g h step [] all = refl
   map_mapped P g h step (x ∷ xs) all = λ i. step x all.0 i ∷ map_mapped P g h step xs all.1 i
 
-  -- the change of the first that passes, where it is the change of what is read of that one
+  -- the same for a change of the first element that passes a test
   found_step : (g : B → B) (h : A → A) (held : B) → ((x : A) → f x ≡ held → f (h x) ≡ g (f x))
       → (x : A) (xs later : List A) (rest : List B) (found : Option B) (b : Bool)
       → (found ≡ Some held → map f later ≡ rest) → cond b (Some (f x)) found ≡ Some held

@@ -1,4 +1,5 @@
--- The names that the agent writes are such names.
+-- The agent's own names are well formed: `100rel` is a token, `Unsupported` the name of a header
+-- that isn't parsed.
 use Rattle.std.proofs.Common.{refl}
 use Rattle.std.specs.Prelude.{IsTrue, codes}
 use Rattle.sip_parts.specs.HeaderEntry.{is_named}

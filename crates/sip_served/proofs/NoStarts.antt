@@ -1,5 +1,4 @@
--- The server side of a call starts no transaction of a client: what it asks of transactions are
--- answers.
+-- The server side of a call starts no client transaction: all its commands are answers.
 use Rattle.std.proofs.Common.{◌≡◌, ℕ, Bool, true, false, ◌&&◌, cond, List, [], ◌∷◌, map, refl}
 use Rattle.std.specs.Prelude.{Option, None, Some, find}
 use Rattle.indexmap.specs.IndexMap.{insert_entry}

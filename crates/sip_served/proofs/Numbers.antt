@@ -1,4 +1,4 @@
--- The acknowledgment of a number for which no response waits changes nothing.
+-- An acknowledged RSeq for which no response waits changes nothing.
 use Rattle.std.proofs.Common.{◌≡◌, ◌==◌, ℕ, Bool, true, false, not, cond, ◌||◌, List, [], ◌∷◌, refl, sym, ap, ◌∙◌}
 use Rattle.std.specs.Prelude.{Result, Ok, Err, IsOk, OnOk, OnErr, IsTrue, ◌↔◌, filter}
 use Rattle.std.specs.List.{list_any}

@@ -1,4 +1,4 @@
--- The server side leaves owed in each dialog what is; in one that it makes nothing is.
+-- The server side doesn't change what is owed in a dialog; in one that it makes nothing is owed.
 use Rattle.std.proofs.Common.{◌≡◌, ℕ, inl, inr, Bool, true, false, not, ◌&&◌, cond, List, [], refl, sym, subst}
 use Rattle.std.specs.Prelude.{Option, None, Some, find, if◌then◌else◌}
 use Rattle.indexmap.specs.IndexMap.{insert_entry}

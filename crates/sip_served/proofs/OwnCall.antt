@@ -1,4 +1,4 @@
--- The server side of a call holds and tells what is of its own Call-ID, and nothing else.
+-- What the server side of a call holds and tells has its own Call-ID.
 use Rattle.std.proofs.Common.{◌≡◌, ℕ, ◌&&◌, List, [], ◌∷◌, map, refl, ap, ◌∙◌}
 use Rattle.std.specs.Prelude.{Option, None, Some, find}
 use Rattle.sip_model.proofs.Ordered.{by_bool}
@@ -66,7 +66,7 @@ module _ (call_id : List ℕ) where
   abbrev pub IsRequestOf : HeldRequest → Type 0
   IsRequestOf held = held.request.call_id ≡ call_id
 
-  -- both what is held then and what is told
+  -- what is held afterwards and what is told has the Call-ID
   abbrev pub IsTakenOf : ServedTaken → Type 0
   IsTakenOf taken = IsStateOf call_id taken.0 × AreNoticesOf call_id taken.1
 

@@ -7,7 +7,7 @@ use Rattle.std.proofs.lemmas.Option.{slice_get_past}
 use Rattle.std.proofs.lemmas.Bool.{ltb-false}
 use Rattle.sip_served.specs.State.{changed_first}
 
--- an index, where there is one
+-- an index, if there is one
 index_of : (b : Bool) (n i : ℕ) → Some i ≡ cond b (Some n) None → i ≡ n
 index_of true n i e = cc
 index_of false n i e = absurd cc
@@ -33,7 +33,7 @@ module _ {X : Type 0} (p : X → Bool) where
   kept_step change x xs rest true found e later = absurd cc
   kept_step change x xs rest false found e later = ap (λ ys. x ∷ ys) (later e)
 
-  -- where none passes, nothing changes
+  -- if none passes, nothing changes
   unchanged : (change : X → X) (xs : List X) → find p xs ≡ None → changed_first p change xs ≡ xs
   unchanged change [] none = refl
   unchanged change (x ∷ xs) none =

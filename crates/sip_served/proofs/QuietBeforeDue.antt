@@ -120,7 +120,7 @@ due_step : (b rest : Bool) → (b || rest) ≡ true → b ≡ false → rest ≡
 due_step true rest e f = absurd (true≢false f)
 due_step false rest e f = e
 
--- a response that is due is sent once more, so its count differs
+-- a response that is due is sent again, so its count differs
 other_count : (now : ℕ) (p : Provisional) → is_repeated now p ≡ true → after_repeat now p ≢ p
 other_count now p due same = counts p.retransmission due
     (ap (λ q. q.retransmission) (sym (ap (λ b. cond b (once_more now p) p) due) ∙ same))
@@ -156,7 +156,7 @@ repeated_by false true repeated due numbers e = absurd cc
 repeated_by false false true due numbers e = refl
 repeated_by false false false due numbers e = absurd cc
 
--- where a tick of a ledger says nothing although it does something, the ledger differs
+-- if a tick of a request says nothing but changes its ledger, the ledger differs
 by_tick : (t : Tick) (now : ℕ) (held : HeldRequest) → tick_answer held.ledger now ≡ t
     → is_something t ≡ true → provisionals_told t held ≡ []
     → (provisionals_by t now held).0.ledger ≢ held.ledger
@@ -180,7 +180,7 @@ says_none xs e = ap speaks e
 not_removed : (y : Bool) → y ≡ true → not y ≡ false
 not_removed y e = ap not e
 
--- where a tick says nothing of a request of which something is due, and keeps it, it changes it
+-- if something of a request is due, and a tick says nothing and keeps the request, it changes it
 changes : (now : ℕ) (held : HeldRequest) → is_due now (request_due held) ≡ true
     → (request_ticked now held).1 ≡ [] → is_kept_at now held ≡ true
     → (request_ticked now held).0 ≢ held
@@ -207,7 +207,7 @@ shorter now requests =
     let g = length-map requests (λ (held : HeldRequest). (request_ticked now held).0) in
     omega (arith, h, g)
 
--- so where something is due and nothing is said, what is held differs
+-- so if something is due and nothing is said, what is held differs
 differs : (now : ℕ) (requests : List HeldRequest)
     → list_any (λ held. is_due now (request_due held)) requests ≡ true → said_at now requests ≡ []
     → after_tick now requests ≢ requests

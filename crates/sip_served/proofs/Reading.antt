@@ -32,17 +32,18 @@ pub fold_on : {X Y : Type 0} (f : X → Y → X) (x : X) (ys zs : List Y)
 fold_on f x [] zs = refl
 fold_on f x (y ∷ ys) zs = fold_on f (f x y) ys zs
 
--- what is read of a held request, or of none, and what an output of an item and of a tick say of it
+-- what is read of a held request, or of none, and what the outputs of an item and of a tick say of
+-- it
 pub record Reading (X : Type 0) : Type 0 where
   pub none : X
   pub read : HeldRequest → X
   pub by : X → CallOut → X
   pub ticks : X → CallOut → X
 
--- What they say of the request of this id is so: at each change of a request the output that is
--- about it says what is read then, and no other says anything.
+-- What the outputs say of the request of this id is true: at each change of a request the output
+-- about it says what is read afterwards, and no other output says anything of it.
 pub record IsTold (X : Type 0) (reading : Reading X) (invite : Id) : Type 0 where
-  -- what says nothing
+  -- outputs that say nothing of it
   pub another : (id : Id) → is_id id invite ≡ false → (key : Key) (response : Message) (x : X)
       → reading.by x (out.Command id (order.Answer key response)) ≡ x
   pub request : (call_id : List ℕ) (id : Id) (method local remote body : List ℕ) (x : X)
@@ -52,7 +53,7 @@ pub record IsTold (X : Type 0) (reading : Reading X) (invite : Id) : Type 0 wher
       → reading.by x (out.Notice (notice.Refused call_id place refusal)) ≡ x
   pub cancel : (call_id : List ℕ) (id : Id) (x : X)
       → reading.by x (out.Notice (notice.Cancel call_id id)) ≡ x
-  -- of a request that comes up nothing is said yet
+  -- nothing is said yet of a request that comes up
   pub new : (arrival : Arrival) (dialog : Option DialogReference)
       → reading.read (held_first dialog arrival) ≡ reading.none
   -- a PRACK and an ACK
@@ -87,7 +88,7 @@ module _ {X : Type 0} (reading : Reading X) where
   abbrev pub read_of : Option HeldRequest → X
   read_of o = option_map_or reading.read o reading.none
 
-  -- they say nothing
+  -- outputs of an item say nothing of it
   abbrev pub Silent : List CallOut → Type 0
   Silent outs = (x : X) → fold reading.by x outs ≡ x
 
@@ -95,7 +96,7 @@ module _ {X : Type 0} (reading : Reading X) where
   silent_both xs ys first second x =
       fold_on reading.by x xs ys ∙ ap (λ x. fold reading.by x ys) (first x) ∙ second x
 
-  -- those of a tick say nothing
+  -- outputs of a tick say nothing of it
   abbrev pub Quiet : List CallOut → Type 0
   Quiet outs = (x : X) → fold reading.ticks x outs ≡ x
 
@@ -108,7 +109,7 @@ module _ {X : Type 0} (reading : Reading X) where
   FollowsAs before after outs =
       IfSome after (λ held. reading.read held ≡ fold reading.by (read_of before) outs)
 
-  -- the same of a tick
+  -- the same for a tick
   abbrev pub TicksAs : Option HeldRequest → Option HeldRequest → List CallOut → Type 0
   TicksAs before after outs =
       IfSome after (λ held. reading.read held ≡ fold reading.ticks (read_of before) outs)
@@ -129,7 +130,7 @@ module _ {X : Type 0} (reading : Reading X) (invite : Id) where
   same_follows requests outs silent =
       as_before reading (find (has_id invite) requests) outs silent
 
-  -- where a request is changed, and the outputs say so of it and nothing of another
+  -- a request is changed, and the outputs say so, and nothing of another
   pub changed_follows : (k : Id) (change : HeldRequest → HeldRequest)
       → ((held : HeldRequest) → (change held).id ≡ held.id) → (requests : List HeldRequest)
       (outs : List CallOut)
@@ -150,7 +151,7 @@ module _ {X : Type 0} (reading : Reading X) (invite : Id) where
       by_id true same (Some held) at =
           own same held (sym (same_found k invite same requests) ∙ at)
 
-  -- before that a response goes out to a request that isn't held
+  -- the same after a response to a request that isn't held
   pub answer_first : ((id : Id) → is_id id invite ≡ false → (key : Key) (response : Message) (x : X)
       → reading.by x (out.Command id (order.Answer key response)) ≡ x) → (id : Id) (key : Key)
       (response : Message) (before after : List HeldRequest) (outs : List CallOut)

@@ -1,4 +1,4 @@
--- The ids of the held requests: an item adds at most that of the request that it brings.
+-- The ids of the held requests: an item adds at most the id of the request that it brings.
 use Rattle.std.proofs.Common.{◌≡◌, ◌⊎◌, inl, inr, ℕ, true, false, ◌&&◌, cond, List, [], ◌∷◌, ◌++◌, map, refl, sym, ap, subst, ◌∙◌}
 use Rattle.std.specs.Prelude.{Option, None, Some, filter, find}
 use Rattle.std.specs.List.{AllByRecursion, IsDistinct}

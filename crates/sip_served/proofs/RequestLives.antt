@@ -1,4 +1,4 @@
--- What stays of a held request through what happens to it.
+-- What doesn't change in a held request, whatever happens to it.
 use Rattle.std.proofs.Common.{◌≡◌, ℕ, List, [], ◌∷◌, refl, ap, ◌∙◌}
 use Rattle.std.specs.Prelude.{Option, None, Some}
 use Rattle.sip_message.specs.declared.id.Id.{Id}
@@ -44,7 +44,7 @@ lives_request life held = ap (λ came. came.1) (all_came life held)
 
 -- ---- a tick
 
--- what is due of the 2xx changes that alone
+-- a tick of the 2xx changes only the 2xx
 pub success_alone : (now : ℕ) (held : HeldRequest) (o : Option Success)
     → (success : Option Success)
     × ((success_at_tick now held o).0 ≡ record held { success = success })
@@ -57,7 +57,7 @@ success_alone now held (Some success) = by_due (success_answer now success)
     by_due repeat.Again = (_, refl)
     by_due repeat.GivenUp = (_, refl)
 
--- what is due of the provisional responses is a tick of their ledger
+-- a tick of the provisional responses is a tick of their ledger
 pub provisionals_alone : (t : Tick) (now : ℕ) (held : HeldRequest)
     → (provisionals_by t now held).0 ≡ record held { ledger = ticked t held.ledger now }
 provisionals_alone tick.Nothing now held = refl

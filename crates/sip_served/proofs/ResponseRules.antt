@@ -1,4 +1,4 @@
--- The user's answer is taken by the rules as by its steps.
+-- The user's answer: the rules say the same as the steps.
 use Rattle.std.proofs.Common.{◌≡◌, ℕ, not, ◌&&◌, ◌||◌, nat_le, nat_lt, Bool, true, false, cond, List, [], ◌∷◌, Ok, refl, sym, ap, ◌∙◌, arith}
 use Rattle.std.specs.Prelude.{Option, None, Some, find, option_map, is_some, is_none, if◌then◌else◌}
 use Rattle.std.specs.List.{list_any}
@@ -103,7 +103,7 @@ refusal_same dialogs held respond =
 
 -- ---- the response
 
--- one that goes out reliably isn't refused by the ledger
+-- the ledger doesn't refuse a response that goes out reliably
 unfaulted : (b : Bool) (fault : Option SendFault) (otherwise : Option Refusal)
     → cond b (option_map refusal_of_fault fault) otherwise ≡ None → b ≡ true → fault ≡ None
 unfaulted b None otherwise e reliable = refl

@@ -55,7 +55,7 @@ answer_start local held r =
     by_case false true = refl
     by_case false false = refl
 
--- it has the next RSeq where it is sent reliably
+-- the response has the next RSeq if it is sent reliably
 abbrev pub next_rseq : HeldRequest → Answer → Option ℕ
 next_rseq held r =
     if is_sent_reliably held r.status r.reliability
@@ -79,7 +79,7 @@ answer_rseq local held r =
 
 -- ---- what is read after an answer
 
--- what is said of it: its RSeq, and, of those that are sent again, whether it is final
+-- what is said of it: its RSeq, and, for those that are sent again, whether it is final
 abbrev pub said : HeldRequest → Answer → List ℕ → List ℕ
 said held r numbers = with_number (next_rseq held r) numbers
 
@@ -128,7 +128,7 @@ module _ (r : Answer) (response : Message) (now : ℕ) (held : HeldRequest) wher
             [ true ↦ refl | false ↦ refl ]
       ]
 
-  -- one more is sent again, where no final response was sent
+  -- one more is sent again if no final response was sent
   abbrev one_more : Bool → List Provisional → List ℕ
   one_more closed waiting =
       if closed then []
@@ -279,7 +279,7 @@ module _ (reading : Reading (List ℕ)) (invite : Id)
       (provisionals (tick_answer (first.0).ledger now) first.0
       (ap (λ id. is_id id invite) (success_id now held held.success) ∙ other))
 
--- their numbers stay
+-- the RSeqs of the responses that wait don't change
 pub repeated_numbers : (now : ℕ) (waiting : List Provisional)
     → map (λ p. p.number) (map (after_repeat now) waiting) ≡ map (λ p. p.number) waiting
 repeated_numbers now [] = refl
@@ -292,7 +292,7 @@ pub given_up_numbers : (waiting : List Provisional)
 given_up_numbers [] = refl
 given_up_numbers (p ∷ waiting) = ap (λ numbers. p.number ∷ numbers) (given_up_numbers waiting)
 
--- so do those of the ones that weren't given up, until they are
+-- the responses that weren't given up
 abbrev open_ones : List Provisional → List Provisional
 open_ones waiting = filter (λ p. not (is_given_up p)) waiting
 
@@ -357,7 +357,7 @@ swapped p q (x ∷ xs) = by_both (p x) (q x) refl refl (swapped p q xs)
         ap (λ b. cond b (x ∷ filter p (filter q xs)) (filter p (filter q xs))) e ∙ rest
     by_both false false e f rest = rest
 
--- the response of this number waits no longer
+-- the response of this number no longer waits
 abbrev but_for : ℕ → List ℕ → List ℕ
 but_for rseq numbers = filter (λ one. not (one == rseq)) numbers
 

@@ -1,5 +1,5 @@
--- What the server side of a call gives: notices of no response, and answers to requests that came
--- up, each of which is one of the user's or one of its own, first or again.
+-- What the server side of a call gives: notices other than of responses, and answers to requests
+-- that came up. Each answer is the user's or its own, and may be sent again.
 use Rattle.indexmap.specs.IndexMap.{insert_entry}
 use Rattle.sip_common.proofs.Each.{both, filtered, found}
 use mathlib.Core.List.{reverse-cons}
@@ -64,14 +64,14 @@ IsOther (notice.Response call_id id status local_tag remote_tag body) = ⊥
 IsOther _ = Unit {0}
 
 module _ (P : CallOut → Type 0) (Given : Message → Type 0) where
-  -- of other notices, and of answers that were given, this is said
+  -- what is said of such notices, and of answers that were given
   pub record AllowsServed : Type 0 where
     pub told : (one : Notice) → IsOther one → P (out.Notice one)
     pub answer : (id : Id) (key : Key) {message : Message} → Given message
         → P (out.Command id (order.Answer key message))
 
 module _ (Came : Message → Type 0) where
-  -- a request that comes up is such a one
+  -- a request that comes up is one of those that came
   abbrev pub KindGiven : Kind → Type 0
   KindGiven (kind.Request request reply_to) = Came request
   KindGiven (kind.Ack ack) = Unit {0}
@@ -286,7 +286,7 @@ module _ (P : CallOut → Type 0) (Came Given : Message → Type 0) (allows : Al
           subst (AllByRecursion KeepsGiven) (sym (reverse-cons held requests))
           (both KeepsGiven (reverse requests) (held ∷ []) (all_reversed requests all.1) (all.0, tt))
 
-      -- the request that a CANCEL is for, where one is held
+      -- the request that a CANCEL is for, if one is held
       cancel_fits : (state : State) (call_id : List ℕ) (arrival : Arrival) (now : ℕ)
           (o : Option HeldRequest) → cancelled_request arrival.key state.requests ≡ o
           → Came arrival.request → StateGiven state
@@ -387,7 +387,7 @@ module _ (P : CallOut → Type 0) (Came Given : Message → Type 0) (allows : Al
           (answers_given (is_sent_reliably made r.status r.reliability) (is_final r.status)
           (send_answer made.ledger) r.status response now here)
 
-      -- each answer to this command is one
+      -- each answer by this command is one that was given
       abbrev pub RespondGiven : RespondCommand → Type 0
       RespondGiven r = (local : Addr) (held : HeldRequest) → Came held.request
           → Given (answer_to local held r)

@@ -1,5 +1,4 @@
--- What an event adds to the stories of the held requests makes of these what it makes of the
--- requests.
+-- An event changes the held requests in the same way as what it adds changes their stories.
 use Rattle.std.proofs.Common.{◌≡◌, ℕ, ◌&&◌, List, [], ◌∷◌, ◌++◌, map, refl, sym, ap, subst, ◌∙◌}
 use Rattle.std.specs.Prelude.{Option, None, Some, is_some, filter, find, if◌then◌else◌}
 use Rattle.std.specs.List.{AllByRecursion}
@@ -39,7 +38,7 @@ use Rattle.sip_served.proofs.Found.{bye_requests, noted_requests}
 use Rattle.sip_served.proofs.Mapped.{append_mapped, changed_mapped, filter_mapped, found_mapped, map_mapped}
 use Rattle.sip_served.proofs.StoryLives.{AllFit, all_happen, answer_fits, answer_happens, answer_whole, numbered_by, passes, passes_fit}
 
--- they are what the stories say
+-- the held requests are what their stories say
 abbrev pub AreTold : List HeldRequest → Stories → Type 0
 AreTold requests stories = requests ≡ map request_of stories
 

@@ -1,4 +1,4 @@
--- What a held request is after what happens to it is what its story says then.
+-- A held request after something happened to it is what its longer story says.
 use Rattle.std.proofs.Common.{◌≡◌, ℕ, ◌+◌, ◌*◌, ◌^◌, nat_lt, min, Bool, true, false, not, cond, ◌&&◌, ◌||◌, List, [], ◌∷◌, ◌++◌, length, refl, sym, ap, subst, ◌∙◌, arith, add-one, append-nil, append_assoc, length-append}
 use Rattle.std.specs.Prelude.{Option, None, Some, Ok, is_some, filter, filter_map, fold, if◌then◌else◌}
 use Rattle.std.specs.List.{list_any}
@@ -61,7 +61,7 @@ sent_next story now =
       interval = long i;
     }
 
--- it is sent again as its story says
+-- the 2xx is sent again as its story says
 repeats_on : (now : ℕ) (o : Option SuccessStory)
     → option_map success_of (option_map
     (λ (story : SuccessStory). record story { repeats = story.repeats ++ now ∷ [] }) o)
@@ -102,7 +102,7 @@ module _ (h : RequestHappening) where
       ap (λ more. one ∷ more) same
       ∙ ap (λ b. cond (not b) (one ∷ left before) (left before) ++ unacknowledged (h ∷ [])) (sym is)
 
-  -- its PRACK takes a response away, and none else
+  -- a PRACK takes away its own response and no other
   one_more : (life : List RequestHappening)
       → unacknowledged (life ++ h ∷ [])
       ≡ left (unacknowledged life) ++ unacknowledged (h ∷ [])
@@ -123,7 +123,7 @@ module _ (h : RequestHappening) where
 
 -- ---- one thing that happens to a request
 
--- it has the next number, or is due
+-- a reliable response that goes out has the next RSeq; sending again and giving up are due
 abbrev Fits : HeldRequest → RequestHappening → Type 0
 Fits held (SendsReliably number response now) = number ≡ held.ledger.next
 Fits held (RepeatsProvisionals numbers now) =
@@ -156,7 +156,7 @@ module _ (story : RequestStory) where
     removal = removal;
   }
 
-  -- where the ledger and the responses that wait are these
+  -- the request with this ledger and these responses that wait
   after : (h : RequestHappening) (ledger : Ledger) (provisionals : List ReliableResponse)
       → ledger_after first_rseq has_100rel (happened_before ++ filter_map to_provisionals (h ∷ []))
       ≡ ledger → left h (unacknowledged story.life) ++ unacknowledged (h ∷ []) ≡ provisionals

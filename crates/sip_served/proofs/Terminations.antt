@@ -1,4 +1,4 @@
--- The 487 of the user to an INVITE does what a CANCEL does to it.
+-- A 487 of the user does the same to an INVITE as a CANCEL.
 use Rattle.std.proofs.Common.{◌≡◌, ℕ, Bool, true, false, ◌&&◌, List, [], ◌∷◌, refl, ap, ◌∙◌}
 use Rattle.std.specs.Prelude.{Option, None, Some, find, is_none, is_some}
 use Rattle.sip_model.proofs.Ordered.{by_bool}

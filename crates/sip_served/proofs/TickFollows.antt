@@ -1,5 +1,5 @@
--- What is read of the request of an id after a tick of the server side is what its outputs say,
--- where they say so at each change of a request.
+-- What is read of the request of an id after a tick of the server side is what the outputs say, if
+-- the outputs of each change of a request say so.
 use Rattle.std.proofs.Common.{◌≡◌, ℕ, Bool, true, false, cond, List, [], ◌∷◌, ◌++◌, map, refl, sym, ap, subst, ◌∙◌}
 use Rattle.std.specs.Prelude.{Option, None, Some, filter, find, fold}
 use Rattle.std.specs.List.{AllByRecursion, IsDistinct, flat_map}

@@ -1,4 +1,4 @@
--- A tick by the rules is the tick by its steps, and so is the first moment at which one is due.
+-- A tick, and the first moment at which one is due: the rules say the same as the steps.
 use Rattle.std.proofs.Common.{◌≡◌, ℕ, not, ◌&&◌, ◌||◌, ◌==◌, Bool, true, false, cond, List, [], ◌∷◌, ◌++◌, map, min, refl, sym, ap, ◌∙◌, arith}
 use Rattle.std.specs.Prelude.{Option, None, Some, filter, fold}
 use Rattle.std.specs.List.{flat_map, list_any}
@@ -161,7 +161,7 @@ module _ (now : ℕ) (held : HeldRequest) (success : Option Success) where
   abbrev with_both : Ledger × List CallOut → Ticked
   with_both after = (record held { ledger = after.0; success = success }, after.1)
 
-  -- where none is due nothing changes, and nothing is sent
+  -- if none is due, nothing changes and nothing is sent
   none_sent : list_any (is_repeated now) held.ledger.waiting ≡ false
       → (record held { success = success }, []) ≡ with_both (
         record (held.ledger) { waiting = map (after_repeat now) held.ledger.waiting },

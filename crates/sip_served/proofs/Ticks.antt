@@ -1,10 +1,10 @@
--- One more step of a loop that changes each element and adds what it tells.
+-- One more turn of a loop that changes each element and adds what it tells.
 use Rattle.std.proofs.Common.{◌≡◌, ℕ, zero, suc, ◌+◌, ◌<◌, List, [], ◌∷◌, ◌++◌, map, take, drop, length, get_or, refl, ap, ◌∙◌, arith}
 use Rattle.std.specs.List.{flat_map}
 use Rattle.std.proofs.lemmas.Grind.{flat_map-append}
 use Rattle.std.proofs.lemmas.List.{append-nil, take_more}
 
--- an element that the loop hasn't come to is as it was
+-- an element that the loop hasn't reached is unchanged
 pub not_yet : {X : Type 0} (f : X → X) (xs : List X) (i : ℕ) (d : X) → i < length xs
     → get_or (map f (take i xs) ++ drop i xs) i d ≡ get_or xs i d
 not_yet f [] i d within = absurd (omega arith)

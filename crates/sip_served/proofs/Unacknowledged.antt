@@ -1,5 +1,5 @@
--- What each item of the server side makes of the reliable provisional responses to the INVITE of an
--- id: they await their PRACK, and are sent again, as what is given says.
+-- After each item of the server side the reliable provisional responses to the INVITE of an id
+-- await their PRACK, and are sent again, exactly as the outputs say.
 use Rattle.std.proofs.Common.{◌≡◌, ℕ, true, false, not, ◌&&◌, ◌==◌, List, [], map, refl, sym, ap, ◌∙◌}
 use Rattle.std.specs.Prelude.{None, Some, fold, if◌then◌else◌}
 use Rattle.sip_message.specs.declared.id.Id.{Id}
@@ -24,7 +24,7 @@ use Rattle.sip_served.proofs.Reading.{IsTold, Quiet, Reading}
 use Rattle.sip_served.proofs.RequestLives.{provisionals_alone}
 use Rattle.sip_served.proofs.Rseqs.{again_quiet, another_ticked, answer_rseq, answer_start, awaits_answered, given_as, given_up_numbers, keeps_answered, none_open, open_numbers, open_repeated, own_ticked, repeated_numbers, repeats_answered, repeats_pracked, said, said_of_repeats}
 
--- those that are kept, those whose PRACK gets a 200, and those that are sent again
+-- the RSeqs that are kept, those whose PRACK gets a 200, and those that are sent again
 abbrev pub until_pracked : (HeldRequest → List ℕ) → Id → Reading (List ℕ)
 until_pracked read invite = record {
   none = [];
@@ -49,7 +49,7 @@ repeating invite = record {
 
 -- ---- those that are kept, and those whose PRACK gets a 200
 
--- numbers of what awaits its PRACK, which go by answers and by PRACKs alone
+-- numbers of what awaits its PRACK, which change only by answers and by PRACKs
 module _ (invite : Id) (numbers : List ReliableResponse → List Provisional → List ℕ) where
   abbrev read : HeldRequest → List ℕ
   read held = numbers held.provisionals held.ledger.waiting

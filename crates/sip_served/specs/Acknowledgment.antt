@@ -14,29 +14,29 @@ use Rattle.sip_common.specs.Requests.{is_invite}
 use Rattle.sip_served.specs.RequestLife.{EndsSuccess, went_on}
 use Rattle.sip_served.specs.State.{State, ServedTaken, changed_at, quiet}
 
--- an INVITE that was answered with a 2xx, whose ACK is awaited
+-- an INVITE with a 2xx that still waits for its ACK
 abbrev pub awaits_ack : HeldRequest → Bool
 awaits_ack held =
     is_invite held.request
     && option_map_or (λ success. is_none success.over) held.success false
 
--- the ACK is of the dialog and the number of the request
+-- the ACK has the tags and the number of the request
 abbrev pub is_ack_of : Message → HeldRequest → Bool
 is_ack_of ack held =
     str_eq_ignore_ascii_case (tag_of ack.to) held.tag
     && str_eq_ignore_ascii_case (tag_of ack.from) (tag_of held.request.from)
     && (ack.cseq.number == held.request.cseq.number)
 
--- of several such INVITEs it is that of the first
+-- the INVITE that the ACK is for; if several fit, the first
 abbrev pub acknowledged_invite : Message → List HeldRequest → Option Id
 acknowledged_invite ack requests =
     option_map (λ held. held.id) (find (λ held. awaits_ack held && is_ack_of ack held) requests)
 
--- its 2xx is sent no more
+-- the request after its 2xx was acknowledged or given up
 abbrev pub success_ended : SuccessEnd → HeldRequest → HeldRequest
 success_ended end held = went_on (EndsSuccess end ∷ []) held
 
--- the ACK of the INVITE of this id, or of none: the user is told of the first
+-- an ACK of the INVITE with this id, or of none; the user is told if it is of one
 abbrev pub ack_noted : State → List ℕ → Message → Option Id → ServedTaken
 ack_noted state call_id ack None = quiet state
 ack_noted state call_id ack (Some invite) = (

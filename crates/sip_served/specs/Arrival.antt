@@ -1,4 +1,4 @@
--- A request that comes up, other than a CANCEL: which case it is, and what becomes of it (RFC 3261,
+-- A request that comes up, other than a CANCEL: which case it is, and what happens then (RFC 3261,
 -- sections 8.2 and 12.2.2; RFC 3262, section 3).
 use Rattle.std.specs.Prelude.{ℕ, Bool, false, not, ◌&&◌, ◌||◌, ◌==◌, List, [], ◌∷◌, ◌++◌, Option, None, Some, codes, find, filter, if◌then◌else◌}
 use Rattle.std.specs.List.{list_any, join_by}
@@ -37,7 +37,8 @@ use Rattle.sip_served.specs.State.{State, ServedTaken, changed_at, followed, qui
 abbrev pub first_rseq : ℕ
 first_rseq = 1
 
--- as a transaction hands it up: the To tag of its answers is its own, or where it has none `tag`
+-- a request as its transaction hands it up: the To tag of its answers is its own, or `tag` if it
+-- has none
 abbrev pub arrival_of : Up → Message → Addr → List ℕ → Arrival
 arrival_of up request reply_to tag = record {
   id = up.id;
@@ -47,7 +48,7 @@ arrival_of up request reply_to tag = record {
   tag = local_tag_of request tag;
 }
 
--- as it is held first: no answer to it was sent
+-- a request as it is held at first: no answer to it was sent
 abbrev pub held_first : Option DialogReference → Arrival → HeldRequest
 held_first dialog arrival = record {
   id = arrival.id;
@@ -64,7 +65,7 @@ held_first dialog arrival = record {
 
 -- ---- which case it is
 
--- the same request came up on another way (RFC 3261, section 8.2.2.2)
+-- the same request came up by another path (RFC 3261, section 8.2.2.2)
 abbrev pub is_merged : Message → HeldRequest → Bool
 is_merged request held =
     str_eq_ignore_ascii_case (tag_of held.request.from) (tag_of request.from)
@@ -77,27 +78,27 @@ is_in_dialog name created_by held =
     option_map_or (λ life. is_dialog_id life.name name && is_id life.created_by created_by)
     held.dialog false
 
--- the RAck of a PRACK names a reliable provisional response to this INVITE that waits for one
+-- the RAck of a PRACK names a reliable provisional response to this INVITE that still waits
 abbrev pub is_named_by : RAck → HeldRequest → Bool
 is_named_by rack held =
     is_invite held.request && bytes_eq rack.method held.request.cseq.method
     && (held.request.cseq.number == rack.cseq)
     && waits_for rack.rseq held.ledger
 
--- of several such INVITEs of the dialog it is the first
+-- the INVITE of the dialog that the RAck names; if several fit, the first
 abbrev pub named_invite : List HeldRequest → DialogId → Id → RAck → Option Id
 named_invite requests name created_by rack =
     option_map (λ held. held.id)
     (find (λ held. is_in_dialog name created_by held && is_named_by rack held) requests)
 
--- a PRACK: the response that its RAck names waits, or it acknowledges nothing (RFC 3262, section 3)
+-- a PRACK: a response waits that its RAck names, or it acknowledges nothing (RFC 3262, section 3)
 abbrev pub prack_case : List HeldRequest → DialogId → Id → Option RAck → ArrivalCase
 prack_case requests name created_by None = AcknowledgesNothing
 prack_case requests name created_by (Some rack) =
     option_map_or (λ id. Acknowledges id rack.rseq) (named_invite requests name created_by rack)
     AcknowledgesNothing
 
--- a request in a dialog that is held, or isn't
+-- a request in a dialog, which may be held or not
 abbrev pub case_inside : List HeldRequest → DialogId → Message → Option HeldDialog → ArrivalCase
 case_inside requests name request None = NoDialog
 case_inside requests name request (Some held) =
@@ -119,7 +120,7 @@ case_of requests dialogs name request =
 
 -- ---- what the agent answers by itself
 
--- the command by which a response goes to the transaction of the request
+-- the command that gives a response to the transaction of the request
 abbrev pub command_for : Arrival → Message → CallOut
 command_for arrival response = Command arrival.id (Answer arrival.key response)
 
@@ -133,11 +134,11 @@ abbrev pub unsupported : List (List ℕ) → Header
 unsupported options =
     record { name = codes "Unsupported"; value = join_by (λ option. option) (codes ", ") options }
 
--- with one more header
+-- a message with one more header
 abbrev pub with_header : Header → Message → Message
 with_header header message = record message { others = message.others ++ header ∷ [] }
 
--- the options that the agent doesn't know are named (RFC 3261, section 8.2.2.3)
+-- a 420 names the options that the agent doesn't know (RFC 3261, section 8.2.2.3)
 abbrev pub refused_extension : Arrival → List CallOut
 refused_extension arrival =
     command_for arrival
@@ -149,9 +150,9 @@ refused_extension arrival =
 abbrev pub no_such_dialog : Arrival → List CallOut
 no_such_dialog arrival = answered_with arrival 481 (codes "Call/Transaction Does Not Exist")
 
--- ---- a PRACK that names a response which waits for it
+-- ---- a PRACK that names a response that waits for it
 
--- the response of this RSeq waits no longer, and is kept no longer
+-- the response of this RSeq no longer waits, and is no longer kept
 abbrev pub pracked : ℕ → HeldRequest → HeldRequest
 pracked rseq held = went_on (TakesPrack rseq ∷ []) held
 
@@ -171,19 +172,19 @@ request_notice call_id arrival =
     Request call_id arrival.id arrival.request.cseq.method arrival.tag
     (tag_of arrival.request.from) arrival.request.body
 
--- a request in the dialog of this name, where it came in one
+-- the request as it is held, in the dialog of this name if it came in one
 abbrev pub in_its_dialog : Dialogs → DialogId → Arrival → HeldRequest
 in_its_dialog dialogs name arrival =
     held_first (dialog_of_request arrival.request name dialogs) arrival
 
--- it is held so
+-- the request is held, and the user is told
 abbrev pub request_held : State → List ℕ → DialogId → Arrival → ServedTaken
 request_held state call_id name arrival = (
   record state { requests = state.requests ++ in_its_dialog state.dialogs name arrival ∷ [] },
   Notice (request_notice call_id arrival) ∷ [],
 )
 
--- a BYE ends its dialog (RFC 3261, section 15.1.2)
+-- a BYE in a dialog ends it (RFC 3261, section 15.1.2)
 abbrev pub bye_taken : Message → DialogId → State → ServedTaken
 bye_taken request name state =
     if has_to_tag request && is_bye request
@@ -200,14 +201,14 @@ for_user state call_id name arrival =
 
 -- ---- all of it
 
--- a request in a dialog is noted there
+-- a request in a dialog is noted in that dialog
 abbrev pub noted : State → DialogId → Message → State
 noted state name request =
     if has_to_tag request
     then record state { dialogs = dialog_changed name (visited request) state.dialogs }
     else state
 
--- what becomes of it, case by case
+-- what happens, case by case
 abbrev pub by_case : ArrivalCase → State → List ℕ → DialogId → Arrival → ServedTaken
 by_case Merged state call_id name arrival =
     (state, answered_with arrival 482 (codes "Loop Detected"))

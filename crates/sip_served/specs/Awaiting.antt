@@ -1,4 +1,4 @@
--- Which INVITE awaits its ACK, read off what a call gives (RFC 3261, section 13.3.1.4).
+-- Which INVITE awaits its ACK, by what a call gives (RFC 3261, section 13.3.1.4).
 use Rattle.std.specs.Prelude.{Bool, true, false, ◌&&◌, if◌then◌else◌}
 use Rattle.sip_message.specs.declared.id.Id.{Id}
 use Rattle.sip_message.specs.declared.start_line.StartLine.{StartLine}
@@ -37,7 +37,8 @@ tells_of_ack invite (Cancel call_id id) = false
 tells_of_ack invite (Ended call_id local_tag remote_tag) = false
 tells_of_ack invite (Refused call_id place refusal) = false
 
--- it awaits an ACK after an output: from its 2xx on, until that is told
+-- the INVITE awaits its ACK after an output: from its 2xx on, until the user is told of the ACK, or
+-- that none came
 abbrev pub awaits_by : Id → Bool → CallOut → Bool
 awaits_by invite awaits (out.Notice notice) =
     if tells_of_ack invite notice then false else awaits

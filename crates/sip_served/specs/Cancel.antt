@@ -23,25 +23,26 @@ use Rattle.sip_served.specs.State.{State, ServedTaken, changed_at, followed}
 
 -- ---- the request that it names
 
--- the keys of two requests have the same branch and sent-by, whatever their methods
+-- two keys have the same branch and sent-by, whatever their methods
 abbrev pub is_same_branch : Key → Key → Bool
 is_same_branch (Server branch sent_by method) (Server other other_sent_by other_method) =
     bytes_eq branch other && bytes_eq sent_by.host other_sent_by.host
     && (sent_by.port == other_sent_by.port)
 is_same_branch _ _ = false
 
--- it has the branch and the sent-by of the CANCEL; of several it is the last that came up
+-- the held request with the branch and the sent-by of the CANCEL; if several have them, the last
+-- that came up
 abbrev pub cancelled_request : Key → List HeldRequest → Option HeldRequest
 cancelled_request cancel requests =
     find (λ held. is_same_branch cancel held.key) (reverse requests)
 
--- an INVITE without a final response; a CANCEL gives up nothing else
+-- an INVITE without a final response; a CANCEL has an effect on no other request
 abbrev pub is_unanswered_invite : HeldRequest → Bool
 is_unanswered_invite held = is_invite held.request && is_none held.removal
 
 -- ---- what is answered
 
--- the 200 to the CANCEL has the To tag of the answers to that request
+-- the 200 to the CANCEL, with the To tag of the answers to that request
 abbrev pub cancel_accepted : Arrival → HeldRequest → CallOut
 cancel_accepted arrival held =
     command_for arrival (response_of arrival.request 200 (codes "OK") held.tag)
@@ -50,19 +51,19 @@ cancel_accepted arrival held =
 abbrev pub request_terminated : HeldRequest → Message
 request_terminated held = response_of held.request 487 (codes "Request Terminated") held.tag
 
--- first the CANCEL is answered and then the INVITE, and the user is told
+-- the CANCEL is answered, then the INVITE, and the user is told
 abbrev pub termination_told : List ℕ → Arrival → HeldRequest → Message → List CallOut
 termination_told call_id arrival held response =
     cancel_accepted arrival held ∷ Command held.id (Answer held.key response)
     ∷ Notice (Cancel call_id held.id) ∷ []
 
--- ---- what becomes of the INVITE
+-- ---- the INVITE afterwards
 
--- its final response goes out
+-- the 487 goes out as its final response
 abbrev pub terminates : Message → ℕ → List RequestHappening
 terminates response now = Finishes response 487 now ∷ []
 
--- so it has that, and its early dialogs end
+-- the INVITE has its final response, and its early dialogs end
 abbrev pub invite_terminated : Message → Id → ℕ → State → ServedTaken
 invite_terminated response invite now state = (
   record state {
@@ -72,7 +73,7 @@ invite_terminated response invite now state = (
   (early_ended invite state.dialogs).1,
 )
 
--- what the user would answer to it
+-- the same 487 as a command of the user
 abbrev pub user_termination : List ℕ → Id → Respond
 user_termination call_id invite = record {
   call_id = call_id;
@@ -85,7 +86,7 @@ user_termination call_id invite = record {
 
 -- ---- all of it
 
--- a CANCEL of the request that is held gets 200, and an unanswered INVITE gets 487; of none 481
+-- a CANCEL of a held request gets 200, and an unanswered INVITE gets 487; a CANCEL of none gets 481
 abbrev pub by_cancelled : State → List ℕ → Arrival → ℕ → Option HeldRequest → ServedTaken
 by_cancelled state call_id arrival now None = (state, no_such_dialog arrival)
 by_cancelled state call_id arrival now (Some held) =
@@ -95,7 +96,7 @@ by_cancelled state call_id arrival now (Some held) =
     (invite_terminated response held.id now)
     else (state, cancel_accepted arrival held ∷ [])
 
--- A CANCEL is never held, and no dialog notes it.
+-- A CANCEL that comes up. It is never held, and no dialog notes it.
 abbrev pub cancel_taken : State → List ℕ → Arrival → ℕ → ServedTaken
 cancel_taken state call_id arrival now =
     by_cancelled state call_id arrival now (cancelled_request arrival.key state.requests)

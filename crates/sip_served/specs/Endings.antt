@@ -1,5 +1,5 @@
--- What opens a dialog at the server side, and what ends one there (RFC 3261, sections 9.2, 12.1.1,
--- 12.3 and 15.1.2).
+-- What opens a dialog at the server side, and what ends one (RFC 3261, sections 9.2, 12.1.1, 12.3
+-- and 15.1.2).
 use Rattle.std.specs.Prelude.{Bool, false, not, ◌&&◌, List, find, is_some, if◌then◌else◌}
 use Rattle.std.specs.List.{list_any}
 use Rattle.std.specs.Option.{option_map_or}
@@ -23,8 +23,8 @@ use Rattle.sip_served.specs.State.{State, has_id}
 abbrev pub gives_response : List CallOut → Bool
 gives_response outs = list_any (λ out. is_some (response_in out)) outs
 
--- The first response of 101 to 299 to an INVITE outside of dialogs opens the dialog of their tags
--- (RFC 3261, section 12.1.1).
+-- The first response of 101 to 299 to an INVITE outside of dialogs opens the dialog of the tags of
+-- both (RFC 3261, section 12.1.1).
 abbrev pub opened_by_answer : State → Respond → List CallOut → DialogId → Bool
 opened_by_answer state respond outs name =
     option_map_or (λ request. gives_response outs && makes_dialog request respond.status
@@ -40,7 +40,7 @@ ended_by_answer state respond outs held =
 
 -- ---- a request that comes up
 
--- a BYE in the dialog ends it, where it is accepted (RFC 3261, sections 12.2.2 and 15.1.2)
+-- a BYE in the dialog ends it, if it is accepted (RFC 3261, sections 12.2.2 and 15.1.2)
 abbrev pub ended_by_bye : Message → DialogId → HeldDialog → Bool
 ended_by_bye request name held = is_bye request && is_of_name request name
     && not (list_any is_unknown_option request.require)
@@ -52,7 +52,7 @@ ended_by_cancel state key held =
     option_map_or (λ request. is_unanswered_invite request && is_early_of request.id held)
     (cancelled_request key state.requests) false
 
--- no other request ends any
+-- only a CANCEL or a BYE ends a dialog
 abbrev pub ended_by_request : State → Key → Message → DialogId → HeldDialog → Bool
 ended_by_request state key request name held =
     if is_cancel request then ended_by_cancel state key held else ended_by_bye request name held

@@ -1,4 +1,4 @@
--- The requests that come up for the user of a call, and those that the user is told of.
+-- The requests that come up for the user of a call, and those of which the user is told.
 use Rattle.std.specs.Prelude.{ℕ, Bool, false, List, [], ◌∷◌, ◌++◌, if◌then◌else◌}
 use Rattle.std.specs.List.{filter_map}
 use Rattle.sip_message.specs.declared.id.Id.{Id}
@@ -15,7 +15,7 @@ use Rattle.sip_served.specs.Arrival.{arrival_of, case_of}
 use Rattle.sip_served.specs.Run.{Event, Takes, event_taken}
 use Rattle.sip_served.specs.State.{State}
 
--- the requests that the user is told of by an event, and by a list of events
+-- the requests of which the user is told by an event, and by a list of events
 abbrev pub told_by : State → Event → List Id
 told_by state event = filter_map request_told_by (event_taken state event).1
 
@@ -24,7 +24,7 @@ told_from state [] = []
 told_from state (event ∷ events) =
     told_by state event ++ told_from (event_taken state event).0 events
 
--- the request that comes up by an event, where it is one for the user; a CANCEL never is
+-- the request that comes up by an event, if it is for the user; a CANCEL never is
 abbrev pub if_for_user : Id → ArrivalCase → List Id
 if_for_user id ForUser = id ∷ []
 if_for_user id _ = []

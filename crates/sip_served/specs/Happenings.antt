@@ -1,4 +1,4 @@
--- What the server side makes happen in the held dialog of a name, and how a dialog opens there (RFC
+-- What the server side makes happen in the held dialog of a name, and how it opens a dialog (RFC
 -- 3261, sections 12.1.1, 12.2.2 and 13.3.1.4).
 use Rattle.std.specs.Prelude.{ℕ, Bool, not, ◌&&◌, List, [], Option, find, if◌then◌else◌}
 use Rattle.std.specs.List.{flat_map, list_any}
@@ -24,8 +24,8 @@ is_of_name request name =
     has_to_tag request && is_dialog_id (dialog_id_of_tags (tag_of request.to) (tag_of request.from))
     name
 
--- one whose options the agent knows is accepted where its number is above those before it; a CANCEL
--- never is
+-- a request is accepted if the agent knows its options and its number is above those before it; a
+-- CANCEL never is
 abbrev pub accepts : Message → DialogId → HeldDialog → List Happening
 accepts request name held =
     if is_of_name request name && not (is_cancel request)
@@ -33,7 +33,7 @@ accepts request name held =
     && takes held request.cseq.number
     then happenings_by_request request held else []
 
--- a 2xx that goes out to an INVITE outside of dialogs confirms the dialog of their tags
+-- a 2xx that goes out to an INVITE outside of dialogs confirms the dialog of the tags of both
 abbrev pub success_confirms : HeldRequest → ℕ → List Message → DialogId → HeldDialog
     → List Happening
 success_confirms request status responses name held =
@@ -41,7 +41,7 @@ success_confirms request status responses name held =
     && confirms_dialog request status
     then flat_map (λ response. confirms response held) responses else []
 
--- so does the user's answer to the request of its id, where it isn't refused
+-- the same for the user's answer to the request of its id, if it isn't refused
 abbrev pub answer_confirms : State → Respond → List CallOut → DialogId → HeldDialog
     → List Happening
 answer_confirms state respond outs name held =
@@ -49,7 +49,7 @@ answer_confirms state respond outs name held =
     (λ request. success_confirms request respond.status (responses_out outs) name held)
     (find (has_id respond.id) state.requests) []
 
--- the opening of a dialog that an answer makes is the request with that answer
+-- the opening of the dialog that an answer makes: the request, the tag and the status of the answer
 abbrev pub answer_opens : State → Respond → Option Opening
 answer_opens state respond =
     option_map (λ request. ByRequest request.request request.tag respond.status)

@@ -1,4 +1,4 @@
--- What the server side of a call ends as, once the dialogs that it lent for writing come back.
+-- The server side of a call after the dialogs that it lent for writing were given back.
 use denote.RattleType.{RattleType}
 use Rattle.std.specs.Borrow.{Fml, Lends, MutBor}
 use Rattle.std.specs.contracts.alloc.Global as global
@@ -18,7 +18,7 @@ use Rattle.sip_served.specs.contracts.server_side.ServerSide as server_side
 use Rattle.sip_served.specs.Served.{ServedState}
 use Rattle.sip_served.specs.State.{State}
 
--- the map of the held dialogs, as the logic holds it
+-- the type of the map of held dialogs, as the logic has it
 abbrev pub dialogs_row : RattleType
 dialogs_row =
     index_map.the_row dialog_id_of.the_row held_dialog.the_row
@@ -27,7 +27,7 @@ dialogs_row =
     (builder.ghosts fold_hasher.the_row hasher.ghosts builder.no_dict
     (copied.ghosts fold_hasher.the_row) builder.no_dict) hasher.ghosts allocator.ghosts
 
--- it holds the dialogs that were left behind the reference, and all else is as it was
+-- the side holds the dialogs that the reference had at its end; all else is unchanged
 abbrev pub SideLends : MutBor State → MutBor dialogs_row.Denot → Fml
 SideLends s r =
     Lends server_side.the_row dialogs_row s r

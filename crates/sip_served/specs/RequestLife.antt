@@ -1,5 +1,5 @@
--- What happens to a held request of the peer, and what each of it makes of the record that is held
--- (RFC 3261, sections 12.1.1, 13.3.1.4 and 17.2.2; RFC 3262, section 3). Moments are in ms.
+-- What happens to a held request of the peer, and how each happening changes the held record (RFC
+-- 3261, sections 12.1.1, 13.3.1.4 and 17.2.2; RFC 3262, section 3). Moments are in ms.
 use Rattle.std.specs.Prelude.{ℕ, ◌+◌, ◌*◌, min, ◌&&◌, nat_lt, List, [], ◌∷◌, ◌++◌, length, fold, None, Some, if◌then◌else◌}
 use Rattle.std.specs.Option.{option_map}
 use Rattle.sip_message.specs.declared.message.Message.{Message}
@@ -17,7 +17,7 @@ use Rattle.sip_served.specs.Provisionals.{without_rseq}
 
 -- what happens to a request that is held
 pub data RequestHappening : Type 0 where
-  -- its answer makes this dialog
+  -- an answer makes this dialog
   MakesDialog : DialogReference → RequestHappening
   -- a reliable provisional response goes out, with this RSeq, at a moment
   SendsReliably : ℕ → Message → ℕ → RequestHappening
@@ -25,16 +25,16 @@ pub data RequestHappening : Type 0 where
   TakesPrack : ℕ → RequestHappening
   -- the responses of these RSeqs are sent again, at a moment
   RepeatsProvisionals : List ℕ → ℕ → RequestHappening
-  -- at this moment no PRACK came in time: no response that waits is sent again
+  -- no PRACK came in time, at this moment: the responses that wait aren't sent again
   GivesUpProvisionals : ℕ → RequestHappening
   -- a final response goes out, of this status, at a moment
   Finishes : Message → ℕ → ℕ → RequestHappening
   -- the 2xx to it is sent again, at a moment
   RepeatsSuccess : ℕ → RequestHappening
-  -- the 2xx to it is sent no more
+  -- the 2xx to it isn't sent again
   EndsSuccess : SuccessEnd → RequestHappening
 
--- A 2xx to an INVITE is sent again after T1, and given up 64*T1 after it was sent, where its ACK
+-- A 2xx to an INVITE is sent again after T1. It is given up 64*T1 after it was sent, if its ACK
 -- doesn't come.
 abbrev pub success_sent : Message → ℕ → Success
 success_sent response now =
@@ -50,7 +50,7 @@ abbrev pub next_retransmission : ℕ → Retransmission → Retransmission
 next_retransmission now last =
     record { due = now + min (2 * last.interval) T2; interval = min (2 * last.interval) T2 }
 
--- The request after something happened to it. A final response is the last one, and 64*T1 after it
+-- The request after something happened to it. No response follows a final one, and 64*T1 after it
 -- the request is removed.
 abbrev pub request_happened : HeldRequest → RequestHappening → HeldRequest
 request_happened held (MakesDialog life) = record held { dialog = Some life }
@@ -82,6 +82,6 @@ request_happened held (EndsSuccess end) = record held {
   success = option_map (λ (success : Success). record success { over = Some end }) held.success;
 }
 
--- the request after one thing after another
+-- the request after all of this, in order
 abbrev pub went_on : List RequestHappening → HeldRequest → HeldRequest
 went_on life held = fold request_happened held life

@@ -34,7 +34,7 @@ use Rattle.sip_served.specs.State.{State, ServedTaken, changed_at, has_id}
 
 -- ---- when it is refused
 
--- the user may give these
+-- a status that the user may give
 abbrev pub is_user_status : ℕ → Bool
 is_user_status status = nat_le 101 status && nat_le status 699
 
@@ -48,12 +48,12 @@ abbrev pub may_be_reliable : HeldRequest → ℕ → Bool
 may_be_reliable held status =
     is_invite held.request && is_provisional status && supports_100rel held.request
 
--- It is sent reliably where that was asked for, and always where the INVITE requires it.
+-- It is sent reliably if the user asks for it, and always if the INVITE requires it.
 abbrev pub is_sent_reliably : HeldRequest → ℕ → Reliability → Bool
 is_sent_reliably held status reliability =
     may_be_reliable held status && (is_reliable reliability || requires_100rel held.request)
 
--- it makes or confirms a dialog, or is one of a dialog
+-- a response that makes or confirms a dialog, or is in one
 abbrev pub makes_or_confirms_dialog : HeldRequest → ℕ → Bool
 makes_or_confirms_dialog held status =
     is_invite held.request && (is_provisional status || is_success status)
@@ -69,7 +69,7 @@ refusal_of_fault send.NotSupported = NotSupported
 refusal_of_fault send.Unacknowledged = ReliablePending
 refusal_of_fault send.NumbersUsedUp = SequenceUsedUp
 
--- another reliable response may be sent, or with a 2xx none that has a body waits
+-- why a reliable response must wait, or a 2xx while one with a body waits for its PRACK
 abbrev pub reliable_refusal : HeldRequest → Respond → Option Refusal
 reliable_refusal held respond =
     if is_sent_reliably held respond.status respond.reliability
@@ -78,7 +78,7 @@ reliable_refusal held respond =
     then Some ReliablePending
     else None
 
--- the conditions under which an answer is refused, in the order in which they are looked at
+-- the conditions under which an answer is refused, in the order of their tests
 abbrev pub refusals : Dialogs → Respond → HeldRequest → List (Bool × Refusal)
 refusals dialogs respond held =
     (not (is_user_status respond.status), BadStatus)
@@ -94,16 +94,16 @@ refusal_for dialogs respond held =
 
 -- ---- the response
 
--- `Require: 100rel` and the RSeq of a reliable one (RFC 3262, section 3)
+-- a response with `Require: 100rel` and an RSeq (RFC 3262, section 3)
 abbrev pub with_rseq : Option ℕ → Message → Message
 with_rseq rseq response = record response { require = codes "100rel" ∷ []; rseq = rseq }
 
--- the Record-Route of the INVITE and one's own Contact (RFC 3261, section 12.1.1)
+-- a response with the Record-Route of the INVITE and the agent's Contact (RFC 3261, section 12.1.1)
 abbrev pub with_routes : Addr → Message → Message → Message
 with_routes local request response =
     record response { contacts = contact_of local ∷ []; record_routes = request.record_routes }
 
--- a change, where it is to be made
+-- a change of a message, if the condition is true
 abbrev pub if_so : Bool → (Message → Message) → Message → Message
 if_so so change message = if so then change message else message
 
@@ -117,9 +117,9 @@ answer_to local held respond =
     (response_of held.request respond.status respond.reason held.tag)))
     respond.content
 
--- ---- the request after it
+-- ---- the request after the response
 
--- a reliable provisional response goes out, with the number that it has
+-- a reliable provisional response goes out, with the number from the ledger
 abbrev pub sends_as : Result ℕ SendFault → Message → ℕ → List RequestHappening
 sends_as (Ok number) response now = SendsReliably number response now ∷ []
 sends_as (Err fault) response now = []
@@ -136,22 +136,22 @@ abbrev pub answered : ℕ → Reliability → Message → ℕ → HeldRequest �
 answered status reliability response now held =
     went_on (answers held status reliability response now) held
 
--- after a reliable provisional response
+-- the held request after a reliable provisional response
 abbrev pub sent_as : Result ℕ SendFault → Message → ℕ → HeldRequest → HeldRequest
 sent_as number response now held = went_on (sends_as number response now) held
 
--- after the next one
+-- the same with the next number
 abbrev pub sent_reliably : Message → ℕ → HeldRequest → HeldRequest
 sent_reliably response now held = sent_as (send_answer held.ledger) response now held
 
--- after the final one
+-- the held request after the final response
 abbrev pub finished : Message → ℕ → ℕ → HeldRequest → HeldRequest
 finished response status now held = went_on (Finishes response status now ∷ []) held
 
--- ---- the dialogs after it
+-- ---- the dialogs after the response
 
--- it makes a dialog where the request is outside of any, and has made none (RFC 3261, section
--- 12.1.1)
+-- a response makes a dialog if its request is outside of dialogs and has made none (RFC 3261,
+-- section 12.1.1)
 abbrev pub makes_dialog : HeldRequest → ℕ → Bool
 makes_dialog held status =
     makes_or_confirms_dialog held status && not (has_to_tag held.request) && is_none held.dialog
@@ -176,7 +176,7 @@ confirms_dialog held status =
 abbrev pub rejects : HeldRequest → ℕ → Bool
 rejects held status = is_invite held.request && nat_le 300 status
 
--- the dialogs after it: one more, one confirmed, or the early ones of a rejected INVITE ended
+-- the dialogs after it: one more, one confirmed, or without the early ones of a rejected INVITE
 abbrev pub dialogs_answered : Id → HeldRequest → ℕ → Message → Dialogs → Dialogs × List CallOut
 dialogs_answered event held status response dialogs =
     let name = dialog_id_of held.request held.tag in
@@ -186,7 +186,7 @@ dialogs_answered event held status response dialogs =
     else if rejects held status then early_ended held.id dialogs
     else (dialogs, [])
 
--- what happens to its request: the dialog that is made is its own
+-- what happens to the request: it has the dialog that is made
 abbrev pub makes : Id → HeldRequest → ℕ → List RequestHappening
 makes event held status =
     if makes_dialog held status
@@ -204,8 +204,8 @@ after_answer event respond response now held =
 
 -- ---- all of it
 
--- An answer goes to the transaction of its request. `changed` are the held requests with this one
--- changed so.
+-- An answer goes to the transaction of its request. `changed` gives the held requests after a
+-- change of this one.
 abbrev pub answer_given_at : ((HeldRequest → HeldRequest) → List HeldRequest) → State → Id → Respond
     → ℕ → HeldRequest → ServedTaken
 answer_given_at changed state event respond now held =
@@ -218,19 +218,19 @@ answer_given_at changed state event respond now held =
       Command held.id (Answer held.key response) ∷ dialogs.1,
     )
 
--- the same of the request of this id, among those that are held
+-- the same for the held request of this id
 abbrev pub answer_given : State → Id → Respond → ℕ → HeldRequest → ServedTaken
 answer_given state event respond now held =
     answer_given_at (λ change. changed_at respond.id change state.requests) state event respond now
     held
 
--- refused, and then nothing changes, or given
+-- an answer is refused, and nothing changes; or it is given
 abbrev pub by_refusal : State → Id → Respond → ℕ → HeldRequest → Option Refusal → ServedTaken
 by_refusal state event respond now held (Some refusal) =
     (state, refused event respond.call_id refusal)
 by_refusal state event respond now held None = answer_given state event respond now held
 
--- an answer to the request that is held, or to none
+-- an answer to a held request, or to none
 abbrev pub by_request : State → Id → Respond → ℕ → Option HeldRequest → ServedTaken
 by_request state event respond now None = (state, refused event respond.call_id NoSuchRequest)
 by_request state event respond now (Some held) =

@@ -18,12 +18,12 @@ abbrev pub event_taken : State → Event → ServedTaken
 event_taken state (Takes tag id item now) = server_item_taken state tag id item now
 event_taken state (Ticks now) = tick_taken state now
 
--- what is held after all of them, where nothing was held before
+-- what is held after these events, if nothing was held before
 abbrev pub server_state_after : Addr → List Event → State
 server_state_after local events =
     fold (λ state event. (event_taken state event).0) (empty_at local) events
 
--- of each held request at most 8 reliable provisional responses wait for their PRACK, and none but
--- the first until that one was acknowledged
+-- for each held request at most 8 reliable provisional responses wait for their PRACK, and until
+-- the first was acknowledged, only that one
 abbrev pub FewWaitEach : State → Type 0
 FewWaitEach state = AllByRecursion (λ held. FewWait held.ledger) state.requests

@@ -1,17 +1,17 @@
--- What `Served` shows.
+-- What a contract sees of `Served`.
 use Rattle.std.specs.Prelude.{Bool, true, List}
 use Rattle.sip_common.specs.declared.item.CallOut.{CallOut}
 use Rattle.sip_served.specs.State.{State, ServedTaken, empty_at}
 
--- whether a call met want of memory, and what is held
+-- whether memory ran out in an earlier call, and what is held
 pub record ServedState : Type 0 where
   pub broken : Bool
   pub state : State
 
--- after want of memory nothing is held, at the same address
+-- after memory ran out nothing is held, at the same address
 abbrev pub lost : ServedState → ServedState
 lost served = record { broken = true; state = empty_at (served.state).local }
 
--- what was taken is held
+-- the server side holds the result
 abbrev pub after : ServedState → ServedTaken → ServedState × List CallOut
 after served taken = (record served { state = taken.0 }, taken.1)

@@ -1,4 +1,4 @@
--- What each item makes of the server side of its call.
+-- How each item changes the server side of its call.
 use Rattle.std.specs.Prelude.{ℕ, List, if◌then◌else◌}
 use Rattle.sip_message.specs.declared.id.Id.{Id}
 use Rattle.sip_transactions.specs.declared.output.Kind.{Kind}
@@ -16,14 +16,14 @@ use Rattle.sip_common.specs.Requests.{is_cancel}
 use Rattle.sip_served.specs.Respond.{respond_taken}
 use Rattle.sip_served.specs.State.{State, ServedTaken, quiet}
 
--- a CANCEL is a case of its own before all others
+-- a CANCEL is looked at before all other cases
 abbrev pub arrival_taken : State → List ℕ → Arrival → ℕ → ServedTaken
 arrival_taken state call_id arrival now =
     if is_cancel arrival.request then cancel_taken state call_id arrival now
     else request_taken state call_id arrival
 
--- What a transaction hands up; `tag` is the To tag made for a request without one. Of the server
--- side are the requests and the ACKs.
+-- What a transaction hands up; `tag` is the To tag made for a request without one. The server side
+-- takes the requests and the ACKs.
 abbrev pub kind_taken : State → List ℕ → Up → Kind → ℕ → ServedTaken
 kind_taken state tag up (Request request reply_to) now =
     arrival_taken state up.call_id (arrival_of up request reply_to tag) now
@@ -32,7 +32,7 @@ kind_taken state tag up (Response response) now = quiet state
 kind_taken state tag up Timeout now = quiet state
 kind_taken state tag up Failed now = quiet state
 
--- of the user's commands only answers are for the server side
+-- the server side takes only the answers among the user's commands
 abbrev pub server_command_taken : State → Id → UserCommand → ℕ → ServedTaken
 server_command_taken state id (command.Respond respond) now = respond_taken state id respond now
 server_command_taken state id _ now = quiet state

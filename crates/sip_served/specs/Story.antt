@@ -1,5 +1,5 @@
--- A held request of the peer as it came up, and what happened to it since: each field of the record
--- is read off that (RFC 3261, section 13.3.1.4; RFC 3262, section 3). Moments are in ms.
+-- A held request of the peer as it came up, and what happened to it since. Each field of the record
+-- follows from that (RFC 3261, section 13.3.1.4; RFC 3262, section 3). Moments are in ms.
 use Rattle.std.specs.Prelude.{ℕ, ◌+◌, ◌*◌, ◌==◌, ◌&&◌, nat_lt, Bool, false, List, [], ◌∷◌, ◌++◌, length, fold, filter_map, Option, None, Some, if◌then◌else◌}
 use Rattle.std.specs.List.{list_any}
 use Rattle.std.specs.Option.{option_map}
@@ -19,7 +19,7 @@ use Rattle.sip_served.specs.declared.provisionals.ReliableResponse.{ReliableResp
 use Rattle.sip_served.specs.Arrival.{first_rseq}
 use Rattle.sip_served.specs.RequestLife.{RequestHappening, EndsSuccess, Finishes, GivesUpProvisionals, MakesDialog, RepeatsProvisionals, RepeatsSuccess, SendsReliably, TakesPrack}
 
--- how it came up, in its dialog where it came in one, and what happened to it since
+-- how it came up, with its dialog if it came in one, and what happened to it since
 pub record RequestStory : Type 0 where
   pub arrival : HeldRequest
   pub life : List RequestHappening
@@ -30,14 +30,14 @@ goes_on more story = record story { life = story.life ++ more }
 
 -- ---- its dialog
 
--- the one that it came in, or that its answer made
+-- the dialog that it came in, or that its answer made
 abbrev pub dialog_by : Option DialogReference → RequestHappening → Option DialogReference
 dialog_by dialog (MakesDialog life) = Some life
 dialog_by dialog _ = dialog
 
 -- ---- its reliable provisional responses
 
--- what happens to these
+-- what happens to the reliable provisional responses
 abbrev pub to_provisionals : RequestHappening → Option reliable.Happening
 to_provisionals (SendsReliably number response now) =
     Some (reliable.Sends number (nat_lt 0 (length response.body)) now)
@@ -58,7 +58,7 @@ abbrev pub is_prack_of : ℕ → RequestHappening → Bool
 is_prack_of wanted (TakesPrack number) = wanted == number
 is_prack_of wanted _ = false
 
--- those that went out, and whose PRACK didn't come after that
+-- the responses that went out and whose PRACK didn't come since
 abbrev pub unacknowledged : List RequestHappening → List ReliableResponse
 unacknowledged [] = []
 unacknowledged (SendsReliably number response now ∷ later) =
@@ -68,20 +68,20 @@ unacknowledged (_ ∷ later) = unacknowledged later
 
 -- ---- the 2xx to an INVITE
 
--- when it was sent, when it was sent again, and why that is over
+-- a 2xx, when it was sent, when it was sent again, and why that ended
 pub record SuccessStory : Type 0 where
   pub response : Message
   pub sent : ℕ
   pub repeats : List ℕ
   pub over : Option SuccessEnd
 
--- it goes out again after the capped interval that follows on its last sending
+-- the 2xx goes out again one capped interval after it was last sent
 abbrev pub next_sending : SuccessStory → Retransmission
 next_sending story =
     let pause = interval Capped (length story.repeats) in
     record { due = fold (λ last moment. moment) story.sent story.repeats + pause; interval = pause }
 
--- it is given up 64*T1 after it was sent
+-- the 2xx as it is held: it is given up 64*T1 after it was sent
 abbrev pub success_of : SuccessStory → Success
 success_of story = record {
   response = story.response;
@@ -90,7 +90,7 @@ success_of story = record {
   over = story.over;
 }
 
--- the 2xx of a request, by one thing after another
+-- the 2xx of a request after something happened to the request
 abbrev pub success_by : HeldRequest → Option SuccessStory → RequestHappening → Option SuccessStory
 success_by arrival success (Finishes response status now) =
     if is_invite arrival.request && is_success status
@@ -105,7 +105,7 @@ success_by arrival success _ = success
 
 -- ---- all of it
 
--- it is removed 64*T1 after its final response
+-- the request is removed 64*T1 after its final response
 abbrev pub removal_by : Option ℕ → RequestHappening → Option ℕ
 removal_by removal (Finishes response status now) = Some (now + 64 * T1)
 removal_by removal _ = removal

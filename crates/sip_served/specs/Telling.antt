@@ -1,5 +1,5 @@
--- What each event of the server side adds to the stories of the requests that are held: to which of
--- them something happens, and what.
+-- What each event of the server side adds to the stories of the held requests: to which of them
+-- something happens, and what.
 use Rattle.std.specs.Prelude.{ℕ, List, [], ◌∷◌, ◌++◌, map, filter, find, Option, None, Some, if◌then◌else◌}
 use Rattle.std.specs.Option.{is_some, option_map_or}
 use Rattle.sip_message.specs.declared.id.Id.{Id}
@@ -70,7 +70,7 @@ kind_told state tag up (Ack ack) now stories =
     (acknowledged_invite ack state.requests) stories
 kind_told state tag up _ now stories = stories
 
--- an answer of the user to this request, where it isn't refused
+-- an answer of the user to this request, if it isn't refused
 abbrev pub answer_told : State → Id → Respond → ℕ → Stories → HeldRequest → Stories
 answer_told state event respond now stories held =
     if is_some (refusal_for state.dialogs respond held) then stories
@@ -86,7 +86,7 @@ item_told state tag event (item.User (command.Respond respond)) now stories =
     (find (has_id respond.id) state.requests) stories
 item_told state tag event (item.User _) now stories = stories
 
--- an item, or a tick: what is due happens to each, and those whose time is over are removed
+-- an item; or a tick: what is due happens to each request, and those whose time is over are removed
 abbrev pub event_told : State → Event → Stories → Stories
 event_told state (Takes tag event item now) stories = item_told state tag event item now stories
 event_told state (Ticks now) stories =

@@ -1,5 +1,5 @@
--- A tick: what is sent again, given up and removed, and when something of it is due (RFC 3261,
--- section 13.3.1.4; RFC 3262, section 3). Moments are in ms.
+-- A tick: what is sent again, given up and removed, and when the next is due (RFC 3261, section
+-- 13.3.1.4; RFC 3262, section 3). Moments are in ms.
 use Rattle.std.specs.Prelude.{ℕ, Bool, true, nat_le, nat_lt, min, List, [], ◌∷◌, ◌++◌, map, filter, fold, Option, None, Some, if◌then◌else◌}
 use Rattle.std.specs.List.{flat_map}
 use Rattle.std.specs.Option.{is_some, option_map_or, option_and_then}
@@ -28,14 +28,14 @@ Ticked = HeldRequest × List CallOut
 
 -- ---- the 2xx to an INVITE
 
--- what is told of it: it is sent once more, or the notice that it was given up
+-- what is given: the 2xx again, or the notice that it was given up
 abbrev pub success_told : SuccessDue → HeldRequest → Message → List CallOut
 success_told repeat.Nothing held response = []
 success_told repeat.Again held response = Command held.id (Answer held.key response) ∷ []
 success_told repeat.GivenUp held response =
     out.Notice (NoAck held.request.call_id held.id) ∷ []
 
--- whether a 2xx is sent again or given up: giving it up comes first
+-- whether a 2xx is sent again or given up; if both are due it is given up
 abbrev pub success_answer : ℕ → Success → SuccessDue
 success_answer now success =
     if is_some success.over then repeat.Nothing
@@ -49,7 +49,7 @@ success_goes repeat.Nothing now = []
 success_goes repeat.Again now = RepeatsSuccess now ∷ []
 success_goes repeat.GivenUp now = EndsSuccess GivenUp ∷ []
 
--- where it has its 2xx, or has none yet
+-- what happens to a request with this 2xx, or without one
 abbrev pub success_passes : ℕ → Option Success → List RequestHappening
 success_passes now None = []
 success_passes now (Some success) = success_goes (success_answer now success) now
@@ -68,13 +68,13 @@ success_ticked now held = success_at_tick now held held.success
 
 -- ---- the reliable provisional responses that wait for their PRACK
 
--- those of these numbers are sent once more
+-- the responses with these numbers are sent again
 abbrev pub sent_again : List ℕ → HeldRequest → List CallOut
 sent_again numbers held =
     map (λ one. Command held.id (Answer held.key one.response))
     (of_numbers numbers held.provisionals)
 
--- what is sent again, or that no PRACK came
+-- what is given: the responses again, or the notice that no PRACK came
 abbrev pub provisionals_told : Tick → HeldRequest → List CallOut
 provisionals_told tick.Nothing held = []
 provisionals_told (tick.Again numbers) held = sent_again numbers.items held

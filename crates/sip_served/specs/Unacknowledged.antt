@@ -1,5 +1,5 @@
 -- Which reliable provisional responses to an INVITE await their PRACK, and which of them are still
--- sent again, read off what a call gives (RFC 3262, section 3).
+-- sent again, by what a call gives (RFC 3262, section 3).
 use Rattle.std.specs.Prelude.{ℕ, Bool, false, not, ◌&&◌, ◌==◌, List, [], ◌∷◌, ◌++◌, Option, None, Some, filter, map, if◌then◌else◌}
 use Rattle.sip_message.specs.declared.id.Id.{Id}
 use Rattle.sip_message.specs.declared.start_line.StartLine.{StartLine}
@@ -80,25 +80,26 @@ tells_of_no_prack invite (Refused call_id place refusal) = false
 
 -- ---- one output
 
--- with this number, or with none
+-- numbers with one more, if there is one
 abbrev pub with_number : Option ℕ → List ℕ → List ℕ
 with_number None numbers = numbers
 with_number (Some number) numbers = numbers ++ number ∷ []
 
--- but for this number, or for none
+-- numbers without this one, if there is one
 abbrev pub without_number : Option ℕ → List ℕ → List ℕ
 without_number None numbers = numbers
 without_number (Some number) numbers = filter (λ one. not (one == number)) numbers
 
--- those that await their PRACK: from the response on, until its PRACK is told
+-- the responses that await their PRACK after an output: from the response on, until its PRACK is
+-- told
 abbrev pub awaited_by : Id → List ℕ → CallOut → List ℕ
 awaited_by invite numbers (out.Notice notice) = without_number (rseq_told invite notice) numbers
 awaited_by invite numbers (out.Command id command) =
     with_number (rseq_sent invite id command) numbers
 awaited_by invite numbers (out.Direct to bytes) = numbers
 
--- those that are sent again: from the response on, until its PRACK is told, or that none came, or a
--- final response goes out
+-- the responses that are sent again after an output: from the response on, until the user is told
+-- of its PRACK or that none came, or a final response goes out
 abbrev pub repeated_by : Id → List ℕ → CallOut → List ℕ
 repeated_by invite numbers (out.Notice notice) =
     if tells_of_no_prack invite notice then []
@@ -110,7 +111,7 @@ repeated_by invite numbers (out.Direct to bytes) = numbers
 
 -- ---- one output of a tick
 
--- What a tick sends was sent before; so only what it tells says something.
+-- A tick only sends again what was sent before, so only its notices count.
 abbrev pub at_tick : {X : Type 0} → (X → CallOut → X) → X → CallOut → X
 at_tick by x (out.Notice notice) = by x (out.Notice notice)
 at_tick by x (out.Command id command) = x

@@ -59,7 +59,7 @@ pub(crate) fn acknowledge(requests: &mut Vec<HeldRequest>, invite: Id)
     }
 }
 
-/// The 2xx is sent no more.
+/// The 2xx isn't sent again.
 pub(crate) fn end_success(held: &mut HeldRequest, end: SuccessEnd)
     ensures { held.new ≡ spec.success_ended end held.old }
 {

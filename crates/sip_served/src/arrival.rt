@@ -20,28 +20,28 @@ pub struct Arrival {
     /// The key of its transaction.
     pub key: Key,
     pub request: Boxed<Message>,
-    /// Where its answers go.
+    /// The address of its answers.
     pub reply_to: Addr,
-    /// The To tag of its answers: its own, or where it has none a made one.
+    /// The To tag of its answers: its own, or a made one if it has none.
     pub tag: Token,
 }
 
-/// What a request that comes up, other than a CANCEL, is (RFC 3261, sections 8.2 and 12.2.2).
+/// The cases of a request that comes up, other than a CANCEL (RFC 3261, sections 8.2 and 12.2.2).
 #[derive(Clone, Copy)]
 pub(crate) enum ArrivalCase {
-    /// The same request is held already: it came on another way.
+    /// The same request is already held: it came by another path.
     Merged,
     /// It requires an option that the agent doesn't know.
     BadExtension,
     /// It is for a dialog that isn't held.
     NoDialog,
-    /// Its number isn't above those that came before it in its dialog.
+    /// Its number isn't above those that came in its dialog before.
     OutOfOrder,
-    /// A PRACK of this reliable provisional response to the INVITE of this id.
+    /// A PRACK of the reliable provisional response with this RSeq to the INVITE with this id.
     Acknowledges(Id, u32),
-    /// A PRACK of no response that waits for one.
+    /// A PRACK that names no response that waits for one.
     AcknowledgesNothing,
-    /// The user answers it.
+    /// It is for the user.
     ForUser,
 }
 
@@ -115,7 +115,7 @@ fn prack_case(
     }
 }
 
-// The first INVITE of the dialog of which a response waits that the RAck names.
+// The first INVITE of the dialog with a waiting response that the RAck names.
 fn named_invite(
     requests: &[HeldRequest],
     name: &DialogId,
@@ -148,8 +148,8 @@ fn is_named_by(held: &HeldRequest, rack: &RAck) -> bool
         && held.ledger.waits_for(rack.rseq)
 }
 
-// Whether the same request is held.
-fn merges(requests: &[HeldRequest], request: &Message) -> bool
+/// Whether the same request is already held.
+pub(crate) fn merges(requests: &[HeldRequest], request: &Message) -> bool
     ensures { result ≡ list_any (arrival.is_merged request.now) requests.now }
 {
     requests.iter().any(|held| is_merged(held, request))
@@ -163,8 +163,8 @@ fn is_merged(held: &HeldRequest, request: &Message) -> bool
         && held.request.get().cseq.method == request.cseq.method
 }
 
-// Whether it requires an option that the agent doesn't know.
-fn requires_unknown(request: &Message) -> bool
+/// Whether it requires an option that the agent doesn't know.
+pub(crate) fn requires_unknown(request: &Message) -> bool
     ensures { result ≡ list_any is_unknown_option request.now.require }
 {
     request

@@ -20,7 +20,7 @@ use std::alloc::{AllocError, Global};
 /// The status of the final response to an INVITE that is cancelled.
 const REQUEST_TERMINATED: u16 = 487;
 
-/// The held request that a CANCEL names: of several the last that came up.
+/// The held request that a CANCEL names; if there are several, the last that came up.
 pub(crate) fn cancelled_request<'a>(
     requests: &'a [HeldRequest],
     cancel: &Key,
@@ -85,8 +85,8 @@ pub(crate) fn request_terminated(alloc: Global, held: &HeldRequest) -> Result<Me
     response_to(alloc, held.request.get(), status, reason, &held.tag)
 }
 
-/// What is told where a CANCEL names an INVITE without a final response: both are answered, and the
-/// user is told.
+/// The outputs for a CANCEL of an INVITE without a final response: both are answered, and the user
+/// is told.
 pub(crate) fn termination_told(
     alloc: Global,
     call_id: CallId,
@@ -106,7 +106,7 @@ pub(crate) fn termination_told(
     Ok(outs)
 }
 
-/// The INVITE of this id has its final response.
+/// The INVITE of this id gets its final response.
 pub(crate) fn terminate(
     alloc: Global,
     requests: &mut Vec<HeldRequest>,

@@ -15,13 +15,13 @@ use std::alloc::Global;
 /// The RSeq of the first reliable provisional response to a request.
 const FIRST_RSEQ: u32 = 1;
 
-/// A server request that came up and is told to the user.
+/// A request that came up and of which the user was told.
 pub struct HeldRequest {
     pub id: Id,
     /// The key of its transaction.
     pub key: Key,
     pub request: Boxed<Message>,
-    /// Where its answers go.
+    /// The address of its answers.
     pub reply_to: Addr,
     /// The To tag of its answers.
     pub tag: Token,
@@ -29,7 +29,7 @@ pub struct HeldRequest {
     pub dialog: Option<DialogReference>,
     /// The reliable provisional responses to it that were sent.
     pub ledger: Outbound,
-    /// Those of them that wait for their PRACK.
+    /// The messages of those that wait for their PRACK.
     pub provisionals: Provisionals,
     /// The 2xx to an INVITE.
     pub success: Option<Boxed<Success>>,
@@ -38,7 +38,7 @@ pub struct HeldRequest {
 }
 
 impl HeldRequest {
-    /// A request that came up in this dialog, if any: no answer to it was sent. Takes no memory.
+    /// A request that came up in this dialog, if any. No answer to it was sent. Takes no memory.
     pub(crate) fn new(
         alloc: Global,
         arrival: Arrival,
@@ -81,7 +81,7 @@ pub struct Success {
     pub over: Option<SuccessEnd>,
 }
 
-/// Why a 2xx is sent no more.
+/// Why a 2xx isn't sent again.
 #[derive(Clone, Copy)]
 pub enum SuccessEnd {
     /// Its ACK came.

@@ -26,8 +26,8 @@ ghost use Rattle.sip_served.specs.Tick.{next_server_due, tick_taken};
 ghost use Rattle.sip_served.specs.declared.held_request.HeldRequest.{HeldRequest};
 ghost use Rattle.sip_common.specs.declared.item.CallOut.TheVariants.{Command};
 
-/// Before the moment at which something is due a tick does nothing and says nothing; from then on
-/// it does or says something. Where nothing is ever due no tick does anything.
+/// Before the moment at which something is due, a tick does nothing and says nothing; from then on
+/// it does or says something. If nothing is due ever, no tick does anything.
 pub fn ticks_when_due()
     ensures before { (state : State) (now : ℕ) → is_due now (next_server_due state) ≡ false
         → tick_taken state now ≡ quiet state }
@@ -35,16 +35,16 @@ pub fn ticks_when_due()
         → tick_taken state now ≢ quiet state }
 {}
 
-/// Whatever happened to the server side of a call, of each held request at most 8 reliable
-/// provisional responses wait for their PRACK, and none but the first until that one was
-/// acknowledged (RFC 3262, section 3).
+/// Whatever happened to the server side of a call: for each held request at most 8 reliable
+/// provisional responses wait for their PRACK, and until the first was acknowledged, only that one
+/// (RFC 3262, section 3).
 pub fn few_provisionals_wait()
     ensures held { (local : Addr) (events : List Event)
         → FewWaitEach (server_state_after local events) }
 {}
 
-/// By an event the user is told of the request that comes up by it for the user, and of no other.
-/// So over any list of events the user is told of no request more often than it comes up.
+/// An event tells the user of the request that it brings for the user, and of no other. So in any
+/// list of events the user is told of no request more often than it comes up.
 pub fn each_request_is_told_once()
     ensures as_it_comes { (state : State) (event : Event)
         → told_by state event ≡ ids_for_user state event }
@@ -52,8 +52,8 @@ pub fn each_request_is_told_once()
         → count_by (is_id id) (told_from (empty_at local) events) ≤ count_by (brings id) events }
 {}
 
-/// An INVITE that a CANCEL terminates is answered, and left, as by the 487 of the user: the same
-/// response goes out, it is its final one, and its early dialogs end (RFC 3261, section 9.2).
+/// A CANCEL of an INVITE does the same to it as a 487 of the user: the same final response goes
+/// out, and its early dialogs end (RFC 3261, section 9.2).
 pub fn a_cancel_answers_as_the_user_would()
     ensures { (state : State) (event : Id) (call_id : List ℕ) (now : ℕ) (held : HeldRequest)
         → find (has_id held.id) state.requests ≡ Some held → is_unanswered_invite held ≡ true
@@ -62,9 +62,9 @@ pub fn a_cancel_answers_as_the_user_would()
         (invite_terminated (request_terminated held) held.id now) }
 {}
 
-/// All that the server side of a call holds is of its own Call-ID, and so is all that it tells the
-/// user: where what is held and what happens are of a Call-ID, so are what is held then and each
-/// notice (RFC 3261, section 8.1.1.4).
+/// All that the server side of a call holds and tells the user has its own Call-ID. If what is held
+/// and what happens have a Call-ID, so do what is held afterwards and each notice (RFC 3261,
+/// section 8.1.1.4).
 pub fn each_notice_is_of_its_call()
     ensures state { (call_id : List ℕ) (state : State) (event : Event) → IsStateOf call_id state
         → IsEventOf call_id event → IsStateOf call_id (event_taken state event).0 }
@@ -73,9 +73,9 @@ pub fn each_notice_is_of_its_call()
         → AllByRecursion (IsNoticeOf call_id) (event_taken state event).1 }
 {}
 
-/// The rules of the server side say what its steps do: of what comes up and of the user's answer
-/// (RFC 3261, sections 8.2, 9.2, 12 and 13.3; RFC 3262, section 3), of a tick, and of the moment at
-/// which one is due.
+/// The rules of the server side say the same as its steps, for what comes up, for the user's answer
+/// (RFC 3261, sections 8.2, 9.2, 12 and 13.3; RFC 3262, section 3), for a tick, and for the moment
+/// at which one is due.
 pub fn the_rules_say_the_steps()
     ensures item { (state : State) (tag : List ℕ) (id : Id) (item : Item) (now : ℕ)
         → server_item state tag id item now ≡ server_item_taken state tag id item now }

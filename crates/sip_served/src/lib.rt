@@ -1,5 +1,4 @@
-//! The server side of one Call-ID: the requests that came up and wait for, or keep, their answers,
-//! and the dialogs.
+//! The server side of one Call-ID: the requests that came up, with their answers, and the dialogs.
 #![tactic(auto)]
 
 mod acknowledgment;

@@ -17,7 +17,7 @@ use sip_text::{Boxed, Text};
 use sip_transactions::Command;
 use std::alloc::{AllocError, Global};
 
-/// The command by which a response goes to the transaction of its request.
+/// The command that gives a response to the transaction of its request.
 pub(crate) fn command_for(
     alloc: Global,
     id: Id,
@@ -66,7 +66,7 @@ pub(crate) fn reply(
     command_for(alloc, arrival.id, &arrival.key, response)
 }
 
-/// The agent's own answer to a request, alone.
+/// The agent's own answer to a request, as the only output.
 pub(crate) fn answered_with(
     alloc: Global,
     arrival: &Arrival,
@@ -82,7 +82,7 @@ pub(crate) fn answered_with(
     one(alloc, reply(alloc, arrival, status, reason)?)
 }
 
-/// The 482 to a request that came on another way too (RFC 3261, section 8.2.2.2).
+/// The 482 to a merged request, which came by another path too (RFC 3261, section 8.2.2.2).
 pub(crate) fn loop_detected(alloc: Global, arrival: &Arrival) -> Result<Vec<CallOut>, AllocError>
     ensures { IfOk result (λ outs. outs.items
         ≡ arrived.answered_with arrival.now 482 (codes "Loop Detected")) }
@@ -98,8 +98,8 @@ pub(crate) fn out_of_order(alloc: Global, arrival: &Arrival) -> Result<Vec<CallO
     answered_with(alloc, arrival, 500, b"Server Internal Error")
 }
 
-/// The 481 to a request for a dialog that isn't held, to a PRACK for nothing that waits for it, or
-/// to a CANCEL of no held request.
+/// The 481 to a request for a dialog that isn't held, to a PRACK if no response waits for it, or to
+/// a CANCEL of no held request.
 pub(crate) fn no_such_dialog(alloc: Global, arrival: &Arrival) -> Result<Vec<CallOut>, AllocError>
     ensures { IfOk result (λ outs. outs.items ≡ arrived.no_such_dialog arrival.now) }
 {
@@ -114,7 +114,7 @@ pub(crate) fn ok(alloc: Global, arrival: &Arrival) -> Result<CallOut, AllocError
     ok_with_tag(alloc, arrival, &arrival.tag)
 }
 
-/// The 200 to a request, with this tag in To where the request has none.
+/// The 200 to a request, with this tag in To if the request has none.
 pub(crate) fn ok_with_tag(
     alloc: Global,
     arrival: &Arrival,
@@ -157,7 +157,7 @@ fn add_header(response: &mut Message, header: Header) -> Result<(), AllocError>
     response.others.push(header)
 }
 
-/// How the user is told of a request.
+/// The notice of a request.
 pub(crate) fn notice_of_request(
     alloc: Global,
     call_id: CallId,

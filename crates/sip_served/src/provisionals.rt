@@ -35,7 +35,7 @@ impl Model for Provisionals {
 }
 
 impl Provisionals {
-    /// None waits. Takes no memory.
+    /// No response waits. Takes no memory.
     pub(crate) fn new(alloc: Global) -> Provisionals
         ensures { result ≡ [] }
     {
@@ -50,7 +50,7 @@ impl Provisionals {
         self.responses.as_slice()
     }
 
-    /// One more was sent.
+    /// Adds a response that was sent.
     pub(crate) fn push(&mut self, response: ReliableResponse) -> Result<(), AllocError>
         ensures { OnOk result (self.new ≡ self.old ++ response ∷ []) }
     {
@@ -58,7 +58,7 @@ impl Provisionals {
         Ok(())
     }
 
-    /// The PRACK of the one with this number came.
+    /// Removes the response with this number, whose PRACK came.
     pub(crate) fn remove(&mut self, number: u32)
         ensures { self.new ≡ without_rseq number self.old }
     {

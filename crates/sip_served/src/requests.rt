@@ -8,7 +8,7 @@ ghost use Rattle.sip_served.specs.declared.held_request.HeldRequest.{HeldRequest
 use crate::held_request::HeldRequest;
 use sip_message::Id;
 
-/// Where the request of an id stands among those that are held.
+/// The place of the request with this id among the held ones.
 pub(crate) fn place_of(requests: &[HeldRequest], id: Id) -> Option<usize>
     ensures none { IfNone result ((change : HeldRequest → HeldRequest)
         → changed_at id change requests.now ≡ requests.now) }

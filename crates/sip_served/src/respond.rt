@@ -22,10 +22,10 @@ use sip_text::{Boxed, Series};
 use sip_timers::{LIFETIME, T1};
 use std::alloc::{AllocError, Global};
 
-/// The least status that the user may answer with.
+/// The lowest status that the user may answer with.
 const LEAST_STATUS: u16 = 101;
 
-/// The greatest status.
+/// The highest status.
 const GREATEST_STATUS: u16 = 699;
 
 /// Why an answer to a held request is refused, if it is: the first reason that fits.
@@ -173,7 +173,7 @@ fn option_100rel(alloc: Global) -> Result<Token, AllocError>
     Token::copy_of(alloc, b"100rel")
 }
 
-/// What becomes of a held request by its answer.
+/// Notes an answer in its held request.
 pub(crate) fn note_answer(
     alloc: Global,
     held: &mut HeldRequest,
@@ -211,7 +211,7 @@ fn send_reliably(
         .push(ReliableResponse { number, response })
 }
 
-/// A final response to a held request is the last one.
+/// Notes the final response to a held request. No response follows it.
 pub(crate) fn finish(
     alloc: Global,
     held: &mut HeldRequest,
@@ -246,8 +246,8 @@ fn success_sent(response: Boxed<Message>, now: u64) -> Success
     }
 }
 
-/// The dialogs after an answer, and the ends that are told. A dialog that the answer makes is that
-/// of its request.
+/// The dialogs after an answer, and the notices of ends. If the answer makes a dialog, its request
+/// refers to it.
 pub(crate) fn answer_dialogs(
     alloc: Global,
     dialogs: &mut Dialogs,

@@ -1,4 +1,4 @@
-//! The server side of one Call-ID, which breaks where memory is wanting.
+//! The server side of one Call-ID, which is broken after memory ran out.
 
 ghost use Rattle.std.specs.Prelude.{◌≡◌, ◌≤◌, ◌^◌, true, false, Ok, Err, IfErr, IfOk, IsTrue, if◌then◌else◌};
 
@@ -12,8 +12,8 @@ use std::marker::Model;
 /// The server requests and the dialogs of one Call-ID (RFC 3261, sections 8.2, 9.2, 12 and 13.3;
 /// RFC 3262, section 3).
 ///
-/// A contract sees what is held, and whether an earlier call answered `NoMemory`: then it holds
-/// nothing, and every later call that can fail answers `Broken`.
+/// A contract sees what is held, and whether an earlier call returned `NoMemory`. After that it
+/// holds nothing, and every call that can fail returns `Broken`.
 pub struct Served {
     broken: bool,
     side: ServerSide,
@@ -69,8 +69,7 @@ impl Served {
     }
 
     /// Takes what a transaction hands up, or a command of the user, at the moment `now` in ms. The
-    /// id is that of its event, and `tag` is the To tag that the answers to a request without one
-    /// get.
+    /// id is that of its event. `tag` is the To tag for the answers to a request without one.
     ///
     /// # Errors
     ///
@@ -114,7 +113,7 @@ impl Served {
         self.keep(local, taken)
     }
 
-    // The address, which stays where nothing else does. Broken is refused.
+    // The address, which is kept even when all else is lost. A broken side is refused.
     fn local(&self) -> Result<Addr, ShardFault>
         ensures { result ≡ (if self.now.broken then Err ShardFault.Broken
             else Ok self.now.state.local) }
@@ -126,7 +125,7 @@ impl Served {
         }
     }
 
-    // After want of memory nothing is held.
+    // After memory ran out nothing is held.
     fn keep(
         &mut self,
         local: Addr,

@@ -1,6 +1,8 @@
-//! The server side of one Call-ID: what it holds, and what each item makes of it.
+//! The server side of one Call-ID: what it holds, and how each item changes it.
 
-ghost use Rattle.std.specs.Prelude.{◌≡◌, ◌<◌, ◌≤◌, ◌^◌, ◌∷◌, IfOk, OnOk, Some, filter, length, slice_set};
+ghost use Rattle.std.specs.Prelude.{◌≡◌, ◌<◌, ◌≤◌, ◌^◌, [], ◌∷◌, ◌++◌, IfOk, OnOk, Some, false, filter, length, slice_set};
+ghost use Rattle.sip_common.specs.Requests.{has_to_tag};
+ghost use Rattle.sip_common.specs.declared.item.CallOut.TheVariants as call_out;
 ghost use Rattle.sip_served.specs.Acknowledgment.{ack_taken};
 ghost use Rattle.sip_served.specs.Arrival as arrived;
 ghost use Rattle.sip_served.specs.Cancel as cancels;
@@ -15,7 +17,7 @@ ghost use Rattle.sip_served.specs.Tick.{is_kept_at};
 ghost use Rattle.sip_served.specs.declared.held_request.HeldRequest.{HeldRequest};
 
 use crate::acknowledgment::{acknowledge, acknowledged_invite, prack};
-use crate::arrival::{Arrival, ArrivalCase, case_of};
+use crate::arrival::{Arrival, ArrivalCase, case_of, merges, requires_unknown};
 use crate::cancel::{
     cancel_accepted, cancelled_request, is_unanswered_invite, request_terminated, terminate,
     termination_told,
@@ -30,8 +32,10 @@ use crate::tick::{is_kept, next_due, tick_requests};
 use indexmap::IndexMap;
 use sip_common::dialogs::{dialog_of_request, end, end_early, visit};
 use sip_common::outputs::{joined, one, refused, tell};
-use sip_common::request::{dialog_id_of, has_to_tag, is_bye, is_cancel, own_tag};
-use sip_common::{CallOut, DialogId, Dialogs, Item, Notice, Refusal, Respond, UserCommand};
+use sip_common::request::{dialog_id_of, has_to_tag, is_bye, is_cancel, is_prack, own_tag};
+use sip_common::{
+    CallOut, DialogId, DialogReference, Dialogs, Item, Notice, Refusal, Respond, UserCommand,
+};
 use sip_message::{Addr, CallId, Id, Message, Token};
 use sip_text::Boxed;
 use sip_transactions::{Command, Kind, Up};
@@ -41,7 +45,7 @@ use std::marker::Model;
 /// The held requests in the order in which they came up, and the held dialogs in the order in which
 /// they were made (RFC 3261, sections 8.2, 9.2, 12 and 13.3; RFC 3262, section 3).
 ///
-/// Where a call met want of memory, it is not known what is held.
+/// If memory ran out in a call, it isn't known what is held.
 pub struct ServerSide {
     alloc: Global,
     local: Addr,
@@ -116,8 +120,8 @@ impl ServerSide {
         *self = ServerSide::new(self.alloc, local);
     }
 
-    /// An item of the event of this id, at the moment `now` in ms. `tag` is the To tag that the
-    /// answers to a request without one get.
+    /// Takes an item of the event of this id, at the moment `now` in ms. `tag` is the To tag for
+    /// the answers to a request without one.
     pub(crate) fn item(
         &mut self,
         tag: Token,
@@ -225,7 +229,7 @@ impl ServerSide {
         joined(told, ended)
     }
 
-    // An INVITE that a CANCEL names has its final response, and its early dialogs end.
+    // The INVITE that a CANCEL names gets its final response, and its early dialogs end.
     fn terminate(
         &mut self,
         invite: Id,
@@ -246,6 +250,41 @@ impl ServerSide {
         call_id: CallId,
         arrival: Arrival,
     ) -> Result<Vec<CallOut>, AllocError>
+        ensures { IfOk result (λ outs. (self.new, outs.items)
+            ≡ arrived.request_taken self.old call_id arrival) }
+    {
+        if has_to_tag(arrival.request.get()) {
+            self.take_inside(call_id, arrival)
+        } else {
+            self.take_outside(call_id, arrival)
+        }
+    }
+
+    // A request outside of any dialog: no dialog is looked up, so no name is made.
+    #[tactic(auto, using(crate::proofs::Outside::merged_taken, crate::proofs::Outside::unknown_taken, crate::proofs::Outside::lone_taken, crate::proofs::Outside::user_taken))]
+    fn take_outside(
+        &mut self,
+        call_id: CallId,
+        arrival: Arrival,
+    ) -> Result<Vec<CallOut>, AllocError>
+        requires { has_to_tag arrival.request ≡ false }
+        ensures { IfOk result (λ outs. (self.new, outs.items)
+            ≡ arrived.request_taken self.old call_id arrival) }
+    {
+        let request = arrival.request.get();
+        if merges(self.requests.as_slice(), request) {
+            loop_detected(self.alloc, &arrival)
+        } else if requires_unknown(request) {
+            bad_extension(self.alloc, &arrival)
+        } else if is_bye(request) || is_prack(request) {
+            no_such_dialog(self.alloc, &arrival)
+        } else {
+            self.hold(call_id, None, arrival)
+        }
+    }
+
+    // A request inside of a dialog.
+    fn take_inside(&mut self, call_id: CallId, arrival: Arrival) -> Result<Vec<CallOut>, AllocError>
         ensures { IfOk result (λ outs. (self.new, outs.items)
             ≡ arrived.request_taken self.old call_id arrival) }
     {
@@ -289,7 +328,7 @@ impl ServerSide {
         }
     }
 
-    // A request in a dialog is noted there.
+    // A request in a dialog is noted in that dialog.
     fn note(&mut self, name: &DialogId, request: &Message) -> Result<(), AllocError>
         ensures { OnOk result (self.new ≡ arrived.noted self.old name.now request.now) }
     {
@@ -299,7 +338,7 @@ impl ServerSide {
         Ok(())
     }
 
-    // A PRACK that names a response which waits for it.
+    // A PRACK that names a response that waits for it.
     fn prack(
         &mut self,
         call_id: CallId,
@@ -332,7 +371,8 @@ impl ServerSide {
             ≡ arrived.for_user self.old call_id name arrival) }
     {
         let ends = has_to_tag(arrival.request.get()) && is_bye(arrival.request.get());
-        let held = self.hold(call_id, &name, arrival)?;
+        let dialog = dialog_of_request(&self.dialogs, arrival.request.get(), &name)?;
+        let held = self.hold(call_id, dialog, arrival)?;
         if !ends {
             return Ok(held);
         }
@@ -340,19 +380,21 @@ impl ServerSide {
         joined(held, ended)
     }
 
-    // It is held and told.
+    // Holds a request, as one of this dialog if there is one, and tells the user.
     fn hold(
         &mut self,
         call_id: CallId,
-        name: &DialogId,
+        dialog: Option<DialogReference>,
         arrival: Arrival,
     ) -> Result<Vec<CallOut>, AllocError>
-        ensures { IfOk result (λ outs. (self.new, outs.items)
-            ≡ arrived.request_held self.old call_id name.now arrival) }
+        ensures held { OnOk result (self.new ≡ record self.old {
+          requests = self.old.requests ++ arrived.held_first dialog arrival ∷ [];
+        }) }
+        ensures told { IfOk result (λ outs. outs.items
+            ≡ call_out.Notice (arrived.request_notice call_id arrival) ∷ []) }
     {
         let notice = notice_of_request(self.alloc, call_id, &arrival)?;
-        let dialog = dialog_of_request(&self.dialogs, arrival.request.get(), name)?;
-        // Most calls hold one request, and a list that grows by itself begins with four places.
+        // Most calls hold one request, but a list that grows by itself begins with room for four.
         if self.requests.is_empty() {
             self.requests.reserve_exact(1)?;
         }
@@ -361,8 +403,8 @@ impl ServerSide {
         tell(self.alloc, notice)
     }
 
-    /// Takes the ACK of a 2xx, which comes up (RFC 3261, section 13.3.1.4). The Call-ID is that of
-    /// its transaction.
+    /// Takes an ACK of a 2xx that comes up (RFC 3261, section 13.3.1.4). The Call-ID is that of its
+    /// transaction.
     ///
     /// # Errors
     ///
@@ -374,7 +416,7 @@ impl ServerSide {
         self.take_ack(call_id, ack)
     }
 
-    // The ACK of a 2xx that waits for it, or another.
+    // The ACK of a 2xx that waits for it, or another ACK.
     fn take_ack(&mut self, call_id: CallId, ack: &Message) -> Result<Vec<CallOut>, AllocError>
         ensures { IfOk result (λ outs. (self.new, outs.items)
             ≡ ack_taken self.old call_id ack.now) }
@@ -466,7 +508,7 @@ impl ServerSide {
     }
 }
 
-// What is due to be removed goes.
+// Removes the requests whose moment of removal has come.
 fn remove_over(requests: &mut Vec<HeldRequest>, now: u64)
     ensures { requests.new.items ≡ filter (is_kept_at now) requests.old.items }
 {

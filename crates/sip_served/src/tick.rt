@@ -21,13 +21,13 @@ use std::alloc::{AllocError, Global};
 #[derive(Clone, Copy)]
 enum SuccessDue {
     Nothing,
-    /// It is to be sent again.
+    /// It is sent again.
     Again,
     /// Its ACK didn't come in time: it isn't sent again.
     GivenUp,
 }
 
-/// Does what is due of each held request at the moment `now`, in ms.
+/// Does what is due for each held request at the moment `now`, in ms.
 pub(crate) fn tick_requests(
     alloc: Global,
     requests: &mut Vec<HeldRequest>,
@@ -173,7 +173,7 @@ fn tell_provisionals(
     }
 }
 
-// Those of these numbers.
+// Sends the responses with these numbers again.
 fn send_again(
     alloc: Global,
     held: &HeldRequest,
@@ -208,7 +208,7 @@ fn no_prack(held: &HeldRequest) -> Result<Notice, AllocError>
     })
 }
 
-/// Whether a request isn't due to be removed.
+/// Whether a request isn't removed yet.
 pub(crate) fn is_kept(held: &HeldRequest, now: u64) -> bool
     ensures { result ≡ spec.is_kept_at now held.now }
 {

@@ -11,7 +11,7 @@ use sip_message::{Header, HeaderValue, OtherName, Token};
 use sip_text::Text;
 use std::alloc::{AllocError, Global};
 
-/// `Unsupported`, with those of the options that the agent doesn't know.
+/// `Unsupported`, with the options that the agent doesn't know.
 pub(crate) fn unsupported(alloc: Global, options: &[Token]) -> Result<Header, AllocError>
     ensures { IfOk result (λ header. header ≡ unsupported (filter is_unknown_option options.now)) }
 {

@@ -34,7 +34,7 @@ use Rattle.sip_transactions.proofs.RowFacts.{and-left, and-right, row_passes}
 use Rattle.sip_transactions.proofs.LawSteps.{by_step, is_ended, is_message, is_report, response_needs_life, responses_in_tables}
 use Rattle.sip_transactions.proofs.OneRequest.{life_after-ended}
 
--- a life, an input, that doesn't have this id
+-- a life without this id
 abbrev OtherLife : Id → Option Life → Type 0
 OtherLife id None = Unit {0}
 OtherLife id (Some life) = is_id id life.context.id ≡ false
@@ -43,7 +43,7 @@ abbrev OtherName : Id → Option Id → Type 0
 OtherName id None = Unit {0}
 OtherName id (Some name) = is_id id name ≡ false
 
--- what a row says and leaves at another life
+-- after an input: nothing was handed up under this id, and the life has another one
 record Other (id : Id) (after : Option Life × List Out) : Type 0 where
   life : OtherLife id after.0
   said : list_any (carries id) after.1 ≡ false
@@ -104,7 +104,7 @@ acted_other id key now input state context step other = record {
       (handed_other id key context step.handed (arrived_in input) other);
 }
 
--- a response without a life: nothing is handed up, and nothing begins
+-- a response without a life: nothing is handed up, and no life begins
 not_handed : (id : Id) (key : Key) (context : Context) (handed : Handed)
     (arrived : Option (Message × Addr)) → not (is_message handed || is_report handed) ≡ true
     → list_any (carries id) (option_to_list (handed_out key context handed arrived)) ≡ false

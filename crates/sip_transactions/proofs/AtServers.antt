@@ -1,4 +1,4 @@
--- One input or two of a server transaction that is held.
+-- What one or two inputs do to a server transaction that is held.
 use Rattle.std.proofs.Common.{◌≡◌, ℕ, ◌+◌, Bool, true, false, cond, List, [], ◌∷◌, ◌⊎◌, inl, inr, refl, sym, ◌∙◌, ap}
 use Rattle.std.specs.Prelude.{Option, None, Some, nat_le, codes, option_and_then, option_map, option_to_list}
 use Rattle.std.proofs.lemmas.Bool.{false≢true}
@@ -51,7 +51,7 @@ server_role (key.Server branch sent_by method) server =
     (λ hit. ap (λ b. is_server (cond b InviteServer Server)) hit)
     (λ miss. ap (λ b. is_server (cond b InviteServer Server)) miss)
 
--- an input of a life by the row that fits it
+-- an input of a life, if this row fits it
 by_row : (key : Key) (life : Life) (timed : Timed Input) (trigger : Trigger) (row : Option Step)
     → trigger_of (Some life) timed.moment timed.input ≡ Some trigger
     → row_of (rows_of (role_of key)) (Some life.state) trigger ≡ row

@@ -41,7 +41,7 @@ use Rattle.sip_transactions.proofs.AckTexts.{Apart, first_of, ack_apart}
 use Rattle.sip_transactions.proofs.Firings.{is_client, Paced, left, paces, is_plain}
 use Rattle.sip_transactions.proofs.RowFacts.{by_test, table_passes}
 
--- of an INVITE's client the state in which it repeats an ACK
+-- the state in which a client of an INVITE sends its ACK again
 abbrev pub is_acked : Role → State → Bool
 is_acked InviteClient Completed = true
 is_acked role state = false
@@ -65,7 +65,7 @@ pub record Few (role : Role) (text : List ℕ) (room : ℕ) (after : Option Life
   pub few : sends_of text after.1 + budget role after.0 ≤ room
   pub fit : FitAfter role text after.0
 
--- a row enters no state in which an ACK is repeated
+-- a row doesn't enter the state in which an ACK is sent again
 abbrev enters_no_ack : Role → Next → Bool
 enters_no_ack role Same = true
 enters_no_ack role Ended = true
@@ -91,8 +91,8 @@ abbrev comes_as_response : Trigger → Bool
 comes_as_response (on.Response class) = true
 comes_as_response trigger = false
 
--- what a row of a client sends to a held life: nothing; the latest, since its repeat is due or as
--- an ACK; or a new ACK
+-- what a client's row sends if a life is held: nothing; the latest message again, since the repeat
+-- is due or as an ACK; or a new ACK
 abbrev pub sends_well : Role → State → Trigger → Next → Sent → Due → Bool
 sends_well role state trigger next send.Nothing due = is_plain due && enters_no_ack role next
 sends_well role state trigger next send.Given due = false
@@ -104,7 +104,7 @@ sends_well role state trigger next send.Trying due = false
 sends_well role state trigger next send.Ack due =
     keeps_request role && (is_plain due && comes_as_response trigger)
 
--- and a row of no life: the request, with both due moments, where it is started
+-- and if none is held: the request, with both due moments, at the start
 abbrev pub starts_well : Role → Trigger → Next → Sent → Due → Bool
 starts_well role on.Start (Become state) send.Given Both = not (is_acked role state)
 starts_well role on.Start next sent due = false
@@ -122,7 +122,7 @@ client_tables Client client = refl
 client_tables InviteServer client = absurd (false≢true client)
 client_tables Server client = absurd (false≢true client)
 
--- only what is sent counts
+-- what is handed up or dropped isn't sent
 none_sent : (text : List ℕ) (key : Key) (context : Context) (handed : Handed)
     (arrived : Option (Message × Addr))
     → sends_of text (option_to_list (handed_out key context handed arrived)) ≡ 0

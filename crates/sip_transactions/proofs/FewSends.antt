@@ -1,4 +1,4 @@
--- A life of a client sends its request a few times at most.
+-- A life of a client sends its request at most 7 or 11 times.
 use Rattle.std.proofs.Common.{◌≡◌, ℕ, ◌+◌, ◌≤◌, true, cond, List, [], ◌∷◌, refl, sym, ◌∙◌, ap, subst, arith, codes}
 use Rattle.std.specs.Prelude.{not, Option, None, Some, IsSome, option_map}
 use Rattle.std.proofs.lemmas.Bool.{false≢true}
@@ -262,7 +262,7 @@ invite_method branch method keeping =
     (λ miss. absurd (false≢true (sym (ap (λ b. keeps_request (cond b InviteClient Client)) miss)
     ∙ keeping)))
 
--- of a life that begins so
+-- a life that begins like that
 few_from : (branch method : List ℕ) (now : ℕ) (id : Id) (call_id : List ℕ) (request : Message)
     (to : Addr) (rest : List (Timed Input))
     → (method ≡ codes "INVITE"

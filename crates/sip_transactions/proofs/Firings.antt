@@ -1,4 +1,4 @@
--- Firings of a client's repeats take time, so they are few.
+-- The repeats of a client take time, so they are few.
 use Rattle.std.proofs.Common.{◌≡◌, ℕ, zero, suc, ◌+◌, ◌*◌, ◌-◌, ◌^◌, ◌<◌, ◌≤◌, min, Bool, true, false, refl, subst, arith, lit≤}
 use Rattle.std.specs.Prelude.{Option, None, Some}
 use Rattle.std.proofs.lemmas.Bool.{false≢true, leb-true, leb-false}
@@ -66,13 +66,13 @@ few_fired role client j few = elim
         (taken-more role (most_repeats role) (j - most_repeats role)) in
         omega (arith, taken-most role client)
 
--- a repeat has an end, and the firings so far took their time
+-- if there is a repeat, there is an end, and the firings so far took at least their time
 unfoldable pub Paced : Role → Option ℕ → ℕ → Option ℕ → Type 0
 Paced role None fired ending = Unit {0}
 Paced role (Some due) fired None = ⊥
 Paced role (Some due) fired (Some ending) = ending + taken role fired ≤ due + 31500
 
--- how often a repeat may fire yet
+-- how often the repeat may still fire
 abbrev pub left : Role → Option ℕ → ℕ → ℕ
 left role None fired = 0
 left role (Some due) fired = most_repeats role - fired
@@ -87,7 +87,7 @@ paces Client (Again Capped) = true
 paces Client (Again Even) = true
 paces role due = false
 
--- what a firing leaves
+-- after a firing
 pub record Fired (role : Role) (dues : Dues) (due : Due) (now : ℕ) : Type 0 where
   pub fewer : 1 + left role (rearmed due now dues).repeat (rearmed due now dues).fired
       ≤ left role dues.repeat dues.fired
@@ -122,7 +122,7 @@ least_interval Client Even j fit = omega arith
 least_interval InviteServer pace j fit = absurd (false≢true fit)
 least_interval Server pace j fit = absurd (false≢true fit)
 
--- what another row leaves
+-- after another row
 abbrev pub is_plain : Due → Bool
 is_plain Keep = true
 is_plain Clear = true

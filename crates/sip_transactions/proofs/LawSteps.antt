@@ -1,4 +1,4 @@
--- One input of a transaction, as the laws see it.
+-- One input of a transaction, in the form that the laws need.
 use Rattle.std.proofs.Common.{◌≡◌, ℕ, ◌+◌, Bool, true, false, cond, ◌&&◌, ◌||◌, List, [], ◌++◌, refl, sym, ◌∙◌, ap, subst, add-zero}
 use Rattle.std.specs.Prelude.{not, Option, None, Some, is_none, option_map, option_to_list, codes}
 use Rattle.std.specs.List.{AllByRecursion}
@@ -123,7 +123,7 @@ is_report up.Timeout = true
 is_report up.Failed = true
 is_report up.NoTransaction = false
 
--- handed up or dropped, but for a message that came
+-- a row hands up a report, or drops the message that came
 abbrev is_told : Handed → Bool
 is_told up.Nothing = false
 is_told up.Message = false
@@ -135,16 +135,16 @@ is_told up.NoTransaction = true
 abbrev orders_report_nothing : Option State → Trigger → Step → Bool
 orders_report_nothing s t step = not (is_order t) || not (is_told step.handed)
 
--- what begins a life of a server is a request, and is handed up
+-- a life of a server begins with a request, which is handed up
 abbrev pub begins_by_request : Option State → Trigger → Step → Bool
 begins_by_request s t step =
     not (is_none s) || (is_ended step.next || (is_message step.handed && is_request t))
 
--- a request to a life isn't handed up
+-- a request isn't handed up if a life is held
 abbrev pub later_not_handed_up : Option State → Trigger → Step → Bool
 later_not_handed_up s t step = is_none s || not (is_message step.handed && is_request t)
 
--- a response begins no life, and is handed up only to a life
+-- a response begins no life, and is handed up only if a life is held
 abbrev pub response_needs_life : Option State → Trigger → Step → Bool
 response_needs_life s t step =
     not (is_none s && is_response t)
@@ -168,7 +168,7 @@ responses_in_tables Client = refl
 responses_in_tables InviteServer = refl
 responses_in_tables Server = refl
 
--- of a server's key
+-- the tables of a server's key
 pub server_tables : (key : Key) → IsServer key
     → table_passes begins_by_request (rows_of (role_of key)) ≡ true
 server_tables (key.Client branch method) none = absurd none
@@ -178,7 +178,7 @@ server_tables (key.Server branch sent_by method) server =
     (λ miss. ap (λ b. table_passes begins_by_request (rows_of (cond b InviteServer Server))) miss)
 
 -- ---- what a row says
--- it is nothing, where what it hands up and what it sends are nothing that counts
+-- what is sent hands up no request
 counts_none : (context : Context) (key : Key) (o : Option (List ℕ))
     → requests_in (option_to_list (option_map (send_out key context.to) o)) ≡ 0
 counts_none context key None = refl

@@ -76,7 +76,7 @@ up_request key context up.Failed message reply_to line is handed request =
 up_request key context up.NoTransaction message reply_to line is handed request =
     absurd (false≢true handed)
 
--- what goes on isn't ended, so it was begun by a request
+-- a life that goes on hasn't ended, so it began with a request
 begun_by_request : (context : Context) (step : Step) (now : ℕ) (bytes : Option (List ℕ))
     (trigger : Trigger) → (is_ended step.next || (is_message step.handed && is_request trigger))
     ≡ true → IsSome (life_after None context step now bytes)

@@ -40,7 +40,7 @@ pub fired_below : (j : ℕ) → spent j < 31500 → j ≤ 9
 fired_below j few =
     elim (ten_or_less j) [ inl below ↦ below | inr above ↦ absurd (not_ten j few above) ]
 
--- what is known where a repeat fires
+-- what is known when a repeat fires
 pub fired_bound : (now fired : ℕ) (repeat ending : Option ℕ) → is_due now repeat ≡ true
     → is_due now ending ≡ false → IsTrue (is_paced repeat fired ending) → fired ≤ 9
 fired_bound now fired None ending due before paced = absurd (false≢true due)

@@ -1,4 +1,4 @@
--- A row by which nothing begins and nothing is sent says what it hands up, and nothing else.
+-- A row that begins no life and sends nothing only hands up or drops what came.
 use Rattle.std.proofs.Common.{◌≡◌, ℕ, List, refl, ap}
 use Rattle.std.specs.Prelude.{Option, None, Some, option_map, option_to_list}
 use Rattle.std.proofs.lemmas.List.{append-nil}

@@ -1,4 +1,4 @@
--- Where ids rise, requests come up in the order of their ids.
+-- If ids rise, requests come up in the order of their ids.
 use Rattle.std.proofs.Common.{◌≡◌, ◌⊎◌, inl, inr, ℕ, ◌+◌, Bool, cond, List, [], ◌∷◌, ◌++◌, refl, sym, ◌∙◌, ap, subst}
 use Rattle.std.specs.Prelude.{Option, None, Some, option_map, option_to_list, codes}
 use Rattle.std.specs.List.{AllByRecursion, cons_option}

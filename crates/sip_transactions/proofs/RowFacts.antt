@@ -1,4 +1,4 @@
--- Facts on the tables, by tests over their rows.
+-- Facts about the tables, shown by tests of all their rows.
 use Rattle.std.proofs.Common.{◌≡◌, ℕ, ◌+◌, ◌≤◌, Bool, true, false, cond, ◌&&◌, ◌||◌, List, [], ◌∷◌, ◌⊎◌, inl, inr, refl, sym, ◌∙◌, ap, subst, arith, zero, suc, zero-add}
 use Rattle.std.specs.Prelude.{◌==◌, not, Option, None, Some, count_by}
 use Rattle.std.specs.List.{list_any, list_all, slice_get}

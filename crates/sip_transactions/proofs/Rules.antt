@@ -1,4 +1,4 @@
--- The rules of transactions are their steps.
+-- The rules of transactions say the same as the steps of the code.
 use Rattle.std.proofs.Common.{◌≡◌, ℕ, Bool, true, false, List, [], ◌++◌, refl, sym, ◌∙◌, ap, subst}
 use Rattle.std.specs.Prelude.{codes, Option, None, Some, if◌then◌else◌, option_and_then, option_map, option_to_list, unwrap_or}
 use Rattle.std.specs.Option.{option_map_or, option_or}
@@ -53,7 +53,7 @@ use Rattle.sip_transactions.specs.Rules.Timers.{timers_after}
 
 -- ---- the tables
 
--- the row that fits; where none does, one by which nothing happens
+-- the row that fits; if none does, a row that does nothing
 abbrev row_or : Option Step → Step
 row_or found = unwrap_or found
     (record { next = Same; handed = up.Nothing; sent = send.Nothing; due = Keep })
@@ -266,7 +266,7 @@ up_is key context arrived up.Timeout = refl
 up_is key context arrived up.Failed = refl
 up_is key context arrived up.NoTransaction = refl
 
--- what a row makes of a state and a context, in the words of the rules
+-- what a row does to a state and a context, in the words of the rules
 abbrev by_row : Key → ℕ → Option State → Context → Option Message → Option Kind → Step
     → Option Life × List Out
 by_row key now state context message trigger_of_message row = (
@@ -306,7 +306,7 @@ idle_is : (key : Key) (now : ℕ) (held : Option Life) (context_at_first : Conte
 idle_is key now None context_at_first message trigger_of_message = refl
 idle_is key now (Some life) context_at_first message trigger_of_message = refl
 
--- an input that has something at hand
+-- an input with a context: a held one, or one that it begins
 found_is : (key : Key) (now : ℕ) (input : Option Input) (held : Option Life)
     (context_at_first : Context)
     → context_of (role_of key) held input ≡ Some (context_in held context_at_first)
@@ -464,7 +464,7 @@ answered_is key now life id message = by message.start
         acted_is key now (Some (input.Answer id message)) (Some life) life.context
         (on.Answer (class_of status)) refl
 
--- an answer where nothing is held
+-- an answer if nothing is held
 unanswered : (key : Key) (now : ℕ) (input : Input) (found : Option Step)
     → steps.begun (role_of key) (Some input) ≡ None
     → stepped_by key None now (Some input) found ≡ (None, [])
@@ -515,7 +515,7 @@ pub machine_is : transaction_machine ≡ step_machine
 machine_is =
     λ i. record { step = λ key held timed. step_is key held timed.moment timed.input i }
 
--- what holds of the machine of the steps holds of the machine of the rules
+-- what is true of the machine of the steps is true of the machine of the rules
 pub at_steps : (P : Machine Key Life (Timed Input) Out → Type 0) → P step_machine
     → P transaction_machine
 at_steps P holds = subst P (sym machine_is) holds

@@ -3,8 +3,8 @@ use Rattle.std.specs.Prelude.{ℕ, zero, suc, ◌+◌, ◌*◌, ◌^◌, min, Bo
 use Rattle.sip_timers.specs.declared.estimate.TheConstants.{T1}
 use Rattle.sip_transactions.specs.declared.timers.TheConstants.{T2}
 
--- at most one moment to send again, how often it has fired since it was first set, and at most one
--- moment to end
+-- at most one moment at which to send again, how often it has fired since it was first set, and at
+-- most one moment at which to end
 pub record Dues : Type 0 where
   pub repeat : Option ℕ
   pub fired : ℕ
@@ -12,12 +12,12 @@ pub record Dues : Type 0 where
 
 -- ---- for steps and laws: `run` needs nothing of what follows
 
--- the time in ms that so many firings take after the first, where each comes as soon as it is due
+-- the time in ms that so many firings take after the first, if each comes as soon as it is due
 unfoldable pub spent : ℕ → ℕ
 spent zero = 0
 spent (suc fired) = spent fired + min (T1 * 2 ^ suc fired) T2
 
--- a repeat has an end, and the firings so far took their time
+-- if there is a repeat, there is an end, and the firings so far took at least their time
 abbrev pub is_paced : Option ℕ → ℕ → Option ℕ → Bool
 is_paced None fired ending = true
 is_paced (Some due) fired None = false

@@ -1,4 +1,4 @@
--- Where nothing is due of a life, a tick does nothing.
+-- If no timer of a life is due, a tick does nothing.
 use Rattle.std.proofs.Common.{ℕ, refl}
 use Rattle.std.specs.Prelude.{None, Some}
 use Rattle.sip_model.specs.Machine.{IsIdle, tick_at}

@@ -13,6 +13,6 @@ is_id one other = (one.round == other.round) && (one.place == other.place)
 abbrev pub id_cmp : Id → Id → Ordering
 id_cmp = then_cmp (on (λ id. id.round) nat_cmp) (on (λ id. id.place) nat_cmp)
 
--- ids rise: each is below those after it
+-- ids rise: each is below those after it (for clauses of `run`)
 abbrev pub IdsRise : List Id → Type 0
 IdsRise ids = IsStrictlySortedBy id_cmp ids

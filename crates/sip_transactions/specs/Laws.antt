@@ -1,4 +1,4 @@
--- What holds of every transaction, over any list of its inputs.
+-- What is true of every transaction, for any list of its inputs.
 use Rattle.std.specs.Prelude.{◌≡◌, ℕ, ◌+◌, ◌≤◌, Bool, true, false, codes, if◌then◌else◌, List, ◌++◌, Option, None, Some, count_by, filter_map}
 use Rattle.std.specs.List.{AllByRecursion, list_any, IsDistinct}
 use Rattle.std.specs.Str.{bytes_eq}
@@ -29,7 +29,7 @@ use Rattle.sip_transactions.specs.Steps.Input.{role_of}
 use Rattle.sip_transactions.specs.Rows.{fits, rows_of}
 use Rattle.sip_transactions.specs.Shard.{order}
 
--- of each table at most one row fits a state and a trigger
+-- in each table at most one row fits a state and a trigger
 abbrev pub AtMostOneRow : Type 0
 AtMostOneRow = (role : Role) (state : Option State) (trigger : Trigger)
     → count_by (λ row. fits row state trigger) (rows_of role) ≤ 1
@@ -50,7 +50,7 @@ abbrev pub IsServer : Key → Type 0
 IsServer (key.Client branch method) = ⊥
 IsServer (key.Server branch sent_by method) = Unit {0}
 
--- a request that is handed up, ACKs aside
+-- a request that is handed up, other than an ACK
 abbrev pub is_request_kind : Kind → Bool
 is_request_kind (kind.Request message reply_to) = true
 is_request_kind other = false
@@ -70,7 +70,7 @@ OneRequestUp machine = (key : Key) → IsServer key
     → (inputs : List (Timed Input)) (life : LifeIn machine key inputs)
     → (requests_in (said_at_first life) ≡ 1) × (requests_in (said_in_rest life) ≡ 0)
 
--- the id of an input, where it has one
+-- the id of an input, if it has one
 abbrev pub id_of : Option Input → Option Id
 id_of None = None
 id_of (Some (Receive id message reply_to)) = Some id
@@ -78,7 +78,7 @@ id_of (Some (Start id call_id message to)) = Some id
 id_of (Some (Answer id message)) = Some id
 id_of (Some (Failed id)) = Some id
 
--- the id of a request that came, ACKs among them, or of a start
+-- the id of a request that came, also of an ACK
 abbrev pub arrival_id : StartLine → Id → Option Id
 arrival_id (start.Request uri) id = Some id
 arrival_id (start.Response status reason) id = None
@@ -101,11 +101,11 @@ request_id (out.Up up) = if is_request_kind up.kind then Some up.id else None
 request_id (out.Send key to bytes) = None
 request_id (out.Dropped place reason) = None
 
--- those of all requests that are handed up, in order
+-- the ids of all requests that are handed up, in order
 abbrev pub request_ids : List Out → List Id
 request_ids outs = filter_map request_id outs
 
--- where ids rise, requests come up by id: in the order of their ids, under one id one at most
+-- if ids rise, requests come up in the order of their ids, at most one for each id
 abbrev pub RequestsComeUpById : Machine Key Life (Timed Input) Out → Type 0
 RequestsComeUpById machine = (key : Key) (inputs : List (Timed Input)) → IdsRise (names_in inputs)
     → IdsRise (request_ids (outputs_from machine key None inputs))
@@ -115,7 +115,7 @@ abbrev pub carries : Id → Out → Bool
 carries id (out.Up up) = is_id id up.id
 carries id other = false
 
--- where ids differ, nothing is handed up under a life's id after the life has ended
+-- if ids differ, nothing is handed up under a life's id after the life has ended
 abbrev pub NothingAfterTheEnd : Machine Key Life (Timed Input) Out → Type 0
 NothingAfterTheEnd machine = (key : Key) (inputs : List (Timed Input))
     (life : LifeIn machine key inputs) (id : Id)
@@ -126,15 +126,15 @@ NothingAfterTheEnd machine = (key : Key) (inputs : List (Timed Input))
 -- ---- how often a client sends its request
 
 -- A life of a client of an INVITE sends it at most 7 times: timer A fires at most 6 times before
--- timer B does. Another sends its request at most 11 times: timer E fires at most 10 times before
--- timer F does (RFC 3261, sections 17.1.1.2 and 17.1.2.2).
+-- timer B does. A life of another client sends its request at most 11 times: timer E fires at most
+-- 10 times before timer F does (RFC 3261, sections 17.1.1.2 and 17.1.2.2).
 abbrev pub most_repeats : Role → ℕ
 most_repeats InviteClient = 6
 most_repeats Client = 10
 most_repeats InviteServer = 0
 most_repeats Server = 0
 
--- something sent of these bytes
+-- these bytes are sent
 abbrev pub is_send_of : List ℕ → Out → Bool
 is_send_of bytes (out.Up up) = false
 is_send_of bytes (out.Send key to sent) = bytes_eq sent bytes
@@ -144,8 +144,9 @@ is_send_of bytes (out.Dropped place reason) = false
 abbrev pub sends_of : List ℕ → List Out → ℕ
 sends_of bytes outs = count_by (is_send_of bytes) outs
 
--- a life that is begun by a start sends that request so often at most; a client of an INVITE where
--- what it is given is one, since an ACK that it makes may have the bytes of another message
+-- A life that begins with a start sends its request at most so often. For a client of an INVITE
+-- this is said only if it was given an INVITE: the ACKs that it makes might have the bytes of
+-- another message.
 abbrev pub FewSends : Machine Key Life (Timed Input) Out → Type 0
 FewSends machine = (branch method : List ℕ) (inputs : List (Timed Input))
     (life : LifeIn machine (key.Client branch method) inputs)

@@ -8,12 +8,12 @@ use Rattle.sip_transactions.specs.declared.output.Out.{Out}
 use Rattle.sip_transactions.specs.Rules.Step.{step_at}
 use Rattle.sip_model.specs.Machine.{Machine, Timed}
 
--- one transaction's inputs lead from life to life
+-- one transaction: each input leads from a life to the next
 abbrev pub transaction_machine : Machine Key Life (Timed Input) Out
 transaction_machine = record { step = λ key held timed. step_at key held timed.moment timed.input }
 
 -- ---- for steps and laws: `run` needs nothing of what follows
 
--- the moment at which a timer of a life fires: the one that is due first
+-- the moment at which the next timer of a life fires
 abbrev pub life_due : Life → Option ℕ
 life_due life = earlier life.context.timers.ending life.context.timers.repeat

@@ -1,4 +1,4 @@
--- A row that lets the repeat fire is for the trigger that it is due.
+-- Only rows for the trigger `RetransmitDue` let the repeat fire.
 use Rattle.std.specs.Prelude.{◌≡◌, ℕ, true, false, Option, None, Some}
 use Rattle.sip_transactions.specs.declared.life.Life.{Life}
 use Rattle.sip_transactions.specs.declared.step.Due.{Due}
@@ -7,7 +7,7 @@ use Rattle.sip_transactions.specs.declared.trigger.Trigger.{Trigger}
 use Rattle.sip_transactions.specs.declared.trigger.Trigger.TheVariants as on
 use Rattle.sip_timers.specs.Queue.{is_due}
 
--- a row fires the repeat only of a life whose repeat is due, and its end isn't
+-- a row lets the repeat fire only if the repeat of the life is due, and its end isn't
 abbrev pub RepeatsInTime : Due → ℕ → Option Life → Type 0
 RepeatsInTime Keep now held = Unit {0}
 RepeatsInTime Clear now held = Unit {0}
@@ -17,7 +17,7 @@ RepeatsInTime (Again pace) now None = ⊥
 RepeatsInTime (Again pace) now (Some life) =
     (is_due now life.context.timers.repeat ≡ true) × (is_due now life.context.timers.ending ≡ false)
 
--- the trigger that the repeat is due comes only to such a life
+-- the trigger `RetransmitDue` comes only to such a life
 abbrev pub RepeatIsDue : Trigger → ℕ → Option Life → Type 0
 RepeatIsDue on.RetransmitDue now None = ⊥
 RepeatIsDue on.RetransmitDue now (Some life) =
@@ -30,7 +30,7 @@ RepeatIsDue on.Request now held = Unit {0}
 RepeatIsDue on.Ack now held = Unit {0}
 RepeatIsDue (on.Answer class) now held = Unit {0}
 
--- a step that fires the repeat is for that trigger
+-- a step that lets the repeat fire is for that trigger
 abbrev pub FiresWhenDue : Due → Trigger → Type 0
 FiresWhenDue Keep trigger = Unit {0}
 FiresWhenDue Clear trigger = Unit {0}

@@ -1,6 +1,6 @@
--- The tables of the four machines, a line for each row (RFC 3261, sections 17.1 and 17.2, and
--- RFC 6026, section 7). A timer's letter stands beside each row that sets it (+) or in which it
--- fires (!). T1, T2 and T4 are those of RFC 3261, section 17, and LIFETIME is 64 times T1, in ms.
+-- The tables of the four machines, a line for each row (RFC 3261, sections 17.1 and 17.2, and RFC
+-- 6026, section 7). Beside a row are the letters of the timers that it sets (+) or that fire in it
+-- (!). T1, T2 and T4 are those of RFC 3261, section 17, and LIFETIME is 64 times T1, in ms.
 use Rattle.std.specs.Prelude.{ℕ, Bool, ◌==◌, ◌&&◌, ◌+◌, ◌++◌, List, [], ◌∷◌, Option, None, Some, option_map, find}
 use Rattle.std.specs.List.{list_any}
 use Rattle.sip_transactions.specs.declared.state.State.{State}
@@ -24,15 +24,14 @@ use Rattle.sip_transactions.specs.declared.step.Due.{Due}
 use Rattle.sip_transactions.specs.declared.step.Due.TheVariants.{Keep, Clear, Ending, Both, Again}
 use Rattle.sip_transactions.specs.declared.step.Pace.TheVariants.{Doubled, Capped, Even}
 
--- the states in which a row stands, `None` for no state; the triggers that it is for; and what it
--- does
+-- the states that a row is for, `None` for no state; its triggers; and what it does
 pub record Row : Type 0 where
   pub from : List (Option State)
   pub on : List Trigger
   pub step : Step
 
--- a row: its states, its triggers, the state after it, what it hands up, what it sends, and what
--- becomes of the due moments
+-- a row: its states, its triggers, the state after it, what it hands up, what it sends, and the due
+-- moments after it
 abbrev pub row : List (Option State) → List Trigger → Next → Handed → Sent → Due → Row
 row from on next handed sent due = record {
   from = from;
@@ -40,7 +39,7 @@ row from on next handed sent due = record {
   step = record { next = next; handed = handed; sent = sent; due = due };
 }
 
--- no state, one state, two states
+-- a row of no state
 abbrev pub fresh : List (Option State)
 fresh = None ∷ []
 
@@ -84,9 +83,9 @@ answer_failure = Answer class.Failure ∷ []
 abbrev pub on : Trigger → List Trigger
 on trigger = trigger ∷ []
 
--- The client of an INVITE: RFC 3261, section 17.1.1, and RFC 6026, section 7.2. The ACK of a 2xx
--- isn't its own. A repeats the request, B ends the wait for a response, D absorbs repeated
--- responses, M passes on further 2xx.
+-- The client of an INVITE: RFC 3261, section 17.1.1, and RFC 6026, section 7.2. The ACK of a 2xx is
+-- sent by the call. A retransmits the request, B ends the wait for a response. While D runs,
+-- retransmitted responses get the ACK again; while M runs, further 2xx go up.
 abbrev pub invite_client_rows : List Row
 invite_client_rows =
     row fresh (on Start) (Become Calling) up.Nothing send.Given Both  -- +A +B
@@ -105,8 +104,8 @@ invite_client_rows =
     ∷ row fresh any_response Ended up.NoTransaction send.Nothing Clear
     ∷ []
 
--- The client of another request: RFC 3261, section 17.1.2. E repeats the request, F ends the wait
--- for a final response, K absorbs repeated responses.
+-- The client of another request: RFC 3261, section 17.1.2. E retransmits the request, F ends the
+-- wait for a final response. While K runs, retransmitted responses are absorbed.
 abbrev pub client_rows : List Row
 client_rows =
     row fresh (on Start) (Become Trying) up.Nothing send.Given Both  -- +E +F
@@ -121,8 +120,9 @@ client_rows =
     ∷ row fresh any_response Ended up.NoTransaction send.Nothing Clear
     ∷ []
 
--- The server of an INVITE: RFC 3261, section 17.2.1, and RFC 6026, section 7.1. G repeats the
--- response, H ends the wait for the ACK, I absorbs repeated ACKs, L passes on the ACKs of a 2xx.
+-- The server of an INVITE: RFC 3261, section 17.2.1, and RFC 6026, section 7.1. G retransmits the
+-- response, H ends the wait for the ACK. While I runs, further ACKs are absorbed; while L runs, the
+-- ACKs of a 2xx go up.
 abbrev pub invite_server_rows : List Row
 invite_server_rows =
     row fresh (on Request) (Become Proceeding) up.Message send.Trying Clear
@@ -143,8 +143,8 @@ invite_server_rows =
     ∷ row fresh (on Ack) Ended up.Message send.Nothing Clear
     ∷ []
 
--- The server of another request: RFC 3261, section 17.2.2. J keeps the response for repeated
--- requests.
+-- The server of another request: RFC 3261, section 17.2.2. While J runs, a retransmitted request
+-- gets the response again.
 abbrev pub server_rows : List Row
 server_rows =
     row fresh (on Request) (Become Trying) up.Message send.Nothing Clear
@@ -165,7 +165,7 @@ rows_of Server = server_rows
 
 -- ---- the row that fits
 
--- the place of a state and of a trigger in their enums, by which they are compared
+-- a state by a number, by which two are compared
 abbrev pub state_place : Option State → ℕ
 state_place None = 0
 state_place (Some Calling) = 1
@@ -175,7 +175,7 @@ state_place (Some Completed) = 4
 state_place (Some Accepted) = 5
 state_place (Some Confirmed) = 6
 
--- a class by a number
+-- a class by a number, by which two are compared
 abbrev pub class_place : Class → ℕ
 class_place class.Trying = 0
 class_place class.Provisional = 1
@@ -193,12 +193,12 @@ trigger_place Ack = 5
 trigger_place (Response c) = 6 + class_place c
 trigger_place (Answer c) = 10 + class_place c
 
--- the row is for this state and this trigger
+-- a row is for this state and this trigger
 abbrev pub fits : Row → Option State → Trigger → Bool
 fits row state trigger =
     list_any (λ from. state_place from == state_place state) row.from
     && list_any (λ on. trigger_place on == trigger_place trigger) row.on
 
--- what the first row that fits does; no row, no change and no output
+-- what the first row that fits does; without such a row nothing changes and there is no output
 abbrev pub row_of : List Row → Option State → Trigger → Option Step
 row_of rows state trigger = option_map (λ row. row.step) (find (λ row. fits row state trigger) rows)

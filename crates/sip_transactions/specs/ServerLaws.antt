@@ -1,4 +1,4 @@
--- What holds of every server transaction that is held, at one input or two.
+-- What is true of every server transaction that is held, for one input or two.
 use Rattle.std.specs.Prelude.{◌≡◌, ℕ, ◌+◌, Bool, true, false, nat_le, List, [], ◌∷◌, Option, None, Some, if◌then◌else◌}
 use Rattle.sip_message.specs.declared.addr.Addr.{Addr}
 use Rattle.sip_message.specs.declared.id.Id.{Id}
@@ -22,7 +22,7 @@ use Rattle.sip_transactions.specs.Laws.{IsServer}
 use Rattle.sip_model.specs.Machine.{tick_at}
 use Rattle.sip_transactions.specs.Shard.{failed_send, receipt}
 
--- a response was sent, and the server waits for nothing but repeats of its request and its end
+-- a response was sent, and a retransmitted request gets it again
 abbrev pub is_answering : State → Bool
 is_answering Calling = false
 is_answering Trying = false
@@ -31,8 +31,8 @@ is_answering Completed = true
 is_answering Accepted = false
 is_answering Confirmed = false
 
--- A request that was answered and comes again gets the same bytes, and nothing else happens (RFC
--- 3261, sections 17.2.1 and 17.2.2).
+-- A retransmitted request that was answered gets the same bytes again, and nothing else happens
+-- (RFC 3261, sections 17.2.1 and 17.2.2).
 abbrev pub AnsweredAgain : Machine Key Life (Timed Input) Out → Type 0
 AnsweredAgain machine = (key : Key) → IsServer key → (life : Life) (bytes : List ℕ)
     → is_answering life.state ≡ true → life.context.last ≡ Some bytes
@@ -69,8 +69,8 @@ is_final_answer (Some (on.Answer class.Failure)) = true
 abbrev pub answering : Id → Message → ℕ → Timed Input
 answering id response now = record { moment = now; input = Some (input.Answer id response) }
 
--- A life of the server of another request than INVITE ends at the first tick from 64*T1 after its
--- final answer, and no tick before that changes it (RFC 3261, section 17.2.2).
+-- A server of a request other than INVITE ends at the first tick from 64*T1 after its final answer
+-- on, and no tick before that changes it (RFC 3261, section 17.2.2).
 abbrev pub EndsAfterItsAnswer : Machine Key Life (Timed Input) Out → Type 0
 EndsAfterItsAnswer machine = (key : Key) → role_of key ≡ role.Server → (life : Life)
     → is_open life.state ≡ true → (id : Id) (response : Message) (now : ℕ)
@@ -79,7 +79,7 @@ EndsAfterItsAnswer machine = (key : Key) → role_of key ≡ role.Server → (li
     (tick_at moment)).0 ≡ (if nat_le (now + LIFETIME) moment then None
     else (machine.step key (Some life) (answering id response now)).0)
 
--- a failed send leaves a life of a server as it is
+-- a failed send doesn't change the life of a server
 abbrev pub FailedSendKeeps : Machine Key Life (Timed Input) Out → Type 0
 FailedSendKeeps machine = (key : Key) → IsServer key → (life : Life) (id : Id) (now : ℕ)
     → (machine.step key (Some life) (failed_send id now)).0 ≡ Some life

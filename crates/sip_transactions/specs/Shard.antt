@@ -1,4 +1,4 @@
--- What a shard of transactions shows, and what its functions give to one transaction.
+-- What a shard of transactions holds, and what its functions give to one transaction.
 use Rattle.std.specs.Prelude.{ℕ, Bool, not, ◌&&◌, Option, None, Some, if◌then◌else◌}
 use Rattle.sip_message.specs.declared.addr.Addr.{Addr}
 use Rattle.sip_message.specs.declared.id.Id.{Id}
@@ -16,11 +16,11 @@ use Rattle.sip_model.specs.Machine.{Timed, given_at}
 use Rattle.sip_transactions.specs.declared.life.Life.{Life}
 use Rattle.sip_model.specs.Table.{Held, state_at}
 
--- a response whose top Via names another sender than the agent (RFC 3261, section 18.1.2)
+-- a response whose top Via names a sender other than the agent (RFC 3261, section 18.1.2)
 abbrev pub is_stray : Addr → Message → Bool
 is_stray local message = not (is_request_message message) && not (is_sent_by_of message local)
 
--- a message that came is for the transaction of its key; a response to another sender is for none
+-- the transaction of a message (17.1.3, 17.2.3; an ACK: that of its INVITE); a stray has none
 abbrev pub received : Addr → Id → Message → Addr → Option (Key × Input)
 received local id message reply_to =
     if is_stray local message then None
@@ -38,7 +38,7 @@ asked_by id (command.Answer key message) = Answer id message
 
 -- ---- for steps and laws: `run` needs nothing of what follows
 
--- the agent's address, and the lives that are held by key; a broken shard holds `None`
+-- the agent's address, and the held lives by key (`None` if the shard is broken)
 pub record Lives : Type 0 where
   pub local : Addr
   pub held : Held Key Life

@@ -14,7 +14,7 @@ use Rattle.sip_transactions.specs.Dues.{Dues}
 abbrev pub no_dues : Dues
 no_dues = record { repeat = None; fired = 0; ending = None }
 
--- the moment at which something is due: the earlier of the two
+-- the moment at which the next of the two is due
 abbrev pub first_due : Dues → Option ℕ
 first_due dues = earlier dues.ending dues.repeat
 
@@ -38,7 +38,7 @@ rearmed (Again pace) now dues =
       ending = dues.ending;
     }
 
--- a repeat fires only when it is due, and before the end is
+-- the repeat fires only when it is due, and while the end isn't
 abbrev pub IsTimely : Due → ℕ → Dues → Type 0
 IsTimely Keep now dues = Unit {0}
 IsTimely Clear now dues = Unit {0}

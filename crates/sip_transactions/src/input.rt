@@ -7,7 +7,7 @@ use sip_text::Boxed;
 
 /// What the user of the transactions asks.
 pub enum Command {
-    /// Starts a client transaction, which sends the request to the address.
+    /// Starts a client transaction, which sends the request to an address.
     Start {
         key: Key,
         call_id: CallId,
@@ -24,7 +24,7 @@ pub enum Command {
 impl Command {
     ghost use Rattle.sip_transactions.specs.Shard.{command_key, asked_by};
 
-    /// The key of its transaction, and what it is to that one: an input of this id.
+    /// The key of the transaction that it is for, and the input that it is to it, with this id.
     pub fn addressed(self, id: Id) -> (Key, Input)
         ensures { result ≡ (command_key self, asked_by id self) }
     {
@@ -105,7 +105,7 @@ impl Input {
         }
     }
 
-    /// The message that came, if one did, and where a response to it goes.
+    /// The message that came, if one did, and the address of a response to it.
     pub(crate) fn into_arrived(self) -> Option<(Boxed<Message>, Addr)>
         ensures { result ≡ arrived_in (Some self) }
     {

@@ -18,26 +18,26 @@ pub struct Life {
     pub context: Context,
 }
 
-/// What is held of a transaction beside its state.
+/// What is held of a transaction, apart from its state.
 #[derive(Drop)]
 pub struct Context {
     /// The event of the first input.
     pub id: Id,
     /// The Call-ID of the first input.
     pub call_id: CallId,
-    /// Where what it sends goes.
+    /// The address to which it sends.
     pub to: Addr,
-    /// The INVITE that its client was started with, of which an ACK is made.
+    /// The INVITE that its client was started with. ACKs are made from it.
     pub request: Option<Boxed<Message>>,
     /// What it sent last.
     pub last: Option<Text>,
-    /// When that is sent again, and when the life ends.
+    /// When that is retransmitted, and when the life ends.
     pub timers: Timers,
 }
 
 impl Context {
-    /// What an input with this id and this Call-ID begins a life with: nothing was sent yet, and
-    /// nothing is due.
+    /// The context with which an input with this id and Call-ID begins a life: nothing was sent
+    /// yet, and nothing is due.
     pub(crate) fn new(id: Id, call_id: CallId, to: Addr, request: Option<Boxed<Message>>) -> Context
         ensures { result ≡ context_by id call_id to request }
     {
@@ -61,7 +61,8 @@ impl Context {
         }
     }
 
-    /// Begins a life by a row that made a message of these bytes, if there is a state after it.
+    /// Begins a life by a row that made a message with these bytes, if there is a state after the
+    /// row.
     #[tactic(auto, unfolding(crate::specs::Steps::Life::life_after))]
     pub(crate) fn begin(mut self, step: Step, now: u64, made: Option<Text>) -> Option<Life>
         requires bound { now ≤ 2 ^ 62 }
@@ -78,7 +79,7 @@ impl Context {
         })
     }
 
-    // Takes what a row sent, and the due moments after it.
+    // Notes what a row sent, and the due moments after it.
     fn go_on(&mut self, due: Due, now: u64, made: Option<Text>)
         requires bound { now ≤ 2 ^ 62 }
         requires timely { IsTimely due now self.old.timers }
@@ -92,7 +93,7 @@ impl Context {
 }
 
 impl Life {
-    /// Goes on by a row that made a message of these bytes. Says whether the life goes on.
+    /// Takes a row that made a message with these bytes. Returns whether the life goes on.
     #[tactic(auto, unfolding(crate::specs::Steps::Life::life_after))]
     pub(crate) fn go_on(&mut self, step: Step, now: u64, made: Option<Text>) -> bool
         requires bound { now ≤ 2 ^ 62 }

@@ -22,7 +22,7 @@ use sip_model::StateMachine;
 use sip_text::{Boxed, Text};
 use std::alloc::{AllocError, Global};
 
-/// What is held after an input, and what it adds.
+/// What is held after an input, and the outputs that it adds.
 type After = (Option<Life>, Vec<Out>);
 
 fn role_of(key: &Key) -> Role
@@ -50,7 +50,7 @@ fn step_for(key: &Key, held: Option<&Life>, now: u64, input: Option<&Input>) -> 
     step_of(role_of(key), held.map(|life| life.state), trigger)
 }
 
-// A row in no state that made a message of these bytes.
+// A row without a state. It made a message with these bytes.
 fn act(
     alloc: Global,
     key: &Key,
@@ -66,13 +66,13 @@ fn act(
     ensures adds { IfOk result (λ after. after.1.items
         ≡ outputs_of key.now context step made arrived) }
 {
-    // The copy has no spare room, which what is written has.
+    // A written text may have spare room; the copy has none.
     let kept = made.clone()?;
     let outputs = said(alloc, key, &context, step, made, arrived)?;
     Ok((context.begin(step, now, kept), outputs))
 }
 
-// The same at a life that is held. Gives whether it goes on, and what the row says.
+// The same for a life that is held. Returns whether it goes on, and what the row says.
 fn act_on(
     alloc: Global,
     key: &Key,
@@ -94,7 +94,7 @@ fn act_on(
     Ok((life.go_on(step, now, kept), outputs))
 }
 
-// A row at the life that is held.
+// A row of the life that is held.
 fn go_on(
     alloc: Global,
     key: &Key,
@@ -114,7 +114,7 @@ fn go_on(
     act_on(alloc, key, now, life, step, made, input.into_arrived())
 }
 
-// A row where no life is held.
+// A row if no life is held.
 #[tactic(auto, unfolding(crate::specs::Steps::Life::begun))]
 fn begin(alloc: Global, key: &Key, now: u64, input: Input, step: Step) -> Result<After, AllocError>
     requires bound { now ≤ 2 ^ 62 }
@@ -165,7 +165,7 @@ fn keeps_request(role: Role) -> bool
     }
 }
 
-// A message that comes where no life is held. Where none begins, none is made.
+// A message that comes while no life is held. If the row begins none, no context is made.
 fn arrive(
     alloc: Global,
     key: &Key,
@@ -188,7 +188,7 @@ fn arrive(
     }
 }
 
-// A row by which nothing begins and nothing is sent.
+// A row that begins no life and sends nothing.
 #[tactic(auto, using(crate::proofs::Passing::passed_next, crate::proofs::Passing::passed_adds))]
 fn pass(
     alloc: Global,

@@ -1,4 +1,5 @@
-//! The messages that a transaction makes: 100 Trying, and the ACK of a response of 300 to 699.
+//! The messages that a transaction makes: 100 Trying, and the ACK of a final response of 300 to
+//! 699.
 
 ghost use Rattle.std.specs.Prelude.{◌≡◌, IfOk, codes};
 ghost use Rattle.std.specs.Option.{option_copied};
@@ -13,8 +14,8 @@ use std::alloc::{AllocError, Global};
 /// The status of 100 Trying.
 const TRYING: u16 = 100;
 
-/// The bytes of the message that a row makes, if it makes one: of a message that came or that the
-/// user gave, and for an ACK of the request that the life keeps.
+/// The bytes of the message that a row makes, if it makes one. It is made from a message that came
+/// or that the user gave; an ACK also from the request that the life keeps.
 #[tactic(auto, unfolding(crate::specs::Steps::Output::made_of))]
 pub(crate) fn made_bytes(
     alloc: Global,
@@ -45,7 +46,7 @@ fn text_of(alloc: Global, message: &Message) -> Result<Text, AllocError>
     Ok(Text::from_vec(write(alloc, message)?))
 }
 
-// A 100 gets no tag, whatever is given as one.
+// A 100 gets no To tag.
 fn trying_for(alloc: Global, request: &Message) -> Result<Message, AllocError>
     ensures { IfOk result (λ made. made ≡ trying_of request.now) }
 {

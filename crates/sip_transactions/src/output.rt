@@ -6,7 +6,7 @@ use sip_text::{Boxed, Text};
 /// What is handed up to the call.
 #[derive(Drop)]
 pub enum Kind {
-    /// The request that began the transaction, and where its answers go.
+    /// The request that began the transaction, and the address of its answers.
     Request(Boxed<Message>, Addr),
     /// An ACK.
     Ack(Boxed<Message>),

@@ -1,5 +1,5 @@
-//! The tables, as code (RFC 3261, sections 17.1 and 17.2, and RFC 6026, section 7). A timer's
-//! letter stands beside each arm that sets it (+) or in which it fires (!).
+//! The tables, as code (RFC 3261, sections 17.1 and 17.2, and RFC 6026, section 7). Beside an arm
+//! are the letters of the timers that it sets (+) or that fire in it (!).
 
 ghost use Rattle.std.specs.Prelude.{◌≡◌, IfSome};
 ghost use Rattle.sip_transactions.specs.Repeats.{FiresWhenDue};

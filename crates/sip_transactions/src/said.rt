@@ -13,7 +13,7 @@ use sip_message::{Addr, CallId, Id, Key, Message, StartLine};
 use sip_text::{Boxed, Text};
 use std::alloc::{AllocError, Global};
 
-/// What a row says of a message that came, if one did, where it made a message of these bytes.
+/// What a row says that made a message with these bytes, of a message that came, if one did.
 #[tactic(auto, unfolding(crate::specs::Steps::Output::outputs_of))]
 pub(crate) fn said(
     alloc: Global,
@@ -38,7 +38,7 @@ pub(crate) fn said(
     Ok(outputs)
 }
 
-/// What is said of a message where no life begins: it is handed up under its own id, or dropped, or
+/// What is said of a message that begins no life: it is handed up under its own id, or dropped, or
 /// neither.
 pub(crate) fn passed_on(
     alloc: Global,

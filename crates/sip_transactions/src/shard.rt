@@ -22,8 +22,8 @@ use std::marker::Model;
 
 /// The transactions of some keys.
 ///
-/// After a call answered [`ShardFault::NoMemory`] the shard is broken: it holds nothing, and every
-/// call that can fail answers [`ShardFault::Broken`].
+/// After a call returned [`ShardFault::NoMemory`] the shard is broken: it holds nothing, and every
+/// call that can fail returns [`ShardFault::Broken`].
 #[derive(Drop)]
 pub struct Shard {
     alloc: Global,
@@ -70,7 +70,7 @@ impl Shard {
         self.table.state(key).map(|life| life.state)
     }
 
-    /// Lets every transaction see the moment, in milliseconds, in key order: at most one timer of
+    /// Gives the moment, in milliseconds, to every transaction, in key order. At most one timer of
     /// each fires.
     pub fn tick(&mut self, now: u64) -> Result<Vec<Out>, ShardFault>
         requires { now ≤ 2 ^ 62 }
@@ -89,7 +89,7 @@ impl Shard {
     }
 
     /// Takes a message that came: a request that is stamped with its source, with the address of
-    /// its answers, or a response.
+    /// its answers; or a response.
     pub fn receive(
         &mut self,
         id: Id,
@@ -121,7 +121,7 @@ impl Shard {
         }
     }
 
-    /// Does what the user asks of a transaction. The id is that of the request that is started or
+    /// Takes the user's command for a transaction. The id is that of the request that is started or
     /// answered.
     pub fn command(&mut self, id: Id, command: Command, now: u64) -> Result<Vec<Out>, ShardFault>
         requires { now ≤ 2 ^ 62 }
@@ -140,7 +140,7 @@ impl Shard {
         self.table.handle(&Transactions, key, now, input)
     }
 
-    /// Lets a transaction know that one of its sends failed.
+    /// Tells a transaction that one of its sends failed.
     pub fn failed(&mut self, id: Id, key: &Key, now: u64) -> Result<Vec<Out>, ShardFault>
         requires { now ≤ 2 ^ 62 }
         ensures local { self.new.local ≡ self.old.local }

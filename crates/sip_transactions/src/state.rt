@@ -3,17 +3,18 @@
 /// The state of a transaction that is held (RFC 3261 section 17, RFC 6026 section 7).
 #[derive(Clone, Copy, Debug, PartialEq, Eq)]
 pub enum State {
-    /// An INVITE client that has no response.
+    /// A client of an INVITE that has no response yet.
     Calling,
-    /// A transaction other than INVITE, without a provisional response.
+    /// A transaction of another request, without a provisional response so far.
     Trying,
-    /// A provisional response came or was sent, or an INVITE server has not answered.
+    /// A provisional response came or was sent; or a server of an INVITE, without a final response
+    /// so far.
     Proceeding,
-    /// A final response came or was sent; of an INVITE one that isn't a success.
+    /// A final response came or was sent; to an INVITE, one other than 2xx.
     Completed,
-    /// An INVITE was answered with success.
+    /// A 2xx to an INVITE came or was sent.
     Accepted,
-    /// An INVITE server got the ACK of its final response.
+    /// A server of an INVITE got the ACK of its final response other than 2xx.
     Confirmed,
 }
 

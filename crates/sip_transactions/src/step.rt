@@ -9,7 +9,7 @@ use crate::state::State;
 pub enum Next {
     /// The state stays.
     Same,
-    /// There is no state any more.
+    /// The transaction ends.
     Ended,
     /// The transaction is in this state.
     Become(State),
@@ -22,11 +22,11 @@ pub enum Handed {
     Nothing,
     /// The message that came.
     Message,
-    /// That no response came in time, or no ACK.
+    /// The report that no response came in time, or no ACK.
     Timeout,
-    /// That a send failed.
+    /// The report that a send failed.
     Failed,
-    /// That a response is dropped, since no transaction waits for it.
+    /// Nothing: the response is dropped, since no transaction waits for it.
     NoTransaction,
 }
 
@@ -63,7 +63,7 @@ pub enum Due {
     Keep,
     /// Nothing is due any more.
     Clear,
-    /// The end alone is due, after this time in milliseconds.
+    /// Only the end is due, after this time in milliseconds.
     Ending(u32),
     /// The repeat is due after T1, and the end after 64 times T1.
     Both,

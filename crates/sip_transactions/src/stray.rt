@@ -1,4 +1,4 @@
-//! Messages that came, each for its transaction, and responses to other senders.
+//! Which transaction a message is for, and responses to other senders.
 
 ghost use Rattle.std.specs.Prelude.{◌≡◌, IfOk};
 ghost use Rattle.sip_transactions.specs.Shard as spec;
@@ -8,7 +8,7 @@ use sip_message::{Addr, Id, Key, Message, is_sent_by, key_of};
 use sip_text::Boxed;
 use std::alloc::{AllocError, Global};
 
-/// Whether the message is a response whose top Via names another sender than the agent (RFC 3261
+/// Whether the message is a response whose top Via names a sender other than the agent (RFC 3261,
 /// section 18.1.2).
 pub fn is_stray(local: Addr, message: &Message) -> bool
     ensures { result ≡ spec.is_stray local message.now }
@@ -16,7 +16,7 @@ pub fn is_stray(local: Addr, message: &Message) -> bool
     !message.is_request() && !is_sent_by(message, local)
 }
 
-/// The key of the transaction that a message is for, and what it is to that one. A request is
+/// The key of the transaction that a message is for, and the input that it is to it. A request is
 /// stamped with its source, and its answers go to `reply_to`. A response to another sender is for
 /// none.
 pub fn received(

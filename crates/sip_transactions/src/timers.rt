@@ -8,14 +8,14 @@ use crate::step::{Due, Pace};
 use sip_timers::{LIFETIME, T1, earlier};
 use std::marker::Model;
 
-/// T2, the greatest interval where intervals are capped, in ms (RFC 3261, section 17.1.2.2; so is
-/// T4).
+/// T2, the greatest interval between retransmissions, in ms (T2 and T4: RFC 3261, section
+/// 17.1.2.2).
 pub const T2: u32 = 4_000;
 
 /// T4, how long a message may stay in the network, in ms: timers I and K.
 pub(crate) const T4: u32 = 5_000;
 
-/// At most one moment to send again, and at most one to end, in milliseconds.
+/// At most one moment at which to send again, and at most one at which to end, in milliseconds.
 #[derive(Drop)]
 pub struct Timers {
     repeat: Option<u64>,
@@ -49,28 +49,28 @@ impl Timers {
         }
     }
 
-    /// The moment at which something is due, if ever.
+    /// The next moment at which something is due, if any.
     pub fn first_due(&self) -> Option<u64>
         ensures { result ≡ first_due self.now }
     {
         earlier(self.ending, self.repeat)
     }
 
-    /// Whether the moment to end has come.
+    /// Whether the end is due.
     pub fn is_ending_due(&self, now: u64) -> bool
         ensures { result ≡ is_due now self.now.ending }
     {
         is_due(now, self.ending)
     }
 
-    /// Whether the moment to send again has come.
+    /// Whether the repeat is due.
     pub fn is_repeat_due(&self, now: u64) -> bool
         ensures { result ≡ is_due now self.now.repeat }
     {
         is_due(now, self.repeat)
     }
 
-    /// Takes the due moments after a row at a moment.
+    /// Changes the due moments as a row says that is taken at this moment.
     pub fn rearm(&mut self, due: Due, now: u64)
         requires bound { now ≤ 2 ^ 62 }
         requires timely { IsTimely due now self.old }

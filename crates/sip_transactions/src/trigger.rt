@@ -31,7 +31,7 @@ pub enum Trigger {
     RetransmitDue,
     /// The moment to end has come.
     TimeoutDue,
-    /// A send met a fault of the transport.
+    /// A send failed.
     Failed,
     /// A response came.
     Response(Class),
@@ -55,7 +55,7 @@ pub fn class_of(status: StatusCode) -> Class
     }
 }
 
-/// What an input at a moment is to a transaction, or a tick, where there is no input.
+/// What an input at a moment is to a transaction, or a tick if there is no input.
 pub fn trigger_of(held: Option<&Life>, now: u64, input: Option<&Input>) -> Option<Trigger>
     ensures value { result ≡ trigger_of (option_copied held.entry) now (option_copied input.entry) }
     ensures repeat { IfSome result

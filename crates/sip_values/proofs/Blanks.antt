@@ -36,7 +36,7 @@ start_past (b ∷ bs) rest blank =
     let both = and_parts (is_blank b) (list_all is_blank bs) blank in
     rw both.0 (start_past bs rest both.1)
 
--- what begins with another byte
+-- a text that begins with another byte
 pub starts_full : (b : ℕ) (bs : List ℕ) → is_blank b ≡ false → trimmed_start (b ∷ bs) ≡ b ∷ bs
 starts_full b bs full = rw full refl
 
@@ -69,7 +69,7 @@ end_is (c ∷ cs) gap full blank =
     let here : is_blank c ≡ false = not-true (is_blank c) both.0 in
     rw (and_left (is_blank c) (list_all is_blank (cs ++ gap)) here, end_is cs gap both.1 blank) refl
 
--- ---- a text whose end stays
+-- ---- a text whose end is no white space
 
 abbrev pub End : List ℕ → Type 0
 End text = trimmed_end text ≡ text
@@ -99,7 +99,7 @@ end_tail (b ∷ bs) rest e =
     (tail_end b (trimmed_end (bs ++ rest)) (bs ++ rest)
     (is_blank b && list_all is_blank (bs ++ rest)) e)
 
--- what stands behind one more byte
+-- one more byte in the middle
 pub end_behind_byte : (front : List ℕ) (b : ℕ) (rest : List ℕ) → End (front ++ (b ∷ rest))
     → End rest
 end_behind_byte front b rest e = end_tail (b ∷ []) rest (end_tail front (b ∷ rest) e)
@@ -140,7 +140,7 @@ trimmed_past [] gap blank = ap trimmed_end (nothing_starts gap blank)
 trimmed_past (b ∷ bs) gap blank =
     trimmed_by b bs gap (is_blank b) blank (trimmed_past bs gap blank)
 
--- ---- blanks round a word
+-- ---- blanks around a word
 
 pub record Around (text word : List ℕ) : Type 0 where
   pub front : List ℕ
@@ -168,7 +168,7 @@ around_trimmed front word back front_is back_is kept =
     ap trimmed_end (start_past front (word ++ back) front_is)
     ∙ trimmed_past word back back_is ∙ kept
 
--- a text of other bytes, and what stands behind it
+-- a text of other bytes, and what follows it
 pub full_starts : (word rest : List ℕ) → is_run (λ b. not (is_blank b)) word ≡ true
     → trimmed_start (word ++ rest) ≡ word ++ rest
 full_starts [] rest full = absurd cc

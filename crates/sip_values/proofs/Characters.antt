@@ -1,4 +1,4 @@
--- Which bytes don't stand in a token, a word, a URI, a host and so on.
+-- Which bytes don't occur in a token, a word, a URI, a host and so on.
 use Rattle.std.proofs.Common.{◌≡◌, ℕ, ◌≤◌, ◌<◌, ◌+◌, Bool, true, false, cond, not, eqb, ltb, List, [], ◌∷◌, refl, sym, ap, ◌∙◌, arith}
 use Rattle.std.specs.Char.{to_ascii_lowercase}
 use Rattle.std.specs.List.{list_all}
@@ -100,7 +100,7 @@ lower_other at lt b =
     (λ e. by_bool (ltb b 91) (λ r. eqb (cond r (b + 32) b) at ≡ eqb b at)
     (λ f. upper_other b at (ltb-false b 65 e) lt) (λ f. refl))
 
--- a byte below the letters stands in a text where it stands in the text in lower case
+-- a byte below the letters occurs in a text exactly if it occurs in the text in lower case
 pub lower_without : (at : ℕ) → at < 65 → (text : List ℕ)
     → has_no at (str_to_ascii_lowercase text) ≡ has_no at text
 lower_without at lt [] = refl

@@ -1,4 +1,4 @@
--- A Via value that is cut at its separators from left to right is its parts, one behind the other.
+-- A Via value that is cut at its separators from left to right consists of its parts, in order.
 use Rattle.std.proofs.Common.{◌≡◌, ◌<◌, inl, inr, ℕ, true, not, eqb, List, [], ◌∷◌, ◌++◌, codes, refl, sym, ap, subst, ◌∙◌, arith}
 use Rattle.std.specs.List.{list_all}
 use Rattle.std.specs.Str.{str_eq_ignore_ascii_case, str_to_ascii_lowercase}
@@ -92,7 +92,7 @@ record Before (via : ViaDraft) (text protocol slash version next_slash space res
   pub transport_is : is_token via.transport ≡ true
   pub space_is : is_run is_blank space ≡ true
 
--- they open no quote
+-- these parts open no quote
 open_after : (via : ViaDraft) (text protocol slash version next_slash space rest : List ℕ)
     → Before via text protocol slash version next_slash space rest
     → has_open_quote text ≡ has_open_quote rest
@@ -113,7 +113,7 @@ open_after via text protocol slash version next_slash space rest is =
     ∙ open_behind 44 space rest
     (blanks_pass (Byte 44) comma_clear space (run_all is_blank space is.space_is))
 
--- what stands behind the second slash keeps its end
+-- the end of what follows the second slash doesn't change
 hop_stays : (text protocol version hop : List ℕ)
     → trimmed text ≡ protocol ++ (47 ∷ (version ++ (47 ∷ hop))) → End hop
 hop_stays text protocol version hop parts =

@@ -1,4 +1,4 @@
--- A text is cut at a byte exactly where it stands for the first time.
+-- A text is cut at a byte exactly where the byte first occurs.
 use Rattle.std.proofs.Common.{◌≡◌, ℕ, Bool, true, false, List, [], ◌∷◌, ◌++◌, Some}
 use Rattle.std.specs.List.{list_all}
 use Rattle.sip_text.specs.Cut.{cut_at}

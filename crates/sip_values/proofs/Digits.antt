@@ -9,7 +9,7 @@ use Rattle.sip_text.specs.Number.{is_digits, number_of}
 use Rattle.sip_text.specs.declared.fault.TextFault.{TextFault}
 use Rattle.sip_text.specs.declared.fault.TextFault.TheVariants.{NotAToken, NumberTooLarge}
 
--- digits alone, with a value below the limit
+-- only digits, with a value below the limit
 abbrev pub is_number : ℕ → List ℕ → Bool
 is_number limit word = is_digits word && ltb (digits_value 10 word) limit
 

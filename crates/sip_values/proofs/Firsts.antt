@@ -13,7 +13,7 @@ use Rattle.sip_text.proofs.Separators.{cut_takes}
 use Rattle.sip_values.specs.Steps.First.{behind, ends, first, goes_on}
 use Rattle.sip_values.proofs.Passing.{Passes, cut_here, none_here}
 
--- ---- where no separator counts before it
+-- ---- no separator counts before it
 
 pub first_ends : {X : Type 0} (at : Separator) (f : List ℕ → Option X) (text : List ℕ) (x : X)
     → Passes at text → f text ≡ Some x → first at f text ≡ Some (x, None)
@@ -135,7 +135,7 @@ first_shorter at f text x rest e = by (cut_from at Plain text) refl e
     by (Some parts) cut e =
         shorter_by at text parts.0 parts.1 cut (f parts.0) x rest e
 
--- ---- by what stands behind it
+-- ---- by what follows it
 
 pub follows : (P : List ℕ → Option (List ℕ) → Type 0) (rest : List ℕ)
     (next : Option (List ℕ)) → behind 59 rest ≡ Some next → P [] None

@@ -1,4 +1,4 @@
--- Where a text is cut at one byte, and marks with blanks round them.
+-- Where a text is cut at one byte, and marks with blanks around them.
 use Rattle.std.proofs.Common.{◌≡◌, ℕ, Bool, true, false, cond, not, eqb, List, [], ◌∷◌, ◌++◌, Some, None, refl, sym, ap, subst, ◌∙◌, append_assoc}
 use Rattle.std.specs.Prelude.{option_and_then}
 use Rattle.std.specs.List.{list_all}
@@ -50,7 +50,7 @@ cut_at at front b rest text parts passes is = record {
   stops = ap (λ r. cond r None (Some (step at Plain b))) is;
 }
 
--- a separator that counts anywhere doesn't stand before the cut
+-- a separator that counts anywhere doesn't come before the cut
 pub none_before : (c : ℕ) (last : Place) (text : List ℕ)
     → place_after (Anywhere c) Plain text ≡ Some last → has_no c text ≡ true
 none_before c last [] e = refl
@@ -64,7 +64,7 @@ none_passes c text none =
     all_pass (Anywhere c) text (all_imply (λ b. not (eqb b c)) (clear (Anywhere c))
     (λ b p. rw (not-true (eqb b c) p) refl) text none)
 
--- ---- blanks round a text
+-- ---- blanks around a text
 
 abbrev pub BlanksClear : Separator → Type 0
 BlanksClear at = (b : ℕ) → is_blank b ≡ true → clear at b ≡ true
@@ -98,7 +98,7 @@ around_passes at clears text passes =
     (both_pass at (trimmed text) word.back passes
     (blanks_pass at clears word.back word.back_is)))
 
--- ---- marks, and what stands before and behind them
+-- ---- marks, and what comes before and after them
 
 pub mark_text : (mark : ℕ) (text : List ℕ) → IsMark mark text → Around text (mark ∷ [])
 mark_text mark text is = subst (λ (xs : List ℕ). Around text xs) is (around text)
@@ -114,7 +114,7 @@ pub mark_passes : (at : Separator) → BlanksClear at → (mark : ℕ) → Passe
 mark_passes at clears mark passes text is =
     around_passes at clears text (subst (λ (xs : List ℕ). Passes at xs) (sym is) passes)
 
--- the blanks behind a word and those behind a mark go to the mark
+-- the blanks before and after a mark are counted to the mark
 pub mark_regroup : (front word back : List ℕ) (mark : ℕ) (gap rest : List ℕ)
     → (front ++ (word ++ back)) ++ (mark ∷ (gap ++ rest))
     ≡ front ++ (word ++ ((back ++ (mark ∷ gap)) ++ rest))

@@ -94,7 +94,7 @@ class_passes test c own quote bracket text all =
     all_pass (Byte c) text (all_imply test (clear (Byte c))
     (byte_clear test c own quote bracket) text all)
 
--- the same of a byte that separates wherever it stands
+-- the same for a byte that separates wherever it occurs
 pub anywhere_clear : (test : ℕ → Bool) (c : ℕ) → test c ≡ false → (b : ℕ) → test b ≡ true
     → clear (Anywhere c) b ≡ true
 anywhere_clear test c own b passes = rw (full_at test b c own passes) refl
@@ -106,7 +106,7 @@ class_passes_blank test space tab text all =
     (λ b passes. rw (full_at test b 32 space passes, full_at test b 9 tab passes) refl) text
     all)
 
--- a byte that stands neither in a token nor in a value, nor is a quote
+-- a byte that occurs neither in a token nor in a value, and is no quote
 pub record Marks (c : ℕ) : Type 0 where
   pub token : is_token_byte c ≡ false
   pub value : is_value_byte c ≡ false
@@ -231,7 +231,7 @@ quote_ends false (b ∷ bs) e =
     by_byte further false false f g h =
         let more = further false h in (b ∷ more.0, ap (λ (xs : List ℕ). b ∷ xs) more.1)
 
--- its last byte is a quote
+-- the last byte of a quoted string is a quote
 pub quoted_ends : (text : List ℕ) → is_quoted text ≡ true
     → (front : List ℕ) × (text ≡ front ++ (34 ∷ []))
 quoted_ends text is =

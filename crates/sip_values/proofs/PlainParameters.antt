@@ -73,7 +73,7 @@ value_goes_on name value after token word =
     ∙ first_goes_on (Byte 59) parameter_from (name ++ (61 ∷ value)) 59 after (name, Some value)
     (both_passes name value token word) refl (valued name value token word)
 
--- ---- by what stands behind it
+-- ---- by what follows it
 
 pub name_first : (text name rest : List ℕ) (next : Option (List ℕ)) → text ≡ name ++ rest
     → is_token name ≡ true → behind 59 rest ≡ Some next

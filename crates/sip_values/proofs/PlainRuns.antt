@@ -6,7 +6,7 @@ use Rattle.sip_text.specs.Parameter.{is_value_byte, is_value_word}
 use Rattle.sip_text.specs.Token.{is_run, is_token, is_token_byte}
 use Rattle.sip_text.proofs.Runs.{run_passes, run_whole}
 
--- a text split behind its run, which isn't empty
+-- a text split after its run, which isn't empty
 pub record IsFront (test : ℕ → Bool) (text front rest : List ℕ) : Type 0 where
   pub parts : text ≡ front ++ rest
   pub run : is_run test front ≡ true

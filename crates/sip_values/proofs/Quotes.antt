@@ -16,7 +16,7 @@ use Rattle.sip_values.proofs.Blanks.{start_gap, end_gap}
 use Rattle.sip_values.proofs.Characters.{full_at}
 use Rattle.sip_values.proofs.Passing.{Passes, class_passes}
 
--- what has no separator outside quotes and brackets ends outside of these
+-- a text without a separator outside quotes and brackets ends outside of these
 pub place_is : (c : ℕ) (place last : Place) (text : List ℕ)
     → place_after (Byte c) place text ≡ Some last → fold after place text ≡ last
 place_is c place last [] e = cc
@@ -34,7 +34,7 @@ place_is c place last (b ∷ bs) e =
     stepped Escaped q is = cc
     stepped Bracketed q is = cc
 
--- what stands behind such a text
+-- what follows such a text
 pub open_behind : (c : ℕ) (front rest : List ℕ) → Passes (Byte c) front
     → has_open_quote (front ++ rest) ≡ has_open_quote rest
 unfolding has_open_quote

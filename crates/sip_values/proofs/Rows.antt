@@ -1,4 +1,5 @@
--- Each value of a header is read as it stands in its form: the proof is composed as the form is.
+-- A text is a value of a header exactly if it is read as that value. Each proof is put together
+-- like its form.
 use Rattle.std.proofs.Common.{ℕ, Bool, List, [], codes}
 use Rattle.sip_text.specs.Forms.{Guarded}
 use Rattle.sip_text.specs.Token.{is_token}

@@ -1,5 +1,4 @@
--- A host, its port and the parameters behind them, cut from left to right, are parts one behind the
--- other.
+-- A host, its port and the parameters after them, cut from left to right, are the parts in order.
 use Rattle.std.proofs.Common.{◌≡◌, inl, inr, ℕ, true, not, eqb, List, [], ◌∷◌, ◌++◌, Option, Some, None, refl, sym, ap, subst, ◌∙◌, append_assoc}
 use Rattle.std.specs.List.{list_all}
 use Rattle.std.proofs.lemmas.Bool.{and_parts, eqb-true}
@@ -24,20 +23,20 @@ use Rattle.sip_values.proofs.WrittenBytes.{solid_kept, word_solid}
 
 -- ---- the forms by cuts
 
--- a host, with blanks allowed round it
+-- a host, with blanks allowed around it
 abbrev pub HostCut : List ℕ → List ℕ → Type 0
 HostCut host text = Of (Passing is_host) trimmed host text
 
--- a port, with blanks allowed round it
+-- a port, with blanks allowed around it
 abbrev pub PortCut : Numeral → List ℕ → Type 0
 PortCut port text = Of IsNumeral trimmed port text
 
--- a host, a colon outside brackets and a port, or a host alone
+-- a host, a colon outside brackets and a port, or only a host
 abbrev pub SentByCut : SentBy → List ℕ → Type 0
 SentByCut sent_by text = OnCut Colon (Told with_port (Both HostCut PortCut))
     (Told without_port HostCut) sent_by text
 
--- the same, and parameters behind the first semicolon
+-- the same, and parameters after the first semicolon
 abbrev pub EndCut : SentBy × List Parameter → List ℕ → Type 0
 EndCut end text = OnCut (Anywhere 59) (Both SentByCut ManyParameters)
     (Told sent_by_alone SentByCut) end text

@@ -1,4 +1,4 @@
--- The transport of a Via value and what stands behind it, cut at its separators and as its parts.
+-- The transport of a Via value and what follows it: cut at separators, and as parts.
 use Rattle.std.proofs.Common.{◌≡◌, inl, inr, ℕ, Bool, true, not, List, [], ◌∷◌, ◌++◌, refl, sym, ap, subst, ◌∙◌, append_assoc}
 use Rattle.std.specs.List.{list_all}
 use Rattle.std.proofs.lemmas.Bool.{and_parts, and_from}
@@ -24,7 +24,7 @@ use Rattle.sip_values.proofs.Quotes.{open_behind}
 use Rattle.sip_values.proofs.SentBys.{EndCut, EndParts, end_parts, end_cut}
 use Rattle.sip_values.proofs.WrittenBytes.{is_solid, solid_full}
 
--- the transport, a blank, and what stands behind it
+-- the transport, a blank, and what follows it
 abbrev pub HopCut : ViaDraft → List ℕ → Type 0
 HopCut via text =
     OnCut Blank (Told via_of (Both (Passing is_token) (Of (Guarded is_closed EndCut) trimmed)))
@@ -56,7 +56,7 @@ hop_parts via text (inl p) =
       end_is = end_parts told.0.1 (trimmed p.0.1) told.2.1.1;
     })
 
--- what stands behind the second slash
+-- what follows the second slash
 pub record HopText (via : ViaDraft) (text : List ℕ) : Type 0 where
   pub gap : List ℕ
   pub space : List ℕ
@@ -125,7 +125,7 @@ host_is_full [] is = absurd cc
 host_is_full (b ∷ bs) is =
     all_imply is_solid (λ c. not (is_blank c)) solid_full (b ∷ bs) (host_solid (b ∷ bs) is)
 
--- behind the first blank other blanks may stand
+-- more blanks may follow the first one
 space_cut : (via : ViaDraft) (text space rest : List ℕ) → is_token via.transport ≡ true
     → is_run is_blank space ≡ true → text ≡ via.transport ++ (space ++ rest)
     → trimmed_start rest ≡ rest → End rest

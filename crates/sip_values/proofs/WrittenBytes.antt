@@ -105,7 +105,7 @@ some_full : (b : ℕ) (bs : List ℕ) (r : Bool) → cond r [] (b ∷ trimmed_en
 some_full b bs true e = absurd cc
 some_full b bs false e = refl
 
--- what ends in a text whose end stays
+-- a longer text keeps its end if its last part does
 pub longer_end : (front : List ℕ) (b : ℕ) (bs : List ℕ) → trimmed_end (b ∷ bs) ≡ b ∷ bs
     → trimmed_end (front ++ (b ∷ bs)) ≡ front ++ (b ∷ bs)
 longer_end [] b bs e = e

@@ -19,7 +19,7 @@ Target = List ℕ × List Parameter
 
 -- ---- the parts
 
--- a URI, with blanks allowed round it
+-- a URI, with blanks allowed around it
 abbrev pub UriText : List ℕ → List ℕ → Type 0
 UriText uri text = Of (Passing is_uri) trimmed uri text
 
@@ -31,15 +31,16 @@ uri_from text = reading_of (passing is_uri) trimmed text
 abbrev pub uri_before_bracket : List ℕ → Option (List ℕ × List ℕ)
 uri_before_bracket text = on_cut (Byte 62) (both uri_from (λ rest. Some rest)) never text
 
--- behind `<`: a URI, `>` and parameters
+-- after `<`: a URI, `>` and parameters
 abbrev pub Bracketed : Target → List ℕ → Type 0
 Bracketed target text = OnCut (Byte 62) (Both UriText AllParameters) Never target text
 
--- what reading the part behind `<` finds
+-- what reading the part after `<` finds
 abbrev pub bracketed_from : List ℕ → Option Target
 bracketed_from text = on_cut (Byte 62) (both uri_from all_parameters) never text
 
--- A URI alone, and parameters. All that stands behind the first semicolon belongs to the header.
+-- A URI without brackets, and parameters. All that follows the first semicolon belongs to the
+-- header.
 abbrev pub Bare : Target → List ℕ → Type 0
 Bare target text =
     OnCut (Byte 59) (Both UriText ManyParameters) (Told (λ uri. (uri, [])) UriText) target text
@@ -49,7 +50,7 @@ abbrev pub bare_from : List ℕ → Option Target
 bare_from text =
     on_cut (Byte 59) (both uri_from many_parameters) (told (λ uri. (uri, [])) uri_from) text
 
--- the display text before `<`, with blanks allowed round it
+-- the display text before `<`, with blanks allowed around it
 abbrev pub Display : (List ℕ → Bool) → List ℕ → List ℕ → Type 0
 Display is_display display text = Of (Passing is_display) trimmed display text
 
@@ -57,7 +58,7 @@ Display is_display display text = Of (Passing is_display) trimmed display text
 abbrev pub display_from : (List ℕ → Bool) → List ℕ → Option (List ℕ)
 display_from is_display text = reading_of (passing is_display) trimmed text
 
--- a display text, `<`, a URI, `>` and parameters; or a URI alone and parameters
+-- a display text, `<`, a URI, `>` and parameters; or a URI without brackets and parameters
 abbrev pub Address : (List ℕ → Bool) → List ℕ × Target → List ℕ → Type 0
 Address is_display address text =
     OnCut (Byte 60) (Both (Display is_display) Bracketed) (Told (λ target. ([], target)) Bare)
@@ -101,7 +102,7 @@ IsNameAddr address text = Told name_addr_of (Address is_display_text) address te
 abbrev pub name_addr_from : List ℕ → Option NameAddr
 name_addr_from text = told name_addr_of (address_from is_display_text) text
 
--- split at commas outside quotes and angle brackets
+-- addresses between commas, which count outside quotes and angle brackets
 abbrev pub AreNameAddrs : List NameAddr → List ℕ → Type 0
 AreNameAddrs addresses text = Split (Byte 44) IsNameAddr addresses text
 

@@ -8,7 +8,7 @@ use Rattle.sip_parts.specs.Word.{is_word}
 use Rattle.sip_values.specs.declared.numeral.Numeral.{Numeral}
 use Rattle.sip_values.specs.declared.numeral.Numeral.TheVariants.{Number, NotANumber}
 
--- the number that a word of digits stands for, or that it stands for none
+-- the number that a word stands for, or that it stands for none
 abbrev pub numeral : List ℕ → Numeral
 numeral word = option_map_or Number (result_ok (number_of word)) NotANumber
 

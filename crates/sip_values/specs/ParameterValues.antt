@@ -25,10 +25,10 @@ ManyParameters parameters text = Split (Byte 59) OneParameter parameters text
 abbrev pub many_parameters : List ℕ → Option (List Parameter)
 many_parameters text = split (Byte 59) one_parameter text
 
--- none, or a semicolon and such parameters
+-- no parameters, or a semicolon and such parameters
 abbrev pub AllParameters : List Parameter → List ℕ → Type 0
 AllParameters parameters text = Parameters OneParameter parameters text
 
--- what reading nothing, or parameters that each stand behind a semicolon, finds
+-- what reading nothing, or parameters that each follow a semicolon, finds
 abbrev pub all_parameters : List ℕ → Option (List Parameter)
 all_parameters text = parameters_from one_parameter text

@@ -13,7 +13,7 @@ use Rattle.sip_values.specs.Numeral.{IsNumeral, numeral_from}
 
 -- ---- tokens
 
--- a token, with blanks allowed round it
+-- a token, with blanks allowed around it
 abbrev pub IsTokenText : List ℕ → List ℕ → Type 0
 IsTokenText token text = Of (Passing is_token) trimmed token text
 

@@ -18,12 +18,12 @@ use Rattle.sip_values.specs.ParameterValues.{AllParameters, many_parameters}
 
 -- ---- the text of a Via value
 
--- this mark, with blanks allowed round it
+-- this mark, with blanks allowed around it
 abbrev pub IsMark : ℕ → List ℕ → Type 0
 IsMark mark text = trimmed text ≡ mark ∷ []
 
--- A colon and the word of a port, in which no semicolon stands: neither quotes nor `<` hide one in
--- the place of a port.
+-- A colon and the word of a port. The word has no semicolon: neither quotes nor `<` hide one in the
+-- place of a port.
 pub record IsPort (port : Numeral) (text : List ℕ) : Type 0 where
   pub colon : List ℕ
   pub word : List ℕ
@@ -32,13 +32,13 @@ pub record IsPort (port : Numeral) (text : List ℕ) : Type 0 where
   pub word_is : IsNumeral port word
   pub no_semicolon : IsTrue (has_no 59 word)
 
--- that, or nothing
+-- a colon and a port, or nothing
 abbrev pub IsPortPart : Option Numeral → List ℕ → Type 0
 IsPortPart None text = text ≡ []
 IsPortPart (Some port) text = IsPort port text
 
 -- One Via value: `SIP`, a slash, `2.0`, a slash, the transport, white space, the host, and the port
--- and the parameters where they are given.
+-- and the parameters, if given.
 pub record IsVia (via : ViaDraft) (text : List ℕ) : Type 0 where
   pub protocol : List ℕ
   pub slash : List ℕ
@@ -66,7 +66,7 @@ AreVias vias text = Split (Byte 44) IsVia vias text
 
 -- ---- what reading from left to right finds
 
--- a host, and a word in the place of its port, where there is one
+-- a host, and a word in the place of its port, if there is one
 abbrev pub SentBy : Type 0
 SentBy = List ℕ × Option Numeral
 
@@ -86,7 +86,7 @@ with_port parts = (parts.0, Some parts.1)
 abbrev pub without_port : List ℕ → SentBy
 without_port host = (host, None)
 
--- what reading a sent-by finds: a host, a colon outside brackets and a port, or a host alone
+-- what reading a sent-by finds: a host, a colon outside brackets and a port, or only a host
 abbrev pub sent_by_from : List ℕ → Option SentBy
 sent_by_from text =
     on_cut Colon (told with_port (both host_from port_from)) (told without_port host_from) text
@@ -121,16 +121,16 @@ via_of parts = record {
 abbrev pub transport_from : List ℕ → Option (List ℕ × List ℕ)
 transport_from text = on_cut Blank (both (passing is_token) (λ rest. Some rest)) never text
 
--- what reading the transport and what follows it finds
+-- what reading the transport and the rest of the value finds
 abbrev pub hop_from : List ℕ → Option ViaDraft
 hop_from text = on_cut Blank (told via_of (both (passing is_token) (reading_of end_from trimmed)))
     never text
 
--- this word, in any case of its letters, with blanks allowed round it
+-- this word, in any case of its letters, with blanks allowed around it
 abbrev pub is_like : List ℕ → List ℕ → Bool
 is_like word text = str_eq_ignore_ascii_case (trimmed text) word
 
--- what reading the version and what follows it finds
+-- what reading the version and the rest of the value finds
 abbrev pub behind_protocol_from : List ℕ → Option ViaDraft
 behind_protocol_from text =
     on_cut (Byte 47) (behind (is_like (codes "2.0")) (reading_of hop_from trimmed)) never text

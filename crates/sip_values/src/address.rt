@@ -52,7 +52,7 @@ impl Row for AddressListRow {
 /// A URI and parameters.
 pub(crate) type Target = (Uri, Series<Parameter>);
 
-/// A display text and what stands in brackets, or what stands without brackets.
+/// A display text and a part in brackets, or an address without brackets.
 pub(crate) fn address_in<R: Rule>(
     alloc: Global,
     text: &[u8],
@@ -76,7 +76,7 @@ pub(crate) fn address_in<R: Rule>(
     Ok(Some((display, target)))
 }
 
-/// Behind `<`: a URI, `>` and parameters.
+/// After `<`: a URI, `>` and parameters.
 pub(crate) fn bracketed_in(alloc: Global, text: &[u8]) -> Result<Option<Target>, AllocError>
     ensures { IfOk result (λ made. made ≡ values.bracketed_from text.now) }
 {
@@ -109,7 +109,7 @@ fn cut_at_bracket(text: &[u8]) -> Option<(&[u8], &[u8])>
     if is_uri(uri) { Some((uri, rest)) } else { None }
 }
 
-/// A URI alone, and parameters.
+/// A URI without brackets, and parameters.
 pub(crate) fn bare_in(alloc: Global, text: &[u8]) -> Result<Option<Target>, AllocError>
     ensures { IfOk result (λ made. made ≡ values.bare_from text.now) }
 {

@@ -1,4 +1,4 @@
-//! Each value of a header stands in its form exactly where reading from left to right finds it.
+//! A text is a value of a header exactly if reading it from left to right finds that value.
 ghost use Rattle.std.specs.Prelude.{◌≡◌, ◌↔◌, ◌^◌, ℕ, List, Some};
 ghost use Rattle.sip_message.specs.declared.name_addr.NameAddr.{NameAddr};
 ghost use Rattle.sip_message.specs.declared.party.Party.{Party};
@@ -11,43 +11,43 @@ ghost use Rattle.sip_values.specs.declared.sequence.CSeqDraft.{CSeqDraft};
 ghost use Rattle.sip_values.specs.declared.sequence.RAckDraft.{RAckDraft};
 ghost use Rattle.sip_values.specs.declared.via.ViaDraft.{ViaDraft};
 
-/// A text is one From or To at most: what reading from left to right gives.
+/// A text is at most one From or To: what reading from left to right gives.
 pub fn one_party()
     ensures { (text : List ℕ) (x : Party) → (address.party_from text ≡ Some x)
         ↔ address.IsPartyText x text }
 {}
 
-/// A text is one list of addresses at most: what reading from left to right gives.
+/// A text is at most one list of addresses: what reading from left to right gives.
 pub fn one_list_of_addresses()
     ensures { (text : List ℕ) (x : List NameAddr) → (address.name_addrs_from text ≡ Some x)
         ↔ address.AreNameAddrs x text }
 {}
 
-/// A text is one list of Via values at most: what reading from left to right gives.
+/// A text is at most one list of Via values: what reading from left to right gives.
 pub fn one_list_of_vias()
     ensures { (text : List ℕ) (x : List ViaDraft) → (via.vias_from text ≡ Some x)
         ↔ via.AreVias x text }
 {}
 
-/// A text is one list of option tags at most: what reading from left to right gives.
+/// A text is at most one list of option tags: what reading from left to right gives.
 pub fn one_list_of_tokens()
     ensures { (text : List ℕ) (x : List (List ℕ)) → (sequence.tokens_from text ≡ Some x)
         ↔ sequence.AreTokens x text }
 {}
 
-/// A text is one CSeq at most: what reading from left to right gives.
+/// A text is at most one CSeq: what reading from left to right gives.
 pub fn one_cseq()
     ensures { (text : List ℕ) (x : CSeqDraft) → (sequence.cseq_from text ≡ Some x)
         ↔ sequence.IsCSeqText x text }
 {}
 
-/// A text is one RAck at most: what reading from left to right gives.
+/// A text is at most one RAck: what reading from left to right gives.
 pub fn one_rack()
     ensures { (text : List ℕ) (x : RAckDraft) → (sequence.rack_from text ≡ Some x)
         ↔ sequence.IsRAckText x text }
 {}
 
-/// A text is one word for a number at most: what reading from left to right gives.
+/// A text is at most one word for a number: what reading from left to right gives.
 pub fn one_number()
     ensures { (text : List ℕ) (x : Numeral) → (numeral_from text ≡ Some x)
         ↔ IsNumeral x text }

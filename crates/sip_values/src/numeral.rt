@@ -10,9 +10,9 @@ use std::alloc::{AllocError, Global};
 /// A word in the place of a number.
 #[derive(Clone, Copy, Debug, PartialEq, Eq)]
 pub enum Numeral {
-    /// Digits, and the number that they stand for.
+    /// Digits; the number that they stand for.
     Number(u32),
-    /// Not all digits, or too large a number.
+    /// Not only digits, or a number that is too large.
     NotANumber,
 }
 
@@ -31,7 +31,7 @@ impl Row for NumberRow {
     }
 }
 
-/// The word as a number, or None where the text isn't a word.
+/// The word as a number, or None if the text isn't a word.
 pub(crate) fn numeral_in(text: &[u8]) -> Option<Numeral>
     ensures { result ≡ numerals.numeral_from text.now }
 {

@@ -50,7 +50,7 @@ fn owned(alloc: Global, text: ParameterText<'_>) -> Result<Parameter, AllocError
     })
 }
 
-/// Nothing, or parameters, each behind a semicolon.
+/// Nothing, or parameters, each after a semicolon.
 pub(crate) fn parameters_behind(
     alloc: Global,
     text: &[u8],
@@ -64,7 +64,7 @@ pub(crate) fn parameters_behind(
     }
 }
 
-/// The same, where white space may stand before the first semicolon.
+/// The same, with white space allowed before the first semicolon.
 fn parameters_behind_blanks(
     alloc: Global,
     text: &[u8],
@@ -103,7 +103,7 @@ pub(crate) fn parameters_between(
     Ok(None)
 }
 
-/// A parameter, and what stands behind its semicolon, where there is one.
+/// A parameter, and what follows its semicolon, if there is one.
 type FirstParameter<'a> = (ParameterText<'a>, Option<&'a [u8]>);
 
 /// The first of several parameters.
@@ -133,7 +133,7 @@ fn cut_parameter(text: &[u8]) -> Option<FirstParameter<'_>>
     }
 }
 
-/// The same in one pass. None where white space or a quote stands in it, or it is no parameter.
+/// The same in one pass. None if it has white space or a quote, or is no parameter.
 fn plain_parameter(text: &[u8]) -> Option<FirstParameter<'_>>
     ensures exact { IfSome result (λ found. first (separator.Byte 59) parameter_from text.now
         ≡ Some (first_now parameter_now found)) }
@@ -152,7 +152,7 @@ fn plain_parameter(text: &[u8]) -> Option<FirstParameter<'_>>
     Some((ParameterText { name, value: None }, after))
 }
 
-/// The same, where `=` stands behind the name.
+/// The same if `=` follows the name.
 fn plain_value<'a>(name: &'a [u8], text: &'a [u8]) -> Option<FirstParameter<'a>>
     requires { IsTrue (is_token name.now) }
     ensures exact { IfSome result (λ found.
@@ -171,8 +171,8 @@ fn plain_value<'a>(name: &'a [u8], text: &'a [u8]) -> Option<FirstParameter<'a>>
     Some((ParameterText { name, value }, after))
 }
 
-/// Nothing at the end of the text, or what stands behind a semicolon; None where the text begins
-/// with another byte.
+/// Nothing at the end of the text, or what follows a semicolon; None if the text begins with
+/// another byte.
 pub(crate) fn behind_semicolon(text: &[u8]) -> Option<Option<&[u8]>>
     ensures { option_map option_copied result ≡ behind 59 text.now }
 {

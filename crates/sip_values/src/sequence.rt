@@ -2,19 +2,19 @@
 ghost use Rattle.std.specs.Prelude.{◌≡◌};
 
 use crate::numeral::{Numeral, numeral_in};
-use crate::row::{Row, checked_in};
-use sip_parts::{Token, TokenRule};
+use crate::row::{Row, token_in};
+use sip_parts::Token;
 use sip_text::{Separator, trimmed};
 use std::alloc::{AllocError, Global};
 
-/// A CSeq, whose number may be none.
+/// A CSeq. The word in the place of its number may be no number.
 #[derive(Drop)]
 pub struct CSeqDraft {
     pub number: Numeral,
     pub method: Token,
 }
 
-/// A RAck, whose numbers may be none.
+/// A RAck. The words in the places of its numbers may be no numbers.
 #[derive(Drop)]
 pub struct RAckDraft {
     pub rseq: Numeral,
@@ -39,7 +39,7 @@ impl Row for CSeqRow {
         let Some(number) = numeral_in(number) else {
             return Ok(None);
         };
-        let Some(method) = checked_in::<TokenRule>(alloc, rest)? else {
+        let Some(method) = token_in(alloc, rest)? else {
             return Ok(None);
         };
         Ok(Some(CSeqDraft { number, method }))

@@ -1,7 +1,7 @@
 //! Require and Supported (RFC 3261, sections 20.32 and 20.37).
 ghost use Rattle.std.specs.Prelude.{◌≡◌};
 
-use crate::row::{Row, checked_in, split_of};
+use crate::row::{Row, split_of, token_in};
 use sip_parts::Token;
 use sip_text::{Separator, Series};
 use std::alloc::{AllocError, Global};
@@ -17,7 +17,7 @@ impl Row for TokenRow {
     ghost reads = { token_from };
 
     fn read(alloc: Global, text: &[u8]) -> Result<Option<Token>, AllocError> {
-        checked_in(alloc, text)
+        token_in(alloc, text)
     }
 }
 

@@ -17,7 +17,7 @@ use sip_text::{
 };
 use std::alloc::{AllocError, Global};
 
-/// One value of a Via, whose port may be no number.
+/// One value of a Via. The word in the place of its port may be no number.
 #[derive(Drop)]
 pub struct ViaDraft {
     pub transport: Token,
@@ -26,7 +26,7 @@ pub struct ViaDraft {
     pub parameters: Series<Parameter>,
 }
 
-/// What stands before the transport, where it is written without white space.
+/// What comes before the transport, if it is written without white space.
 const PROTOCOL: &[u8] = b"SIP/2.0/";
 
 /// One value of a Via.
@@ -63,7 +63,7 @@ impl Row for ViaListRow {
     }
 }
 
-/// The same, where white space may stand round the slashes, and the letters may have any case.
+/// The same, with white space allowed around the slashes, and letters in any case.
 fn spaced_in(alloc: Global, text: &[u8]) -> Result<Option<ViaDraft>, AllocError>
     ensures { IfOk result (λ made. made ≡ values.protocol_from text.now) }
 {
@@ -88,7 +88,7 @@ fn behind_protocol(alloc: Global, text: &[u8]) -> Result<Option<ViaDraft>, Alloc
     hop_in(alloc, trimmed(rest))
 }
 
-/// The transport, white space, and what stands behind it.
+/// The transport, white space, and what follows it.
 fn hop_in(alloc: Global, text: &[u8]) -> Result<Option<ViaDraft>, AllocError>
     ensures { IfOk result (λ made. made ≡ values.hop_from text.now) }
 {
@@ -153,13 +153,13 @@ fn end_in(
     Ok(Some(((host, port), parameters)))
 }
 
-/// A host, and a word in its port's place, where there is one.
+/// A host, and a word in its port's place, if there is one.
 type SentByDraft = (Host, Option<Numeral>);
 
-/// The same as they stand in a text.
+/// The same as parts of a text.
 type SentByText<'a> = (&'a [u8], Option<Numeral>);
 
-/// The host and the port, and what stands behind the first semicolon, where there is one.
+/// The host and the port, and what follows the first semicolon, if there is one.
 fn first_sent_by(text: &[u8]) -> Option<(SentByText<'_>, Option<&[u8]>)>
     ensures exact { option_map (first_now values.sent_by_now) result
         ≡ first (separator.Anywhere 59) values.sent_by_from text.now }
@@ -182,8 +182,8 @@ fn cut_sent_by(text: &[u8]) -> Option<(SentByText<'_>, Option<&[u8]>)>
     }
 }
 
-/// The same in one pass. None where white space stands in it, the host has brackets, or it is no
-/// host and port.
+/// The same in one pass. None if it has white space, the host has brackets, or it is no host and
+/// port.
 fn plain_sent_by(text: &[u8]) -> Option<(SentByText<'_>, Option<&[u8]>)>
     ensures exact { IfSome result (λ found. first (separator.Anywhere 59) values.sent_by_from
         text.now
@@ -201,7 +201,7 @@ fn plain_sent_by(text: &[u8]) -> Option<(SentByText<'_>, Option<&[u8]>)>
     Some(((host, None), after))
 }
 
-/// The same, where a colon stands behind the host.
+/// The same if a colon follows the host.
 fn plain_port<'a>(host: &'a [u8], text: &'a [u8]) -> Option<(SentByText<'a>, Option<&'a [u8]>)>
     requires { is_run is_host_byte host.now ≡ true }
     ensures exact { IfSome result (λ found.

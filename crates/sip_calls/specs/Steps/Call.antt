@@ -32,7 +32,7 @@ use Rattle.sip_timers.specs.Earlier.{earlier}
 use Rattle.sip_served.specs.Tick as served
 use Rattle.sip_clients.specs.Tick as clients
 
--- one thing after another
+-- one thing happens, and then another
 abbrev pub one_after_other : CallTaken → (Call → CallTaken) → CallTaken
 one_after_other done more = ((more done.0).0, done.1 ++ (more done.0).1)
 
@@ -43,7 +43,7 @@ abbrev pub served_taken : Call → Event → AnUp → Kind → CallTaken
 served_taken call event up kind =
     by_server call (kind_taken call.served (made_tag event) up kind event.moment)
 
--- that a transaction is lost is told, and then what ends with its request ends
+-- a transaction is lost: the user is told, and then what ends with its request ends
 abbrev pub lost_taken : Call → Id → ANotice → Bool → CallTaken
 lost_taken call id notice timed_out =
     one_after_other (call, Notice notice ∷ []) (λ call. by_clients call
@@ -62,7 +62,7 @@ up_taken call event up kind.Failed = lost_taken call up.id (Failed up.call_id up
 
 -- ---- commands of the user
 
--- where nothing is held, only a first request is sent
+-- a command while nothing is held: only a first request is sent
 abbrev pub first_command_taken : Call → Event → UserCommand → CallTaken
 first_command_taken call event (Invite invite) =
     with_clients call (invite_taken event invite call.clients)
@@ -76,7 +76,7 @@ first_command_taken call event (Ack ack) = (call, refused event.id ack.call_id N
 first_command_taken call event (Prack prack) = (call, refused event.id prack.call_id NoSuchCall)
 first_command_taken call event (Cancel cancel) = (call, refused event.id cancel.call_id NoSuchCall)
 
--- where something is held, no first request is
+-- a command while something is held: no first request is sent
 abbrev pub command_taken : Call → Event → UserCommand → CallTaken
 command_taken call event (Invite invite) = (call, refused event.id invite.call_id CallInUse)
 command_taken call event (Plain plain) = (call, refused event.id plain.call_id CallInUse)
@@ -114,13 +114,13 @@ abbrev pub next_due : Call → Option ℕ
 next_due call =
     earlier (served.next_server_due call.served) (clients.next_removal call.clients)
 
--- the moment at which something is due of a call; one under which nothing is held is over at once
+-- the moment at which something of a call is due (0 if nothing is held, since such a call is over)
 abbrev pub due_taken : Call → Option ℕ
 due_taken call = if holds_any call then next_due call else Some 0
 
 -- ---- all of it
 
--- what an item makes of a call, or, without one, that time goes on
+-- a call after an item, or, without one, after a tick
 abbrev pub step_taken : Calls → Option Call → Option CallItem → ℕ → Taken
 step_taken calls None None now = (None, [])
 step_taken calls None (Some (id, item)) now =

@@ -1,5 +1,5 @@
--- The rules of how a client request ends: by its last response, lost, or at a tick (RFC 3261,
--- sections 12.2.1.2 and 13.2.2.4).
+-- The rules of how a client request ends: by its last response, by a failure or timeout, or at a
+-- tick (RFC 3261, sections 12.2.1.2 and 13.2.2.4).
 use Rattle.std.specs.Prelude.{ℕ, Bool, false, not, ◌&&◌, nat_le, List, [], ◌++◌, Option, None, filter, fold, if◌then◌else◌}
 use Rattle.std.specs.List.{flat_map, list_any}
 use Rattle.std.specs.Map.{lookup, remove_entry, values_of}
@@ -14,8 +14,8 @@ use Rattle.sip_clients.specs.declared.client.Client.{Client}
 use Rattle.sip_clients.specs.Client.{Clients, ClientTaken, Side}
 use Rattle.sip_clients.specs.Rules.Requests.{dialog_of_kind}
 
--- The early dialogs that a request made end with it. Where `ends_dialog`, the dialog that it was
--- sent in ends too, if it is held still (RFC 3261, section 12.2.1.2).
+-- The early dialogs that a request made end with it (RFC 3261, section 13.2.2.3). If `ends_dialog`,
+-- so does the dialog that it was sent in, if that is still held (section 12.2.1.2).
 abbrev pub request_over : Client → Bool → Dialogs → Dialogs × List CallOut
 request_over client ends_dialog dialogs =
     let early = early_ended client.id dialogs in
@@ -24,8 +24,8 @@ request_over client ends_dialog dialogs =
     (dialog_of_kind client.kind) (early.0, []) in
     (own.0, early.1 ++ own.1)
 
--- The transaction of a request failed to send it, or timed out: it is over. A timeout counts as a
--- 408 (RFC 3261, section 8.1.3.1) and ends the dialog that it was sent in too.
+-- The transaction of a request failed to send it (as a 503), or timed out (as a 408; RFC 3261,
+-- section 8.1.3.1): it is over. A timeout also ends the dialog that it was sent in.
 unfoldable pub request_is_lost : Id → Bool → Side → ClientTaken
 request_is_lost id timed_out side =
     let ended = option_map_or (λ client. request_over client timed_out side.dialogs)
@@ -36,8 +36,8 @@ request_is_lost id timed_out side =
 abbrev pub is_over : ℕ → Client → Bool
 is_over now client = option_map_or (λ moment. nat_le moment now) client.removal false
 
--- At a tick such INVITEs are removed, and their dialogs that are early still end: these are taken
--- out at once, and their ends are told INVITE by INVITE.
+-- A tick removes such INVITEs, and those of their dialogs that are still early end. These are all
+-- taken out first; then their ends are told, INVITE by INVITE.
 unfoldable pub client_tick : Side → ℕ → ClientTaken
 client_tick side now =
     let over = filter (is_over now) (values_of side.clients) in
@@ -51,6 +51,6 @@ client_tick side now =
 
 -- ---- for steps and laws: `run` needs nothing of what follows
 
--- the first moment at which one is due to be removed
+-- the first moment at which an INVITE is over
 unfoldable pub client_due : Clients → Option ℕ
 client_due clients = fold (λ due client. earlier due client.removal) None (values_of clients)

@@ -1,6 +1,6 @@
 -- The rules of the client requests of one Call-ID, and of the user's commands that send them (RFC
 -- 3261, sections 8.1.1, 9.1, 12.2.1.1, 13.2.1, 13.2.2.4 and 15.1.1; RFC 3262, section 4). Each part
--- ends in the command that it is about.
+-- ends with the command that it is about.
 use Rattle.std.specs.Prelude.{ℕ, ◌+◌, ◌-◌, ◌^◌, Bool, true, false, not, ◌&&◌, ◌||◌, ◌==◌, nat_le, List, [], ◌∷◌, ◌++◌, Option, None, Some, codes, filter, find, fold, is_some, if◌then◌else◌}
 use Rattle.std.specs.Map.{lookup, set_value}
 use Rattle.std.specs.Option.{option_map_or}
@@ -76,7 +76,7 @@ dialog_of_kind (ReInvite reference) = Some reference
 dialog_of_kind (InDialog reference) = Some reference
 dialog_of_kind _ = None
 
--- A client request is held, and its transaction starts (RFC 3261, section 17.1).
+-- To (clients, outs): a client request is held, its transaction starts (RFC 3261, section 17.1).
 abbrev pub start : Clients × List CallOut → Client → Clients × List CallOut
 start done client = (
   insert_entry is_id done.0 client.id client,
@@ -91,7 +91,7 @@ refuse event call_id side refusal = (side, refused event.id call_id refusal)
 
 -- ---- outside of dialogs
 
--- the request of this method (RFC 3261, section 8.1.1), with the routes that are known before
+-- the request of this method (RFC 3261, section 8.1.1), with the preloaded routes
 abbrev pub request_outside : Event → List ℕ → List ℕ → List ℕ → List ℕ → List ℕ → List NameAddr
     → Message
 request_outside event call_id method uri from to routes =
@@ -119,12 +119,12 @@ invite_command event invite clients =
     start (clients, [])
     (client_for event.id InitialInvite (with_content_of supporting invite.content) invite.address)
 
--- methods that neither Plain nor Request sends, since they have commands of their own
+-- methods with commands of their own, which neither Plain nor Request sends
 abbrev pub has_command : List ℕ → Bool
 has_command method = bytes_eq method (codes "ACK") || bytes_eq method (codes "CANCEL")
     || bytes_eq method (codes "PRACK")
 
--- Another request goes out outside of dialogs; INVITE has its command, and a BYE needs a dialog.
+-- Another request outside of dialogs; an INVITE has its own command, and a BYE needs a dialog.
 unfoldable pub plain_command : Event → PlainCommand → Clients → Clients × List CallOut
 plain_command event plain clients =
     if has_command plain.method || bytes_eq plain.method (codes "INVITE")
@@ -137,15 +137,14 @@ plain_command event plain clients =
 
 -- ---- in a dialog
 
--- this agent was invited
+-- the agent is the callee
 abbrev pub is_callee : End → Bool
 is_callee Caller = false
 is_callee Callee = true
 
 -- Why a request of this method isn't sent in a dialog, in order (RFC 3261, section 12.2.1.1): in an
 -- early one there is no re-INVITE and no 2xx to acknowledge, and the callee ends it by its response
--- (section 15). An ACK takes no number of its own. No dialog that is held has ended, and no ACK is
--- pending in an early one: these decide only in states that don't occur.
+-- (section 15). An ACK takes no number. DialogEnded, and BadMethod of an ACK, don't occur.
 abbrev pub refusals_in : Dialog → List ℕ → List (Bool × Refusal)
 refusals_in dialog method =
     let bad = bytes_eq method (codes "ACK") || bytes_eq method (codes "INVITE")
@@ -157,7 +156,7 @@ refusals_in dialog method =
     ∷ (not (bytes_eq method (codes "ACK")) && last, SequenceUsedUp)
     ∷ []
 
--- a request in a dialog with its next number: a re-INVITE or another
+-- a re-INVITE or another request in a dialog, with the next number of the dialog
 abbrev pub request_with_next_number : Event → DialogId → List ℕ → Option RAck → Content → HeldDialog
     → Client
 request_with_next_number event name method rack content held =
@@ -168,11 +167,11 @@ request_with_next_number event name method rack content held =
     (if bytes_eq method (codes "INVITE") then ReInvite reference else InDialog reference)
     (record message { rack = rack }) (hop_of held.dialog held.address)
 
--- that number is taken
+-- the dialog after the next number was taken
 abbrev pub with_number : HeldDialog → HeldDialog
 with_number held = record held { dialog = with_next_number held.dialog }
 
--- A request in a held dialog is refused or sent; a BYE ends it at once (RFC 3261, section 15.1.1).
+-- A request in a dialog is refused or sent; a BYE removes the dialog (RFC 3261, section 15.1.1).
 abbrev pub request_in_dialog : Event → DialogRequest → Side → DialogId → HeldDialog → ClientTaken
 request_in_dialog event command side name held =
     option_map_or (refuse event command.call_id side)
@@ -195,20 +194,22 @@ request_command event command side =
 
 -- ---- the ACK of a 2xx, and the PRACK of a reliable provisional response
 
--- Read from the end: pending_command finds the dialog, oldest_pending the request, pending_by_user
--- sends it; a response comes in at pending_outcome (asks_for). Pending in a dialog is an ACK that a
--- 2xx asked for (the id and the CSeq number of its INVITE), or a PRACK that a reliable provisional
--- response asked for (its RSeq, and the CSeq number of its INVITE). What becomes of it: the dialog
--- after it; the ACK that went out, to be kept; the PRACK that goes out, at most one; what is given
--- at once: that ACK, which has no transaction, or why it is refused.
+-- Pending in a dialog is an ACK that a 2xx asked for (its INVITE's id and CSeq number), or a PRACK
+-- that a reliable provisional response asked for (its RSeq and its INVITE's CSeq number). Read from
+-- the end: pending_command finds the dialog, oldest_pending the request, pending_by_user sends it;
+-- a response comes in at pending_outcome (asks_for).
 pub record PendingOutcome : Type 0 where
+  -- the dialog afterwards
   pub dialog : HeldDialog
+  -- the ACK that went out, to be kept
   pub ack : Option SentAck
+  -- the PRACK that goes out, at most one
   pub prack : List Client
+  -- what is given at once: that ACK, which has no transaction, or why it is refused
   pub outs : List CallOut
 
--- It goes out with this content, in this dialog, where it is pending no longer. An ACK has the
--- number of its INVITE, a PRACK the next one (RFC 3261, section 13.2.2.4; RFC 3262, section 4).
+-- It goes out with this content, in this dialog, where it is no longer pending. An ACK takes no
+-- number (it has its INVITE's), a PRACK the next (RFC 3261, section 13.2.2.4; RFC 3262, section 4).
 abbrev pub pending_sent : Event → DialogId → PendingRequest → Content → HeldDialog → PendingOutcome
 pending_sent event name (Ack invite cseq) content held =
     let message = request_in held.dialog (codes "ACK") cseq content (branch_of event)
@@ -229,17 +230,17 @@ pending_sent event name (Prack rseq cseq) content held =
       outs = [];
     }
 
--- nothing goes out: the dialog as it stands, and what is told
+-- nothing goes out: the dialog as given, and what is told
 abbrev pub pending_unsent : HeldDialog → List CallOut → PendingOutcome
 pending_unsent held outs = record { dialog = held; ack = None; prack = []; outs = outs }
 
--- its method
+-- the method of a pending request
 abbrev pub method_of : PendingRequest → List ℕ
 method_of (Ack invite cseq) = codes "ACK"
 method_of (Prack rseq cseq) = codes "PRACK"
 
--- With this content it goes out in `without_it`, the dialog where it is pending no longer; or it is
--- refused, and stays pending in `with_it`.
+-- With this content it goes out in `without_it`, the dialog where it is no longer pending; or it is
+-- refused, and stays pending in `with_it`, the dialog as held.
 abbrev pub pending_with : Event → List ℕ → DialogId → PendingRequest → HeldDialog → HeldDialog
     → Content → PendingOutcome
 pending_with event call_id name pending without_it with_it content =
@@ -247,7 +248,7 @@ pending_with event call_id name pending without_it with_it content =
     (first_refusal (refusals_in without_it.dialog (method_of pending)) None)
     (pending_sent event name pending content without_it)
 
--- The same with a content that is given. Without one it waits in `with_it` for the user's.
+-- The same if there is a content. Without one it waits in `with_it` for the user's.
 abbrev pub pending_outcome : Event → List ℕ → DialogId → PendingRequest → Option Content
     → HeldDialog
     → HeldDialog → PendingOutcome
@@ -263,7 +264,7 @@ is_same_pending (Prack rseq cseq) (Prack other_rseq other_cseq) =
     (rseq == other_rseq) && (cseq == other_cseq)
 is_same_pending _ _ = false
 
--- the ACK is kept with its INVITE, for a 2xx that comes again
+-- the ACK is kept with its INVITE, if that is held, for a retransmitted 2xx
 abbrev pub ack_kept : PendingRequest → DialogId → Option SentAck → Clients → Clients
 ack_kept (Ack invite cseq) name (Some ack) clients =
     option_map_or (λ client. set_value (is_id invite) clients
@@ -271,7 +272,7 @@ ack_kept (Ack invite cseq) name (Some ack) clients =
     (lookup (is_id invite) clients) clients
 ack_kept _ name ack clients = clients
 
--- by the user's command it goes out and is pending no longer, or is refused and stays pending
+-- by the user's command it goes out and is no longer pending, or is refused and stays pending
 abbrev pub pending_by_user : Event → DialogBody → Side → DialogId → HeldDialog → PendingRequest
     → ClientTaken
 pending_by_user event command side name held pending =
@@ -287,7 +288,7 @@ pending_by_user event command side name held pending =
       after.1,
     )
 
--- the oldest of this method in this held dialog
+-- the oldest pending one of this method in this held dialog
 abbrev pub oldest_pending : List ℕ → Refusal → Event → DialogBody → Side → DialogId → HeldDialog
     → ClientTaken
 oldest_pending method nothing event command side name held =
@@ -312,19 +313,19 @@ prack_command = pending_command (codes "PRACK") NothingToPrack
 
 -- ---- CANCEL
 
--- the CANCEL of an INVITE, with its branch and to where it was sent (RFC 3261, section 9.1); it is
--- held as a request outside of dialogs
+-- the CANCEL of an INVITE, with its branch and to its address (RFC 3261, section 9.1); it is held
+-- as a request outside of dialogs
 abbrev pub cancel_request : Id → Client → Client
 cancel_request id invite = client_for id OutOfDialog (cancel_of invite.request) invite.to
 
--- a CANCEL was asked for before
+-- a CANCEL was already asked for
 abbrev pub is_asked : Cancelling → Bool
 is_asked NotAsked = false
 is_asked _ = true
 
--- An INVITE without a final response is cancelled, and once: a second command does nothing. The
--- CANCEL goes out at once after a provisional response, otherwise when the first one comes (RFC
--- 3261, section 9.1). After a response of 300 to 699 the INVITE isn't held any more: NoSuchRequest.
+-- An INVITE without a final response is cancelled once: a second command does nothing. The CANCEL
+-- goes out at once if a provisional response came, otherwise when the first one comes (RFC 3261,
+-- section 9.1). After a response of 300 to 699 the INVITE is no longer held: NoSuchRequest.
 abbrev pub cancel_of_request : Event → Cancel → Side → Client → ClientTaken
 cancel_of_request event command side invite =
     if not (is_invite_kind invite.kind) then refuse event command.call_id side NoSuchRequest

@@ -1,6 +1,6 @@
 -- The rules of a response to a client request (RFC 3261, sections 9.1, 12.1.2, 12.2.1.2, 13.2.2 and
 -- 13.2.2.4; RFC 3262, section 4). Read from the end: response_received finds the request,
--- response_to treats its CANCEL, outcome_of chooses the case; the cases stand before them.
+-- response_to treats its CANCEL, outcome_of chooses the case; the cases come before them.
 use Rattle.std.specs.Prelude.{ℕ, ◌+◌, Bool, true, not, ◌&&◌, ◌||◌, ◌==◌, List, [], ◌∷◌, ◌++◌, length, Option, None, Some, fold, is_none, is_some, option_and_then, unwrap_or, if◌then◌else◌}
 use Rattle.std.specs.Map.{lookup, remove_entry, set_value}
 use Rattle.std.specs.Option.{option_map_or}
@@ -34,14 +34,16 @@ use Rattle.sip_clients.specs.Client.{ClientTaken, Side}
 use Rattle.sip_clients.specs.Rules.Ends.{request_over}
 use Rattle.sip_clients.specs.Rules.Requests.{cancel_request, is_invite_kind, dialog_of_kind, pending_outcome, start}
 
--- ---- what a response comes to
+-- ---- what a response does
 
--- the request after it, or none if it is over; the dialogs after it; what is told, and the ACK that
--- goes out, in order; the PRACK that goes out after that
+-- what a response leads to
 pub record Outcome : Type 0 where
+  -- None if it is over
   pub request : Option Client
   pub dialogs : Dialogs
+  -- what is told, and the ACK that goes out, in order
   pub outs : List CallOut
+  -- the PRACK that goes out after those
   pub prack : List Client
 
 -- the user is told of a response
@@ -50,15 +52,15 @@ notice_of reply =
     Notice (Response reply.call_id reply.id reply.status (tag_of reply.response.from)
     (tag_of reply.response.to) reply.response.body)
 
--- the request is held further, and asks for nothing
+-- the request stays held, and nothing is asked for
 abbrev pub kept : Client → Dialogs → List CallOut → Outcome
 kept after dialogs outs =
     record { request = Some after; dialogs = dialogs; outs = outs; prack = [] }
 
--- The user is told of a response that asks for an ACK or a PRACK. That goes out by itself, empty,
--- unless it has to carry an SDP answer (the response has a body and the INVITE had none; own: each
--- body counts as SDP) or is refused, which the user is told with the place of this response: then
--- it stands last in `pending_requests`. `held` is the dialog without it, `with_it` with it. `after`
+-- The user is told of a response that asks for an ACK or a PRACK. That goes out at once, empty,
+-- unless it must carry an SDP answer (the response has a body and the INVITE had none; own: any
+-- body counts as SDP) or is refused (the user is told, with the place of this response). If it
+-- waits or is refused, it is the last in `pending_requests`: `with_it` is `held` with it. `after`
 -- gives the request, with the ACK that went out (RFC 3261, section 13.2.1; RFC 3262, section 5).
 abbrev pub asks_for : PendingRequest → ReceivedResponse → Client → (Option SentAck → Client)
     → HeldDialog → Dialogs → Outcome
@@ -74,12 +76,12 @@ asks_for pending reply client after held dialogs =
       prack = done.prack;
     }
 
--- an initial INVITE and no re-INVITE (asked of INVITEs alone)
+-- an initial INVITE, not a re-INVITE (asked only of INVITEs)
 abbrev pub is_initial : Client → Bool
 is_initial client = is_none (dialog_of_kind client.kind)
 
--- the dialog that a response makes (RFC 3261, section 12.1.2); `address` is where its requests go
--- if the URI of their next hop has no IPv4 address
+-- the dialog that a response makes (RFC 3261, section 12.1.2); to `address` go its requests if the
+-- URI of their next hop has no IPv4 address
 abbrev pub dialog_made_by : ReceivedResponse → Client → HeldDialog
 dialog_made_by reply client = record {
   dialog = opened_by_response client.request reply.response;
@@ -92,23 +94,23 @@ dialog_made_by reply client = record {
 
 -- ---- final responses
 
--- The last one: the request is over, and what ends with it ends; on 481 and 408 also the dialog
--- that it was sent in (RFC 3261, section 12.2.1.2).
+-- The last one (final, but no 2xx to an INVITE): the request is over, and its early dialogs end; a
+-- 481 or 408 also ends the dialog that it was sent in (RFC 3261, section 12.2.1.2).
 abbrev pub last_response : ReceivedResponse → Client → Dialogs → Outcome
 last_response reply client dialogs =
     let ends_dialog = (reply.status == 481) || (reply.status == 408) in
     let ended = request_over client ends_dialog dialogs in
     record { request = None; dialogs = ended.0; outs = notice_of reply ∷ ended.1; prack = [] }
 
--- a 2xx that comes again: the same ACK, to the same address; nothing where it wasn't sent yet; the
--- user isn't told again (RFC 3261, section 13.2.2.4)
+-- a retransmitted 2xx gets the same ACK, to the same address, or nothing if none was sent yet (Some
+-- None); the user isn't told again (RFC 3261, section 13.2.2.4)
 abbrev pub success_again : Option (Option SentAck) → Client → Dialogs → Outcome
 success_again answer client dialogs =
     kept client dialogs (option_map_or (λ ack. Direct ack.to ack.bytes ∷ [])
     (option_and_then (λ ack. ack) answer) [])
 
--- after a 2xx the INVITE is held for 64*T1 from the first one on (RFC 3261, section 13.2.2.4), with
--- its ACK where that was sent
+-- the INVITE after a 2xx, with the ACK if one was sent; it is held for 64*T1 from the first 2xx on
+-- (RFC 3261, section 13.2.2.4)
 abbrev pub accepted : ReceivedResponse → Client → Option SentAck → Client
 accepted reply client ack = record client {
   answers = insert_entry is_dialog_id client.answers reply.name ack;
@@ -116,7 +118,7 @@ accepted reply client ack = record client {
 }
 
 -- A 2xx to an initial INVITE confirms its dialog, and one to a re-INVITE refreshes the target (RFC
--- 3261, sections 12.2.1.2 and 13.2.2.4). No held dialog has ended.
+-- 3261, sections 12.2.1.2 and 13.2.2.4). A dialog that ends isn't held.
 abbrev pub success_in : Bool → Message → HeldDialog → HeldDialog
 success_in initial response held =
     let target = unwrap_or (contact_uri response) held.dialog.target in
@@ -124,9 +126,9 @@ success_in initial response held =
     else if initial then record held { dialog = confirmed_by held.dialog response }
     else record held { dialog = record held.dialog { target = target } }
 
--- The first 2xx of a dialog, which it makes where it isn't held; it asks for its ACK. A held dialog
--- of this ID is of this INVITE, since its local tag is the From tag made for it; that the dialog of
--- a re-INVITE is held, has_dialog has asked.
+-- The first 2xx of a dialog asks for its ACK, and makes the dialog if that isn't held. A held
+-- dialog of this ID is of this INVITE, since its local tag is the From tag made for it. For a
+-- re-INVITE has_dialog has asked whether the dialog is held.
 abbrev pub first_success : ReceivedResponse → Client → Dialogs → Outcome
 first_success reply client dialogs =
     let found = lookup (is_dialog_id reply.name) dialogs in
@@ -136,9 +138,9 @@ first_success reply client dialogs =
 
 -- ---- provisional responses of a dialog
 
--- A reliable one is taken if it is the first, or has the RSeq after the last, of this dialog or, to
--- a re-INVITE, of that request; others are passed over, and the user isn't told. It asks for its
--- PRACK (RFC 3262, section 4).
+-- A reliable one is taken if it is the first of the dialog or has the RSeq after the last (a
+-- re-INVITE keeps its own last RSeq). It asks for its PRACK. Others are dropped, and the user isn't
+-- told (RFC 3262, section 4).
 abbrev pub reliable_response : ReceivedResponse → Client → Dialogs → HeldDialog → ℕ → Outcome
 reliable_response reply client dialogs held rseq =
     let initial = is_initial client in
@@ -148,7 +150,7 @@ reliable_response reply client dialogs held rseq =
     (λ ack. if initial then client else record client { last_rseq = Some rseq })
     (if initial then record held { last_rseq = Some rseq } else held) dialogs
 
--- one of a dialog, which it makes early where it isn't held
+-- one of a dialog, which it makes (early) if it isn't held; unreliable if without 100rel or RSeq
 abbrev pub dialog_response : ReceivedResponse → Client → Dialogs → Outcome
 dialog_response reply client dialogs =
     let response = reply.response in
@@ -159,14 +161,14 @@ dialog_response reply client dialogs =
 
 -- ---- all of them
 
--- the dialog of an INVITE is held still, or may be made
+-- the dialog of an INVITE is still held, or may be made
 abbrev pub has_dialog : Client → Dialogs → Bool
 has_dialog client dialogs =
     is_invite_kind client.kind && option_map_or (lives dialogs) (dialog_of_kind client.kind) true
 
--- The first case that fits: the last response; a 2xx that comes again; the first 2xx of a dialog;
--- the first 2xx of a dialog that has ended (own: it gets no ACK); a provisional response of no
--- dialog (RFC 3261, section 12.1); one of a dialog.
+-- The first case that fits: the last response; a retransmitted 2xx; the first 2xx of a dialog; the
+-- first 2xx to a re-INVITE whose dialog has ended (own: it gets no ACK); a provisional response of
+-- no dialog (RFC 3261, section 12.1); one of a dialog.
 abbrev pub outcome_of : ReceivedResponse → Client → Dialogs → Outcome
 outcome_of reply client dialogs =
     let final = is_final reply.status in
@@ -186,15 +188,14 @@ abbrev pub status_of : StartLine → Option ℕ
 status_of (start_line.Request uri) = None
 status_of (start_line.Response status reason) = Some status
 
--- the event by which a CANCEL was asked for that waits
+-- the event that asked for a CANCEL that waits
 abbrev pub waiting_cancel : Cancelling → Option Id
 waiting_cancel (Waits id) = Some id
 waiting_cancel _ = None
 
--- A response of this status to this request: first its effect on the CANCEL, then `outcome_of`,
--- then the PRACK goes out, and last a CANCEL that waited for a provisional response; after a final
--- one that is forgotten (RFC 3261, section 9.1). In `name` is the dialog of the request, or else
--- the one of the From tag and the response's To tag.
+-- A response of this status to this request, by `outcome_of`. Then the PRACK goes out, and last a
+-- CANCEL that waited for a provisional response; a final one discards that (RFC 3261, section 9.1).
+-- `name` is the dialog of the request, or else that of its From tag and the response's To tag.
 abbrev pub response_to : Event → Id → List ℕ → Message → Side → ℕ → Client → ClientTaken
 response_to event id call_id response side status client =
     let final = is_final status in
@@ -220,7 +221,7 @@ response_to event id call_id response side status client =
     let sent = fold start (clients, done.outs) (done.prack ++ cancel) in
     (record { dialogs = done.dialogs; clients = sent.0 }, sent.1)
 
--- A response to the held request that the event `id` sent; to none it does nothing.
+-- A response to the held request, also a CANCEL, that the event `id` sent; to none it does nothing.
 unfoldable pub response_received : Event → Id → List ℕ → Message → Side → ClientTaken
 response_received event id call_id response side =
     option_map_or (λ status. option_map_or (response_to event id call_id response side status)

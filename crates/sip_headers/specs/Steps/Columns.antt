@@ -1,4 +1,4 @@
--- A draft goes on with the values of each header, one column for each.
+-- A draft takes the values of each header, one column for each header.
 use Rattle.std.specs.Prelude.{ℕ, Bool, List, ◌||◌, fold}
 use Rattle.sip_parts.specs.declared.header_name.HeaderName.{HeaderName}
 use Rattle.sip_parts.specs.declared.header_name.HeaderName.TheVariants as name

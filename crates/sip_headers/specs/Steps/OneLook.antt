@@ -1,4 +1,5 @@
--- A draft whose headers all stand as they may, told by one look at each. It has no fault.
+-- A draft whose headers all are in their form and occur as often as they may, found by one look at
+-- each. It has no fault.
 use Rattle.std.specs.Prelude.{Bool, true, false, not, ◌&&◌, is_some}
 use Rattle.sip_headers.specs.Complete.{once}
 use Rattle.sip_headers.specs.Presence.{list_presence}
@@ -19,14 +20,14 @@ is_at_most_once Absent = true
 is_at_most_once (Once x) = true
 is_at_most_once slot = false
 
--- each header that a message has stands as it has to
+-- each mandatory header is there as it has to be
 abbrev pub has_needed : Draft → Bool
 has_needed d =
     is_fitting (list_presence d.vias) && is_some (once d.from) && is_some (once d.to)
     && is_some (once d.call_id)
     && is_some (once d.cseq)
 
--- each line is a header line, and each header stands as it may
+-- each line is a header line, and each header is there as it may be
 abbrev pub is_whole : Draft → Bool
 is_whole d =
     not d.is_bad && is_some d.others && has_needed d && is_at_most_once d.max_forwards

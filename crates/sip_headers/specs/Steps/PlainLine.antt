@@ -1,16 +1,16 @@
--- A header line that stands in a text as it is: no other line goes on with it.
+-- A header line that is in a text as it is: no other line continues it.
 use Rattle.std.specs.Prelude.{◌≡◌, ℕ, true, false, List, [], ◌∷◌, ◌++◌, Option, Some, None, ◌==◌, if◌then◌else◌}
 use Rattle.sip_text.specs.Line.{line_at}
 use Rattle.sip_text.specs.Unfolded.{begins_blank}
 use Rattle.sip_parts.specs.HeaderValue.{has_no_line_byte}
 use Rattle.sip_headers.specs.HeaderLine.{Class, class_from}
 
--- what stands behind LF, with which the text begins
+-- what follows LF, with which the text begins
 abbrev pub behind_feed : List ℕ → Option (List ℕ)
 behind_feed [] = None
 behind_feed (b ∷ bs) = if b == 10 then Some bs else None
 
--- what stands behind CR LF or LF, with which the text begins
+-- what follows CR LF or LF, with which the text begins
 abbrev pub behind_line_end : List ℕ → Option (List ℕ)
 behind_line_end [] = None
 behind_line_end (b ∷ bs) = if b == 13 then behind_feed bs else behind_feed (b ∷ bs)

@@ -16,15 +16,15 @@ use Rattle.sip_reader.specs.SkippedEnds.{without_line_ends}
 use Rattle.sip_reader.specs.declared.first_line.FirstLine.{FirstLine}
 use Rattle.sip_reader.specs.declared.header_line.HeaderLine.{HeaderLine}
 
--- the lines up to the first empty one, or all that have their end, without folds
+-- the lines up to the first empty one, or all that have a line end, without folds
 abbrev pub whole_lines_at : List ℕ → List (List ℕ)
 whole_lines_at text = whole_lines (lines_at text)
 
--- the same of a text from its first line on that isn't empty
+-- the same for a text from its first non-empty line on
 abbrev pub head_at : List ℕ → List (List ℕ)
 head_at text = whole_lines_at (without_line_ends text)
 
--- a first line, and the lines of the text behind it
+-- a first line, and the lines of the text after it
 abbrev pub lines_found : Option (Whole × Bor (List ℕ)) → List (List ℕ)
 lines_found None = []
 lines_found (Some found) = whole_now found.0 ∷ whole_lines_at found.1.now
@@ -34,12 +34,12 @@ abbrev pub first_at : List (List ℕ) → Option (FirstLine (List ℕ))
 first_at [] = None
 first_at (line ∷ lines) = start_at line
 
--- the header of the table is the one that is looked for
+-- this header of the table is the one that is looked for
 abbrev pub is_known : Option HeaderName → HeaderName → Bool
 is_known None header = false
 is_known (Some wanted) header = is_same wanted header
 
--- what is found in these lines: of the name and the value of each, or of nothing
+-- what `read` finds in these lines, by the name and the value of each, if it has them
 abbrev pub found_at : {X : Type 0} → (Option (List ℕ × List ℕ) → Option X) → List (List ℕ) → List X
 found_at read lines = filter_map read (map line_from lines)
 
@@ -47,6 +47,6 @@ found_at read lines = filter_map read (map line_from lines)
 abbrev pub values_at : List ℕ → List (List ℕ) → List (List ℕ)
 values_at name lines = found_at (value_under name) lines
 
--- those of these lines that are header lines
+-- the header lines among these lines
 abbrev pub header_lines_at : List (List ℕ) → List HeaderLine
 header_lines_at lines = found_at (option_map header_line) lines

@@ -1,7 +1,7 @@
 -- The rules of what comes up to the server side of a Call-ID: requests (RFC 3261, sections 8.2 and
 -- 12.2.2), CANCELs (section 9.2), PRACKs (RFC 3262, section 3) and ACKs (section 13.3.1.4). Read
 -- from the end: server_received takes what comes up, request_received a request by the first case
--- that fits, ack_received an ACK; the cases stand before them.
+-- that fits, ack_received an ACK; the cases come before them.
 use Rattle.std.specs.Prelude.{ℕ, Bool, false, true, not, ◌+◌, ◌&&◌, ◌||◌, ◌==◌, List, [], ◌∷◌, ◌++◌, Option, None, Some, codes, find, filter, is_none, nat_le, reverse, unwrap_or, if◌then◌else◌}
 use Rattle.std.specs.List.{list_any, join_by}
 use Rattle.std.specs.Option.{option_map, option_map_or}
@@ -53,9 +53,9 @@ no_such_call state arrival =
 
 -- ---- for the user
 
--- A request for the user, who is told of it: it is held, and no response to it was sent. A BYE in a
--- dialog ends the dialog (RFC 3261, section 15.1.2). The first RSeq is 1. The ledger holds when
--- each reliable response is sent again, `provisionals` its message.
+-- A request for the user is held; no response was sent yet. Its notice: Call-ID, id, method, local
+-- and remote tag, body. A BYE in a dialog ends it (RFC 3261, section 15.1.2). The first RSeq is 1.
+-- The ledger says when each reliable response is sent again, `provisionals` has its message.
 abbrev pub request_for_user : State → List ℕ → DialogId → Arrival → ServedTaken
 request_for_user state call_id name arrival =
     let request = arrival.request in
@@ -81,8 +81,8 @@ request_for_user state call_id name arrival =
 
 -- ---- a PRACK
 
--- a held INVITE of the dialog of this name, which the event `created_by` made, to which a reliable
--- provisional response went out that the RAck names and that has no PRACK yet
+-- a held INVITE whose dialog (`reference`) has this name and was made by the event `created_by`;
+-- the RAck names a reliable provisional response to it that still waits for its PRACK
 abbrev pub is_named_by : RAck → DialogId → Id → HeldRequest → Bool
 is_named_by rack name created_by held =
     option_map_or (λ reference. is_dialog_id reference.name name
@@ -90,7 +90,7 @@ is_named_by rack name created_by held =
     && is_invite held.request && bytes_eq rack.method held.request.cseq.method
     && (held.request.cseq.number == rack.cseq) && waits_for rack.rseq held.ledger
 
--- that response isn't sent again, and is kept no longer
+-- that response isn't sent again, and no longer kept
 abbrev pub after_prack : ℕ → HeldRequest → HeldRequest
 after_prack rseq held = record held {
   ledger = acknowledged rseq held.ledger;
@@ -105,7 +105,7 @@ prack_for state call_id arrival rack invite = (
       ++ Notice (Prack call_id invite.id rack.rseq arrival.request.body) ∷ [],
 )
 
--- A PRACK in a held dialog is for the INVITE of its RAck; without one: 481 (RFC 3262, section 3).
+-- A PRACK in a held dialog is for the INVITE of its RAck; if none: 481 (RFC 3262, section 3).
 abbrev pub prack_received : State → List ℕ → DialogId → Id → Arrival → Option RAck → ServedTaken
 prack_received state call_id name created_by arrival None = no_such_call state arrival
 prack_received state call_id name created_by arrival (Some rack) =
@@ -114,21 +114,20 @@ prack_received state call_id name created_by arrival (Some rack) =
 
 -- ---- a CANCEL
 
--- the keys of two requests, in lower case, have the same branch and sent-by, whatever their methods
+-- two keys (in lower case) have the same branch and sent-by, whatever their methods
 abbrev pub is_same_branch : Key → Key → Bool
 is_same_branch (Server branch sent_by method) (Server other other_sent_by other_method) =
     bytes_eq branch other && bytes_eq sent_by.host other_sent_by.host
     && (sent_by.port == other_sent_by.port)
 is_same_branch _ _ = false
 
--- A 487 is its final response, so it sets `removal`: 64*T1 later the request is removed.
+-- The 487 is the final response, so it sets `removal`: 64*T1 later the request is removed.
 abbrev pub after_487 : ℕ → HeldRequest → HeldRequest
 after_487 now held =
     record held { ledger = closed_now held.ledger; removal = Some (now + LIFETIME) }
 
--- The CANCEL of this request gets a 200 with the To tag of its responses. An INVITE whose removal
--- isn't set has no final response; it gets a 487 as that, the user is told, and its early dialogs
--- end.
+-- The CANCEL of this request gets a 200 with the To tag of the request's responses. An INVITE
+-- without a final response (no `removal`) gets a 487, the user is told, and its early dialogs end.
 abbrev pub cancel_for : State → List ℕ → Arrival → ℕ → HeldRequest → ServedTaken
 cancel_for state call_id arrival now held =
     let ok = own_response (record arrival { tag = held.tag }) 200 (codes "OK") in
@@ -144,8 +143,8 @@ cancel_for state call_id arrival now held =
           ∷ after.1,
     )
 
--- A CANCEL is for the held request of its branch and sent-by, of several the last that came; there
--- is none: 481 (RFC 3261, section 9.2).
+-- A CANCEL is for the held request of its branch and sent-by; if several (of other methods) have
+-- them, for the last; if none has, it gets 481 (RFC 3261, section 9.2).
 abbrev pub cancel_received : State → List ℕ → Arrival → ℕ → ServedTaken
 cancel_received state call_id arrival now =
     option_map_or (cancel_for state call_id arrival now)
@@ -154,14 +153,14 @@ cancel_received state call_id arrival now =
 
 -- ---- any request
 
--- it came up another way, too: a held one has its From tag and CSeq (RFC 3261, section 8.2.2.2)
+-- a merged request: a held one has its From tag and CSeq (RFC 3261, section 8.2.2.2)
 abbrev pub is_merged : Message → HeldRequest → Bool
 is_merged request held =
     str_eq_ignore_ascii_case (tag_of held.request.from) (tag_of request.from)
     && (held.request.cseq.number == request.cseq.number)
     && bytes_eq held.request.cseq.method request.cseq.method
 
--- a 420 that names the options which the agent doesn't know (RFC 3261, section 8.2.2.3)
+-- a 420 that names the options that the agent doesn't know (RFC 3261, section 8.2.2.3)
 abbrev pub bad_extension : State → Arrival → ServedTaken
 bad_extension state arrival =
     let request = arrival.request in
@@ -172,12 +171,12 @@ bad_extension state arrival =
     (state, Command arrival.id (Answer arrival.key refused) ∷ [])
 
 -- The number is above the last that came in the dialog, if any came (RFC 3261, section 12.2.2; own:
--- an equal one isn't above). No held dialog has ended.
+-- an equal one isn't above). A dialog that ends isn't held.
 abbrev pub is_above : HeldDialog → ℕ → Bool
 is_above held_dialog number = not (is_ended held_dialog.dialog.state)
     && option_map_or (λ last. not (nat_le number last)) held_dialog.dialog.remote_cseq true
 
--- the dialog after a request in it: its number, and of a re-INVITE its Contact as the remote target
+-- the dialog after a request in it: its number; if it is a re-INVITE, its Contact as remote target
 abbrev pub after_request : Message → HeldDialog → HeldDialog
 after_request request held_dialog =
     let contact = if is_invite request then contact_uri request else None in
@@ -188,7 +187,8 @@ after_request request held_dialog =
       };
     }
 
--- A request in this held dialog: a 500 if its number isn't above; a PRACK; for the user.
+-- A request in this held dialog: 500 if its number isn't above; a PRACK (its number counts even if
+-- it gets 481); or for the user.
 abbrev pub request_in_dialog : State → List ℕ → DialogId → Arrival → HeldDialog → ServedTaken
 request_in_dialog state call_id name arrival held_dialog =
     let request = arrival.request in
@@ -201,9 +201,9 @@ request_in_dialog state call_id name arrival held_dialog =
     else request_for_user noted call_id name arrival
 
 -- A request that comes up, by the first case that fits (RFC 3261, sections 8.2 and 12.2.2): a
--- CANCEL; 482 where it was merged and has no To tag; 420; with a To tag 481 where its dialog isn't
--- held, otherwise request_in_dialog (500, PRACK, for the user); without one 481 for a BYE or a
--- PRACK; for the user.
+-- CANCEL; 482 if it is merged and has no To tag; 420; with a To tag 481 if its dialog isn't held,
+-- otherwise request_in_dialog (500, PRACK, for the user); without one 481 for a BYE or a PRACK; for
+-- the user.
 unfoldable pub request_received : State → List ℕ → Arrival → ℕ → ServedTaken
 request_received state call_id arrival now =
     let request = arrival.request in
@@ -220,7 +220,7 @@ request_received state call_id arrival now =
 
 -- ---- an ACK
 
--- an INVITE whose 2xx waits for its ACK, of these tags and this number
+-- an INVITE with the tags and number of this ACK, whose 2xx waits for it (`over` is None)
 abbrev pub awaits : Message → HeldRequest → Bool
 awaits ack held =
     is_invite held.request
@@ -229,14 +229,14 @@ awaits ack held =
     && str_eq_ignore_ascii_case (tag_of ack.from) (tag_of held.request.from)
     && (ack.cseq.number == held.request.cseq.number)
 
--- its 2xx isn't sent again
+-- the INVITE after its ACK: its 2xx isn't sent again
 abbrev pub after_ack : HeldRequest → HeldRequest
 after_ack held = record held {
   success = option_map (λ (success : Success). record success { over = Some Acknowledged })
       held.success;
 }
 
--- the user is told
+-- the ACK of this INVITE: the user is told
 abbrev pub ack_for : State → List ℕ → Message → HeldRequest → ServedTaken
 ack_for state call_id ack invite = (
   record state { requests = changed_at invite.id after_ack state.requests },
@@ -250,7 +250,7 @@ ack_received state call_id ack =
 
 -- ---- what comes up
 
--- What a transaction hands up: of the server side are the requests and the ACKs. `made` is the To
+-- What a transaction hands up: the server side takes the requests and the ACKs. `made` is the To
 -- tag of the responses to a request without one.
 abbrev pub server_received : State → List ℕ → Up → Kind → ℕ → ServedTaken
 server_received state made up (kind.Request request reply_to) now =
@@ -262,7 +262,7 @@ server_received state made up _ now = (state, [])
 
 -- ---- for steps and laws: `run` needs nothing of what follows
 
--- What an item makes of the server side, at a moment in ms: what comes up, or the user's response.
+-- The server side after an item, at a moment in ms: what comes up, or the user's response.
 abbrev pub server_item : State → List ℕ → Id → Item → ℕ → ServedTaken
 server_item state tag id (item.Up up) now = server_received state tag up up.kind now
 server_item state tag id (item.User (Respond answer)) now = respond_command state id answer now

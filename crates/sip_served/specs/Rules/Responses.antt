@@ -1,6 +1,6 @@
 -- The rules of the user's answer to a held request: when it is refused, the response that goes out,
 -- and what is held then (RFC 3261, sections 8.2.6, 12.1.1 and 13.3.1; RFC 3262, section 3). Read
--- from the end: respond_command finds the request, respond_to refuses or sends; the parts stand
+-- from the end: respond_command finds the request, respond_to refuses or sends; the parts come
 -- before them.
 use Rattle.std.specs.Prelude.{ℕ, ◌+◌, Bool, true, false, not, ◌&&◌, ◌||◌, nat_le, nat_lt, List, [], ◌∷◌, ◌++◌, length, Option, None, Some, codes, find, is_some, is_none, if◌then◌else◌}
 use Rattle.std.specs.List.{list_any}
@@ -41,29 +41,29 @@ abbrev pub is_reliable : Reliability → Bool
 is_reliable Plain = false
 is_reliable Reliable = true
 
--- it may be sent reliably: a provisional response to an INVITE whose sender has 100rel
+-- a response may be sent reliably: a provisional one, to an INVITE whose sender supports 100rel
 abbrev pub may_be_reliable : HeldRequest → ℕ → Bool
 may_be_reliable held status =
     is_invite held.request && is_provisional status && supports_100rel held.request
 
--- it is, where the user asks for that, and always where the INVITE requires it
+-- such a response is sent reliably if the user asks for it, and always if the INVITE requires it
 abbrev pub is_sent_reliably : HeldRequest → Respond → Bool
 is_sent_reliably held respond =
     may_be_reliable held respond.status
     && (is_reliable respond.reliability || requires_100rel held.request)
 
--- a response of 101 to 299 to an INVITE: it makes, confirms or is in a dialog
+-- a response of 101 to 299 to an INVITE (0 to 100 are refused): it makes, confirms or has a dialog
 abbrev pub is_dialog_response : HeldRequest → ℕ → Bool
 is_dialog_response held status = is_invite held.request && nat_lt status 300
 
--- it makes one where the INVITE is outside of dialogs, and has made none
+-- it makes a dialog if its INVITE is outside of dialogs and has made none (the tag is new)
 abbrev pub makes_dialog : HeldRequest → ℕ → Bool
 makes_dialog held status =
     is_dialog_response held status && not (has_to_tag held.request) && is_none held.dialog
 
--- Why a response is refused, the first that fits. ReliablePending: a further reliable one while the
--- first has no PRACK, while 8 have none, or after they were given up; a 2xx while one with a body
--- has none (RFC 3262, section 3). Two decide only in states that don't occur.
+-- Why a response is refused: the first case that fits. ReliablePending: a further reliable response
+-- while the first waits for its PRACK, while 8 wait, or after they were given up; a 2xx while one
+-- with a body waits (RFC 3262, section 3). Two cases don't occur.
 abbrev pub response_refusal : Dialogs → HeldRequest → Respond → Option Refusal
 response_refusal dialogs held respond =
     let status = respond.status in
@@ -74,15 +74,15 @@ response_refusal dialogs held respond =
     ∷ (is_some held.removal, AlreadyFinal)  -- a final one was sent
     ∷ (is_reliable respond.reliability && not (may_be_reliable held status), NotSupported)
     ∷ (is_dialog_response held status && ended, DialogEnded)
-    ∷ (reliable && ledger.closed, AlreadyFinal)  -- doesn't occur
-    ∷ (reliable && not ledger.supported, NotSupported)  -- doesn't occur
+    ∷ (reliable && ledger.closed, AlreadyFinal)  -- doesn't occur: `removal` is set then
+    ∷ (reliable && not ledger.supported, NotSupported)  -- doesn't occur: may_be_reliable
     ∷ (reliable && must_wait ledger, ReliablePending)
     ∷ (is_success status && list_any (λ p. p.has_body) ledger.waiting, ReliablePending)
     ∷ (reliable && nat_lt 4294967295 ledger.next, SequenceUsedUp) ∷ []) None
 
--- What goes out: of 101 to 299 to an INVITE with its Record-Route and a Contact (RFC 3261, section
--- 12.1.1); a reliable one with `Require: 100rel` and the next RSeq (RFC 3262, section 3); then the
--- user's headers and body.
+-- What goes out. A response of 101 to 299 to an INVITE has its Record-Route and a Contact (RFC
+-- 3261, section 12.1.1), a reliable one `Require: 100rel` and the next RSeq (RFC 3262, section 3).
+-- Then come the user's headers and body.
 abbrev pub response_sent : Addr → HeldRequest → Respond → Message
 response_sent local held respond =
     let routes = held.request.record_routes in
@@ -92,8 +92,8 @@ response_sent local held respond =
     let reliable = record plain { require = codes "100rel" ∷ []; rseq = Some held.ledger.next } in
     with_content_of (if is_sent_reliably held respond then reliable else plain) respond.content
 
--- the dialog that it makes (RFC 3261, section 12.1.1); `address` is where its requests go if the
--- URI of their next hop has no IPv4 address
+-- the dialog that it makes (RFC 3261, section 12.1.1): routes in order, CSeq 0 sent, that of the
+-- INVITE taken; to `address` go requests whose next hop has no IPv4 address
 abbrev pub dialog_by_request : Id → HeldRequest → ℕ → HeldDialog
 dialog_by_request event held status = record {
   dialog = opened_by_request held.request held.tag status;
@@ -104,16 +104,16 @@ dialog_by_request event held status = record {
   pending_requests = [];
 }
 
--- a 2xx confirms its dialog (no held one has ended)
+-- a 2xx confirms its dialog (one that ends isn't held)
 abbrev pub after_2xx : Message → HeldDialog → HeldDialog
 after_2xx response held_dialog =
     if is_ended held_dialog.dialog.state then held_dialog
     else record held_dialog { dialog = confirmed_by held_dialog.dialog response }
 
 -- The dialogs after it: it makes one, a 2xx confirms it, and any other final response ends the
--- early ones (RFC 3261, sections 12.1.1 and 13.3.1). `event` is the user's command, which names the
--- dialog here and its reference in held_after. By the refusal DialogEnded the dialog of held.dialog
--- is held, so `name` finds that one and no later one.
+-- early ones (RFC 3261, sections 12.1.1, 12.3 and 13.3.1). `event`, the user's command, becomes
+-- `created_by`, here and in held_after. If the dialog of held.dialog isn't held, the response was
+-- refused (DialogEnded). So `name` finds that dialog, not a later one.
 abbrev pub dialogs_after : Id → HeldRequest → ℕ → Message → Dialogs → Dialogs × List CallOut
 dialogs_after event held status response dialogs =
     let request = held.request in
@@ -125,7 +125,7 @@ dialogs_after event held status response dialogs =
     else if is_invite request && nat_le 300 status then early_ended held.id dialogs
     else (dialogs, [])
 
--- a reliable provisional response that waits for its PRACK, and is sent again after T1
+-- a reliable provisional response, which waits for its PRACK and is sent again after T1
 abbrev pub provisional_sent : ℕ → Message → ℕ → Provisional
 provisional_sent rseq response now = record {
   number = rseq;
@@ -134,7 +134,7 @@ provisional_sent rseq response now = record {
   retransmission = Some record { due = now + T1; repeats = 0 };
 }
 
--- a 2xx to an INVITE that waits for its ACK, for 64*T1, and is sent again after T1
+-- a 2xx to an INVITE, which waits 64*T1 for its ACK and is sent again after T1
 abbrev pub success_sent : Message → ℕ → Success
 success_sent response now = record {
   response = response;
@@ -143,7 +143,8 @@ success_sent response now = record {
   over = None;
 }
 
--- The held request after it. 64*T1 after its final response it is removed.
+-- The held request after it. A reliable response waits. A final one closes the ledger, and 64*T1
+-- later the request is removed. Any other changes only the dialog.
 abbrev pub held_after : Id → HeldRequest → Respond → Message → ℕ → HeldRequest
 held_after event held respond response now =
     let status = respond.status in
@@ -175,11 +176,11 @@ held_after event held respond response now =
     }
     else record held { dialog = dialog }
 
--- a command of the user is refused, and nothing changes
+-- the command is refused, and nothing changes
 abbrev pub refuse : State → Id → Respond → Refusal → ServedTaken
 refuse state event respond refusal = (state, refused event respond.call_id refusal)
 
--- a response to this held request: it is refused, or goes out
+-- a response to this held request is refused, or goes out
 abbrev pub respond_to : State → Id → Respond → ℕ → HeldRequest → ServedTaken
 respond_to state event respond now held =
     let response = response_sent state.local held respond in

@@ -1,5 +1,5 @@
--- The rules of a tick: what is sent again, given up and removed, and when something of it is due
--- (RFC 3261, section 13.3.1.4; RFC 3262, section 3). Moments are in ms.
+-- The rules of a tick: what is sent again, given up and removed, and when the next is due (RFC
+-- 3261, section 13.3.1.4; RFC 3262, section 3). Moments are in ms.
 use Rattle.std.specs.Prelude.{ℕ, true, ◌+◌, ◌*◌, ◌&&◌, ◌==◌, nat_le, nat_lt, min, List, [], ◌∷◌, ◌++◌, map, filter, fold, Option, None, Some, if◌then◌else◌}
 use Rattle.std.specs.List.{flat_map, list_any}
 use Rattle.std.specs.Option.{is_none, is_some, option_and_then, option_map_or}
@@ -17,9 +17,9 @@ use Rattle.sip_served.specs.declared.held_request.Success.{Success}
 use Rattle.sip_served.specs.declared.held_request.SuccessEnd.TheVariants.{GivenUp}
 use Rattle.sip_served.specs.State.{State, ServedTaken}
 
--- A 2xx to an INVITE that has no ACK is given up when its end is reached. Until then it is sent
--- again when it is due, and each interval is twice the last, up to T2 (RFC 3261, section 13.3.1.4).
--- A 2xx keeps its last interval, a provisional response a count: two types named Retransmission.
+-- A 2xx to an INVITE that has no ACK is given up at its end, which is also the moment of removal:
+-- the same tick removes the request. Until then it is sent again when it is due; each interval is
+-- twice the last, up to T2 (RFC 3261, section 13.3.1.4). Its Retransmission has the last interval.
 abbrev pub success_at : ℕ → HeldRequest → Success → Option Success × List CallOut
 success_at now held success =
     let interval = min (2 * success.retransmission.interval) T2 in
@@ -32,13 +32,13 @@ success_at now held success =
     then (Some (record success { retransmission = later }), again ∷ [])
     else (Some success, [])
 
--- where there is one
+-- the 2xx of a held request, if there is one
 abbrev pub success_tick : ℕ → HeldRequest → Option Success × List CallOut
 success_tick now held = option_map_or (success_at now held) held.success (None, [])
 
--- The reliable provisional responses that have no PRACK are given up, all of them, 64*T1 after one
--- was sent. Until then each is sent again when it is due, and each interval is twice the last. A
--- final response ends both (RFC 3262, section 3).
+-- All reliable provisional responses without a PRACK are given up 64*T1 after one of them was sent.
+-- Until then the messages of those that are due are sent again, and each interval is twice the
+-- last. A final response ends both (RFC 3262, section 3).
 abbrev pub provisionals_tick : ℕ → HeldRequest → Ledger × List CallOut
 provisionals_tick now held =
     let ledger = held.ledger in
@@ -53,7 +53,7 @@ provisionals_tick now held =
           (filter (λ one. list_any (λ number. one.number == number) due) held.provisionals),
     )
 
--- Each held request at a tick; then those whose moment of removal has come are removed.
+-- A tick of each held request; then those whose moment of removal has come are removed.
 unfoldable pub server_tick : State → ℕ → ServedTaken
 server_tick state now = (
   record state {
@@ -73,7 +73,7 @@ abbrev pub success_due : Success → Option ℕ
 success_due success =
     if is_some success.over then None else Some (min success.end success.retransmission.due)
 
--- the moments at which something of a held request is due, each of which may be missing
+-- the moments at which something of a held request is due; each may be missing
 abbrev pub moments_of : HeldRequest → List (Option ℕ)
 moments_of held =
     let waiting = if held.ledger.closed then [] else map due_moment held.ledger.waiting in

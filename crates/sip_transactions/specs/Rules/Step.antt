@@ -58,7 +58,7 @@ text_sent context message send.Trying =
 text_sent context message send.Ack = option_and_then
     (λ response. option_map (λ invite. written (ack_of invite response)) context.request) message
 
--- what a row hands up of a message that came, or in its place; or that it drops that message
+-- what a row hands up; or that it drops what came, under the id of this input (no life is held)
 abbrev pub handed_up : (Kind → Out) → Context → Option Kind → Handed → Option Out
 handed_up hand context came up.Nothing = None
 handed_up hand context came up.Message = option_map hand came
@@ -66,10 +66,10 @@ handed_up hand context came up.Timeout = Some (hand kind.Timeout)
 handed_up hand context came up.Failed = Some (hand kind.Failed)
 handed_up hand context came up.NoTransaction = Some (Dropped context.id.place NoTransaction)
 
--- The row for a trigger. `otherwise` is the context with which this input begins a transaction
--- where none is held. Given are the transaction after it; and what goes up or is dropped, then what
--- is sent. What goes up has the id and the Call-ID of the input that began it. `message` is what
--- came or what the user gave, `came` how it would go up.
+-- The row for a trigger. `message` is what came or what the user gave, `came` how it would go up.
+-- `otherwise` is the context with which this input begins a transaction if none is held. The
+-- result: the transaction afterwards; and what goes up or is dropped, then what is sent. What goes
+-- up has the id and the Call-ID of the input that began the transaction.
 unfoldable pub row_applied : Key → ℕ → Option Life → Context → Trigger → Option Message
     → Option Kind
     → Option Life × List Out
@@ -94,11 +94,10 @@ abbrev pub context_at_first : Id → List ℕ → Addr → Option Message → Co
 context_at_first id call_id to request =
     record { id = id; call_id = call_id; to = to; request = request; last = None; timers = stopped }
 
--- One input of a transaction at a moment, or the moment alone: then the ending timer comes before
--- the repeating one. A request or a start begins a life where none is held, a response or an ACK
--- none; the client
--- of an INVITE keeps the INVITE for its ACKs. An answer or a failure where none is held does
--- nothing.
+-- One input of a transaction at a moment, or the moment alone: if both timers are due, only the
+-- ending one fires. A request or a start begins a life if none is held; a response or an ACK
+-- doesn't. If one is held, a start does nothing (the last row). The client of an INVITE keeps the
+-- INVITE for its ACKs. An answer or a failure does nothing if none is held; its id isn't used.
 unfoldable pub step_at : Key → Option Life → ℕ → Option Input → Option Life × List Out
 step_at key held now (Some (Receive id message reply_to)) =
     let (trigger, kind) = trigger_of_message message.start message reply_to in

@@ -1,8 +1,8 @@
 -- The tables of the four machines (RFC 3261, sections 17.1 and 17.2, and RFC 6026, section 7). Each
--- row has the state and what comes; then the state after it, what goes up, what is sent, and what
--- becomes of the timers. The first row that fits counts, and by the last one of a table nothing
--- happens. `None` is no transaction. A timer's letter stands beside each row that sets it (+) or in
--- which it fires (!). T1 and T4 are those of RFC 3261, section 17, in ms.
+-- row has the state and what comes; then the state after it, what goes up, what is sent, and how
+-- the timers change. The first row that fits counts; by the last one of a table nothing happens.
+-- `None` is no transaction. Beside a row are the letters of the timers that it sets (+) or that
+-- fire in it (!). T1 and T4 are those of RFC 3261, section 17, in ms.
 use Rattle.std.specs.Prelude.{codes, if◌then◌else◌, Option, None, Some}
 use Rattle.std.specs.Str.{bytes_eq}
 use Rattle.sip_message.specs.declared.key.Key.{Key}
@@ -28,16 +28,16 @@ use Rattle.sip_transactions.specs.declared.step.Pace.TheVariants.{Doubled, Cappe
 -- A row: the state after it (`Same`, `To` another, or `Ended`: no transaction); what goes up
 -- (`Message`: what came; `NoTransaction`: it is dropped); what is sent (`Given`: the message of the
 -- input; `Latest`: what was sent last, again; `Trying`: a 100; `Ack`: the ACK of what came); the
--- timers. `Keep`: as they are. `Clear`: none runs. `Ending`: the ending one alone runs. `Both`: the
+-- timers. `Keep`: as they are. `Clear`: none runs. `Ending`: only the ending one runs. `Both`: the
 -- repeating one runs T1 and the ending one 64*T1. `Again`: the repeating one runs anew, by T1
 -- doubled each time (`Doubled`), that but at most T2 (`Capped`), or T2 (`Even`). `To` the same
--- state is the same as `Same`.
+-- state is `Same`.
 abbrev pub row : Next → Handed → Sent → Due → Step
 row next handed sent due = record { next = next; handed = handed; sent = sent; due = due }
 
 -- INVITE client transaction: RFC 3261, section 17.1.1, and RFC 6026, section 7.2. The ACK of a 2xx
--- is sent by the call, not by it. A repeats the request, B ends the wait for a response, D absorbs
--- repeated responses, M passes on further 2xx.
+-- is sent by the call. A retransmits the request, B ends the wait for a response. While D runs, a
+-- repeated response gets the ACK again; while M runs, 2xx go up. `left`: what the rows above leave.
 abbrev pub invite_client : Option State → Trigger → Step
 invite_client None Start = row (To Calling) up.Nothing send.Given Both  -- +A +B
 invite_client None (Response any) = row Ended up.NoTransaction send.Nothing Clear
@@ -65,8 +65,8 @@ invite_client (Some Accepted) (Response 2xx) = row Same up.Message send.Nothing 
 invite_client (Some Accepted) TimeoutDue = row Ended up.Nothing send.Nothing Clear  -- !M
 invite_client state other = row Same up.Nothing send.Nothing Keep
 
--- Non-INVITE client transaction: RFC 3261, section 17.1.2. E repeats the request, F ends the wait
--- for a final response, K absorbs repeated responses.
+-- Non-INVITE client transaction: RFC 3261, section 17.1.2. E retransmits the request, F ends the
+-- wait for a final response. While K runs, retransmitted responses are absorbed.
 abbrev pub client : Option State → Trigger → Step
 client None Start = row (To Trying) up.Nothing send.Given Both  -- +E +F
 client None (Response any) = row Ended up.NoTransaction send.Nothing Clear
@@ -80,20 +80,20 @@ client (Some Trying) (Response 2xx) = row (To Completed) up.Message send.Nothing
 client (Some Trying) (Response 300-699) =
     row (To Completed) up.Message send.Nothing (Ending T4)  -- +K
 client (Some Trying) (Response left) =
-    row (To Proceeding) up.Message send.Nothing Keep  -- 100 to 199
+    row (To Proceeding) up.Message send.Nothing Keep  -- 100 to 199; E and F run on
 client (Some Proceeding) (Response 2xx) =
     row (To Completed) up.Message send.Nothing (Ending T4)  -- +K
 client (Some Proceeding) (Response 300-699) =
     row (To Completed) up.Message send.Nothing (Ending T4)  -- +K
 client (Some Proceeding) (Response left) =
-    row (To Proceeding) up.Message send.Nothing Keep  -- 100 to 199
+    row (To Proceeding) up.Message send.Nothing Keep  -- 100 to 199; E and F run on
 client (Some Completed) TimeoutDue = row Ended up.Nothing send.Nothing Clear  -- !K
 client state other = row Same up.Nothing send.Nothing Keep
 
--- INVITE server transaction: RFC 3261, section 17.2.1, and RFC 6026, section 7.1. G repeats the
--- response, H ends the wait for the ACK, I absorbs repeated ACKs, L absorbs repeated INVITEs after
--- a 2xx (the last row), lets further 2xx out and passes ACKs up. A 100 of the user isn't sent: the
--- last row. A failed send ends no server transaction (RFC 6026); own: the user is told of it.
+-- INVITE server transaction: RFC 3261, section 17.2.1, and RFC 6026, section 7.1. G retransmits the
+-- response, H ends the wait for the ACK. While I runs, ACKs are absorbed; while L runs, INVITEs are
+-- absorbed, 2xx go out and ACKs go up. A 100 isn't sent: the last row. A failed send ends no server
+-- transaction (RFC 6026), but the user is told, even late (RFC 3261, section 17.2.4).
 abbrev pub invite_server : Option State → Trigger → Step
 invite_server None Request = row (To Proceeding) up.Message send.Trying Clear
 invite_server None Ack = row Ended up.Message send.Nothing Clear
@@ -118,8 +118,8 @@ invite_server (Some Confirmed) TimeoutDue = row Ended up.Nothing send.Nothing Cl
 invite_server (Some Confirmed) Failed = row Same up.Failed send.Nothing Keep
 invite_server state other = row Same up.Nothing send.Nothing Keep
 
--- Non-INVITE server transaction: RFC 3261, section 17.2.2. J keeps the response for repeated
--- requests.
+-- Non-INVITE server transaction: RFC 3261, section 17.2.2. While J runs, a retransmitted request
+-- gets the response again.
 abbrev pub server : Option State → Trigger → Step
 server None Request = row (To Trying) up.Message send.Nothing Clear
 server (Some Trying) (Answer 101-199) = row (To Proceeding) up.Nothing send.Given Clear

@@ -19,7 +19,7 @@ interval Doubled j = T1 * 2 ^ j
 interval Capped j = min (T1 * 2 ^ j) T2
 interval Even j = T2
 
--- the timers after a row at a moment
+-- the timers after a row at a moment; all but `Keep` and `Again` set `fired` to 0
 abbrev pub timers_after : Due → ℕ → Dues → Dues
 timers_after Keep now timers = timers
 timers_after Clear now timers = stopped

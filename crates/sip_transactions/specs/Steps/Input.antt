@@ -42,7 +42,7 @@ message_in (Some (Start id call_id message to)) = Some message
 message_in (Some (Answer id message)) = Some message
 message_in (Some (Failed id)) = None
 
--- the message that came, and where a response to it goes
+-- the message that came, and the address of a response to it
 abbrev pub arrived_in : Option Input → Option (Message × Addr)
 arrived_in None = None
 arrived_in (Some (Receive id message reply_to)) = Some (message, reply_to)
@@ -61,13 +61,12 @@ abbrev pub answer_of : StartLine → Option Trigger
 answer_of (start.Request uri) = None
 answer_of (start.Response status reason) = Some (on.Answer (class_of status))
 
--- what a tick is: the ending moment if it has come, otherwise the repeating moment if it has come,
--- otherwise nothing
+-- the trigger of a tick: the end if it is due, otherwise the repeat if it is due, otherwise none
 abbrev pub due_of : ℕ → Option ℕ → Option ℕ → Option Trigger
 due_of now ending repeat = if is_due now ending then Some on.TimeoutDue else if is_due now repeat
     then Some on.RetransmitDue else None
 
--- what is due at a moment, the ending before the repeat
+-- what is due at a moment, the end before the repeat
 abbrev pub tick_of : ℕ → Option Life → Option Trigger
 tick_of now None = None
 tick_of now (Some life) = due_of now life.context.timers.ending life.context.timers.repeat

@@ -32,14 +32,14 @@ step_for key held now input =
     let rows = rows_of (role_of key) in
     option_and_then (row_of rows (state_of held)) (trigger_of held now input)
 
--- the client of an INVITE keeps it, for its ACKs
+-- the client of an INVITE keeps the INVITE, for its ACKs
 abbrev pub keeps_request : Role → Bool
 keeps_request InviteClient = true
 keeps_request Client = false
 keeps_request InviteServer = false
 keeps_request Server = false
 
--- what is held of this id and this Call-ID where nothing was sent yet, and nothing is due
+-- the context of this id and this Call-ID before anything was sent or is due
 abbrev pub context_by : Id → List ℕ → Addr → Option Message → Context
 context_by id call_id to request = record {
   id = id;
@@ -50,7 +50,7 @@ context_by id call_id to request = record {
   timers = no_dues;
 }
 
--- what an input begins a life with, under the id and the Call-ID of that input
+-- the context with which an input begins a life, under its own id and Call-ID
 unfoldable pub begun : Role → Option Input → Option Context
 begun role (Some (Receive id message reply_to)) =
     Some (context_by id message.call_id reply_to None)
@@ -60,8 +60,7 @@ begun role None = None
 begun role (Some (Answer id message)) = None
 begun role (Some (Failed id)) = None
 
--- what a row has at hand beside the state: that of the life that is held, or what the input begins
--- one with
+-- the context that a row uses: that of the held life, or the one with which the input begins a life
 abbrev pub context_of : Role → Option Life → Option Input → Option Context
 context_of role None input = begun role input
 context_of role (Some life) input = Some life.context
@@ -85,7 +84,7 @@ entered (Become new) state = Some new
 abbrev pub life_in : Context → State → Life
 life_in context state = record { state = state; context = context }
 
--- the life after a row that made a message of these bytes, if there is a state after it
+-- the life after a row that made a message with these bytes, if there is a state after the row
 unfoldable pub life_after : Option State → Context → Step → ℕ → Option (List ℕ) → Option Life
 life_after state context step now made =
     option_map (life_in (armed step.due now (last_of made context))) (entered step.next state)
@@ -97,19 +96,19 @@ acted key now input state context step =
     let made = made_bytes context.request step.sent (message_in input) in
     (life_after state context step now made, outputs_of key context step made (arrived_in input))
 
--- the same at a message that comes where no life is held
+-- the same for a message that comes while no life is held
 abbrev pub acted_at_arrival : Key → ℕ → Id → Message → Addr → Step → Option Life × List Out
 acted_at_arrival key now id message reply_to step =
     acted key now (Some (Receive id message reply_to)) None
     (context_by id message.call_id reply_to None) step
 
--- where nothing is held and nothing begins, a row does nothing
+-- if no life is held and none begins, a row does nothing
 abbrev pub acted_if : Key → ℕ → Option Input → Option State → Option Context → Step
     → Option Life × List Out
 acted_if key now input state None step = (None, [])
 acted_if key now input state (Some context) step = acted key now input state context step
 
--- an input: where no row fits, nothing changes and nothing is said
+-- an input: if no row fits, nothing changes and nothing is said
 abbrev pub stepped_by : Key → Option Life → ℕ → Option Input → Option Step → Option Life × List Out
 stepped_by key held now input None = (held, [])
 stepped_by key held now input (Some step) =

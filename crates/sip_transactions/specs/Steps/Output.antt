@@ -54,7 +54,7 @@ handed_out key context up.NoTransaction arrived =
 abbrev pub trying_of : Message → Message
 trying_of request = response_of request 100 (codes "Trying") (codes "")
 
--- the message that a row makes of a message that came or that the user gave, and of the request
+-- the message that a row makes from a message that came or that the user gave, and from the request
 -- that the life keeps
 unfoldable pub made_of : Option Message → Sent → Message → Option Message
 made_of request send.Nothing message = None
@@ -63,7 +63,7 @@ made_of request send.Latest message = None
 made_of request send.Trying message = Some (trying_of message)
 made_of request send.Ack message = option_map (λ request. ack_of request message) request
 
--- its bytes
+-- the bytes of that message
 abbrev pub made_bytes : Option Message → Sent → Option Message → Option (List ℕ)
 made_bytes request sent message =
     option_map written (option_and_then (made_of request sent) message)

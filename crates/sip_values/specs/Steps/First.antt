@@ -1,4 +1,4 @@
--- What stands before the first separator of a text, read, and what follows it.
+-- What is read before the first separator of a text, and what follows it.
 use Rattle.std.specs.Prelude.{ℕ, ◌==◌, List, [], ◌∷◌, Option, Some, None, if◌then◌else◌}
 use Rattle.std.specs.Option.{option_copied}
 use Rattle.std.specs.Borrow.{Bor}
@@ -11,17 +11,17 @@ goes_on after = Some (Some after)
 abbrev pub ends : {X A : Type 0} → X → X × Option A
 ends x = (x, None)
 
--- the value of the text before the first separator that counts, and the text behind it, or nothing
--- where there is no such separator
+-- the value of the text before the first separator that counts, and the text after it, or nothing
+-- if there is no such separator
 abbrev pub first : {X : Type 0} → Separator → (List ℕ → Option X) → List ℕ
     → Option (X × Option (List ℕ))
 first at f text = on_cut at (both f goes_on) (told ends f) text
 
--- nothing at the end of the text, or what stands behind this byte, with which the text begins
+-- nothing at the end of the text, or what follows this byte, with which the text begins
 abbrev pub behind : ℕ → List ℕ → Option (Option (List ℕ))
 behind byte [] = Some None
 behind byte (b ∷ bs) = if b == byte then Some (Some bs) else None
 
--- what a value and a reference behind it point to
+-- what a value and a reference after it point to
 abbrev pub first_now : {R X : Type 0} → (R → X) → R × Option (Bor (List ℕ)) → X × Option (List ℕ)
 first_now now found = (now found.0, option_copied found.1)

@@ -1,3 +1,5 @@
+-- The law `a_client_request_holds_its_history`: a held client request is what its story says; its
+-- CANCEL and its ACKs.
 use Rattle.sip_calls.proofs.ClientHistories.{cancels_once, holds_client_stories, repeats_its_ack, waits_as_asked}
 use Rattle.sip_calls.proofs.laws.a_client_request_holds_its_history.Goals as goal
 

@@ -1,3 +1,5 @@
+-- The law `a_dialog_holds_its_history`: a held dialog is what its history makes it; its name,
+-- numbers, routes and target.
 use Rattle.sip_calls.proofs.Histories.{counts_its_requests, has_its_name, has_the_greatest_number, has_the_latest_route, has_the_next_number, holds_its_history, numbers_its_requests}
 use Rattle.sip_calls.proofs.laws.a_dialog_holds_its_history.Goals as goal
 

@@ -1,3 +1,5 @@
+-- The law `a_response_awaits_its_prack_as_told`: which responses are kept, await their PRACK and
+-- are sent again follows from the outputs.
 use Rattle.sip_calls.proofs.Unacknowledged.{awaited_as_told, kept_as_told, repeated_as_told}
 use Rattle.sip_calls.proofs.laws.a_response_awaits_its_prack_as_told.Goals as goal
 

@@ -1,3 +1,5 @@
+-- The law `provisionals_shown_in_order`: the RSeqs that are shown are in order, consecutive, and
+-- none is shown twice.
 use Rattle.sip_calls.proofs.ShownInOrder.{shown_consecutive, shown_in_order, shown_once}
 use Rattle.sip_calls.proofs.laws.provisionals_shown_in_order.Goals as goal
 

@@ -1,3 +1,5 @@
+-- The law `the_rules_say_the_steps`: the rules of a call, and when it is due, are the same as the
+-- steps.
 use Rattle.sip_calls.specs.Idle.{same_due}
 use Rattle.sip_calls.proofs.SameSteps.{same_step}
 use Rattle.sip_calls.proofs.laws.the_rules_say_the_steps.Goals as goal

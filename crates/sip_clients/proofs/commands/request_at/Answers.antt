@@ -1,3 +1,4 @@
+-- `request_at`: only the held dialog of the name changes, by the request in it.
 use Rattle.std.proofs.Common.{◌≡◌, ap, ◌∙◌, rules}
 use Rattle.sip_clients.specs.Commands.{request_in_held}
 use Rattle.sip_clients.proofs.Results.{on_ok}

@@ -1,3 +1,5 @@
+-- `request_in` refuses a method that the user can't send in the dialog, and otherwise sends the
+-- request if the dialog doesn't refuse it.
 use Rattle.std.proofs.Common.{◌≡◌, sym, ap, subst}
 use Rattle.std.specs.Prelude.{IfOk, OnOk}
 use Rattle.sip_clients.specs.SendOutcome.{Outcome}

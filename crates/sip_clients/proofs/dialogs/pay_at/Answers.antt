@@ -1,3 +1,4 @@
+-- `pay_at`: only the held dialog of the name changes, by the ACK or PRACK that is sent in it.
 use Rattle.std.proofs.Common.{◌≡◌, ap, ◌∙◌, rules}
 use Rattle.sip_clients.specs.Pending.{paid}
 use Rattle.sip_clients.proofs.Results.{on_ok}

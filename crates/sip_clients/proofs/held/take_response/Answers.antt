@@ -1,3 +1,4 @@
+-- `take_response`: a response to a held request changes that request, its dialog and what is told.
 use Rattle.std.proofs.Common.{◌≡◌, List, sym, ap, ◌∙◌, rules}
 use Rattle.std.specs.Prelude.{Some}
 use Rattle.std.specs.Map.{set_value}

@@ -1,3 +1,5 @@
+-- The law `a_cancel_waits_for_a_provisional`: a CANCEL waits only while no provisional response
+-- came.
 use Rattle.sip_clients.proofs.Waiting.{ack_waits, cancel_waits, invite_waits, lost_waits, plain_waits, prack_waits, request_waits, response_waits, tick_waits}
 use Rattle.sip_clients.proofs.laws.a_cancel_waits_for_a_provisional.Goals as goal
 

@@ -1,3 +1,5 @@
+-- The law `each_client_request_is_told`: after each step a held client request is what its story
+-- says.
 use Rattle.sip_clients.proofs.CommandStories.{ack_holds, cancel_holds, invite_holds, lost_holds, plain_holds, prack_holds, request_holds, tick_holds}
 use Rattle.sip_clients.proofs.ReplyStories.{response_holds}
 use Rattle.sip_clients.proofs.laws.each_client_request_is_told.Goals as goal

@@ -1,3 +1,5 @@
+-- The law `each_client_request_keeps_the_rules`: what happens to a client request is allowed by
+-- what happened before.
 use Rattle.sip_clients.proofs.CommandStories.{ack_rules, cancel_rules, invite_rules, lost_rules, plain_rules, prack_rules, request_rules, tick_rules}
 use Rattle.sip_clients.proofs.ReplyStories.{response_rules}
 use Rattle.sip_clients.proofs.laws.each_client_request_keeps_the_rules.Goals as goal

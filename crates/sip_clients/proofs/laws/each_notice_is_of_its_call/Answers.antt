@@ -1,3 +1,5 @@
+-- The law `each_notice_is_of_its_call`: after each step what is held and told has the Call-ID of
+-- the call.
 use Rattle.sip_clients.proofs.OwnCommands.{ack_own, cancel_own, dialog_request_own, invite_own, plain_own, prack_own}
 use Rattle.sip_clients.proofs.OwnReplies.{lost_own, response_own, tick_own}
 use Rattle.sip_clients.proofs.laws.each_notice_is_of_its_call.Goals as goal

@@ -1,3 +1,5 @@
+-- The law `each_request_has_its_branch`: a made request has the branch of its event, a CANCEL the
+-- Via of its INVITE.
 use Rattle.std.proofs.Common.{◌≡◌, ℕ, ◌+◌, List, [], ◌∷◌, refl, sym, ◌∙◌}
 use Rattle.std.specs.Prelude.{Some, codes, take}
 use Rattle.sip_dialog.specs.Request.{agent_via, bare_request_in}

@@ -1,3 +1,4 @@
+-- The law `names_differ`: names of different rounds, places or indexes differ.
 use Rattle.sip_clients.proofs.Names.{names_differ}
 use Rattle.sip_clients.proofs.laws.names_differ.Goals as goal
 

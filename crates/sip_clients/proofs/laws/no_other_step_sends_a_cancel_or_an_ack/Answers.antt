@@ -1,3 +1,4 @@
+-- The law `no_other_step_sends_a_cancel_or_an_ack`, step by step.
 use Rattle.sip_clients.proofs.OtherSends.{ack_no_cancel, cancel_no_ack, invite_no_ack, invite_no_cancel, lost_no_ack, lost_no_cancel, plain_no_ack, plain_no_cancel, prack_no_ack, prack_no_cancel, request_no_ack, request_no_cancel, response_by_status, tick_no_ack, tick_no_cancel}
 use Rattle.sip_clients.proofs.laws.no_other_step_sends_a_cancel_or_an_ack.Goals as goal
 

@@ -1,3 +1,4 @@
+-- `made_name`: the made text is a token.
 use Rattle.sip_clients.proofs.Hex.{name_is_token}
 use Rattle.sip_clients.proofs.name.made_name.Goals as goal
 

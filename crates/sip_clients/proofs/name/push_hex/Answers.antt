@@ -1,3 +1,4 @@
+-- `push_hex`: each turn of the loop writes the next digit.
 use Rattle.std.proofs.Common.{◌-◌, ◌/◌, ◌%◌, ◌*◌, ◌^◌, ◌++◌, ◌∷◌, [], arith, sym, ap, ◌∙◌, append-nil, append_assoc}
 use Rattle.sip_text.specs.Number.{hex_digit}
 use Rattle.sip_clients.specs.Name.{hex}

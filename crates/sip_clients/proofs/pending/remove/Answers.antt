@@ -1,3 +1,4 @@
+-- `remove` keeps all pending requests but this one.
 use Rattle.std.proofs.Common.{not, rules}
 use Rattle.std.proofs.lemmas.Fn.{filter_same}
 use Rattle.sip_clients.specs.Pending.{is_same_pending}

@@ -1,3 +1,4 @@
+-- `take_reply`: if the dialog of the response is held, it is replaced in its place.
 use Rattle.std.proofs.Common.{◌≡◌, Bool, true, false, cond, List, [], ◌∷◌, refl, sym, ap, ◌∙◌, rules}
 use Rattle.std.specs.Prelude.{Option, None, Some, unwrap_or, if◌then◌else◌}
 use Rattle.std.specs.Map.{lookup, set_value}
@@ -11,7 +12,7 @@ use Rattle.sip_clients.specs.ReceivedResponse.{is_last}
 use Rattle.sip_clients.proofs.Results.{if_ok}
 use Rattle.sip_clients.proofs.replied.take_reply.Goals as goal
 
--- a key that is there keeps its place
+-- a key that was found keeps its place
 there_step : {K X : Type 0} (b : Bool) (e : K × X) (es set put : List (K × X)) (v x : X)
     → (lookup_is : Option X) → cond b (Some e.1) lookup_is ≡ Some x
     → (lookup_is ≡ Some x → set ≡ put)

@@ -1,3 +1,4 @@
+-- The law `commands_are_by_the_rules`: for each command the rule says the same as the step.
 use Rattle.sip_clients.proofs.RuleRequests.{ack_same, cancel_same, invite_same, plain_same, prack_same, request_same}
 use Rattle.sip_clients.proofs.rules.commands_are_by_the_rules.Goals as goal
 

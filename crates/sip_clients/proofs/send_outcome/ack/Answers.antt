@@ -1,3 +1,4 @@
+-- `ack`: if the dialog refuses, the ACK is refused for the same reason.
 use Rattle.sip_clients.proofs.send_outcome.ack.Goals as goal
 
 pub returns-in-Err : goal.returns-in-Err

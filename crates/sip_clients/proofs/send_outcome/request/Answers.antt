@@ -1,3 +1,5 @@
+-- `request`: a request is sent if the dialog doesn't refuse it. If it does, the request is refused
+-- for the same reason, and the dialog doesn't change.
 use Rattle.std.proofs.Common.{◌≡◌, ◌+◌, sym, ap, subst, ◌∙◌}
 use Rattle.std.specs.Prelude.{Option, None, OnOk}
 use Rattle.sip_dialog.specs.declared.fault.DialogFault.{DialogFault}

@@ -1,3 +1,4 @@
+-- `drop_clients` keeps the requests that aren't over.
 use Rattle.std.proofs.Common.{not, rules}
 use Rattle.indexmap.proofs.CallerLemmas.{filter-RetainsPairs}
 use Rattle.sip_clients.specs.Tick.{is_over}

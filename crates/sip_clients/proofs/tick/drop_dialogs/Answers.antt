@@ -1,3 +1,4 @@
+-- `drop_dialogs` keeps all dialogs but those that are still early when their INVITE is removed.
 use Rattle.std.proofs.Common.{not, rules}
 use Rattle.indexmap.proofs.CallerLemmas.{filter-RetainsPairs}
 use Rattle.sip_clients.specs.Tick.{ends_early_at}

@@ -1,3 +1,4 @@
+-- The loop of `over_notices`: the ends of the early dialogs of the INVITEs so far are told.
 use Rattle.std.proofs.Common.{◌≡◌, take}
 use Rattle.std.specs.List.{flat_map}
 use Rattle.std.specs.Map.{values_of}

@@ -1,3 +1,4 @@
+-- `drop_early` keeps all dialogs but the early ones of the INVITE.
 use Rattle.std.proofs.Common.{not, rules}
 use Rattle.indexmap.proofs.CallerLemmas.{filter-RetainsPairs}
 use Rattle.sip_common.specs.Dialogs.{is_early_of}

@@ -1,3 +1,4 @@
+-- The loop of `early_notices`: the ends of the early dialogs among those seen so far are told.
 use Rattle.std.proofs.Common.{◌≡◌, map, filter, take}
 use Rattle.std.specs.Map.{values_of}
 use Rattle.sip_common.specs.Dialogs.{ended_notice, is_early_of}

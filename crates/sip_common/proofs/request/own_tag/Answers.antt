@@ -1,3 +1,4 @@
+-- `own_tag`: a To tag that isn't empty is a token, so it can be copied as one.
 use Rattle.std.proofs.Common.{sym, ap, ◌∙◌, length}
 use Rattle.std.specs.Prelude.{◌==◌}
 use Rattle.sip_dialog.proofs.Tags.{tag_is_token}

@@ -1,3 +1,4 @@
+-- `add_plain`: it adds the same as the lines of the text, and the rest isn't longer than the text.
 use Rattle.std.proofs.Common.{◌∙◌, arith}
 use Rattle.sip_headers.specs.HeaderLine.{class_now}
 use Rattle.sip_headers.proofs.PlainLines.{adds_line, line_shorter}

@@ -1,3 +1,4 @@
+-- The loop of `add_plain`: the lines so far are added; with those of the rest they are the same.
 use Rattle.std.proofs.Common.{◌≡◌, ◌≤◌, length}
 use Rattle.sip_headers.specs.Steps.Drafted.{drafted_at}
 use Rattle.sip_headers.proofs.folding.add_plain.Given as goal

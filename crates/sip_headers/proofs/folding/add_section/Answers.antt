@@ -1,3 +1,4 @@
+-- `add_section` adds the header lines up to the empty line, or finds that there is none.
 use Rattle.std.proofs.Common.{sym, ◌∙◌}
 use Rattle.sip_headers.specs.Whole.{whole_now}
 use Rattle.sip_headers.proofs.Folds.{section_ends, section_goes_on, section_stops, is_empty_text, is_full_text}

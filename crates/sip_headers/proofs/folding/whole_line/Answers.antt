@@ -1,3 +1,4 @@
+-- `whole_line`: the line with those that continue it is the first whole line.
 use Rattle.std.proofs.Common.{sym, ◌∙◌, arith}
 use Rattle.sip_headers.specs.Whole.{whole_now}
 use Rattle.sip_headers.proofs.Folds.{goes_on, ends_here, ends_plain, ends_unended, lines_go_on, lines_end_here, lines_plain, lines_unended}

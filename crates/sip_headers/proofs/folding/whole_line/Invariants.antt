@@ -1,3 +1,5 @@
+-- The loop of `whole_line`: the line so far and the rest give the same whole lines as the line and
+-- the text.
 use Rattle.std.proofs.Common.{◌≡◌, ◌≤◌, length}
 use Rattle.sip_headers.specs.Folding.{folded_onto, section_at}
 use Rattle.sip_headers.specs.Steps.Drafted.{lines_at, onto_section}

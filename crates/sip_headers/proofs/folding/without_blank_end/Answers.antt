@@ -1,3 +1,4 @@
+-- `without_blank_end` takes the white space off the end of a line.
 use Rattle.sip_headers.proofs.Folds.{kept_front}
 use Rattle.sip_headers.proofs.folding.without_blank_end.Goals as goal
 

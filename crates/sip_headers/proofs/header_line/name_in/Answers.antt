@@ -1,3 +1,4 @@
+-- `name_in`: a name and a colon that it finds are what reading gives.
 use Rattle.std.proofs.Common.{sym}
 use Rattle.sip_headers.proofs.Names.{name_first}
 use Rattle.sip_headers.proofs.header_line.name_in.Goals as goal

@@ -1,3 +1,4 @@
+-- `plain_line`: a line that it finds is the first line of the text, of this class, without folds.
 use Rattle.std.proofs.Common.{List, ℕ, ap, sym, ◌∙◌}
 use Rattle.sip_parts.specs.HeaderEntry.{header_named}
 use Rattle.sip_headers.specs.HeaderLine.{class_by_name}

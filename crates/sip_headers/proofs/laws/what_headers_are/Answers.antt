@@ -1,3 +1,5 @@
+-- The law `what_headers_are`: a draft holds exactly the headers of its lines, or has the first
+-- fault.
 use Rattle.sip_headers.proofs.HeaderFaults.{decided, headers_take}
 use Rattle.sip_headers.proofs.HeaderSets.{headers_again}
 use Rattle.sip_headers.proofs.laws.what_headers_are.Goals as goal

@@ -1,3 +1,4 @@
+-- The loop of `with_ports`: the Via values so far have their ports, and the rest is left.
 use Rattle.std.proofs.Common.{◌≡◌}
 use Rattle.std.specs.Vec.Iter.{into_iter_items}
 use Rattle.sip_text.specs.Forms.{each}

@@ -1,3 +1,4 @@
+-- `ip_text`: the text of an IP address is the value of a parameter.
 use Rattle.std.proofs.Common.{◌≡◌, rules, arith}
 use Rattle.sip_message.specs.Ip.{ip_text}
 use Rattle.sip_message.proofs.Stamps.{ip_is_value}

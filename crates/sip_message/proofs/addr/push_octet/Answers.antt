@@ -1,3 +1,4 @@
+-- `push_octet`: a number has at most three digits, so there is room for it.
 use Rattle.std.proofs.Common.{◌≡◌, decimal, length, ap, ◌∙◌, arith}
 use Rattle.std.proofs.lemmas.Fmt.{length-decimal-le}
 use Rattle.sip_message.proofs.addr.push_octet.Goals as goal

@@ -1,3 +1,4 @@
+-- `content_type`: `Content-Type` may be the name of a header that isn't parsed.
 use Rattle.std.proofs.Common.{rules}
 use Rattle.sip_text.specs.Token.{is_token, is_token_byte}
 use Rattle.sip_parts.specs.HeaderEntry.{is_named}

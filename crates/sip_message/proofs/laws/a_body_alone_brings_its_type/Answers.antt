@@ -1,3 +1,4 @@
+-- The law `a_body_alone_brings_its_type`: what an empty body does to a message, and any other.
 use Rattle.std.proofs.Common.{◌++◌, ◌∷◌, [], sym, append-nil}
 use Rattle.sip_message.specs.Content.{content_type, with_content_of}
 use Rattle.sip_message.proofs.laws.a_body_alone_brings_its_type.Goals as goal

@@ -1,3 +1,4 @@
+-- `tagged`: a party that isn't tagged has no parameter `tag`, so one may be added.
 use Rattle.std.proofs.Common.{◌≡◌, false, Option, Some, None, refl, sym, ◌∙◌, is_some}
 use Rattle.sip_message.specs.Response.{is_tagged}
 use Rattle.sip_message.proofs.response.tagged.Goals as goal

@@ -1,3 +1,4 @@
+-- `with_tag`: the parameters with the tag at the end still have a token as their tag.
 use Rattle.std.proofs.Common.{◌≡◌, ◌∙◌}
 use Rattle.sip_message.proofs.Tags.{good_tag_added}
 use Rattle.sip_message.proofs.response.with_tag.Goals as goal

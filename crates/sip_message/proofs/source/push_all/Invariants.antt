@@ -1,3 +1,4 @@
+-- The loop of `push_all`: the parameters so far are copied.
 use Rattle.std.proofs.Common.{◌≡◌, ◌++◌, take}
 use Rattle.sip_message.proofs.source.push_all.Given as goal
 

@@ -1,3 +1,4 @@
+-- `stamp_source`: the stamped parameters have the same branch.
 use Rattle.std.proofs.Common.{◌≡◌, arith}
 use Rattle.std.proofs.lemmas.Grind.{common_steps}
 use Rattle.sip_message.specs.Source.{stamped_parameters}

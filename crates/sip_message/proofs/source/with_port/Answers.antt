@@ -1,3 +1,4 @@
+-- `with_port`: the text of a port is the value of a parameter.
 use Rattle.std.proofs.Common.{◌≡◌, decimal, arith}
 use Rattle.std.proofs.lemmas.Grind.{common_steps}
 use Rattle.sip_message.proofs.Stamps.{port_is_value}

@@ -1,3 +1,5 @@
+-- The loop of `with_value`: what is made so far, and then the rest with the value, are all
+-- parameters with the value.
 use Rattle.std.proofs.Common.{◌≡◌, ◌++◌, length}
 use Rattle.sip_message.specs.Source.{with_value}
 use Rattle.sip_message.proofs.source.with_value.Given as goal

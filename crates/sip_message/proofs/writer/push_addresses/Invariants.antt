@@ -1,3 +1,4 @@
+-- The loop of `push_addresses`: the lines of the addresses so far are written.
 use Rattle.std.proofs.Common.{◌≡◌, ◌++◌, take}
 use Rattle.std.specs.List.{flat_map}
 use Rattle.sip_message.specs.Written as written

@@ -1,3 +1,5 @@
+-- `has_no_blank_ends`: a text is equal to itself without white space at its ends exactly if its
+-- first and last byte are no blanks.
 use Rattle.sip_parts.proofs.BlankEnds.{first_decides, last_decides}
 use Rattle.sip_parts.proofs.header_value.has_no_blank_ends.Goals as goal
 

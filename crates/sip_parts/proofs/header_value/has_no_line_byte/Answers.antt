@@ -1,3 +1,4 @@
+-- `has_no_line_byte`: a text has no CR and no LF exactly if none is found.
 use Rattle.std.proofs.Common.{sym}
 use Rattle.sip_text.specs.Character.{is_line_byte}
 use Rattle.sip_parts.proofs.LineBytes.{none_found}

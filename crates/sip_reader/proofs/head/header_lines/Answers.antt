@@ -1,3 +1,4 @@
+-- `header_lines` gives the header lines of the text, none if it has no line.
 use Rattle.std.proofs.Common.{◌≡◌, ℕ, List, drop, Result, Ok, Err, IfOk, sym, ap, ◌∙◌}
 use Rattle.sip_reader.specs.Head.{HasHeaderLines}
 use Rattle.sip_reader.specs.Steps.ReadHead.{head_at, header_lines_at, lines_found}

@@ -1,3 +1,5 @@
+-- The loop of `header_lines_in`: the header lines so far, and then those of the rest, are those of
+-- the text.
 use Rattle.std.proofs.Common.{length}
 use Rattle.std.specs.Option.{option_map}
 use Rattle.sip_reader.specs.Head.{header_line}

@@ -1,3 +1,4 @@
+-- `header_values` gives the values of the header in the text, none if it has no line.
 use Rattle.std.proofs.Common.{◌≡◌, ℕ, List, drop, Result, Ok, Err, IfOk, sym, ap, ◌∙◌}
 use Rattle.sip_reader.specs.Head.{HasValues}
 use Rattle.sip_reader.specs.Steps.ReadHead.{head_at, lines_found, values_at}

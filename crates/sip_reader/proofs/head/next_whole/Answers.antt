@@ -1,3 +1,5 @@
+-- `next_whole`: the line that it finds is the first whole line of the text; if it finds none, there
+-- is none.
 use Rattle.std.proofs.Common.{sym, ◌∙◌}
 use Rattle.sip_headers.specs.Whole.{whole_now}
 use Rattle.sip_headers.proofs.Folds.{is_empty_text, is_full_text}

@@ -1,3 +1,5 @@
+-- `start_line` gives what the first line of the text says, or None if it says nothing or there is
+-- none.
 use Rattle.std.proofs.Common.{Some, None, sym, ap, ◌∙◌}
 use Rattle.sip_reader.specs.Steps.ReadHead.{first_at, lines_found}
 use Rattle.sip_reader.specs.ReadStart.{start_at}

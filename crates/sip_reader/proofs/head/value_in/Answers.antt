@@ -1,3 +1,4 @@
+-- `value_in` gives the value of a line whose name is one of the header.
 use Rattle.std.proofs.Common.{List, ℕ, Bool, cond, not, Option, Some, None, sym, ap, ◌∙◌}
 use Rattle.std.specs.Str.{str_eq_ignore_ascii_case}
 use Rattle.sip_headers.specs.Draft.{long_name}

@@ -1,3 +1,4 @@
+-- The loop of `values_in`: the values so far, and then those of the rest, are those of the text.
 use Rattle.std.proofs.Common.{length}
 use Rattle.sip_reader.specs.Head.{value_under}
 use Rattle.sip_reader.specs.Steps.ReadHead.{values_at, whole_lines_at}

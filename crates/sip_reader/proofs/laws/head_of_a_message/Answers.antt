@@ -1,3 +1,4 @@
+-- The law `head_of_a_message`: the head of a text says what its message says.
 use Rattle.sip_headers.specs.Named.{others_in}
 use Rattle.sip_reader.proofs.HeadMessages.{first_said, known_said, others_said}
 use Rattle.sip_reader.proofs.Heads.{head_laid}

@@ -1,3 +1,5 @@
+-- The law `headers_of_a_content`: the headers of a text that was written for a message with a
+-- content.
 use Rattle.sip_reader.proofs.HeadContents.{contacts_written, once_written, others_written, require_written, supported_written}
 use Rattle.sip_reader.proofs.laws.headers_of_a_content.Goals as goal
 

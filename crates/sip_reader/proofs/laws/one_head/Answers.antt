@@ -1,3 +1,5 @@
+-- The law `one_head`: a text has one head, one start line or none, and one list of values and of
+-- header lines.
 use Rattle.sip_reader.proofs.HeadValues.{one_list, one_list_of_lines}
 use Rattle.sip_reader.proofs.Heads.{one_head, one_start}
 use Rattle.sip_reader.proofs.laws.one_head.Goals as goal

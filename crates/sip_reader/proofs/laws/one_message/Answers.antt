@@ -1,3 +1,4 @@
+-- The law `one_message`: a text spells at most one message.
 use Rattle.std.proofs.Common.{sym, ◌∙◌}
 use Rattle.sip_reader.proofs.Outcomes.{same_Ok}
 use Rattle.sip_reader.proofs.Spelled.{spelled_again}

@@ -1,3 +1,4 @@
+-- The law `what_is_read`: reading gives the message that the text spells, or the first fault.
 use Rattle.sip_reader.specs.ReadMessage.{message_at}
 use Rattle.sip_reader.proofs.Answering.{gives_itself, is_found}
 use Rattle.sip_reader.proofs.FirstFaults.{first_fault}

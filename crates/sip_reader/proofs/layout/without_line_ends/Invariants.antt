@@ -1,3 +1,4 @@
+-- The loop of `without_line_ends`: the rest has the same text after its line ends as the whole.
 use Rattle.std.proofs.Common.{◌≡◌, length}
 use Rattle.sip_reader.specs.SkippedEnds as layout
 use Rattle.sip_reader.proofs.layout.without_line_ends.Given as goal

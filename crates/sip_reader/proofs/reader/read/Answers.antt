@@ -1,3 +1,4 @@
+-- `read` gives the message that the text spells, or the first fault, unless memory runs out.
 use Rattle.sip_reader.proofs.Answering.{is_found, is_only, is_fault}
 use Rattle.sip_reader.proofs.reader.read.Goals as goal
 

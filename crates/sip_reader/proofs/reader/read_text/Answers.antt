@@ -1,3 +1,4 @@
+-- `read_text` gives what reading from left to right gives, unless memory runs out.
 use Rattle.std.proofs.Common.{sym, subst, ◌∙◌}
 use Rattle.sip_headers.specs.Whole.{whole_now}
 use Rattle.sip_reader.specs.ReadMessage.{Gives}

@@ -1,3 +1,4 @@
+-- The loop of `others_keep`: the headers so far satisfy their rules.
 use Rattle.std.proofs.Common.{take}
 use Rattle.std.specs.List.{AllByRecursion}
 use Rattle.sip_message.specs.Rules.{IsOtherHeader}

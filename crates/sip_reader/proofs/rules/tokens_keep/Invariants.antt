@@ -1,3 +1,4 @@
+-- The loop of `tokens_keep`: the tokens so far are tokens.
 use Rattle.std.proofs.Common.{take}
 use Rattle.std.specs.Prelude.{IsTrue}
 use Rattle.std.specs.List.{AllByRecursion}

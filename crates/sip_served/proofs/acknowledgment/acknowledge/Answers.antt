@@ -1,3 +1,4 @@
+-- `acknowledge`: if the INVITE is held, its 2xx isn't sent again; all else is unchanged.
 use Rattle.sip_served.specs.Acknowledgment.{success_ended}
 use Rattle.sip_served.specs.declared.held_request.SuccessEnd.TheVariants.{Acknowledged}
 use Rattle.sip_served.proofs.Changes.{written}

@@ -1,3 +1,4 @@
+-- `acknowledge_number` takes the response of this RSeq out of the ledger, if it waits there.
 use Rattle.sip_served.proofs.Numbers.{acknowledged_by}
 use Rattle.sip_served.proofs.acknowledgment.acknowledge_number.Goals as goal
 

@@ -1,3 +1,4 @@
+-- `prack`: if the INVITE is held, its response of this RSeq no longer waits; all else is unchanged.
 use Rattle.sip_served.specs.Arrival.{pracked}
 use Rattle.sip_served.proofs.Changes.{written}
 use Rattle.sip_served.proofs.acknowledgment.prack.Goals as goal

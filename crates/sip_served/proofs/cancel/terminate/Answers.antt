@@ -1,3 +1,4 @@
+-- `terminate`: if the INVITE is held, a 487 is its final response; all else is unchanged.
 use Rattle.std.proofs.Common.{◌≡◌}
 use Rattle.std.specs.List.{slice_set}
 use Rattle.sip_served.specs.Respond.{finished}

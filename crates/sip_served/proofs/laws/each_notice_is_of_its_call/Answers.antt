@@ -1,3 +1,4 @@
+-- The law `each_notice_is_of_its_call`: what is held and what is told has the Call-ID of the call.
 use Rattle.sip_served.proofs.OwnCall.{event_is}
 use Rattle.sip_served.proofs.laws.each_notice_is_of_its_call.Goals as goal
 

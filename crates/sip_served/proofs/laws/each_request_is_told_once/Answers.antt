@@ -1,3 +1,5 @@
+-- The law `each_request_is_told_once`: the user is told of each request that comes up for the user,
+-- once.
 use Rattle.sip_served.specs.State.{empty_at}
 use Rattle.sip_served.proofs.Shows.{event_shows, never_oftener}
 use Rattle.sip_served.proofs.laws.each_request_is_told_once.Goals as goal

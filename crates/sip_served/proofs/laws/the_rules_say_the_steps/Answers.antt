@@ -1,3 +1,4 @@
+-- The law `the_rules_say_the_steps`: the rules of the server side say the same as its steps.
 use Rattle.sip_served.proofs.ArrivalRules.{item_same, kind_same}
 use Rattle.sip_served.proofs.ResponseRules.{respond_same}
 use Rattle.sip_served.proofs.TickRules.{due_same, tick_same}

@@ -1,3 +1,4 @@
+-- `bad_extension_response` makes the 420 that names the unknown options.
 use Rattle.std.proofs.Common.{ℕ, List, filter, ap, ◌∙◌}
 use Rattle.sip_served.specs.Arrival.{unsupported, with_header}
 use Rattle.sip_common.specs.Requests.{is_unknown_option}

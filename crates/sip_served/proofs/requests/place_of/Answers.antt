@@ -1,3 +1,5 @@
+-- `place_of`: what it finds is the first request of the id, and a change of that one is written at
+-- its place. If it finds none, there is none.
 use Rattle.sip_served.specs.State.{has_id}
 use Rattle.sip_served.proofs.Places.{none_changed, none_found, first_found, first_changed}
 use Rattle.sip_served.proofs.requests.place_of.Goals as goal

@@ -1,3 +1,4 @@
+-- `make_dialog` puts the dialog of the answer among the held ones, under its name.
 use Rattle.std.proofs.Common.{ap, ◌∙◌}
 use Rattle.indexmap.specs.IndexMap.{insert_entry}
 use Rattle.sip_common.specs.Dialogs.{is_dialog_id}

@@ -1,3 +1,4 @@
+-- `remove_over` keeps the requests whose moment of removal hasn't come.
 use Rattle.std.proofs.Common.{rules}
 use Rattle.std.proofs.lemmas.Fn.{filter_same}
 use Rattle.sip_served.specs.Tick.{is_kept_at}

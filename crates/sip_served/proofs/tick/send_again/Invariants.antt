@@ -1,3 +1,4 @@
+-- The loop of `send_again`: those of these numbers among the responses seen so far are sent.
 use Rattle.std.proofs.Common.{◌≡◌, ◌++◌, map, take}
 use Rattle.sip_transactions.specs.declared.input.Command.TheVariants.{Answer}
 use Rattle.sip_common.specs.declared.item.CallOut.TheVariants.{Command}

@@ -1,3 +1,4 @@
+-- `tick_requests`: each turn of the loop ticks one more request.
 use Rattle.std.proofs.Common.{◌≡◌, ◌++◌, List, take, get_or, sym, ap, ◌∙◌, append_assoc}
 use Rattle.std.specs.List.{flat_map, slice_set}
 use Rattle.std.proofs.lemmas.List.Edits.{map_over_more}

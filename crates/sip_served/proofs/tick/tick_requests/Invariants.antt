@@ -1,3 +1,4 @@
+-- The loop of `tick_requests`: the requests so far are ticked, those after them unchanged.
 use Rattle.std.proofs.Common.{◌≡◌, ◌++◌, map, take, drop}
 use Rattle.std.specs.List.{flat_map}
 use Rattle.sip_served.specs.Tick.{request_ticked}

@@ -1,3 +1,4 @@
+-- `unknown_options` joins the unknown options, and the text is the value of a header.
 use Rattle.std.proofs.Common.{◌≡◌, ℕ, ◌+◌, List, [], ◌∷◌, ◌++◌, cond, subst, sym, ap, ◌∙◌, take, filter}
 use Rattle.std.proofs.lemmas.List.{take_all}
 use Rattle.std.proofs.lemmas.List.Elements.{filter_more}

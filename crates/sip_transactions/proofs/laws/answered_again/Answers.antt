@@ -1,3 +1,4 @@
+-- The law `answered_again`: a retransmitted request that was answered gets the same bytes again.
 use Rattle.sip_transactions.specs.ServerLaws.{AnsweredAgain}
 use Rattle.sip_transactions.proofs.AtServers as servers
 use Rattle.sip_transactions.proofs.Rules.{at_steps}

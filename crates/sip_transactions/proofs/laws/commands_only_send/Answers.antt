@@ -1,3 +1,4 @@
+-- The law `commands_only_send`: a command hands nothing up and drops nothing.
 use Rattle.sip_transactions.specs.Laws.{CommandsOnlySend}
 use Rattle.sip_transactions.proofs.LawSteps as steps
 use Rattle.sip_transactions.proofs.Rules.{at_steps}

@@ -1,3 +1,5 @@
+-- The law `ends_after_its_answer`: a server of a request other than INVITE ends 64*T1 after its
+-- final answer.
 use Rattle.sip_transactions.specs.ServerLaws.{EndsAfterItsAnswer}
 use Rattle.sip_transactions.proofs.AtServers as servers
 use Rattle.sip_transactions.proofs.Rules.{at_steps}

@@ -1,3 +1,4 @@
+-- The law `failed_send_keeps`: a failed send doesn't change the life of a server.
 use Rattle.sip_transactions.specs.ServerLaws.{FailedSendKeeps}
 use Rattle.sip_transactions.proofs.AtServers as servers
 use Rattle.sip_transactions.proofs.Rules.{at_steps}

@@ -1,3 +1,4 @@
+-- The law `few_sends`: a client sends an INVITE at most 7 times, another request at most 11 times.
 use Rattle.sip_transactions.specs.Laws.{FewSends}
 use Rattle.sip_transactions.proofs.FewSends as sends
 use Rattle.sip_transactions.proofs.Rules.{at_steps}

@@ -1,3 +1,5 @@
+-- The law `nothing_after_the_end`: if ids differ, nothing is handed up under the id of a life that
+-- has ended.
 use Rattle.sip_transactions.specs.Laws.{NothingAfterTheEnd}
 use Rattle.sip_transactions.proofs.AfterTheEnd as later
 use Rattle.sip_transactions.proofs.Rules.{at_steps}

@@ -1,3 +1,4 @@
+-- The law `requests_come_up_by_id`: if ids rise, requests are handed up in the order of their ids.
 use Rattle.sip_transactions.specs.Laws.{RequestsComeUpById}
 use Rattle.sip_transactions.proofs.RequestsById as by_id
 use Rattle.sip_transactions.proofs.Rules.{at_steps}

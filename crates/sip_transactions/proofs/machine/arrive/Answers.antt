@@ -1,3 +1,4 @@
+-- `arrive`: if the row ends and sends nothing, `pass` gives what is held and what is said.
 use Rattle.sip_transactions.proofs.machine.arrive.Goals as goal
 
 pub returns-in-Ended-Nothing-clause-next : goal.returns-in-Ended-Nothing-clause-next

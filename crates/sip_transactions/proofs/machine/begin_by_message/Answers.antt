@@ -1,3 +1,4 @@
+-- `begin_by_message`: it says what the row says of the message that came.
 use Rattle.std.proofs.Common.{◌≡◌, ◌∙◌, ap, None, Some}
 use Rattle.sip_transactions.specs.Steps.Life.{context_by}
 use Rattle.sip_transactions.specs.Steps.Output.{made_bytes}

@@ -1,3 +1,4 @@
+-- `pass_on`: a message that is handed up goes up under its own id and Call-ID.
 use Rattle.std.proofs.Common.{refl}
 use Rattle.sip_transactions.specs.Steps.Output.{handed_out}
 use Rattle.sip_transactions.proofs.said.pass_on.Goals as goal

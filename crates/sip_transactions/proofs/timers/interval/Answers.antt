@@ -1,3 +1,4 @@
+-- `interval`: a doubled interval is at most 512,000 ms.
 use Rattle.std.proofs.Common.{arith}
 use Rattle.sip_transactions.proofs.Pace.{doubled_bound}
 use Rattle.sip_transactions.proofs.timers.interval.Goals as goal

@@ -1,3 +1,5 @@
+-- `uri_before_bracket`: cutting at the first `>` gives what reading gives, and its first part is a
+-- URI.
 use Rattle.std.proofs.Common.{sym}
 use Rattle.sip_values.proofs.PlainVias.{uri_first, uri_found}
 use Rattle.sip_values.proofs.address.uri_before_bracket.Goals as goal

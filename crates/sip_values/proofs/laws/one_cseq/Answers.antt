@@ -1,3 +1,4 @@
+-- The law `one_cseq`: a text is a CSeq exactly if it is read as that one.
 use Rattle.sip_values.proofs.Rows.{cseq_reads}
 use Rattle.sip_values.proofs.laws.one_cseq.Goals as goal
 

@@ -1,3 +1,4 @@
+-- The law `one_list_of_vias`: a text is a list of Via values exactly if it is read as that one.
 use Rattle.sip_values.proofs.Rows.{vias_reads}
 use Rattle.sip_values.proofs.laws.one_list_of_vias.Goals as goal
 

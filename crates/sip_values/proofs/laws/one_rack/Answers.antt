@@ -1,3 +1,4 @@
+-- The law `one_rack`: a text is a RAck exactly if it is read as that one.
 use Rattle.sip_values.proofs.Rows.{rack_reads}
 use Rattle.sip_values.proofs.laws.one_rack.Goals as goal
 

@@ -1,3 +1,4 @@
+-- `numeral_in`: a text that is a number is a word, and stands for that number.
 use Rattle.std.proofs.Common.{◌≡◌, Ok, sym, ◌∙◌, refl}
 use Rattle.std.proofs.lemmas.Bool.{and_parts}
 use Rattle.sip_text.specs.Number.{is_digits, number_of}

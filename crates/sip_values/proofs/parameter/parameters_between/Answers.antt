@@ -1,3 +1,5 @@
+-- `parameters_between` gives the parameters of the text: one turn of the loop reads one, and the
+-- text gets shorter.
 use Rattle.std.proofs.Common.{◌≡◌, Some, None, sym, ap, ◌∙◌}
 use Rattle.std.specs.Option.{option_copied, option_map}
 use Rattle.sip_text.specs.Parameter.{parameter_from}

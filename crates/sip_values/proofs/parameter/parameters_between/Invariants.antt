@@ -1,3 +1,5 @@
+-- The loop of `parameters_between`: the parameters so far, and then those of the rest, are those of
+-- the text.
 use Rattle.std.proofs.Common.{◌≡◌, length}
 use Rattle.sip_text.specs.Forms.{split}
 use Rattle.sip_text.specs.declared.separator.Separator.TheVariants.{Byte}

@@ -1,3 +1,4 @@
+-- `plain_parameter`: a parameter found in one pass is what reading gives, and its name is a token.
 use Rattle.std.proofs.Common.{sym, ◌∙◌}
 use Rattle.std.specs.Option.{option_copied}
 use Rattle.sip_text.specs.Token.{is_token_byte}

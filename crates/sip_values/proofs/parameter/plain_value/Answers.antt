@@ -1,3 +1,4 @@
+-- `plain_value`: a name and a value found in one pass are what reading gives.
 use Rattle.std.proofs.Common.{sym, ◌∙◌}
 use Rattle.std.specs.Option.{option_copied}
 use Rattle.sip_text.specs.Parameter.{is_value_byte}

@@ -1,3 +1,4 @@
+-- `split_of` gives the values of all pieces, or None if a piece isn't in the form.
 use Rattle.std.proofs.Common.{sym, ◌∙◌}
 use Rattle.sip_text.proofs.Loops.{piece_fails, piece_read, last_fails, last_read}
 use Rattle.sip_values.proofs.row.split_of.Goals as goal

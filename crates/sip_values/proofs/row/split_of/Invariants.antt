@@ -1,3 +1,4 @@
+-- The loop of `split_of`: the values so far, and then those of the rest, are those of the text.
 use Rattle.std.proofs.Common.{◌≡◌, length}
 use Rattle.sip_text.specs.Forms.{split}
 use Rattle.sip_text.proofs.Loops.{onto}

@@ -1,3 +1,4 @@
+-- `plain_port`: a host and a port found in one pass are what reading gives, and the host is one.
 use Rattle.std.proofs.Common.{◌≡◌, Some, sym, ap, ◌∙◌}
 use Rattle.std.specs.Option.{option_copied}
 use Rattle.sip_text.specs.Character.{is_token_byte}

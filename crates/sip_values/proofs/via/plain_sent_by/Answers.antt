@@ -1,3 +1,4 @@
+-- `plain_sent_by`: a host, and a port if there is one, found in one pass are what reading gives.
 use Rattle.std.proofs.Common.{sym, ◌∙◌}
 use Rattle.std.specs.Option.{option_copied}
 use Rattle.sip_parts.specs.Host.{is_host_byte}

@@ -1,3 +1,5 @@
+-- `transport_in`: cutting at the first white space gives what reading gives, and its first part is
+-- a token.
 use Rattle.std.proofs.Common.{sym}
 use Rattle.sip_values.proofs.PlainVias.{transport_first, transport_token}
 use Rattle.sip_values.proofs.via.transport_in.Goals as goal

@@ -1,3 +1,4 @@
+-- `CallShard::new`: a new shard holds no call.
 use Rattle.std.proofs.Common.{ap}
 use Rattle.sip_calls.proofs.shard.CallShard.new.Goals as goal
 

@@ -1,3 +1,4 @@
+-- `Clients::ack` does what the rule of the command Ack says.
 use Rattle.std.proofs.Common.{rules, sym, ◌∙◌}
 use Rattle.sip_clients.proofs.RuleRequests.{ack_same}
 use Rattle.sip_clients.proofs.clients.Clients.ack.Goals as goal

@@ -1,3 +1,4 @@
+-- `Clients::cancel` does what the rule of the command Cancel says.
 use Rattle.std.proofs.Common.{ap, rules, sym, ◌∙◌}
 use Rattle.sip_clients.specs.Cancel.{cancelled}
 use Rattle.sip_clients.specs.Client.{Clients, ClientTaken}

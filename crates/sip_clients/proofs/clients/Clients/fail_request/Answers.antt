@@ -1,3 +1,4 @@
+-- `Clients::fail_request` does what the rule of a lost request says.
 use Rattle.std.proofs.Common.{rules, sym, ◌∙◌}
 use Rattle.sip_clients.proofs.RuleEnds.{lost_same}
 use Rattle.sip_clients.proofs.clients.Clients.fail_request.Goals as goal

@@ -1,3 +1,4 @@
+-- `Clients::invite` does what the rule of the command Invite says.
 use Rattle.std.proofs.Common.{rules, sym, ◌∙◌}
 use Rattle.sip_clients.proofs.RuleRequests.{invite_same}
 use Rattle.sip_clients.proofs.clients.Clients.invite.Goals as goal

@@ -1,3 +1,4 @@
+-- `Clients::plain` does what the rule of the command Plain says.
 use Rattle.std.proofs.Common.{rules, sym, ◌∙◌}
 use Rattle.sip_clients.proofs.RuleRequests.{plain_same}
 use Rattle.sip_clients.proofs.clients.Clients.plain.Goals as goal

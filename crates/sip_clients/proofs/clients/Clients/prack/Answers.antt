@@ -1,3 +1,4 @@
+-- `Clients::prack` does what the rule of the command Prack says.
 use Rattle.std.proofs.Common.{rules, sym, ◌∙◌}
 use Rattle.sip_clients.proofs.RuleRequests.{prack_same}
 use Rattle.sip_clients.proofs.clients.Clients.prack.Goals as goal

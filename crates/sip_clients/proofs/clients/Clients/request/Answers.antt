@@ -1,3 +1,4 @@
+-- `Clients::request` does what the rule of the command Request says.
 use Rattle.std.proofs.Common.{rules, sym, ◌∙◌}
 use Rattle.sip_clients.proofs.RuleRequests.{request_same}
 use Rattle.sip_clients.proofs.clients.Clients.request.Goals as goal

@@ -1,3 +1,4 @@
+-- `Clients::response` does what the rule of a response says.
 use Rattle.std.proofs.Common.{rules, sym, ◌∙◌}
 use Rattle.sip_clients.proofs.RuleResponses.{response_same}
 use Rattle.sip_clients.proofs.clients.Clients.response.Goals as goal

@@ -1,3 +1,4 @@
+-- `Clients::tick` does what the rule of a tick says.
 use Rattle.std.proofs.Common.{rules, sym, ◌∙◌}
 use Rattle.sip_clients.proofs.RuleEnds.{tick_same}
 use Rattle.sip_clients.proofs.clients.Clients.tick.Goals as goal

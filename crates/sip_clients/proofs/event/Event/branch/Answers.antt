@@ -1,3 +1,4 @@
+-- `Event::branch`: the made text has the cookie, so it is a branch.
 use Rattle.std.proofs.Common.{rules}
 use Rattle.std.specs.Prelude.{Option, None, Some, IsSome, IsTrue}
 use Rattle.std.specs.Option.{SomeIff}

@@ -1,3 +1,4 @@
+-- `Event::branch_token`: the made text is a token.
 use Rattle.std.proofs.Common.{◌≡◌, rules}
 use Rattle.sip_clients.specs.Event.{branch_of}
 use Rattle.sip_clients.proofs.Hex.{branch_is_token}

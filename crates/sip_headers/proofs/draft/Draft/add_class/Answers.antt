@@ -1,3 +1,4 @@
+-- `Draft::add_class`: the name and the value of a header of another name can be kept.
 use Rattle.std.proofs.Common.{ap, ◌∙◌}
 use Rattle.sip_headers.specs.HeaderLine.{class_now}
 use Rattle.sip_headers.proofs.OthersFit.{other_fits}

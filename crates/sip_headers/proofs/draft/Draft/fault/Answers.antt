@@ -1,3 +1,5 @@
+-- `Draft::fault`: a draft in which it finds no fault is complete. One look at each header is enough
+-- if all are there as they may be.
 use Rattle.std.proofs.Common.{sym, ◌∙◌}
 use Rattle.sip_headers.proofs.Completes.{complete_of}
 use Rattle.sip_headers.proofs.OneLooks.{whole_faultless}

@@ -1,3 +1,4 @@
+-- `AddrDisplay::fmt` writes the address as `a.b.c.d:port`.
 use Rattle.std.proofs.Common.{◌≡◌, ℕ, List, [], ◌∷◌, ◌++◌, sym, ◌∙◌, append_assoc, codes}
 use Rattle.std.proofs.Output.{has_written_of_eq}
 use Rattle.sip_message.proofs.addr.AddrDisplay.fmt.Goals as goal

@@ -1,3 +1,4 @@
+-- `SpreadCut::shard`: each turn of the loop adds one more byte.
 use Rattle.std.proofs.Common.{◌+◌, ◌%◌, take, sym, ◌∙◌, ap}
 use Rattle.std.specs.Prelude.{sum}
 use Rattle.std.proofs.Math.Nat.{mod-lt}

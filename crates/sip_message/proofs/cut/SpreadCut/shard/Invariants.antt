@@ -1,3 +1,4 @@
+-- The loop of `SpreadCut::shard`: it has the sum of the bytes so far, modulo the number of shards.
 use Rattle.std.proofs.Common.{◌≡◌, ◌<◌, ◌%◌, take}
 use Rattle.std.specs.Prelude.{sum}
 use Rattle.sip_message.proofs.cut.SpreadCut.shard.Given as goal

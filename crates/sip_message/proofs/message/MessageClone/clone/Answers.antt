@@ -1,3 +1,4 @@
+-- `MessageClone::clone` gives an equal message.
 use Rattle.std.proofs.Common.{rules, ◌≡◌}
 use Rattle.sip_message.proofs.Copies.{copied}
 use Rattle.sip_message.proofs.message.MessageClone.clone.Goals as goal

@@ -1,3 +1,4 @@
+-- `DisplayText::nothing`: the empty text is a display text.
 use Rattle.std.proofs.Common.{rules}
 use Rattle.sip_text.specs.Quoted.{is_quoted}
 use Rattle.sip_parts.specs.DisplayText.{is_display_text}

@@ -1,3 +1,4 @@
+-- `HeaderName::of`: a header whose long name is exactly this one is the header of this name.
 use Rattle.std.proofs.Common.{sym, ap, ◌∙◌}
 use Rattle.sip_parts.specs.HeaderEntry.{header_named}
 use Rattle.sip_parts.proofs.HeaderNames.{long_names}

@@ -1,3 +1,5 @@
+-- `HeaderName::of_exact_name`: a text with the bytes of Max-Forwards, Record-Route or
+-- Content-Length is that name.
 use Rattle.std.proofs.Common.{arith, codes, rules}
 use Rattle.std.proofs.lemmas.Slice.Eq.{text_from_reads}
 use Rattle.sip_parts.proofs.header_name.HeaderName.of_exact_name.Goals as goal

@@ -1,3 +1,5 @@
+-- `HeaderName::of_length`: a name of this length is found among these headers if it is found at
+-- all.
 use Rattle.std.proofs.Common.{◌∙◌, sym, ap, arith}
 use Rattle.std.specs.Prelude.{find}
 use Rattle.sip_parts.specs.HeaderEntry.{is_named}

@@ -1,3 +1,4 @@
+-- `LowerText::of`: a text in lower case has no capitals.
 use Rattle.sip_parts.proofs.LowerTexts.{lower_texts}
 use Rattle.sip_parts.proofs.lower_text.Checked+LowerTextRule.of.Goals as goal
 

@@ -1,3 +1,4 @@
+-- `PartyDisplay::nothing`: the empty text is the display text of a From or a To.
 use Rattle.std.proofs.Common.{rules}
 use Rattle.sip_text.specs.Quoted.{is_quoted}
 use Rattle.sip_parts.specs.PartyDisplay.{is_party_display}

@@ -1,3 +1,4 @@
+-- `RequestUri::from_uri`: a URI is a Request-URI.
 use Rattle.sip_parts.proofs.Bytes.{uri_is_word}
 use Rattle.sip_parts.proofs.request_uri.Checked+RequestUriRule.from_uri.Goals as goal
 

@@ -1,3 +1,4 @@
+-- `UriBytes`: the table of bytes is the test of a URI's bytes.
 use Rattle.std.proofs.Common.{◌==◌, get_or, refl, arith}
 use Rattle.std.proofs.lemmas.Bool.{agree_below_at}
 use Rattle.sip_parts.specs.Uri.{is_uri_byte}

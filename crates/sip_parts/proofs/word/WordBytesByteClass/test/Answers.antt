@@ -1,3 +1,4 @@
+-- `WordBytes`: the table of bytes is the test of a word's bytes.
 use Rattle.std.proofs.Common.{◌==◌, get_or, refl, arith}
 use Rattle.std.proofs.lemmas.Bool.{agree_below_at}
 use Rattle.sip_parts.specs.Word.{is_word_byte}

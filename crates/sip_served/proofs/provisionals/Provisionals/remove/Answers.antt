@@ -1,3 +1,4 @@
+-- `Provisionals::remove` keeps all responses but that with the number.
 use Rattle.std.proofs.Common.{◌==◌, not, ap, ◌∙◌, rules}
 use Rattle.std.proofs.lemmas.Fn.{filter_same}
 use Rattle.sip_served.specs.Provisionals.{without_rseq}

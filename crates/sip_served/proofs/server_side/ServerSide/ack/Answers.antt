@@ -1,3 +1,4 @@
+-- `ServerSide::ack` takes an ACK by the rules.
 use Rattle.std.proofs.Common.{◌≡◌, subst}
 use Rattle.std.specs.Prelude.{IfOk}
 use Rattle.sip_served.specs.State.{ServedTaken}

@@ -1,3 +1,4 @@
+-- `ServerSide::respond`: an answer that isn't refused is given to the request of its id.
 use Rattle.std.proofs.Common.{◌≡◌, ◌<◌, List, length, get_or, refl, sym, ap, subst, ◌∙◌}
 use Rattle.std.specs.Prelude.{None, Some, find}
 use Rattle.std.specs.List.{slice_get, slice_set}

@@ -1,3 +1,4 @@
+-- `ServerSide::tick` takes a tick by the rules.
 use Rattle.std.proofs.Common.{rules, sym, ◌∙◌}
 use Rattle.sip_served.proofs.TickRules.{tick_same}
 use Rattle.sip_served.proofs.server_side.ServerSide.tick.Goals as goal

@@ -1,3 +1,4 @@
+-- `Shard::tick`: each held transaction takes a step by the tick, and its history has the tick too.
 use Rattle.std.proofs.Common.{IfOk, subst}
 use Rattle.sip_message.specs.Key.{key_cmp}
 use Rattle.sip_model.specs.History.{AddsInputs}

@@ -1,3 +1,5 @@
+-- `Timers::again`: the repeat has fired at most ten times, so no number overflows, and the next
+-- repeat is paced too.
 use Rattle.std.proofs.Common.{arith, ◌≤◌, ◌+◌, ◌∙◌, ap}
 use Rattle.sip_timers.specs.Queue.{is_due}
 use Rattle.sip_transactions.proofs.Pace.{fired_bound, paced_again, interval_least}

@@ -1,3 +1,4 @@
+-- `Timers::rearm`: a first repeat has its end 64*T1 later, so it is paced.
 use Rattle.sip_transactions.proofs.Pace.{paced_at_first}
 use Rattle.sip_transactions.proofs.timers.Timers.rearm.Goals as goal
 
