@@ -3,9 +3,9 @@ use Rattle.std.specs.Option.{option_copied, option_map}
 use Rattle.sip_text.specs.Parameter.{parameter_from}
 use Rattle.sip_text.specs.declared.separator.Separator.TheVariants.{Byte}
 use Rattle.sip_parts.specs.declared.parameter.Parameter.{Parameter}
-use Rattle.sip_values.specs.Steps.First.{first}
-use Rattle.sip_values.specs.ParameterValues.{one_parameter, parameter_of}
-use Rattle.sip_values.proofs.Firsts.{first_fails, first_is_last, first_is_read, first_shorter, first_told, told_first}
+use Rattle.sip_parts.specs.Steps.First.{first}
+use Rattle.sip_parts.specs.ParameterValues.{one_parameter, parameter_of}
+use Rattle.sip_parts.proofs.Firsts.{first_fails, first_is_last, first_is_read, first_shorter, first_told, told_first}
 use Rattle.sip_values.proofs.parameter.parameters_between.Goals as goal
 
 pub loop-parameter-smaller : goal.loop-parameter-smaller
