@@ -25,7 +25,7 @@ loop-parameter-preserved c =
     first_told (Byte 59) parameter_of parameter_from c.loop-parameter.rest.now
     ∙ ap (option_map (told_first parameter_of)) (sym c.in-Some.ensures.exact)
     ∙ ap (λ o. Some (shown c.in-Some.parameter, option_copied o)) c.in-Some-after.is in
-    rw c.in_ok-with.ensures
+    rw c.in_ok-parameters-2.ensures
     (first_is_read (Byte 59) one_parameter c.loop-parameter.parameters c.loop-parameter.rest.now
     c.in-Some-after.after.now (shown c.in-Some.parameter) _ found c.loop-parameter.invariant)
 
@@ -36,7 +36,7 @@ returns-in-None c =
     first_told (Byte 59) parameter_of parameter_from c.loop-parameter.rest.now
     ∙ ap (option_map (told_first parameter_of)) (sym c.in-Some.ensures.exact)
     ∙ ap (λ o. Some (shown c.in-Some.parameter, option_copied o)) c.in-None.is in
-    rw c.in_ok-with.ensures
+    rw c.in_ok-parameters-2.ensures
     (first_is_last (Byte 59) one_parameter c.loop-parameter.parameters c.loop-parameter.rest.now
     (shown c.in-Some.parameter) _ found c.loop-parameter.invariant)
 
