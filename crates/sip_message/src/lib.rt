@@ -44,7 +44,7 @@ pub use response::response_to;
 pub use sent_by::SentBy;
 pub use sip_parts::{
     CallId, DisplayText, HeaderName, HeaderValue, Host, OtherName, Parameter, ParameterValue,
-    PartyDisplay, PartyParameters, Reason, RequestUri, StatusCode, Token, Uri,
+    Parameters, PartyDisplay, PartyParameters, Reason, RequestUri, StatusCode, Token, Uri,
 };
 pub use source::stamp_source;
 pub use start_line::StartLine;

@@ -16,19 +16,19 @@ use Rattle.sip_text.proofs.Ends.{trimmed_end-other}
 use Rattle.sip_text.proofs.Splits.{split_some, split_none}
 use Rattle.sip_parts.specs.HeaderValue.{has_no_line_byte}
 use Rattle.sip_parts.specs.declared.parameter.Parameter.{Parameter}
-use Rattle.sip_message.specs.Written.{value_text, parameter_text, parameters_text}
-use Rattle.sip_values.specs.ParameterValues.{parameter_of, one_parameter, many_parameters, all_parameters}
-use Rattle.sip_message.specs.Rules.{IsParameter}
-use Rattle.sip_values.proofs.Blanks.{End}
-use Rattle.sip_values.proofs.Passing.{Passes, both_pass, cut_here, none_here, Marks, semicolon_marks, token_passes, quoted_begins, quoted_ends, quoted_plain, value_passes}
-use Rattle.sip_values.proofs.Pieces.{by_bool}
-use Rattle.sip_values.proofs.WrittenBytes.{token_solid, value_solid, solid_line, solid_end, solid_kept}
-use Rattle.sip_headers.proofs.TextEnds.{full_cons, end_behind, plain_both, end_after, trimmed_some, token_kept}
+use Rattle.sip_parts.specs.WrittenParameters.{value_text, parameter_text, parameters_text}
+use Rattle.sip_parts.specs.ParameterValues.{parameter_of, one_parameter, many_parameters, all_parameters}
+use Rattle.sip_parts.specs.ParameterRules.{IsParameter}
+use Rattle.sip_parts.proofs.Blanks.{End}
+use Rattle.sip_parts.proofs.Passing.{Passes, both_pass, cut_here, none_here, Marks, semicolon_marks, token_passes, quoted_begins, quoted_ends, quoted_plain, value_passes}
+use Rattle.sip_parts.proofs.Pieces.{by_bool}
+use Rattle.sip_parts.proofs.WrittenBytes.{token_solid, value_solid, solid_line, solid_end, solid_kept}
+use Rattle.sip_parts.proofs.TextEnds.{full_cons, end_behind, plain_both, end_after, trimmed_some, token_kept}
 
-abbrev body_with : List ℕ → Option (List ℕ) → List ℕ
+abbrev pub body_with : List ℕ → Option (List ℕ) → List ℕ
 body_with name value = name ++ value_text value
 
-abbrev body : Parameter → List ℕ
+abbrev pub body : Parameter → List ℕ
 body p = body_with p.name p.value
 
 pub quoted_kept : (text : List ℕ) → is_quoted text ≡ true → End text
@@ -61,7 +61,7 @@ value_plain text value =
     → has_no_line_byte text ≡ true)
     (λ t e f. quoted_plain text e) (λ t e f. solid_line text (value_solid text f)) refl value
 
-body_passes : (c : ℕ) → Marks c → (name : List ℕ) (value : Option (List ℕ)) → is_token name ≡ true
+pub body_passes : (c : ℕ) → Marks c → (name : List ℕ) (value : Option (List ℕ)) → is_token name ≡ true
     → IfSome value (λ v. IsTrue (is_parameter_value v)) → Passes (Byte c) (body_with name value)
 body_passes c marks name None token is =
     both_pass (Byte c) name [] (token_passes c marks.token name token) refl
@@ -92,7 +92,7 @@ no_equals = refl
 name_again : (name : List ℕ) → is_token name ≡ true → name_from name ≡ Some name
 name_again name token = trimmed_some is_token name (token_kept name token) token
 
-one_again : (name : List ℕ) (value : Option (List ℕ)) → is_token name ≡ true
+pub one_again : (name : List ℕ) (value : Option (List ℕ)) → is_token name ≡ true
     → IfSome value (λ v. IsTrue (is_parameter_value v))
     → one_parameter (body_with name value) ≡ Some (record { name = name; value = value })
 one_again name None token is =

@@ -9,8 +9,8 @@ use Rattle.sip_text.specs.Character.{is_blank, is_token_byte}
 use Rattle.sip_text.specs.Token.{is_run, is_token}
 use Rattle.sip_parts.specs.Word.{is_word_byte, is_word}
 use Rattle.sip_text.specs.Lines.{has_no}
-use Rattle.sip_values.proofs.Cuts.{run_all, none_of}
-use Rattle.sip_values.proofs.Pieces.{by_bool}
+use Rattle.sip_parts.proofs.Cuts.{run_all, none_of}
+use Rattle.sip_parts.proofs.Pieces.{by_bool}
 
 pub full_at : (test : ℕ → Bool) (b at : ℕ) → test at ≡ false → test b ≡ true → eqb b at ≡ false
 full_at test b at fails passes =

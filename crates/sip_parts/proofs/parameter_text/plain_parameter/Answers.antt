@@ -2,9 +2,9 @@
 use Rattle.std.proofs.Common.{sym, ◌∙◌}
 use Rattle.std.specs.Option.{option_copied}
 use Rattle.sip_text.specs.Token.{is_token_byte}
-use Rattle.sip_values.proofs.PlainParameters.{name_first}
-use Rattle.sip_values.proofs.PlainRuns.{front_is, token_is}
-use Rattle.sip_values.proofs.parameter.plain_parameter.Goals as goal
+use Rattle.sip_parts.proofs.PlainParameters.{name_first}
+use Rattle.sip_parts.proofs.PlainRuns.{front_is, token_is}
+use Rattle.sip_parts.proofs.parameter_text.plain_parameter.Goals as goal
 
 pub plain_value-requires : goal.plain_value-requires
 plain_value-requires c =

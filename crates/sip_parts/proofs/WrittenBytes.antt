@@ -22,9 +22,9 @@ use Rattle.sip_text.proofs.Numerals.{decimal_digits as each_is_digit}
 use Rattle.sip_text.proofs.Runs.{run_from_all}
 use Rattle.sip_parts.proofs.Bytes.{none_of}
 use Rattle.sip_parts.proofs.BlankEnds.{trims_to_itself}
-use Rattle.sip_values.proofs.Blanks.{end_is, starts_full}
-use Rattle.sip_values.proofs.Characters.{token_bytes, full_at}
-use Rattle.sip_values.proofs.Cuts.{all_imply, run_all}
+use Rattle.sip_parts.proofs.Blanks.{end_is, starts_full}
+use Rattle.sip_parts.proofs.Characters.{token_bytes, full_at}
+use Rattle.sip_parts.proofs.Cuts.{all_imply, run_all}
 
 -- ---- bytes that neither end a line nor are white space
 

@@ -9,8 +9,8 @@ use Rattle.sip_text.specs.Number.{is_digits}
 use Rattle.sip_text.specs.Token.{is_run, is_token}
 use Rattle.sip_text.specs.Trimmed.{trimmed, trimmed_end}
 use Rattle.sip_parts.specs.HeaderValue.{has_no_line_byte}
-use Rattle.sip_values.proofs.Blanks.{End, starts_full}
-use Rattle.sip_values.proofs.WrittenBytes.{is_solid, solid, token_solid, solid_full, solid_line, solid_kept, longer_end}
+use Rattle.sip_parts.proofs.Blanks.{End, starts_full}
+use Rattle.sip_parts.proofs.WrittenBytes.{is_solid, solid, token_solid, solid_full, solid_line, solid_kept, longer_end}
 
 -- ---- the ends of a text
 

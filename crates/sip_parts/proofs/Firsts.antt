@@ -10,8 +10,8 @@ use Rattle.sip_text.specs.declared.separator.Separator.{Separator}
 use Rattle.sip_text.specs.declared.separator.Place.TheVariants.{Plain}
 use Rattle.sip_text.proofs.Loops.{onto, piece_fails, piece_read, last_fails, last_read}
 use Rattle.sip_text.proofs.Separators.{cut_takes}
-use Rattle.sip_values.specs.Steps.First.{behind, ends, first, goes_on}
-use Rattle.sip_values.proofs.Passing.{Passes, cut_here, none_here}
+use Rattle.sip_parts.specs.Steps.First.{behind, ends, first, goes_on}
+use Rattle.sip_parts.proofs.Passing.{Passes, cut_here, none_here}
 
 -- ---- no separator counts before it
 

@@ -2,9 +2,9 @@
 use Rattle.std.proofs.Common.{sym, ◌∙◌}
 use Rattle.std.specs.Option.{option_copied}
 use Rattle.sip_text.specs.Parameter.{is_value_byte}
-use Rattle.sip_values.proofs.PlainParameters.{value_first, word_is_value}
-use Rattle.sip_values.proofs.PlainRuns.{front_is, word_is}
-use Rattle.sip_values.proofs.parameter.plain_value.Goals as goal
+use Rattle.sip_parts.proofs.PlainParameters.{value_first, word_is_value}
+use Rattle.sip_parts.proofs.PlainRuns.{front_is, word_is}
+use Rattle.sip_parts.proofs.parameter_text.plain_value.Goals as goal
 
 pub returns-clause-exact : goal.returns-clause-exact
 returns-clause-exact c =

@@ -6,11 +6,11 @@ use Rattle.sip_text.specs.Quoted.{is_quoted}
 use Rattle.sip_text.specs.Token.{is_token}
 use Rattle.sip_text.specs.declared.separator.Separator.TheVariants.{Byte}
 use Rattle.std.proofs.lemmas.Bool.{or_right}
-use Rattle.sip_values.specs.Steps.First.{behind, first}
-use Rattle.sip_values.proofs.Characters.{no_equals}
-use Rattle.sip_values.proofs.Firsts.{first_ends, first_goes_on, follows}
-use Rattle.sip_values.proofs.Passing.{Passes, both_pass, cut_here, none_here, semicolon_marks, token_passes, value_passes}
-use Rattle.sip_values.proofs.WrittenBytes.{solid_kept, token_solid, value_solid}
+use Rattle.sip_parts.specs.Steps.First.{behind, first}
+use Rattle.sip_parts.proofs.Characters.{no_equals}
+use Rattle.sip_parts.proofs.Firsts.{first_ends, first_goes_on, follows}
+use Rattle.sip_parts.proofs.Passing.{Passes, both_pass, cut_here, none_here, semicolon_marks, token_passes, value_passes}
+use Rattle.sip_parts.proofs.WrittenBytes.{solid_kept, token_solid, value_solid}
 
 pub word_is_value : (text : List ℕ) → is_value_word text ≡ true → is_parameter_value text ≡ true
 unfolding is_parameter_value

@@ -14,9 +14,9 @@ use Rattle.sip_text.specs.declared.separator.Place.{Place}
 use Rattle.sip_text.specs.declared.separator.Place.TheVariants.{Plain, Quoted, Escaped}
 use Rattle.sip_text.proofs.QuotedStrings.{nothing_more}
 use Rattle.sip_text.proofs.Separators.{cut_again, whole_again, and_then_some}
-use Rattle.sip_values.proofs.Characters.{full_at, token_bytes}
-use Rattle.sip_values.proofs.Cuts.{all_imply, run_all}
-use Rattle.sip_values.proofs.Pieces.{by_bool}
+use Rattle.sip_parts.proofs.Characters.{full_at, token_bytes}
+use Rattle.sip_parts.proofs.Cuts.{all_imply, run_all}
+use Rattle.sip_parts.proofs.Pieces.{by_bool}
 
 abbrev pub Passes : Separator → List ℕ → Type 0
 Passes at text = place_after at Plain text ≡ Some Plain
