@@ -26,7 +26,7 @@ pub fn own_via(alloc: Global, local: Addr, branch: Branch) -> Result<Vias, Alloc
 {
     let transport = Token::copy_of(alloc, b"UDP")?;
     let host = own_host(alloc, local)?;
-    let parameters = via_parameters(alloc, branch)?;
+    let parameters = via_parameters(alloc, &branch)?;
     let mut vias = Vec::new(alloc);
     vias.push(Via {
         transport,
@@ -69,9 +69,9 @@ fn own_host(alloc: Global, local: Addr) -> Result<Host, AllocError>
 }
 
 #[tactic(auto, unfolding(sip_text::specs::Token::is_token, sip_text::specs::Token::is_token_byte))]
-fn via_parameters(alloc: Global, branch: Branch) -> Result<Parameters, AllocError>
-    ensures value { IfOk result (λ made. made ≡ request.via_parameters branch) }
-    ensures rule { OnOk result (IsTrue (is_branch branch)) }
+fn via_parameters(alloc: Global, branch: &Branch) -> Result<Parameters, AllocError>
+    ensures value { IfOk result (λ made. made ≡ request.via_parameters branch.now) }
+    ensures rule { OnOk result (IsTrue (is_branch branch.now)) }
 {
     let rport = ParameterText {
         name: b"rport",
