@@ -1,8 +1,8 @@
 -- The source of a request (RFC 3261, section 18.2.1; RFC 3581, sections 3 and 4), and the address
 -- to which the answer goes.
-use Rattle.std.specs.Prelude.{ℕ, Bool, false, List, [], ◌∷◌, Option, Some, None, codes, decimal, is_none, if◌then◌else◌}
+use Rattle.std.specs.Prelude.{Bool, false, List, [], ◌∷◌, Option, Some, None, codes, decimal, is_none, if◌then◌else◌}
 use Rattle.std.specs.Option.{option_map_or}
-use Rattle.std.specs.Str.{bytes_eq, str_eq_ignore_ascii_case}
+use Rattle.std.specs.Str.{bytes_eq}
 use Rattle.sip_message.specs.declared.addr.Addr.{Addr}
 use Rattle.sip_parts.specs.Parameters.{parameter_named}
 pub use Rattle.sip_parts.specs.Parameters.{with_value}

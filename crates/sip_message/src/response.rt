@@ -9,9 +9,7 @@ use crate::message::Message;
 use crate::party::Party;
 use crate::start_line::StartLine;
 use crate::vias::Vias;
-use sip_parts::{
-    CallId, Parameters, PartyParameters, Reason, StatusCode, Token,
-};
+use sip_parts::{CallId, Parameters, PartyParameters, Reason, StatusCode, Token};
 use sip_text::ParameterText;
 use std::alloc::{AllocError, Global};
 

@@ -24,23 +24,37 @@ pub fn stamp_source(alloc: Global, message: &mut Message, source: Addr) -> Resul
         ≡ source_of.answer_address message.old source) }
     ensures err { OnErr result (message.new ≡ message.old) }
 {
-    let top = message.vias.top();
-    let address = answered_at(top, source);
-    if let Some(parameters) = stamped_parameters(alloc, top, source)? {
+    let (address, parameters) = stamp_of(alloc, message.vias.top(), source)?;
+    if let Some(parameters) = parameters {
         message.vias.set_top_parameters(alloc, parameters);
     }
     Ok(address)
 }
 
-fn answered_at(via: &Via, source: Addr) -> Addr
-    ensures { result ≡ source_of.answered_at source via.now }
+/// The address to which the answer goes, and the parameters with the source, or None if they don't
+/// change.
+#[tactic(auto, unfolding(crate::specs::Source::stamped_parameters))]
+fn stamp_of(
+    alloc: Global,
+    via: &Via,
+    source: Addr,
+) -> Result<(Addr, Option<Parameters>), AllocError>
+    ensures address { IfOk result (λ made. made.0 ≡ source_of.answered_at source via.now) }
+    ensures parameters { IfOk result (λ made. unwrap_or made.1 via.now.parameters
+        ≡ source_of.stamped_parameters source via.now) }
 {
     if asks_port(via) {
-        return source;
+        let with_port = with_port(alloc, &via.parameters, source)?;
+        return Ok((source, Some(and_received(alloc, with_port, source)?)));
     }
     let ip = source.ip;
     let port = port_of(via);
-    Addr { ip, port }
+    let address = Addr { ip, port };
+    if via.host.as_slice() == ip_text(ip).as_slice() {
+        return Ok((address, None));
+    }
+    let parameters = with_received(alloc, &via.parameters, source)?;
+    Ok((address, Some(parameters)))
 }
 
 /// Whether the first `rport` has no value.
@@ -51,27 +65,6 @@ fn asks_port(via: &Via) -> bool
         None => false,
         Some(parameter) => parameter.value.is_none(),
     }
-}
-
-/// The parameters with the source, or None if they don't change.
-#[tactic(auto, unfolding(crate::specs::Source::stamped_parameters))]
-fn stamped_parameters(
-    alloc: Global,
-    via: &Via,
-    source: Addr,
-) -> Result<Option<Parameters>, AllocError>
-    ensures { IfOk result (λ made. unwrap_or made via.now.parameters
-        ≡ source_of.stamped_parameters source via.now) }
-{
-    if asks_port(via) {
-        let with_port = with_port(alloc, &via.parameters, source)?;
-        return Ok(Some(with_received(alloc, &with_port, source)?));
-    }
-    let ip = ip_text(source.ip);
-    if via.host.as_slice() == ip.as_slice() {
-        return Ok(None);
-    }
-    Ok(Some(with_received(alloc, &via.parameters, source)?))
 }
 
 #[tactic(auto, unfolding(sip_text::specs::Token::is_token, sip_text::specs::Token::is_token_byte))]
@@ -86,12 +79,21 @@ fn with_received(
     parameters.with_value(alloc, b"received", &ip)
 }
 
+/// The same, without a copy if there is no `received`.
 #[tactic(auto, unfolding(sip_text::specs::Token::is_token, sip_text::specs::Token::is_token_byte))]
-fn with_port(
+fn and_received(
     alloc: Global,
-    parameters: &Parameters,
+    parameters: Parameters,
     source: Addr,
 ) -> Result<Parameters, AllocError>
+    ensures { IfOk result (λ made. made ≡ source_of.with_received source parameters) }
+{
+    let ip = ip_text(source.ip);
+    parameters.and_value(alloc, b"received", &ip)
+}
+
+#[tactic(auto, unfolding(sip_text::specs::Token::is_token, sip_text::specs::Token::is_token_byte))]
+fn with_port(alloc: Global, parameters: &Parameters, source: Addr) -> Result<Parameters, AllocError>
     ensures { IfOk result (λ made. made ≡ source_of.with_port source parameters.now) }
 {
     let port = decimal(u64::from(source.port));

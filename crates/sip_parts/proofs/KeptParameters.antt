@@ -1,9 +1,9 @@
 -- The one text of parameters: what is written lists the same parameters, one at a time.
-use Rattle.std.proofs.Common.{◌≡◌, ◌<◌, ◌≤◌, ◌-◌, take, drop, ℕ, Bool, true, false, ◌&&◌, List, [], ◌∷◌, ◌++◌, length, Option, Some, None, refl, sym, ap, subst, ◌∙◌, append_assoc, arith}
+use Rattle.std.proofs.Common.{◌≡◌, ◌<◌, ◌≤◌, ◌-◌, take, drop, ℕ, Bool, true, false, List, [], ◌∷◌, ◌++◌, length, Option, Some, None, refl, sym, ap, subst, ◌∙◌, arith, is_some}
 use Rattle.std.specs.Prelude.{IsTrue, IfNone, IfSome, unwrap_or}
 use Rattle.std.specs.Borrow.{Bor}
 use Rattle.std.specs.Str.{str_eq_ignore_ascii_case}
-use Rattle.std.specs.List.{AllByRecursion, list_all, flat_map}
+use Rattle.std.specs.List.{AllByRecursion, list_all}
 use Rattle.std.specs.Option.{ForSome, option_copied, option_map}
 use Rattle.std.proofs.lemmas.Bool.{and_parts, and_from}
 use Rattle.std.proofs.lemmas.List.{append-nil, take_all}
@@ -14,7 +14,7 @@ use Rattle.sip_text.specs.Parameter.{is_parameter_value, parameter_from}
 use Rattle.sip_text.specs.Token.{is_token}
 use Rattle.sip_text.specs.declared.separator.Separator.TheVariants.{Byte}
 use Rattle.sip_parts.specs.ParameterRules.{IsParameter}
-use Rattle.sip_parts.specs.ParameterValues.{parameter_of, one_parameter, all_parameters}
+use Rattle.sip_parts.specs.ParameterValues.{parameter_of, one_parameter}
 use Rattle.sip_parts.specs.WrittenParameters.{parameter_text, parameters_text}
 use Rattle.sip_text.specs.Pieces.{parameter_now}
 use Rattle.sip_text.specs.declared.parameters.ParameterText.{ParameterText}
@@ -169,8 +169,7 @@ first_by : (behind : List ℕ) (ps : List Parameter) → listed (59 ∷ behind) 
     → (p : Parameter) × (after : Option (List ℕ)) × IsFirst behind p after
 first_by behind [] list text good = absurd cc
 first_by behind (p ∷ ps) list text good =
-    let both = and_parts (is_good p) (list_all is_good ps) good in
-    (
+    let both = and_parts (is_good p) (list_all is_good ps) good in (
       p,
       behind_first ps,
       record {
@@ -261,3 +260,29 @@ pub value_further : (name value text : List ℕ) (p : Parameter) (after : List �
     → with_value name value (listed text) ≡ p ∷ with_value name value (listed after)
 value_further name value text p after next other =
     ap (with_value name value) next.list ∙ (rw other refl)
+
+-- a parameter of this name and value is added at the end
+abbrev IsAdded : List ℕ → List ℕ → List Parameter → Type 0
+IsAdded name value ps =
+    with_value name value ps ≡ ps ++ (record { name = name; value = Some value }) ∷ []
+
+added_behind : (name value : List ℕ) (p : Parameter) (ps : List Parameter) (r : Bool)
+    → str_eq_ignore_ascii_case p.name name ≡ r → parameter_named name (p ∷ ps) ≡ None
+    → (parameter_named name ps ≡ None → IsAdded name value ps) → IsAdded name value (p ∷ ps)
+added_behind name value p ps true same none later =
+    absurd (none-some p (sym none ∙ (rw same refl)))
+added_behind name value p ps false other none later =
+    rw other (ap (λ (qs : List Parameter). p ∷ qs) (later (rw other at none)))
+
+none_is_added : (name value : List ℕ) (ps : List Parameter) → parameter_named name ps ≡ None
+    → IsAdded name value ps
+none_is_added name value [] none = refl
+none_is_added name value (p ∷ ps) none =
+    added_behind name value p ps (str_eq_ignore_ascii_case p.name name) refl none
+    (none_is_added name value ps)
+
+pub added : (name value : List ℕ) (ps : List Parameter) (found : Option ParameterText)
+    → option_map shown found ≡ parameter_named name ps → is_some found ≡ false
+    → IsAdded name value ps
+added name value ps None e none = none_is_added name value ps (sym e)
+added name value ps (Some p) e none = absurd cc

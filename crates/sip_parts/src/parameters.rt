@@ -14,6 +14,10 @@ use sip_text::{ParameterText, Text, token_eq};
 use std::alloc::{AllocError, Global};
 use std::marker::Model;
 
+/// The bytes reserved beside a value that is set: enough for its `=` and one more parameter such as
+/// `;received=192.0.2.100`.
+const ROOM_BESIDE_VALUE: usize = 26;
+
 /// Parameters in order, kept as the one text that is written for them. A contract sees them as
 /// their list.
 pub struct Parameters {
@@ -87,7 +91,8 @@ impl Parameters {
         match self.named(name) {
             Some(
                 ParameterText {
-                    value: Some(value), ..
+                    value: Some(value),
+                    ..
                 },
             ) => value,
             _ => &[],
@@ -106,8 +111,27 @@ impl Parameters {
         requires value_is { IsTrue (is_parameter_value value.now) }
         ensures { IfOk result (λ made. made ≡ named.with_value name.now value.now self.now) }
     {
-        let made = Parameters::with_room(alloc, self.text.len())?;
+        let room = value.len().saturating_add(ROOM_BESIDE_VALUE);
+        let made = Parameters::with_room(alloc, self.text.len().saturating_add(room))?;
         with_value_in(made, behind_first(self.text.as_slice()), name, value)
+    }
+
+    /// The same, without a copy if there is no such parameter.
+    pub fn and_value(
+        self,
+        alloc: Global,
+        name: &[u8],
+        value: &[u8],
+    ) -> Result<Parameters, AllocError>
+        requires name_is { IsTrue (is_token name.now) }
+        requires value_is { IsTrue (is_parameter_value value.now) }
+        ensures { IfOk result (λ made. made ≡ named.with_value name.now value.now self) }
+    {
+        if self.named(name).is_some() {
+            return self.with_value(alloc, name, value);
+        }
+        let value = Some(value);
+        self.with(ParameterText { name, value })
     }
 
     /// The parameters, with those of a text that follows the first semicolon at the end.

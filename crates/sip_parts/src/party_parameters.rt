@@ -93,7 +93,8 @@ fn has_good_tag(parameters: &Parameters) -> bool
         Some(ParameterText { value: None, .. }) => false,
         Some(
             ParameterText {
-                value: Some(value), ..
+                value: Some(value),
+                ..
             },
         ) => is_token(value),
     }

@@ -1,6 +1,6 @@
 -- `next_kept`: reading one parameter of a text that is kept finds the first of its list.
-use Rattle.std.proofs.Common.{ap, refl}
-use Rattle.sip_parts.specs.ListedParameters.{listed, stored, IsKept}
+use Rattle.std.proofs.Common.{refl}
+use Rattle.sip_parts.specs.ListedParameters.{listed}
 use Rattle.sip_parts.proofs.KeptParameters.{next_none, next_some}
 use Rattle.sip_parts.proofs.parameters.next_kept.Goals as goal
 

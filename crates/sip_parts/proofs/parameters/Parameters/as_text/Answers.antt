@@ -1,5 +1,4 @@
 -- `as_text`: the parameters of a text that is kept follow the rules.
-use Rattle.sip_parts.specs.ListedParameters.{listed}
 use Rattle.sip_parts.proofs.KeptParameters.{all_rules}
 use Rattle.sip_parts.proofs.parameters.Parameters.as_text.Goals as goal
 
