@@ -21,10 +21,7 @@ pub(crate) fn parameters_behind(
 }
 
 /// The same, with white space allowed before the first semicolon.
-fn parameters_behind_blanks(
-    alloc: Global,
-    text: &[u8],
-) -> Result<Option<Parameters>, AllocError>
+fn parameters_behind_blanks(alloc: Global, text: &[u8]) -> Result<Option<Parameters>, AllocError>
     ensures { IfOk result (λ made. made ≡ values.all_parameters text.now) }
 {
     let Some((before, behind)) = Separator::Byte(b';').cut(text) else {

@@ -130,10 +130,7 @@ fn cut_transport(text: &[u8]) -> Option<(&[u8], &[u8])>
 }
 
 /// The host, the port and the parameters, which begin at the first semicolon.
-fn end_in(
-    alloc: Global,
-    text: &[u8],
-) -> Result<Option<(SentByDraft, Parameters)>, AllocError>
+fn end_in(alloc: Global, text: &[u8]) -> Result<Option<(SentByDraft, Parameters)>, AllocError>
     ensures { IfOk result (λ made. made ≡ values.end_from text.now) }
 {
     if has_open_quote(text) {
