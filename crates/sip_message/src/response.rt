@@ -70,7 +70,7 @@ fn is_tagged(party: &Party) -> bool
     party.parameters.as_parameters().named(b"tag").is_some()
 }
 
-/// The parameters, and a tag behind them.
+/// The parameters, with a tag at the end.
 #[tactic(auto, unfolding(sip_text::specs::Token::is_token, sip_text::specs::Token::is_token_byte))]
 pub(crate) fn with_tag(parameters: Parameters, tag: &Token) -> Result<PartyParameters, AllocError>
     requires { parameter_named (codes "tag") parameters ≡ None }

@@ -61,8 +61,9 @@ value_plain text value =
     → has_no_line_byte text ≡ true)
     (λ t e f. quoted_plain text e) (λ t e f. solid_line text (value_solid text f)) refl value
 
-pub body_passes : (c : ℕ) → Marks c → (name : List ℕ) (value : Option (List ℕ)) → is_token name ≡ true
-    → IfSome value (λ v. IsTrue (is_parameter_value v)) → Passes (Byte c) (body_with name value)
+pub body_passes : (c : ℕ) → Marks c → (name : List ℕ) (value : Option (List ℕ))
+    → is_token name ≡ true → IfSome value (λ v. IsTrue (is_parameter_value v))
+    → Passes (Byte c) (body_with name value)
 body_passes c marks name None token is =
     both_pass (Byte c) name [] (token_passes c marks.token name token) refl
 body_passes c marks name (Some v) token is =

@@ -82,8 +82,8 @@ impl Parameters {
         first_named(behind_first(self.text.as_slice()), name)
     }
 
-    /// The value of the first parameter of this name: empty if there is no such parameter, or it has
-    /// no value.
+    /// The value of the first parameter of this name: empty if there is no such parameter, or it
+    /// has no value.
     #[tactic(auto, unfolding(crate::specs::Parameters::value_named))]
     pub fn value_named(&self, name: &[u8]) -> &[u8]
         ensures { result.now ≡ named.value_named name.now self.now }
@@ -99,8 +99,8 @@ impl Parameters {
         }
     }
 
-    /// The parameters after the first one of this name got the value; if there is none, a new one is
-    /// added at the end.
+    /// The parameters after the first one of this name got the value; if there is none, a new one
+    /// is added at the end.
     pub fn with_value(
         &self,
         alloc: Global,
@@ -137,7 +137,8 @@ impl Parameters {
     /// The parameters, with those of a text that follows the first semicolon at the end.
     fn with_text(self, behind: Option<&[u8]>) -> Result<Parameters, AllocError>
         requires { IsKept (stored (option_copied behind)) }
-        ensures { IfOk result (λ made. made ≡ self ++ listed (stored (option_copied behind.entry))) }
+        ensures { IfOk result (λ made. made
+            ≡ self ++ listed (stored (option_copied behind.entry))) }
     {
         let Parameters { text } = self;
         let mut text = text;
@@ -188,8 +189,8 @@ fn behind_first(text: &[u8]) -> Option<&[u8]>
 fn next_kept(rest: Option<&[u8]>) -> Option<FirstParameter<'_>>
     requires { IsKept (stored (option_copied rest)) }
     ensures none { IfNone result (listed (stored (option_copied rest.entry)) ≡ []) }
-    ensures some { IfSome result (λ found.
-        IsNext (stored (option_copied rest.entry)) (shown found.0) (stored (option_copied found.1))) }
+    ensures some { IfSome result (λ found. IsNext (stored (option_copied rest.entry))
+        (shown found.0) (stored (option_copied found.1))) }
     ensures name { IfSome result (λ found. IsTrue (is_token found.0.name.now)) }
     ensures value { IfSome result (λ found.
         IfSome found.0.value (λ v. IsTrue (is_parameter_value v.now))) }
