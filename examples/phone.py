@@ -123,7 +123,7 @@ class Phone:
             self.ask(self.call.request("INFO", body, [TONE]))
 
     def do_hangup(self, _):
-        """Leaves a call: by BYE, CANCEL or 603. If it is answered anyway, or its ACK still has to come,
+        """Leaves a call: by BYE, CANCEL or 603. If it is answered anyway, or its ACK hasn't come,
         its BYE follows then."""
         call = self.call
         if not call or call.is_left:
