@@ -12,6 +12,7 @@ pub mod HeaderName
 pub mod LowerText
 pub mod OtherName
 pub mod TokenPlace
+pub mod UsualToken
 pub mod ParameterValues
 pub mod ParameterRules
 pub mod WrittenParameters

@@ -21,6 +21,7 @@ mod request_uri;
 mod status_code;
 mod token;
 mod uri;
+mod usual_token;
 mod word;
 
 pub use call_id::{CallId, CallIdRule};
