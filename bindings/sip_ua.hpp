@@ -30,8 +30,8 @@ using Address = sip_ua_address;
 using Configuration = sip_ua_configuration;
 
 /// An output of a round: a datagram with the address to send it to, or a line without one. `place`
-/// is that of the event that caused it, from 1. It is 0 if a timer caused it, or if a command sends
-/// it.
+/// is that of the event that caused it, from 1. It is 0 if a timer caused it, or if it is a new
+/// request (not ACK) or response (not 100).
 struct Output {
     std::size_t index;
     std::optional<Address> to;

@@ -269,7 +269,7 @@ class Cancel(Command):
 @dataclass(frozen=True)
 class Output:
     """What a round gives. `place` is that of the event that caused it, from 1. It is 0 if a timer
-    caused it, or if a command sends it."""
+    caused it, or if it is a new request (not ACK) or response (not 100)."""
 
     place: int
 
@@ -347,7 +347,8 @@ class PrackNotice(Notice):
 
 @dataclass(frozen=True)
 class TimeoutNotice(Notice):
-    """No response to the request of this id came in time, or no ACK of its 300 to 699."""
+    """Nothing came in time for the request of this id: no response to an INVITE, no final
+    response to another request, or no ACK of a 300 to 699."""
 
     id: Id
 
