@@ -170,10 +170,10 @@ fn turn<T: Threads + Sync>(
     Ok(())
 }
 
-// An instance of the laws `responses_told_were_said` and `provisionals_told_were_said` of
-// sip_conversation: the user is told of each reliable provisional response once and in order. And
-// nothing is held at the end. Another program calculated how many calls are made, and how many
-// datagrams are sent.
+// An instance of the laws `responses_told_were_said`, `provisionals_told_were_said` and
+// `requests_told_were_asked_for` of sip_conversation: the callee is told of the INVITE, and the
+// caller of each reliable provisional response once and in order. Nothing is held at the end.
+// Another program calculated how many calls are made, and how many datagrams are sent.
 #[test]
 fn calls_over_a_network_that_loses_datagrams(rt: HostRuntime) -> Result<(), Fail> {
     let (alloc, mut whole, mut sent) = (rt.alloc(), 0u32, 0u32);
