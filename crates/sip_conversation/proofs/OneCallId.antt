@@ -266,7 +266,7 @@ module _ (config : Config)
         let ack = out_replies early (call_out.Direct at (written message)) says in
         absurd (no_ack message key is of request started.0 started.1
         (is_ack message ack.0 asks token (ack.2).request (ack.2).method ack.1))
-    one_call_id message (Trying of_key other answered reply_to received asked same) asks token key is
+    one_call_id message (Trying of_key other got reply_to received asked same) asks token key is
         id of request to given =
         absurd (false≢true (sym (ap is_request_message same) ∙ asks))
     one_call_id message

@@ -261,9 +261,10 @@ module _ (config : Config) (rounds : List Round) where
       → AllByRecursion (TimedComes call_id) (call_inputs_of config rounds call_id)
   unfolding past_of
   inputs_come call_id =
-      subst (λ phases. AllByRecursion (TimedComes call_id) (history call_cmp tick_at phases call_id))
+      subst (λ phases. AllByRecursion (TimedComes call_id)
+      (history call_cmp tick_at phases call_id))
       (sym (calls_are config config.first no_past rounds))
       (from_come call_id config.first no_past rounds
-      (all_both {P = IsOwnItem} {Q = Contains items} {R = ItemComes} (λ item own among. (own, among))
-      items (all_own config config.first no_past rounds)
+      (all_both {P = IsOwnItem} {Q = Contains items} {R = ItemComes}
+      (λ item own among. (own, among)) items (all_own config config.first no_past rounds)
       (all_of (Contains items) items (λ item among. among))))

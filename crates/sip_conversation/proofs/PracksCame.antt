@@ -56,7 +56,7 @@ numbers_more : (waiting more : List Provisional)
 numbers_more [] more = refl
 numbers_more (p ∷ waiting) more = ap (λ numbers. p.number ∷ numbers) (numbers_more waiting more)
 
-equal : (one two : ℕ) → (one == two) ≡ true → one ≡ two
+pub equal : (one two : ℕ) → (one == two) ≡ true → one ≡ two
 equal one two is = grind (arith, common_steps, is)
 
 apart : (one two : ℕ) → (one == two) ≡ false → one ≡ two → ⊥
@@ -88,6 +88,9 @@ but_other number other isnt (p ∷ waiting) =
 
     none : (p.number == other) ≡ true → (p.number == number) ≡ false
     none is = ap (λ n. n == number) (equal p.number other is) ∙ isnt
+
+pub no_rseq : (rseq : ℕ) → None ≡ Some rseq → ⊥
+no_rseq rseq is = absurd cc
 
 module _ (Brought : Message → Type 0) where
   -- a PRACK came of the response of RSeq 1 to the INVITE of this number
@@ -224,17 +227,16 @@ module _ (Brought : Message → Type 0) where
         (sends : (is_sent_reliably held respond && must_wait held.ledger) ≡ false) where
       pub answer_given : Given (response_sent local held respond)
       answer_given rseq is more =
+          let number : Bool → Option ℕ = λ b. if b then Some held.ledger.next else None in
           by_bool (is_sent_reliably held respond)
           (λ reliable. let next : held.ledger.next ≡ rseq =
-          same_number held.ledger.next rseq (sym (ap (λ b. if b then Some held.ledger.next else None)
-          reliable) ∙ (sym sent ∙ is)) in
+          same_number held.ledger.next rseq (sym (ap number reliable) ∙ (sym sent ∙ is)) in
           let none : must_wait held.ledger ≡ false =
           sym (ap (λ b. b && must_wait held.ledger) reliable) ∙ sends in
           subst Pracked (sym (ap (λ (cseq : CSeq). cseq.number)
           (so_numbered (is_sent_reliably held respond) (is_dialog_response held respond.status))))
           (holds.acked (omega (arith, next, more)) (none_waits held.ledger holds.first none)))
-          (λ plain. absurd (no_number rseq (sym (ap (λ b. if b then Some held.ledger.next else None)
-          plain) ∙ (sym sent ∙ is))))
+          (λ plain. absurd (no_rseq rseq (sym (ap number plain) ∙ (sym sent ∙ is))))
         where
           sent : (response_sent local held respond).rseq
               ≡ (if is_sent_reliably held respond then Some held.ledger.next else None)
@@ -242,9 +244,6 @@ module _ (Brought : Message → Type 0) where
 
           same_number : (one two : ℕ) → Some one ≡ Some two → one ≡ two
           same_number one two same = cc
-
-          no_number : (one : ℕ) → None ≡ Some one → ⊥
-          no_number one same = absurd cc
 
       more_wait : (sent : Provisional) → sent.number ≡ held.ledger.next
           → 1 < held.ledger.next + 1

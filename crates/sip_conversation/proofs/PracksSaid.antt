@@ -35,7 +35,7 @@ use Rattle.sip_conversation.proofs.AckTexts.{no_ack}
 use Rattle.sip_conversation.proofs.Among.{all_go, each_of}
 use Rattle.sip_conversation.proofs.OneCallId.{out_replies}
 use Rattle.sip_conversation.proofs.OneTransaction.{KindCame}
-use Rattle.sip_conversation.proofs.PracksCame.{Given, OutGiven, Pracked}
+use Rattle.sip_conversation.proofs.PracksCame.{Given, OutGiven, Pracked, no_rseq}
 use Rattle.sip_conversation.proofs.PracksOfCalls.{InputBrought, all_given}
 use Rattle.sip_conversation.proofs.PracksServed.{KindBrought}
 use Rattle.sip_conversation.proofs.ToldCallId.{peer_peer}
@@ -57,9 +57,6 @@ number_is status rseq response is =
     by_case false true true is = is
     by_case false true false is = absurd cc
     by_case false false required is = absurd cc
-
-no_rseq : (rseq : ℕ) → None ≡ Some rseq → ⊥
-no_rseq rseq is = absurd cc
 
 -- ---- a PRACK as it came, and as it was said
 

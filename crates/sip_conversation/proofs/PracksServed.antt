@@ -6,7 +6,6 @@ use Rattle.std.specs.List.{AllByRecursion, list_any}
 use Rattle.std.specs.Map.{values_of}
 use Rattle.std.specs.Option.{option_map_or}
 use Rattle.std.specs.Str.{bytes_eq}
-use Rattle.std.proofs.lemmas.Grind.{common_steps}
 use Rattle.std.proofs.lemmas.Slice.Eq.{bytes_eq-Decides}
 use Rattle.sip_message.specs.Response.{response_of}
 use Rattle.sip_message.specs.declared.id.Id.{Id}
@@ -34,7 +33,7 @@ use Rattle.sip_served.specs.Rules.Responses.{dialogs_after, held_after, makes_di
 use Rattle.sip_served.specs.State.{ServedTaken, State, changed_at, changed_first, has_id}
 use Rattle.sip_conversation.proofs.Among.{among_first, among_later, each_of}
 use Rattle.sip_conversation.proofs.Branches.{either, found_or}
-use Rattle.sip_conversation.proofs.PracksCame.{Holds, OutGiven, OutsGiven, Pracked, ServedHolds, ack_holds, answer_given, answer_holds, cancel_holds, may_send, none_given, prack_holds}
+use Rattle.sip_conversation.proofs.PracksCame.{Holds, OutGiven, OutsGiven, Pracked, ServedHolds, ack_holds, answer_given, answer_holds, cancel_holds, equal, may_send, no_rseq, none_given, prack_holds}
 
 -- ---- lists
 
@@ -66,9 +65,6 @@ changed_so P test change (x ∷ xs) keeps all =
     by_first true passes rest = (keeps x (among_first x xs) passes all.0, all.1)
     by_first false fails rest = (all.0, rest)
 
-equal : (one two : ℕ) → (one == two) ≡ true → one ≡ two
-equal one two is = grind (arith, common_steps, is)
-
 same_bytes : (one two : List ℕ) → bytes_eq one two ≡ true → one ≡ two
 same_bytes one two is = (bytes_eq-Decides one two).0 is
 
@@ -84,9 +80,6 @@ three_of false b c d e all = absurd cc
 abbrev pub Apart : List HeldRequest → Type 0
 Apart requests = (one two : HeldRequest) → Contains requests one → Contains requests two
     → is_id one.id two.id ≡ true → one ≡ two
-
-no_rseq : (rseq : ℕ) → None ≡ Some rseq → ⊥
-no_rseq rseq is = absurd cc
 
 module _ (Brought : Message → Type 0) where
   abbrev HoldsAll : List HeldRequest → Type 0
@@ -254,8 +247,7 @@ module _ (Brought : Message → Type 0) where
             (λ one among here holds. cancel_holds Brought now one holds) all;
         outs = outs_both ok (out.Command held.id (order.Answer held.key terminated)
             ∷ out.Notice (notice.Cancel call_id held.id) ∷ after.1) of_ok (
-              none_given Brought (response_of held.request 487 (codes "Request Terminated") held.tag)
-                  refl,
+              none_given Brought terminated refl,
               (tt, early_given held.id state.dialogs),
             );
       })

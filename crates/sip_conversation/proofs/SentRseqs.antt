@@ -1,5 +1,5 @@
--- The RSeqs of the reliable provisional responses that went out to a held request are 1, 2, 3 and so
--- on.
+-- The RSeqs of the reliable provisional responses that went out to a held request are 1, 2, 3 and
+-- so on.
 use Rattle.std.proofs.Common.{◌≡◌, ℕ, suc, zero, ◌+◌, Bool, true, false, List, [], ◌∷◌, ◌++◌, refl, sym, ap, ◌∙◌, arith}
 use Rattle.std.specs.Prelude.{Option, None, Some, find, fold, is_some, if◌then◌else◌}
 use Rattle.std.specs.Result.{result_ok}

@@ -147,7 +147,8 @@ module _ (config : Config) (rounds : List Round) where
     server_kind call_id (kind.Request request reply_to) key = tt
     server_kind call_id (kind.Ack ack) key = tt
     server_kind call_id (kind.Response response) key = λ status is.
-        absurd (not_both (side_of (key_of_message response)) (ap side_of (response_key response status is))
+        absurd (not_both (side_of (key_of_message response))
+        (ap side_of (response_key response status is))
         (ap side_of key ∙ apart))
     server_kind call_id kind.Timeout key = tt
     server_kind call_id kind.Failed key = tt

@@ -39,8 +39,8 @@ told_from calls invite life call (input ∷ inputs) =
 
 -- ---- what the other side said
 
--- in these rounds an agent said the PRACK of the response of RSeq 1 to the INVITE that this response
--- answers (RFC 3262, section 7.2)
+-- in these rounds an agent said the PRACK of the response of RSeq 1 to the INVITE that this
+-- response answers (RFC 3262, section 7.2)
 pub record SaidPrack (config : Config) (rounds : List Round) (response : Message) : Type 0 where
   pub prack : Message
   pub said : IsSaid config rounds prack

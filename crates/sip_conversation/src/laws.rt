@@ -59,8 +59,8 @@ pub fn calls_hear_unchanged(one: Config, other: Config)
 /// before the one in which it is told, the other side said a reliable provisional response of this
 /// RSeq, with the status, the tags and the body that are told, as its user gave the command to
 /// respond with that status and that body. Where the RSeq is above 1, this side said in those turns
-/// a PRACK whose RAck has RSeq 1, the response's CSeq number and INVITE (RFC 3262, section 7.2). The
-/// law doesn't say that the response was to this INVITE, nor that the first of these RSeqs is 1.
+/// a PRACK whose RAck has RSeq 1, the response's CSeq number and INVITE (RFC 3262, section 7.2).
+/// The law doesn't say that the response was to this INVITE, nor that the first RSeq is 1.
 pub fn provisionals_told_were_said(one: Config, other: Config)
     ensures { (turns : List Turn) → Carried (of_sides one other) turns
         → CallsKeepRules (of_sides one other) turns
