@@ -33,3 +33,4 @@ pub mod PracksCame
 pub mod PracksServed
 pub mod PracksOfCalls
 pub mod PracksSaid
+pub mod OwedTold
