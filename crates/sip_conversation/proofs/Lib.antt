@@ -34,3 +34,4 @@ pub mod PracksServed
 pub mod PracksOfCalls
 pub mod PracksSaid
 pub mod OwedTold
+pub mod RackedSteps
