@@ -1,5 +1,5 @@
--- What is started by a response, or by the commands Ack and Prack, and has a RAck, is a PRACK that is
--- pending in a held dialog, or for which that response asks.
+-- What is started by a response, or by the commands Ack and Prack, and has a RAck, is a PRACK that
+-- is pending in a held dialog, or for which that response asks.
 use Rattle.std.proofs.Common.{◌≡◌, ℕ, ◌+◌, Bool, true, false, ◌||◌, ◌&&◌, not, ◌==◌, List, [], ◌∷◌, ◌++◌, refl, sym, ap, ◌∙◌, subst}
 use Rattle.std.specs.Prelude.{Contains, Option, None, Some, IfSome, codes, filter, find, fold, is_some, length, unwrap_or, if◌then◌else◌}
 use Rattle.std.specs.List.{AllByRecursion}
