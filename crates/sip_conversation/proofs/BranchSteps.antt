@@ -214,7 +214,7 @@ module _ (seed call_id : List ℕ) (Came : Id → Type 0) where
 
   -- ---- the end of a request
 
-  over_silent : (client : Client) (ends : Bool) (dialogs : Dialogs)
+  pub over_silent : (client : Client) (ends : Bool) (dialogs : Dialogs)
       → starts (request_over client ends dialogs).1 ≡ []
   over_silent client ends dialogs =
       let early = early_ended client.id dialogs in

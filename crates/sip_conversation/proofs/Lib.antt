@@ -32,3 +32,5 @@ pub mod PracksCame
 pub mod PracksServed
 pub mod PracksOfCalls
 pub mod PracksSaid
+pub mod OwedTold
+pub mod RackedSteps
