@@ -131,32 +131,34 @@ module _ (seed call_id : List ℕ) (Came : Id → Type 0) where
   abbrev pub HasBranch : List ℕ → Type 0
   HasBranch branch = (id : Id) × Came id × (branch ≡ codes "z9hG4bK" ++ name_of seed id 0)
 
-  pub record IsOwn (message : Message) : Type 0 where
+  -- it is of the call, with the branch of an event: that of its id, unless it is a CANCEL
+  pub record IsOwn (id : Id) (message : Message) : Type 0 where
     pub call : message.call_id ≡ call_id
     pub branch : HasBranch (top_branch message)
     pub method : message.cseq.method ≡ codes "ACK" → ⊥
+    pub event_is : (message.cseq.method ≡ codes "CANCEL" → ⊥) → branch.0 ≡ id
 
   -- ---- what is held and said
 
   abbrev pub Own : Client → Type 0
-  Own client = IsOwn client.request
+  Own client = IsOwn client.id client.request
 
   abbrev pub AreOwn : Clients → Type 0
   AreOwn clients = AllByRecursion (λ (entry : Id × Client). Own entry.1) clients
 
   -- a transaction is started with such a request, under its branch, its method and its Call-ID
-  pub record IsStarted (key : Key) (of : List ℕ) (message : Message) : Type 0 where
-    pub own : IsOwn message
+  pub record IsStarted (id : Id) (key : Key) (of : List ℕ) (message : Message) : Type 0 where
+    pub own : IsOwn id message
     pub key_is : key ≡ client_key (top_branch message) message.cseq.method
     pub of_is : of ≡ message.call_id
 
-  abbrev pub CommandSays : Command → Type 0
-  CommandSays (order.Start key of message to) = IsStarted key of message
-  CommandSays (order.Answer key message) = Unit {0}
+  abbrev pub CommandSays : Id → Command → Type 0
+  CommandSays id (order.Start key of message to) = IsStarted id key of message
+  CommandSays id (order.Answer key message) = Unit {0}
 
   abbrev pub OutSays : CallOut → Type 0
   OutSays (out.Notice notice) = Unit {0}
-  OutSays (out.Command id command) = CommandSays command
+  OutSays (out.Command id command) = CommandSays id command
   OutSays (out.Direct to bytes) = Unit {0}
 
   abbrev pub Say : List CallOut → Type 0
@@ -192,28 +194,31 @@ module _ (seed call_id : List ℕ) (Came : Id → Type 0) where
 
   -- ---- the requests
 
-  own_branch : (event : Event) → Comes event → HasBranch (branch_of event)
-  own_branch event comes = (
-    event.id,
-    comes.came,
-    made_branch event ∙ ap (λ s. codes "z9hG4bK" ++ name_of s event.id 0) comes.seed_is,
-  )
+  own_branch : (event : Event) → Comes event
+      → branch_of event ≡ codes "z9hG4bK" ++ name_of seed event.id 0
+  own_branch event comes =
+      made_branch event ∙ ap (λ s. codes "z9hG4bK" ++ name_of s event.id 0) comes.seed_is
 
-  like_own : (one other : Message) → IsLike one other → IsOwn other → IsOwn one
-  like_own one other like own = record {
+  like_own : (id : Id) (one other : Message) → IsLike one other → IsOwn id other → IsOwn id one
+  like_own id one other like own = record {
     call = like.call ∙ own.call;
     branch = (own.branch.0, own.branch.1, like.branch ∙ own.branch.2);
     method = λ is. own.method (sym like.method ∙ is);
+    event_is = λ other. own.event_is (λ is. other (like.method ∙ is));
   }
 
   outside_own : (event : Event) (of method uri from to : List ℕ) (routes : List NameAddr)
       → Comes event → of ≡ call_id → (method ≡ codes "ACK" → ⊥)
-      → IsOwn (request_outside event of method uri from to routes)
+      → IsOwn event.id (request_outside event of method uri from to routes)
   outside_own event of method uri from to routes comes is other = record {
     call = is;
-    branch = subst HasBranch (sym (agent_branch event.local (branch_of event)))
-        (own_branch event comes);
+    branch = (
+      event.id,
+      comes.came,
+      agent_branch event.local (branch_of event) ∙ own_branch event comes,
+    );
     method = other;
+    event_is = λ other. refl;
   }
 
   pub invite_own : (event : Event) (invite : Invite) (clients : Clients) → Comes event
@@ -232,6 +237,8 @@ module _ (seed call_id : List ℕ) (Came : Id → Type 0) where
           content.branch ∙ (support.branch ∙ outside.branch.2),
         );
         method = λ ack. outside.method (sym support.method ∙ (sym content.method ∙ ack));
+        event_is = λ other. outside.event_is
+            (λ is. other (content.method ∙ (support.method ∙ is)));
       })
 
   pub plain_own : (event : Event) (plain : Plain) (clients : Clients) → Comes event
@@ -243,7 +250,7 @@ module _ (seed call_id : List ℕ) (Came : Id → Type 0) where
       either Done (first || second || bytes_eq plain.method (codes "BYE")) _ _
       (λ bad. (own, (tt, tt)))
       (λ good. start_own (clients, []) _ (own, tt)
-      (like_own _ _ (like_content _ plain.content)
+      (like_own event.id _ _ (like_content _ plain.content)
       (outside_own event plain.call_id plain.method plain.request_uri plain.from plain.to
       plain.routes comes is
       (no_command plain.method (first_false first second
@@ -252,8 +259,9 @@ module _ (seed call_id : List ℕ) (Came : Id → Type 0) where
   pub cancel_own : (id : Id) (invite : Client) → Own invite → Own (cancel_request id invite)
   cancel_own id invite own = record {
     call = own.call;
-    branch = subst HasBranch (sym (top_alone invite.request.vias)) own.branch;
+    branch = (own.branch.0, own.branch.1, top_alone invite.request.vias ∙ own.branch.2);
     method = no_cancel;
+    event_is = λ other. absurd (other refl);
   }
 
   -- ---- in a dialog
@@ -265,10 +273,13 @@ module _ (seed call_id : List ℕ) (Came : Id → Type 0) where
   next_own event name method rack content held comes its other =
       let like = like_content _ content in record {
         call = like.call ∙ its;
-        branch = subst HasBranch
-            (sym (like.branch ∙ agent_branch event.local (branch_of event)))
-            (own_branch event comes);
+        branch = (
+          event.id,
+          comes.came,
+          like.branch ∙ (agent_branch event.local (branch_of event) ∙ own_branch event comes),
+        );
         method = λ ack. other (sym like.method ∙ ack);
+        event_is = λ other. refl;
       }
 
   pub record IsPaid (done : PendingOutcome) : Type 0 where

@@ -25,6 +25,7 @@ pub mod OnceOnly
 pub mod Branches
 pub mod BranchSteps
 pub mod CallBranches
+pub mod OneStart
 pub mod Origins
 pub mod OneCallId
 pub mod ToldCallId

@@ -101,8 +101,8 @@ by_user config rounds response rseq status body number (ByAgent among none) =
 
 module _ (configs : Side → Config) (fair : IsFair configs) (before : List Turn) (turn : Turn)
     (carried : Carried configs before) (keep : CallsKeepRules configs before) where
-  abbrev Said : ℕ → List ℕ → ℕ → List ℕ → List ℕ → List ℕ → Type 0
-  Said rseq call_id status local_tag remote_tag body =
+  abbrev Said : ℕ → List ℕ → Id → ℕ → List ℕ → List ℕ → List ℕ → Type 0
+  Said rseq call_id id status local_tag remote_tag body =
       SaidReliably configs before turn.side rseq status local_tag remote_tag body
 
   abbrev Comes : Message → Type 0
@@ -112,8 +112,8 @@ module _ (configs : Side → Config) (fair : IsFair configs) (before : List Turn
 
   said_so : (response : Message) → Comes response → (rseq : ℕ)
       → provisional_number (status_of response.start) response ≡ Some rseq
-      → (call_id : List ℕ) → ResponseTells (Said rseq) call_id response
-  said_so response comes rseq number call_id status is =
+      → (call_id : List ℕ) (id : Id) → ResponseTells (Said rseq) call_id id response
+  said_so response comes rseq number call_id id status is =
       let so = response_said configs fair before turn carried keep response comes status is in
       let here : provisional_number (Some status) response ≡ Some rseq =
       ap (λ o. provisional_number o response) (sym is) ∙ number in
@@ -131,20 +131,21 @@ module _ (configs : Side → Config) (fair : IsFair configs) (before : List Turn
   module _ (calls : Calls) (invite : AnInvite) (life : DialogReference) where
     chosen : (b : Bool) (response : Message) → Comes response → (rseq : ℕ)
         → cond b (provisional_number (status_of response.start) response) None ≡ Some rseq
-        → (call_id : List ℕ) → ResponseTells (Said rseq) call_id response
-    chosen true response comes rseq is call_id = said_so response comes rseq is call_id
-    chosen false response comes rseq is call_id = absurd cc
+        → (call_id : List ℕ) (id : Id) → ResponseTells (Said rseq) call_id id response
+    chosen true response comes rseq is call_id id = said_so response comes rseq is call_id id
+    chosen false response comes rseq is call_id id = absurd cc
 
     by_client : (o : Option Client) (id : Id) (response : Message) → Comes response → (rseq : ℕ)
         → option_and_then (number_for invite life id response) o ≡ Some rseq
-        → (call_id : List ℕ) → ResponseTells (Said rseq) call_id response
+        → (call_id : List ℕ) → ResponseTells (Said rseq) call_id id response
     by_client None id response comes rseq is call_id = absurd cc
     by_client (Some client) id response comes rseq is call_id =
         chosen (is_for invite life id client client.kind response) response comes rseq is call_id
+        id
 
     kind_number : (k : Kind) (id : Id) (held : Held) → KindCame Comes k → (rseq : ℕ)
         → number_up invite life id k held ≡ Some rseq
-        → (call_id : List ℕ) → KindTells (Said rseq) call_id k
+        → (call_id : List ℕ) → KindTells (Said rseq) call_id id k
     kind_number (kind.Request request reply_to) id held came rseq is call_id = tt
     kind_number (kind.Ack ack) id held came rseq is call_id = tt
     kind_number (kind.Response response) id held came rseq is call_id =
