@@ -6,6 +6,7 @@ use Rattle.std.specs.List.{AllByRecursion, slice_get}
 use Rattle.std.specs.Option.{option_map_or}
 use Rattle.std.specs.Str.{bytes_eq}
 use Rattle.std.proofs.lemmas.Bool.{false≢true}
+use Rattle.std.proofs.lemmas.Slice.Eq.{bytes_eq-Decides}
 use Rattle.sip_message.specs.Content.{Content, with_content_of}
 use Rattle.sip_message.specs.Key.{client_key}
 use Rattle.sip_message.specs.TopVia.{top_branch}
@@ -29,6 +30,7 @@ use Rattle.sip_common.specs.declared.command.Plain.{Plain}
 use Rattle.sip_common.specs.declared.command.ProvisionalSupport.{ProvisionalSupport}
 use Rattle.sip_common.specs.declared.command.ProvisionalSupport.TheVariants as support
 use Rattle.sip_common.specs.declared.held_dialog.DialogId.{DialogId}
+use Rattle.sip_common.specs.declared.held_dialog.DialogReference.{DialogReference}
 use Rattle.sip_common.specs.declared.held_dialog.HeldDialog.{HeldDialog}
 use Rattle.sip_common.specs.declared.item.CallOut.{CallOut}
 use Rattle.sip_common.specs.declared.item.CallOut.TheVariants as out
@@ -40,8 +42,10 @@ use Rattle.sip_common.proofs.Starts.{starts}
 use Rattle.sip_clients.specs.Client.{Clients}
 use Rattle.sip_clients.specs.Event.{branch_of}
 use Rattle.sip_clients.specs.Name.{name_of}
-use Rattle.sip_clients.specs.Rules.Requests.{PendingOutcome, cancel_request, has_command, invite_command, method_of, pending_outcome, pending_sent, pending_with, plain_command, refusals_in, request_outside, request_with_next_number, start, with_100rel}
+use Rattle.sip_clients.specs.Rules.Requests.{PendingOutcome, cancel_request, has_command, invite_command, is_invite_kind, method_of, pending_outcome, pending_sent, pending_with, plain_command, refusals_in, request_outside, request_with_next_number, start, with_100rel}
 use Rattle.sip_clients.specs.declared.client.Client.{Client}
+use Rattle.sip_clients.specs.declared.client.RequestKind.{RequestKind}
+use Rattle.sip_clients.specs.declared.client.RequestKind.TheVariants.{InDialog, ReInvite}
 use Rattle.sip_clients.specs.declared.event.Event.{Event}
 
 -- ---- choices
@@ -140,8 +144,12 @@ module _ (seed call_id : List ℕ) (Came : Id → Type 0) where
 
   -- ---- what is held and said
 
+  pub record IsOwnOf (id : Id) (kind : RequestKind) (request : Message) : Type 0 where
+    pub own : IsOwn id request
+    pub invites : is_invite_kind kind ≡ true → request.cseq.method ≡ codes "INVITE"
+
   abbrev pub Own : Client → Type 0
-  Own client = IsOwn client.id client.request
+  Own client = IsOwnOf client.id client.kind client.request
 
   abbrev pub AreOwn : Clients → Type 0
   AreOwn clients = AllByRecursion (λ (entry : Id × Client). Own entry.1) clients
@@ -183,7 +191,7 @@ module _ (seed call_id : List ℕ) (Came : Id → Type 0) where
       → Done (start done client)
   start_own done client own its = (
     each_inserted Own is_id client.id client its done.0 own.0,
-    both OutSays done.1 _ own.1 (record { own = its; key_is = refl; of_is = refl }, tt),
+    both OutSays done.1 _ own.1 (record { own = its.own; key_is = refl; of_is = refl }, tt),
   )
 
   pub starts_own : (clients : List Client) (done : Clients × List CallOut) → Done done
@@ -230,15 +238,18 @@ module _ (seed call_id : List ℕ) (Came : Id → Type 0) where
       let support = like_support invite.support _ in
       let content = like_content (with_100rel invite.support _) invite.content in
       start_own (clients, []) _ (own, tt) (record {
-        call = content.call ∙ (support.call ∙ outside.call);
-        branch = (
-          outside.branch.0,
-          outside.branch.1,
-          content.branch ∙ (support.branch ∙ outside.branch.2),
-        );
-        method = λ ack. outside.method (sym support.method ∙ (sym content.method ∙ ack));
-        event_is = λ other. outside.event_is
-            (λ is. other (content.method ∙ (support.method ∙ is)));
+        own = record {
+          call = content.call ∙ (support.call ∙ outside.call);
+          branch = (
+            outside.branch.0,
+            outside.branch.1,
+            content.branch ∙ (support.branch ∙ outside.branch.2),
+          );
+          method = λ ack. outside.method (sym support.method ∙ (sym content.method ∙ ack));
+          event_is = λ other. outside.event_is
+              (λ is. other (content.method ∙ (support.method ∙ is)));
+        };
+        invites = λ is. content.method ∙ support.method;
       })
 
   pub plain_own : (event : Event) (plain : Plain) (clients : Clients) → Comes event
@@ -249,22 +260,33 @@ module _ (seed call_id : List ℕ) (Came : Id → Type 0) where
       let second = bytes_eq plain.method (codes "INVITE") in
       either Done (first || second || bytes_eq plain.method (codes "BYE")) _ _
       (λ bad. (own, (tt, tt)))
-      (λ good. start_own (clients, []) _ (own, tt)
-      (like_own event.id _ _ (like_content _ plain.content)
-      (outside_own event plain.call_id plain.method plain.request_uri plain.from plain.to
-      plain.routes comes is
-      (no_command plain.method (first_false first second
-      (first_false (first || second) (bytes_eq plain.method (codes "BYE")) good))))))
+      (λ good. start_own (clients, []) _ (own, tt) (record {
+        own = like_own event.id _ _ (like_content _ plain.content)
+            (outside_own event plain.call_id plain.method plain.request_uri plain.from plain.to
+            plain.routes comes is
+            (no_command plain.method (first_false first second
+            (first_false (first || second) (bytes_eq plain.method (codes "BYE")) good))));
+        invites = λ is. absurd (false≢true is);
+      }))
 
   pub cancel_own : (id : Id) (invite : Client) → Own invite → Own (cancel_request id invite)
-  cancel_own id invite own = record {
-    call = own.call;
-    branch = (own.branch.0, own.branch.1, top_alone invite.request.vias ∙ own.branch.2);
-    method = no_cancel;
-    event_is = λ other. absurd (other refl);
-  }
+  cancel_own id invite its =
+      let own = its.own in record {
+        own = record {
+          call = own.call;
+          branch = (own.branch.0, own.branch.1, top_alone invite.request.vias ∙ own.branch.2);
+          method = no_cancel;
+          event_is = λ other. absurd (other refl);
+        };
+        invites = λ is. absurd (false≢true is);
+      }
 
   -- ---- in a dialog
+
+  re_invites : (b : Bool) (reference : DialogReference)
+      → is_invite_kind (if b then ReInvite reference else InDialog reference) ≡ true → b ≡ true
+  re_invites true reference is = refl
+  re_invites false reference is = is
 
   pub next_own : (event : Event) (name : DialogId) (method : List ℕ) (rack : Option RAck)
       (content : Content) (held : HeldDialog) → Comes event → IsDialogOf call_id held
@@ -272,14 +294,20 @@ module _ (seed call_id : List ℕ) (Came : Id → Type 0) where
       → Own (request_with_next_number event name method rack content held)
   next_own event name method rack content held comes its other =
       let like = like_content _ content in record {
-        call = like.call ∙ its;
-        branch = (
-          event.id,
-          comes.came,
-          like.branch ∙ (agent_branch event.local (branch_of event) ∙ own_branch event comes),
-        );
-        method = λ ack. other (sym like.method ∙ ack);
-        event_is = λ other. refl;
+        own = record {
+          call = like.call ∙ its;
+          branch = (
+            event.id,
+            comes.came,
+            like.branch
+                ∙ (agent_branch event.local (branch_of event) ∙ own_branch event comes),
+          );
+          method = λ ack. other (sym like.method ∙ ack);
+          event_is = λ other. refl;
+        };
+        invites = λ is. like.method ∙ (bytes_eq-Decides method (codes "INVITE")).0
+            (re_invites (bytes_eq method (codes "INVITE"))
+            (record { name = name; created_by = held.created_by }) is);
       }
 
   pub record IsPaid (done : PendingOutcome) : Type 0 where

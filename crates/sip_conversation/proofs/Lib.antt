@@ -35,3 +35,6 @@ pub mod PracksOfCalls
 pub mod PracksSaid
 pub mod OwedTold
 pub mod RackedSteps
+pub mod RackedCalls
+pub mod ClientsSent
+pub mod PracksFollow

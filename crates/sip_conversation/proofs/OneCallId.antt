@@ -43,7 +43,7 @@ use Rattle.sip_round.specs.Answers.{calls_of, no_past, past_of}
 use Rattle.sip_round.specs.Arrivals.{arrival_of}
 use Rattle.sip_round.specs.Laws.{call_inputs_of, inputs_of, said_of_call}
 use Rattle.sip_round.proofs.Said.{call_alone}
-use Rattle.sip_conversation.specs.Messages.{CallSays, IsGiven, IsSaid, message_of}
+use Rattle.sip_conversation.specs.Messages.{CallSays, IsGiven, IsSaid}
 use Rattle.sip_conversation.specs.Messages.IsSaid.{Acknowledges, Asked, Direct, Trying}
 use Rattle.sip_conversation.specs.Replies.{AreCounted}
 use Rattle.sip_conversation.proofs.AckTexts.{is_ack}
@@ -53,15 +53,15 @@ use Rattle.sip_conversation.proofs.Bridge.{any_arrival}
 use Rattle.sip_conversation.proofs.CallBranches.{OutIsOwn, all_own}
 use Rattle.sip_conversation.proofs.CallSays.{InputGives, UserGives, all_say}
 use Rattle.sip_conversation.proofs.Longer.{says_longer}
-use Rattle.sip_conversation.proofs.OneStart.{calls_say, one_start}
+use Rattle.sip_conversation.proofs.OneStart.{calls_say, one_start, start_id, started_with}
 use Rattle.sip_conversation.proofs.Origins.{IsOrigin, counted, inputs_come, one_call}
 use Rattle.sip_conversation.proofs.Rounds.{ArrivalFits, OutFits, RoundFits, TimedFits, call_says, calls_give, inputs_fit}
 
--- the request with which an output starts a transaction, if it does
-request_in : Message → CallOut → Message
-request_in otherwise (call_out.Notice notice) = otherwise
-request_in otherwise (call_out.Command id command) = message_of command
-request_in otherwise (call_out.Direct to bytes) = otherwise
+-- a transaction with this key was started with this request, by this output
+pub record IsOfStart (key : Key) (request : Message) (out : CallOut) : Type 0 where
+  pub same : (otherwise : Message) → started_with otherwise out ≡ request
+  pub method : (branch method : List ℕ) → key ≡ client_key branch method
+      → method ≡ request.cseq.method
 
 -- ---- branches in lower case
 
@@ -221,6 +221,20 @@ module _ (config : Config)
         (all_of (OutFits config StartFits) (calls_give config config.first no_past rounds)
         out_fits)) given.1
 
+    -- one output alone starts a transaction under its id
+    pub started_request : (key : Key) (id : Id) (of : List ℕ) (request : Message) (to : Addr)
+        → IsGiven config rounds key (input.Start id of request to) → (out : CallOut)
+        → CallSays config rounds out → start_id out ≡ Some id → IsOfStart key request out
+    started_request key id of request to given out says starts =
+        let started = started_so key id of request to given in
+        record {
+          same = λ otherwise. ap (started_with otherwise)
+              (one_start config rounds id out
+              (call_out.Command id (order.Start key of request to))
+              (calls_say config rounds out says) started.among starts refl);
+          method = λ branch method is. ap method_in (sym is ∙ started.by.key_is);
+        }
+
     -- ---- one branch, one Call-ID
 
     abbrev IsBranch : List ℕ → List ℕ → Type 0
@@ -270,7 +284,7 @@ module _ (config : Config)
               let ids : other ≡ id =
               sym (by.own.event_is no_cancel) ∙ (event
               ∙ there.own.event_is (λ cancel. no_cancel (methods ∙ cancel))) in
-              ap (request_in message)
+              ap (started_with message)
               (one_start config rounds id
               (call_out.Command other (order.Start asked at message sent_to))
               (call_out.Command id (order.Start key of request to)) among started.among

@@ -9,12 +9,14 @@ use Rattle.std.proofs.lemmas.List.{map-append}
 use Rattle.std.proofs.lemmas.List.Elements.{Contains-append_cases, Contains-append_left, Contains-append_right, filter_map-append}
 use Rattle.sip_message.specs.declared.id.Id.{Id}
 use Rattle.sip_message.specs.declared.key.Key.{Key}
+use Rattle.sip_message.specs.declared.message.Message.{Message}
 use Rattle.sip_model.specs.Laws.{said_by}
 use Rattle.sip_model.specs.Machine.{Machine, Timed, tick_at}
 use Rattle.sip_model.specs.Phase.{PhaseOutputs}
 use Rattle.sip_model.specs.Rules.{said_since}
 use Rattle.sip_common.specs.Ids.{is_id}
 use Rattle.sip_common.specs.declared.item.CallOut.{CallOut}
+use Rattle.sip_common.specs.declared.item.CallOut.TheVariants as out
 use Rattle.sip_common.proofs.Starts.{start_in, starts}
 use Rattle.sip_calls.specs.declared.call.Call.{Call}
 use Rattle.sip_calls.specs.Call.{CallItem, call_machine}
@@ -26,7 +28,7 @@ use Rattle.sip_round.specs.Answers.{Past, calls_of, given_second, no_past, past_
 use Rattle.sip_round.specs.Outputs.{all_said, joined}
 use Rattle.sip_round.proofs.GivenNotices.{calls_are, calls_from}
 use Rattle.sip_round.proofs.StartedOnce.{counted, counted_one, how_many-append, started_from, started_once}
-use Rattle.sip_conversation.specs.Messages.{CallSays}
+use Rattle.sip_conversation.specs.Messages.{CallSays, message_of}
 use Rattle.sip_conversation.proofs.Among.{first_or_later, in_all_of, in_one_of, kept_among, none_among}
 use Rattle.sip_conversation.proofs.Rounds.{calls_give}
 
@@ -37,7 +39,13 @@ id_itself id = grind (arith, common_steps)
 
 -- the id under which an output starts a transaction
 abbrev pub start_id : CallOut → Option Id
-start_id out = option_map (λ start. start.0) (start_in out)
+start_id one = option_map (λ start. start.0) (start_in one)
+
+-- the request with which an output starts a transaction, if it does
+abbrev pub started_with : Message → CallOut → Message
+started_with otherwise (out.Notice notice) = otherwise
+started_with otherwise (out.Command id command) = message_of command
+started_with otherwise (out.Direct to bytes) = otherwise
 
 module _ (x : Id) where
   abbrev number : List CallOut → ℕ

@@ -13,7 +13,7 @@ use Rattle.sip_model.proofs.Ordered.{by_bool}
 use Rattle.sip_transactions.specs.declared.output.Kind.{Kind}
 use Rattle.sip_transactions.specs.declared.output.Kind.TheVariants as kind
 use Rattle.sip_transactions.specs.declared.output.Up.{Up as AnUp}
-use Rattle.sip_transactions.proofs.RowFacts.{and-left}
+use Rattle.sip_transactions.proofs.RowFacts.{and-left, and-right}
 use Rattle.sip_common.specs.Dialogs.{dialog_at, is_dialog_id}
 use Rattle.sip_common.specs.declared.command.DialogBody.{DialogBody}
 use Rattle.sip_common.specs.declared.command.UserCommand.{UserCommand}
@@ -26,12 +26,16 @@ use Rattle.sip_common.specs.declared.item.Item.TheVariants.{Up, User}
 use Rattle.sip_common.specs.declared.pending_request.PendingRequest.{PendingRequest}
 use Rattle.sip_common.specs.declared.pending_request.PendingRequest.TheVariants.{Ack, Prack}
 use Rattle.sip_clients.specs.Client.{Clients, client_at}
-use Rattle.sip_clients.specs.Clients.{status_of}
+use Rattle.sip_clients.specs.Clients.{reply_name, status_of}
 use Rattle.sip_clients.specs.Owing.{asked_for, command_pays, debt_kind, goes_out, oldest_paid, owed_if_told, reply_owes, response_owes}
 use Rattle.sip_clients.specs.Commands.{name_in}
 use Rattle.sip_clients.specs.Pending.{is_of, is_same_pending}
 use Rattle.sip_clients.specs.Provisionals.{is_response}
+use Rattle.sip_clients.specs.ReceivedResponse.{has_dialog}
+use Rattle.sip_clients.specs.Rules.Requests.{is_invite_kind}
 use Rattle.sip_clients.specs.declared.client.Client.{Client}
+use Rattle.sip_clients.specs.declared.client.RequestKind.{RequestKind}
+use Rattle.sip_clients.specs.declared.client.RequestKind.TheVariants.{InDialog, InitialInvite, OutOfDialog, ReInvite}
 use Rattle.sip_calls.specs.Call.{CallItem, call_step}
 use Rattle.sip_calls.specs.Histories.{call_from, is_born_of}
 use Rattle.sip_calls.specs.Owing.{owed_by, owed_by_command, owed_by_kind, owed_from, owed_in, owed_next}
@@ -58,6 +62,7 @@ pub record AsksFor (pending : PendingRequest) (id : Id) (response : Message) (cl
   pub held : client_at id clients ≡ Some client
   pub status : ℕ
   pub status_is : status_of response.start ≡ Some status
+  pub kind : is_invite_kind client.kind ≡ true
   pub asks : asked_for status client response ≡ Some pending
   pub told : list_any is_response outs ≡ true
 
@@ -65,6 +70,13 @@ module _ (pending : PendingRequest) (id : Id) (response : Message) (clients : Cl
     (name : DialogId) (found : Option HeldDialog) (outs : List CallOut) where
   abbrev Asks : Type 0
   Asks = AsksFor pending id response clients outs
+
+  -- only an INVITE has a dialog
+  invites : (kind : RequestKind) → has_dialog kind found ≡ true → is_invite_kind kind ≡ true
+  invites InitialInvite has = refl
+  invites (ReInvite life) has = refl
+  invites (InDialog life) has = has
+  invites OutOfDialog has = has
 
   by_told : (told other : Bool) (asked : PendingRequest)
       → Contains (if told && other then asked ∷ [] else []) pending
@@ -84,19 +96,25 @@ module _ (pending : PendingRequest) (id : Id) (response : Message) (clients : Cl
   by_client None held s is among = absurd (none_among pending among)
   by_client (Some client) held None is among = absurd (none_among pending among)
   by_client (Some client) held (Some status) is among =
-      by_name _ (asked_for status client response) refl among
+      by_name _ refl (asked_for status client response) refl among
     where
-      by_name : (b : Bool) (o : Option PendingRequest) → asked_for status client response ≡ o
+      by_name : (b : Bool)
+          → (is_dialog_id (reply_name client.kind client response) name
+          && has_dialog client.kind found) ≡ b
+          → (o : Option PendingRequest) → asked_for status client response ≡ o
           → Contains (if b then option_map_or (owed_if_told name outs) o [] else []) pending
           → Asks
-      by_name false o asks among = absurd (none_among pending among)
-      by_name true None asks among = absurd (none_among pending among)
-      by_name true (Some asked) asks among =
+      by_name false at o asks among = absurd (none_among pending among)
+      by_name true at None asks among = absurd (none_among pending among)
+      by_name true at (Some asked) asks among =
           let so = by_told (list_any is_response outs) _ asked among in record {
             client = client;
             held = held;
             status = status;
             status_is = is;
+            kind = invites client.kind
+                (and-right (is_dialog_id (reply_name client.kind client response) name)
+                (has_dialog client.kind found) at);
             asks = asks ∙ ap (λ p. Some p) so.1;
             told = so.0;
           }

@@ -110,7 +110,7 @@ module _ (configs : Side → Config) (fair : IsFair configs) (before : List Turn
 
   -- ---- a response that comes
 
-  said_so : (response : Message) → Comes response → (rseq : ℕ)
+  pub said_so : (response : Message) → Comes response → (rseq : ℕ)
       → provisional_number (status_of response.start) response ≡ Some rseq
       → (call_id : List ℕ) (id : Id) → ResponseTells (Said rseq) call_id id response
   said_so response comes rseq number call_id id status is =

@@ -1,23 +1,31 @@
--- What is started by a response, or by the commands Ack and Prack, and has a RAck, is a PRACK that
--- is pending in a held dialog, or for which that response asks.
+-- What is started by a response, or by a command, and has a RAck, is a PRACK that is pending in a
+-- held dialog, or for which that response asks; then the user is told of that response.
 use Rattle.std.proofs.Common.{◌≡◌, ℕ, ◌+◌, Bool, true, false, ◌||◌, ◌&&◌, not, ◌==◌, List, [], ◌∷◌, ◌++◌, refl, sym, ap, ◌∙◌, subst}
+use Rattle.std.proofs.lemmas.List.Folds.{list_any-append}
 use Rattle.std.specs.Prelude.{Contains, Option, None, Some, IfSome, codes, filter, find, fold, is_some, length, unwrap_or, if◌then◌else◌}
-use Rattle.std.specs.List.{AllByRecursion}
+use Rattle.std.specs.List.{AllByRecursion, list_any}
 use Rattle.std.specs.Map.{lookup, remove_entry, set_value}
 use Rattle.std.specs.Option.{option_map_or}
 use Rattle.std.specs.Str.{bytes_eq}
-use Rattle.sip_message.specs.Content.{Content, content_of_body}
+use Rattle.sip_message.specs.Content.{Content, content_of_body, with_content_of}
 use Rattle.sip_message.specs.Party.{tag_of}
 use Rattle.sip_message.specs.declared.id.Id.{Id}
 use Rattle.sip_message.specs.declared.key.Key.{Key}
 use Rattle.sip_message.specs.declared.message.Message.{Message}
 use Rattle.sip_message.specs.declared.rack.RAck.{RAck}
 use Rattle.sip_transactions.specs.declared.input.Command.TheVariants as order
-use Rattle.sip_common.specs.Dialogs.{Dialogs, is_dialog_id, tag_text}
+use Rattle.sip_transactions.proofs.RowFacts.{and-left}
+use Rattle.sip_common.specs.Dialogs.{Dialogs, ended_at, is_dialog_id, tag_text}
 use Rattle.sip_common.specs.Ids.{is_id}
 use Rattle.sip_common.specs.Refusal.{first_refusal}
 use Rattle.sip_common.specs.Requests.{dialog_id_of_tags, has_to_tag, is_final, is_success, requires_100rel}
+use Rattle.sip_common.specs.declared.command.Cancel.{Cancel}
 use Rattle.sip_common.specs.declared.command.DialogBody.{DialogBody}
+use Rattle.sip_common.specs.declared.command.DialogRequest.{DialogRequest}
+use Rattle.sip_common.specs.declared.command.Invite.{Invite}
+use Rattle.sip_common.specs.declared.command.Plain.{Plain}
+use Rattle.sip_common.specs.declared.command.ProvisionalSupport.{ProvisionalSupport}
+use Rattle.sip_common.specs.declared.command.ProvisionalSupport.TheVariants as support
 use Rattle.sip_common.specs.declared.held_dialog.DialogId.{DialogId}
 use Rattle.sip_common.specs.declared.held_dialog.HeldDialog.{HeldDialog}
 use Rattle.sip_common.specs.declared.item.CallOut.{CallOut}
@@ -25,18 +33,20 @@ use Rattle.sip_common.specs.declared.item.CallOut.TheVariants as out
 use Rattle.sip_common.specs.declared.pending_request.PendingRequest.{PendingRequest}
 use Rattle.sip_common.specs.declared.pending_request.PendingRequest.TheVariants.{Ack, Prack}
 use Rattle.sip_common.specs.declared.refusal.Refusal.{Refusal}
+use Rattle.sip_common.specs.declared.refusal.Refusal.TheVariants.{AlreadyFinal, BadMethod, NoSuchRequest, NothingToAck, NothingToPrack}
 use Rattle.sip_common.proofs.Each.{both}
-use Rattle.sip_common.proofs.Starts.{starts}
+use Rattle.sip_common.proofs.Starts.{ended_starts, starts}
 use Rattle.sip_clients.specs.Client.{Clients, ClientTaken, Side}
-use Rattle.sip_clients.specs.Rules.Requests.{PendingOutcome, ack_kept, cancel_request, dialog_of_kind, is_invite_kind, is_same_pending, method_of, oldest_pending, pending_by_user, pending_command, pending_outcome, pending_sent, pending_with, refusals_in, request_with_next_number, start}
-use Rattle.sip_clients.specs.Provisionals.{provisional_number}
-use Rattle.sip_clients.specs.Rules.Ends.{request_over}
+use Rattle.sip_clients.specs.Rules.Requests.{PendingOutcome, ack_command, ack_kept, cancel_command, cancel_of_request, cancel_request, dialog_of_kind, has_command, invite_command, is_asked, is_invite_kind, is_same_pending, method_of, oldest_pending, pending_by_user, pending_command, pending_outcome, pending_sent, pending_with, plain_command, prack_command, refusals_in, refuse, request_command, request_in_dialog, request_with_next_number, start, with_100rel, with_number}
+use Rattle.sip_clients.specs.Provisionals.{is_response, provisional_number}
+use Rattle.sip_clients.specs.Rules.Ends.{request_is_lost, request_over}
 use Rattle.sip_clients.specs.Rules.Responses.{Outcome, accepted, asks_for, dialog_made_by, dialog_response, first_success, has_dialog, is_initial, kept, last_response, notice_of, outcome_of, reliable_response, response_received, response_to, status_of, success_again, success_in, waiting_cancel}
 use Rattle.sip_clients.specs.declared.answers.SentAck.{SentAck}
-use Rattle.sip_clients.specs.declared.client.Cancelling.TheVariants.{NotAsked, Sent}
+use Rattle.sip_clients.specs.declared.client.Cancelling.{Cancelling}
+use Rattle.sip_clients.specs.declared.client.Cancelling.TheVariants.{NotAsked, Sent, Waits}
 use Rattle.sip_clients.specs.declared.client.Client.{Client}
 use Rattle.sip_clients.specs.declared.event.Event.{Event}
-use Rattle.sip_conversation.proofs.Among.{among_first, among_later}
+use Rattle.sip_conversation.proofs.Among.{all_both, all_go, all_of, among_first, among_later}
 use Rattle.sip_conversation.proofs.Branches.{either, found_or}
 use Rattle.sip_conversation.proofs.BranchSteps.{over_silent}
 
@@ -97,34 +107,37 @@ module _ (Fact : RAck → Type 0) where
   prack_racked event name rack content held fact other is =
       subst Fact (same_rack rack other is) fact
 
-  pub record IsPaid (done : PendingOutcome) : Type 0 where
-    pub prack : AllByRecursion Racked done.prack
+  pub record IsPaid (Told : Type 0) (done : PendingOutcome) : Type 0 where
+    pub prack : AllByRecursion (λ client. Told → Racked client) done.prack
     pub outs : Say done.outs
 
-  sent_paid : (event : Event) (name : DialogId) (pending : PendingRequest) (content : Content)
-      (held : HeldDialog) → Pays pending
-      → IsPaid (pending_sent event name pending content held)
-  sent_paid event name (Ack invite cseq) content held pays =
-      record { prack = tt; outs = (tt, tt) }
-  sent_paid event name (Prack rseq cseq) content held pays = record {
-    prack = (
-      prack_racked event name
-          record { rseq = rseq; cseq = cseq; method = codes "INVITE" } content held pays,
-      tt,
-    );
-    outs = tt;
-  }
+  module _ (Told : Type 0) where
+    sent_paid : (event : Event) (name : DialogId) (pending : PendingRequest) (content : Content)
+        (held : HeldDialog) → (Told → Pays pending)
+        → IsPaid Told (pending_sent event name pending content held)
+    sent_paid event name (Ack invite cseq) content held pays =
+        record { prack = tt; outs = (tt, tt) }
+    sent_paid event name (Prack rseq cseq) content held pays = record {
+      prack = (
+        λ told. prack_racked event name
+            record { rseq = rseq; cseq = cseq; method = codes "INVITE" } content held
+            (pays told),
+        tt,
+      );
+      outs = tt;
+    }
 
-  pub outcome_paid : (event : Event) (of : List ℕ) (name : DialogId) (pending : PendingRequest)
-      (content : Option Content) (without_it with_it : HeldDialog) → Pays pending
-      → IsPaid (pending_outcome event of name pending content without_it with_it)
-  outcome_paid event of name pending content without_it with_it pays =
-      found_or IsPaid (pending_with event of name pending without_it with_it) content _
-      (λ content is. found_or IsPaid _
-      (first_refusal (refusals_in without_it.dialog (method_of pending)) None) _
-      (λ refusal refused. record { prack = tt; outs = (tt, tt) })
-      (λ none. sent_paid event name pending content without_it pays))
-      (λ none. record { prack = tt; outs = tt })
+    pub outcome_paid : (event : Event) (of : List ℕ) (name : DialogId)
+        (pending : PendingRequest) (content : Option Content) (without_it with_it : HeldDialog)
+        → (Told → Pays pending)
+        → IsPaid Told (pending_outcome event of name pending content without_it with_it)
+    outcome_paid event of name pending content without_it with_it pays =
+        found_or (IsPaid Told) (pending_with event of name pending without_it with_it) content _
+        (λ content is. found_or (IsPaid Told) _
+        (first_refusal (refusals_in without_it.dialog (method_of pending)) None) _
+        (λ refusal refused. record { prack = tt; outs = (tt, tt) })
+        (λ none. sent_paid event name pending content without_it pays))
+        (λ none. record { prack = tt; outs = tt })
 
   -- ---- the commands Ack and Prack
 
@@ -139,9 +152,11 @@ module _ (Fact : RAck → Type 0) where
       let without_it : HeldDialog = record held { pending_requests = others } in
       let content = Some command.content in
       let done = pending_outcome event command.call_id name pending content without_it held in
-      let so = outcome_paid event command.call_id name pending content without_it held pays in
+      let so = outcome_paid (Unit {0}) event command.call_id name pending content without_it held
+      (λ told. pays) in
       starts_say done.prack (ack_kept pending name done.ack side.clients, done.outs) so.outs
-      so.prack
+      (all_go {P = λ client. Unit {0} → Racked client} {Q = Racked} (λ client has. has tt)
+      done.prack so.prack)
 
   pub command_racked : (method : List ℕ) (nothing : Refusal) (event : Event)
       (command : DialogBody) (side : Side)
@@ -164,65 +179,82 @@ module _ (Fact : RAck → Type 0) where
 
   -- ---- a response
 
-  record IsReplied (done : Outcome) : Type 0 where
+  -- if it asks for a PRACK that goes out, the user is told of it
+  record IsReplied (Told : Type 0) (done : Outcome) : Type 0 where
     pub outs : Say done.outs
-    pub prack : AllByRecursion Racked done.prack
+    pub prack : AllByRecursion (λ client. Told → Racked client) done.prack
+    pub told : AllByRecursion (λ client. list_any is_response done.outs ≡ true) done.prack
 
-  asks_racked : (pending : PendingRequest) (reply : Reply) (client : Client)
-      (after : Option SentAck → Client) (held : HeldDialog) (dialogs : Dialogs) → Pays pending
-      → IsReplied (asks_for pending reply client after held dialogs)
-  asks_racked pending reply client after held dialogs pays =
-      let content = if not (length client.request.body == 0) || (length reply.response.body == 0)
-      then Some (content_of_body []) else None in
-      let with_it : HeldDialog =
-      record held { pending_requests = held.pending_requests ++ pending ∷ [] } in
-      let so = outcome_paid reply.event reply.call_id reply.name pending content held with_it pays
-      in
-      record { outs = (tt, so.outs); prack = so.prack }
-
-  -- of each reliable provisional response to it this is said
-  abbrev pub Hears : Message → ℕ → Client → Type 0
-  Hears response status client = (rseq : ℕ)
+  -- of each reliable provisional response to an INVITE, of which the user is told, this is said
+  abbrev pub Hears : Type 0 → Message → ℕ → Client → Type 0
+  Hears Told response status client = (rseq : ℕ)
       → provisional_number (Some status) response ≡ Some rseq
+      → is_invite_kind client.kind ≡ true → Told
       → Fact record { rseq = rseq; cseq = client.request.cseq.number; method = codes "INVITE" }
 
-  reliable_racked : (reply : Reply) (client : Client) (dialogs : Dialogs) (held : HeldDialog)
-      (rseq : ℕ)
-      → Fact record { rseq = rseq; cseq = client.request.cseq.number; method = codes "INVITE" }
-      → IsReplied (reliable_response reply client dialogs held rseq)
-  reliable_racked reply client dialogs held rseq fact =
-      let initial = is_initial client in
-      let last = if initial then held.last_rseq else client.last_rseq in
-      let heard : Client = record client { last_rseq = Some rseq } in
-      let hears : HeldDialog = record held { last_rseq = Some rseq } in
-      let after : Option SentAck → Client = λ ack. if initial then client else heard in
-      let dialog : HeldDialog = if initial then hears else held in
-      either IsReplied (not (option_map_or (λ last. rseq == last + 1) last true))
-      (kept client dialogs [])
-      (asks_for (Prack rseq client.request.cseq.number) reply client after dialog dialogs)
-      (λ passed. record { outs = tt; prack = tt })
-      (λ taken. asks_racked (Prack rseq client.request.cseq.number) reply client after dialog
-      dialogs fact)
+  module _ (Told : Type 0) where
+    abbrev Replied : Outcome → Type 0
+    Replied = IsReplied Told
 
-  dialog_racked : (reply : Reply) (client : Client) (dialogs : Dialogs)
-      → ((rseq : ℕ) → (if requires_100rel reply.response then reply.response.rseq else None)
-      ≡ Some rseq
-      → Fact record { rseq = rseq; cseq = client.request.cseq.number; method = codes "INVITE" })
-      → IsReplied (dialog_response reply client dialogs)
-  dialog_racked reply client dialogs hears =
-      let response = reply.response in
-      let held = unwrap_or (lookup (is_dialog_id reply.name) dialogs)
-      (dialog_made_by reply client) in
-      found_or IsReplied (reliable_response reply client dialogs held)
-      (if requires_100rel response then response.rseq else None) _
-      (λ rseq is. reliable_racked reply client dialogs held rseq (hears rseq is))
-      (λ none. record { outs = (tt, tt); prack = tt })
+    asks_racked : (pending : PendingRequest) (reply : Reply) (client : Client)
+        (after : Option SentAck → Client) (held : HeldDialog) (dialogs : Dialogs)
+        → (Told → Pays pending) → Replied (asks_for pending reply client after held dialogs)
+    asks_racked pending reply client after held dialogs pays =
+        let content =
+        if not (length client.request.body == 0) || (length reply.response.body == 0)
+        then Some (content_of_body []) else None in
+        let with_it : HeldDialog =
+        record held { pending_requests = held.pending_requests ++ pending ∷ [] } in
+        let done = pending_outcome reply.event reply.call_id reply.name pending content held
+        with_it in
+        let so = outcome_paid Told reply.event reply.call_id reply.name pending content held
+        with_it pays in
+        record {
+          outs = (tt, so.outs);
+          prack = so.prack;
+          told = all_of (λ client. list_any is_response (notice_of reply ∷ done.outs) ≡ true)
+              done.prack (λ client among. refl);
+        }
 
-  again_racked : (answer : Option (Option SentAck)) (client : Client) (dialogs : Dialogs)
-      → IsReplied (success_again answer client dialogs)
-  again_racked None client dialogs = record { outs = tt; prack = tt }
-  again_racked (Some None) client dialogs = record { outs = tt; prack = tt }
-  again_racked (Some (Some ack)) client dialogs = record { outs = (tt, tt); prack = tt }
+    reliable_racked : (reply : Reply) (client : Client) (dialogs : Dialogs) (held : HeldDialog)
+        (rseq : ℕ)
+        → (Told
+        → Fact record { rseq = rseq; cseq = client.request.cseq.number; method = codes "INVITE" })
+        → Replied (reliable_response reply client dialogs held rseq)
+    reliable_racked reply client dialogs held rseq fact =
+        let initial = is_initial client in
+        let last = if initial then held.last_rseq else client.last_rseq in
+        let heard : Client = record client { last_rseq = Some rseq } in
+        let hears : HeldDialog = record held { last_rseq = Some rseq } in
+        let after : Option SentAck → Client = λ ack. if initial then client else heard in
+        let dialog : HeldDialog = if initial then hears else held in
+        either Replied (not (option_map_or (λ last. rseq == last + 1) last true))
+        (kept client dialogs [])
+        (asks_for (Prack rseq client.request.cseq.number) reply client after dialog dialogs)
+        (λ passed. record { outs = tt; prack = tt; told = tt })
+        (λ taken. asks_racked (Prack rseq client.request.cseq.number) reply client after dialog
+        dialogs fact)
+
+    dialog_racked : (reply : Reply) (client : Client) (dialogs : Dialogs)
+        → ((rseq : ℕ) → (if requires_100rel reply.response then reply.response.rseq else None)
+        ≡ Some rseq → Told
+        → Fact record { rseq = rseq; cseq = client.request.cseq.number; method = codes "INVITE" })
+        → Replied (dialog_response reply client dialogs)
+    dialog_racked reply client dialogs hears =
+        let response = reply.response in
+        let held = unwrap_or (lookup (is_dialog_id reply.name) dialogs)
+        (dialog_made_by reply client) in
+        found_or Replied (reliable_response reply client dialogs held)
+        (if requires_100rel response then response.rseq else None) _
+        (λ rseq is. reliable_racked reply client dialogs held rseq (hears rseq is))
+        (λ none. record { outs = (tt, tt); prack = tt; told = tt })
+
+    again_racked : (answer : Option (Option SentAck)) (client : Client) (dialogs : Dialogs)
+        → Replied (success_again answer client dialogs)
+    again_racked None client dialogs = record { outs = tt; prack = tt; told = tt }
+    again_racked (Some None) client dialogs = record { outs = tt; prack = tt; told = tt }
+    again_racked (Some (Some ack)) client dialogs =
+        record { outs = (tt, tt); prack = tt; told = tt }
 
   -- the number of a provisional response of a dialog
   number_of : (status : ℕ) (response : Message) (final dialog : Bool) → is_final status ≡ final
@@ -243,7 +275,12 @@ module _ (Fact : RAck → Type 0) where
       by_case false true false over true fits = absurd cc
       by_case false true true over true fits = has
 
-  no_requests : (outs : List CallOut) → starts outs ≡ [] → Say outs
+  -- it is one of a dialog
+  in_dialog : (dialog some tagged : Bool) → not (dialog && some && tagged) ≡ false → dialog ≡ true
+  in_dialog true some tagged fits = refl
+  in_dialog false some tagged fits = sym fits
+
+  pub no_requests : (outs : List CallOut) → starts outs ≡ [] → Say outs
   no_requests [] none = tt
   no_requests (out.Notice notice ∷ outs) none = (tt, no_requests outs none)
   no_requests (out.Direct to bytes ∷ outs) none = (tt, no_requests outs none)
@@ -255,9 +292,10 @@ module _ (Fact : RAck → Type 0) where
       some_started : (start : Id × Key) (rest : List (Id × Key)) → start ∷ rest ≡ [] → ⊥
       some_started start rest same = absurd cc
 
-  outcome_racked : (reply : Reply) (client : Client) (dialogs : Dialogs)
-      → Hears reply.response reply.status client → IsReplied (outcome_of reply client dialogs)
-  outcome_racked reply client dialogs hears =
+  outcome_racked : (Told : Type 0) (reply : Reply) (client : Client) (dialogs : Dialogs)
+      → Hears Told reply.response reply.status client
+      → IsReplied Told (outcome_of reply client dialogs)
+  outcome_racked Told reply client dialogs hears =
       let final = is_final reply.status in
       let answer = lookup (is_dialog_id reply.name) client.answers in
       let told : Outcome = kept client dialogs (notice_of reply ∷ []) in
@@ -270,7 +308,7 @@ module _ (Fact : RAck → Type 0) where
       then first_success reply client dialogs else fourth in
       let second : Outcome = if final && is_some answer
       then success_again answer client dialogs else third in
-      either IsReplied (final && not (is_invite_kind client.kind && is_success reply.status))
+      either (IsReplied Told) (final && not (is_invite_kind client.kind && is_success reply.status))
       (last_response reply client dialogs) second
       (λ last. record {
         outs = (
@@ -281,22 +319,25 @@ module _ (Fact : RAck → Type 0) where
               ((reply.status == 481) || (reply.status == 408)) dialogs),
         );
         prack = tt;
+        told = tt;
       })
-      (λ more. either IsReplied (final && is_some answer) (success_again answer client dialogs)
-      third (λ again. again_racked answer client dialogs)
-      (λ new. either IsReplied (final && has_dialog client dialogs)
+      (λ more. either (IsReplied Told) (final && is_some answer) (success_again answer client dialogs)
+      third (λ again. again_racked Told answer client dialogs)
+      (λ new. either (IsReplied Told) (final && has_dialog client dialogs)
       (first_success reply client dialogs) fourth
-      (λ success. asks_racked (Ack client.id client.request.cseq.number) reply client
+      (λ success. asks_racked Told (Ack client.id client.request.cseq.number) reply client
       (accepted reply client)
       (option_map_or (success_in (is_initial client) reply.response)
-      (lookup (is_dialog_id reply.name) dialogs) (dialog_made_by reply client)) dialogs tt)
-      (λ none. either IsReplied final late fifth
-      (λ over. record { outs = (tt, tt); prack = tt })
-      (λ provisional. either IsReplied is_told told (dialog_response reply client dialogs)
-      (λ other. record { outs = (tt, tt); prack = tt })
-      (λ early. dialog_racked reply client dialogs
+      (lookup (is_dialog_id reply.name) dialogs) (dialog_made_by reply client)) dialogs (λ told. tt))
+      (λ none. either (IsReplied Told) final late fifth
+      (λ over. record { outs = (tt, tt); prack = tt; told = tt })
+      (λ provisional. either (IsReplied Told) is_told told (dialog_response reply client dialogs)
+      (λ other. record { outs = (tt, tt); prack = tt; told = tt })
+      (λ early. dialog_racked Told reply client dialogs
       (λ rseq is. hears rseq (number_of reply.status reply.response final
-      (has_dialog client dialogs) refl provisional early rseq is)))))))
+      (has_dialog client dialogs) refl provisional early rseq is)
+      (and-left (is_invite_kind client.kind) _ (in_dialog (has_dialog client dialogs)
+      (not (reply.status == 100)) (has_to_tag reply.response) early))))))))
 
   no_rack : (rack : RAck) → None ≡ Some rack → ⊥
   no_rack rack is = absurd cc
@@ -304,8 +345,27 @@ module _ (Fact : RAck → Type 0) where
   cancel_racked : (id : Id) (invite : Client) → Racked (cancel_request id invite)
   cancel_racked id invite rack is = absurd (no_rack rack is)
 
+  -- ---- the user is still told of it after what it starts
+
+  more_told : (xs ys : List CallOut) → list_any is_response xs ≡ true
+      → list_any is_response (xs ++ ys) ≡ true
+  more_told xs ys told =
+      list_any-append is_response xs ys ∙ ap (λ b. b || list_any is_response ys) told
+
+  still_told : (clients : List Client) (done : Clients × List CallOut)
+      → list_any is_response done.1 ≡ true
+      → list_any is_response (fold start done clients).1 ≡ true
+  still_told [] done told = told
+  still_told (client ∷ clients) done told =
+      still_told clients (start done client) (more_told done.1 _ told)
+
+  abbrev pub IsToldOf : ClientTaken → Type 0
+  IsToldOf taken = list_any is_response taken.1 ≡ true
+
   response_racked : (event : Event) (id : Id) (of : List ℕ) (response : Message) (side : Side)
-      (status : ℕ) (client : Client) → Hears response status client
+      (status : ℕ) (client : Client)
+      → Hears (IsToldOf (response_to event id of response side status client)) response status
+      client
       → Taken (response_to event id of response side status client)
   response_racked event id of response side status client hears =
       let final = is_final status in
@@ -329,9 +389,15 @@ module _ (Fact : RAck → Type 0) where
       let done = outcome_of reply after side.dialogs in
       let clients : Clients = option_map_or (set_value (is_id id) side.clients) done.request
       (remove_entry (is_id id) side.clients) in
-      let so = outcome_racked reply after side.dialogs hears in
+      let Told : Type 0 = IsToldOf (response_to event id of response side status client) in
+      let so = outcome_racked Told reply after side.dialogs hears in
       starts_say (done.prack ++ cancels) (clients, done.outs) so.outs
-      (both Racked done.prack cancels so.prack
+      (both Racked done.prack cancels
+      (all_both {P = λ client. Told → Racked client}
+      {Q = λ client. list_any is_response done.outs ≡ true} {R = Racked}
+      (λ client has told. has
+      (still_told (done.prack ++ cancels) (clients, done.outs) told))
+      done.prack so.prack so.told)
       (either (AllByRecursion Racked) final []
       (option_map_or (λ asked_by. cancel_request asked_by client ∷ []) waiting [])
       (λ final. tt)
@@ -342,7 +408,8 @@ module _ (Fact : RAck → Type 0) where
   pub received_racked : (event : Event) (id : Id) (of : List ℕ) (response : Message)
       (side : Side)
       → ((status : ℕ) → status_of response.start ≡ Some status → (client : Client)
-      → lookup (is_id id) side.clients ≡ Some client → Hears response status client)
+      → lookup (is_id id) side.clients ≡ Some client
+      → Hears (IsToldOf (response_received event id of response side)) response status client)
       → Taken (response_received event id of response side)
   unfolding response_received
   received_racked event id of response side hears =
@@ -350,6 +417,129 @@ module _ (Fact : RAck → Type 0) where
       (λ status is. found_or Taken (response_to event id of response side status)
       (lookup (is_id id) side.clients) (side, [])
       (λ client found. response_racked event id of response side status client
-      (hears status is client found))
+      (λ rseq number kind told. hears status is client found rseq number kind
+      (subst IsToldOf
+      (sym (λ i. option_map_or (λ status. option_map_or
+      (response_to event id of response side status) (found i) (side, [])) (is i) (side, [])))
+      told)))
       (λ none. tt))
       (λ none. tt)
+
+  -- ---- the other commands
+
+  request_racked : (event : Event) (command : DialogRequest) (side : Side) (name : DialogId)
+      (held : HeldDialog) → Taken (request_in_dialog event command side name held)
+  request_racked event command side name held =
+      let method = command.method in
+      let sent = start (side.clients, [])
+      (request_with_next_number event name method None command.content held) in
+      let dialogs = set_value (is_dialog_id name) side.dialogs (with_number held) in
+      found_or Taken _
+      (first_refusal ((has_command method, BadMethod) ∷ refusals_in held.dialog method) None) _
+      (λ refusal refused. (tt, tt))
+      (λ none. either (λ (ended : Dialogs × List CallOut). Say (sent.1 ++ ended.1))
+      (bytes_eq method (codes "BYE")) (ended_at name dialogs) (dialogs, [])
+      (λ bye. both OutRacked sent.1 (ended_at name dialogs).1
+      ((λ rack is. absurd (no_rack rack is)), tt)
+      (no_requests (ended_at name dialogs).1 (ended_starts name dialogs)))
+      (λ other. both OutRacked sent.1 [] ((λ rack is. absurd (no_rack rack is)), tt) tt))
+
+  pub request_command_racked : (event : Event) (command : DialogRequest) (side : Side)
+      → Taken (request_command event command side)
+  unfolding request_command
+  request_command_racked event command side =
+      let name = dialog_id_of_tags (tag_text command.local_tag) (tag_text command.remote_tag) in
+      found_or Taken (request_in_dialog event command side name)
+      (lookup (is_dialog_id name) side.dialogs) _
+      (λ held is. request_racked event command side name held)
+      (λ none. (tt, tt))
+
+  cancel_held_racked : (event : Event) (command : Cancel) (side : Side) (invite : Client)
+      → Taken (cancel_of_request event command side invite)
+  cancel_held_racked event command side invite =
+      let with_cancel : Cancelling → Clients = λ cancel.
+      set_value (is_id command.id) side.clients (record invite { cancel = cancel }) in
+      let started : Clients × List CallOut =
+      start (with_cancel Sent, []) (cancel_request event.id invite) in
+      let waits : Clients × List CallOut = (with_cancel (Waits event.id), []) in
+      let done : Clients × List CallOut = if invite.provisional then started else waits in
+      let first : ClientTaken = (record side { clients = done.0 }, done.1) in
+      let asked : ClientTaken = if is_asked invite.cancel then (side, []) else first in
+      let late : ClientTaken = if is_some invite.removal
+      then refuse event command.call_id side AlreadyFinal else asked in
+      either Taken (not (is_invite_kind invite.kind))
+      (refuse event command.call_id side NoSuchRequest) late (λ is. (tt, tt))
+      (λ is. either Taken (is_some invite.removal)
+      (refuse event command.call_id side AlreadyFinal) asked (λ final. (tt, tt))
+      (λ still. either Taken (is_asked invite.cancel) (side, []) first (λ again. tt)
+      (λ none. either (λ (done : Clients × List CallOut). Say done.1) invite.provisional started
+      waits (λ came. (cancel_racked event.id invite, tt)) (λ none. tt))))
+
+  pub cancel_command_racked : (event : Event) (command : Cancel) (side : Side)
+      → Taken (cancel_command event command side)
+  unfolding cancel_command
+  cancel_command_racked event command side =
+      found_or Taken (cancel_of_request event command side)
+      (lookup (is_id command.id) side.clients) _
+      (λ invite is. cancel_held_racked event command side invite)
+      (λ none. (tt, tt))
+
+  no_rack_of : (message : Message) → message.rack ≡ None → IsRacked message
+  no_rack_of message none rack is = absurd (no_rack rack (sym none ∙ is))
+
+  supported_rack : (asked_for : ProvisionalSupport) (message : Message)
+      → (with_100rel asked_for message).rack ≡ message.rack
+  supported_rack support.None message = refl
+  supported_rack support.Supported message = refl
+  supported_rack support.Required message = refl
+
+  content_rack : (message : Message) (content : Content)
+      → (with_content_of message content).rack ≡ message.rack
+  unfolding with_content_of
+  content_rack message content = refl
+
+  pub invite_racked : (event : Event) (invite : Invite) (clients : Clients)
+      → Say (invite_command event invite clients).1
+  unfolding invite_command
+  invite_racked event invite clients = (
+    no_rack_of _ (content_rack (with_100rel invite.support _) invite.content
+        ∙ supported_rack invite.support _),
+    tt,
+  )
+
+  pub plain_racked : (event : Event) (plain : Plain) (clients : Clients)
+      → Say (plain_command event plain clients).1
+  unfolding plain_command
+  plain_racked event plain clients =
+      either (λ (done : Clients × List CallOut). Say done.1)
+      (has_command plain.method || bytes_eq plain.method (codes "INVITE")
+      || bytes_eq plain.method (codes "BYE")) _ _
+      (λ bad. (tt, tt)) (λ good. (no_rack_of _ (content_rack _ plain.content), tt))
+
+  pub lost_racked : (id : Id) (timed_out : Bool) (side : Side)
+      → Taken (request_is_lost id timed_out side)
+  unfolding request_is_lost
+  lost_racked id timed_out side =
+      found_or (λ (ended : Dialogs × List CallOut). Say ended.1) _
+      (lookup (is_id id) side.clients) (side.dialogs, [])
+      (λ client is. no_requests (request_over client timed_out side.dialogs).1
+      (over_silent [] [] (λ id. Unit {0}) client timed_out side.dialogs))
+      (λ none. tt)
+
+  pub ack_racked : (event : Event) (command : DialogBody) (side : Side)
+      → ((name : DialogId) (held : HeldDialog)
+      → lookup (is_dialog_id name) side.dialogs ≡ Some held → (pending : PendingRequest)
+      → Contains held.pending_requests pending → Pays pending)
+      → Taken (ack_command event command side)
+  unfolding ack_command
+  ack_racked event command side pays =
+      command_racked (codes "ACK") NothingToAck event command side pays
+
+  pub prack_command_racked : (event : Event) (command : DialogBody) (side : Side)
+      → ((name : DialogId) (held : HeldDialog)
+      → lookup (is_dialog_id name) side.dialogs ≡ Some held → (pending : PendingRequest)
+      → Contains held.pending_requests pending → Pays pending)
+      → Taken (prack_command event command side)
+  unfolding prack_command
+  prack_command_racked event command side pays =
+      command_racked (codes "PRACK") NothingToPrack event command side pays

@@ -159,7 +159,7 @@ module _ (configs : Side → Config) (fair : IsFair configs) (before : List Turn
 
   -- what comes up is such a message, under the id and Call-ID under which its transaction was
   -- started
-  abbrev Comes : AnUp → Type 0
+  abbrev pub Comes : AnUp → Type 0
   Comes up = UpCame Came up
       × UpStarted (configs turn.side) (rounds_of turn.side (before ++ turn ∷ [])) up
 
@@ -199,7 +199,7 @@ module _ (configs : Side → Config) (fair : IsFair configs) (before : List Turn
   out_comes (out.Send key to bytes) came started = tt
   out_comes (out.Dropped place why) came started = tt
 
-  inputs_come : Carried configs (before ++ turn ∷ [])
+  pub inputs_come : Carried configs (before ++ turn ∷ [])
       → CallsKeepRules configs (before ++ turn ∷ []) → (call_id : List ℕ)
       → AllByRecursion (TimedCame Comes)
       (call_inputs_of (configs turn.side) (rounds_of turn.side (before ++ turn ∷ [])) call_id)

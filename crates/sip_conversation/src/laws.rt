@@ -5,6 +5,7 @@ ghost use Rattle.sip_message.specs.Addr.{IsAddr};
 ghost use Rattle.sip_conversation.specs.Conversation.{Carried, Turn, of_sides};
 ghost use Rattle.sip_conversation.specs.Datagrams.{DatagramsAreTextsSaid};
 ghost use Rattle.sip_conversation.specs.Messages.{CallsHearUnchanged, CallsKeepRules, MessagesComeUnchanged};
+ghost use Rattle.sip_conversation.specs.Pracks.{PracksFollowResponses};
 ghost use Rattle.sip_conversation.specs.Provisionals.{ProvisionalsToldAsSaid};
 ghost use Rattle.sip_conversation.specs.Replies.{ResponsesToldWereSaid};
 
@@ -92,6 +93,28 @@ pub fn responses_told_were_said(one: Config, other: Config)
     ensures { (turns : List Turn) → Carried (of_sides one other) turns
         → CallsKeepRules (of_sides one other) turns
         → ResponsesToldWereSaid (of_sides one other) turns }
+{
+    numbers_fit(one.local);
+    numbers_fit(other.local);
+    let (local, seed) = (one.local, one.seed);
+    let calls_of_one = Calls { local, seed };
+    let (local, seed) = (other.local, other.seed);
+    let calls_of_other = Calls { local, seed };
+    laws_of_phases(&Transactions);
+    laws_of_phases(&calls_of_one);
+    laws_of_phases(&calls_of_other);
+}
+
+/// In such a conversation, a PRACK with a RAck that a side says follows the response that it
+/// acknowledges: in the same turn or before, the user was told of a response under the Call-ID of
+/// the PRACK. In the turns before, the other side said that response as a reliable provisional one
+/// with the RSeq that the RAck names, as its user gave the command to respond so. Its CSeq has the
+/// number that the RAck names, if the rounds of the side that says the PRACK are counted as above;
+/// and the RAck's method is INVITE (RFC 3262, sections 4 and 7.2).
+pub fn pracks_follow_responses(one: Config, other: Config)
+    ensures { (turns : List Turn) → Carried (of_sides one other) turns
+        → CallsKeepRules (of_sides one other) turns
+        → PracksFollowResponses (of_sides one other) turns }
 {
     numbers_fit(one.local);
     numbers_fit(other.local);
