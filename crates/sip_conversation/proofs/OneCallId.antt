@@ -186,10 +186,10 @@ module _ (config : Config)
 
     -- some call starts it
     record StartedSo (id : Id) (key : Key) (of : List ℕ) (message : Message) (to : Addr) : Type 0
-        where
-      pub call_id : List ℕ
-      pub by : IsStartedBy call_id id key of message
-      pub among : Contains given_out (call_out.Command id (order.Start key of message to))
+      where
+        pub call_id : List ℕ
+        pub by : IsStartedBy call_id id key of message
+        pub among : Contains given_out (call_out.Command id (order.Start key of message to))
 
     abbrev StartFits : Key → Input → Type 0
     StartFits key (input.Receive id message reply_to) = Unit {0}

@@ -111,24 +111,24 @@ module _ (x : Id) where
 -- ---- what one call says is among what all calls give
 
 module _ {K S I O : Type 0} (cmp : K → K → Ordering) (machine : Machine K S I O) (tick : ℕ → I)
-    where
-  in_some : {L : Type 0} (test : L × List O → Bool) (groups : List (L × List O)) (o : O)
-      → Contains (joined (filter test groups)) o → Contains (joined groups) o
-  in_some test groups o among =
-      let one = in_one_of (λ group. group.1) (filter test groups) o among in
-      in_all_of (λ group. group.1) groups one.0 o (kept_among test groups one.0 one.1).0 one.2
+  where
+    in_some : {L : Type 0} (test : L × List O → Bool) (groups : List (L × List O)) (o : O)
+        → Contains (joined (filter test groups)) o → Contains (joined groups) o
+    in_some test groups o among =
+        let one = in_one_of (λ group. group.1) (filter test groups) o among in
+        in_all_of (λ group. group.1) groups one.0 o (kept_among test groups one.0 one.1).0 one.2
 
-  in_all : (key : K) (told : PhaseOutputs K O) (o : O)
-      → Contains (said_by cmp machine tick key told) o → Contains (all_said told) o
-  in_all key told o among =
-      ⊎_elim
-      (λ tick_says. Contains-append_left (joined told.ticks) (joined told.items) o
-      (in_some (λ group. is_at (cmp key) group.0) told.ticks o tick_says))
-      (λ item_says. Contains-append_right (joined told.ticks) (joined told.items) o
-      (in_some (λ group. is_at (cmp key) (group.0).1) told.items o item_says))
-      (Contains-append_cases
-      (joined (filter (λ group. is_at (cmp key) group.0) told.ticks))
-      (joined (filter (λ group. is_at (cmp key) (group.0).1) told.items)) o among)
+    in_all : (key : K) (told : PhaseOutputs K O) (o : O)
+        → Contains (said_by cmp machine tick key told) o → Contains (all_said told) o
+    in_all key told o among =
+        ⊎_elim
+        (λ tick_says. Contains-append_left (joined told.ticks) (joined told.items) o
+        (in_some (λ group. is_at (cmp key) group.0) told.ticks o tick_says))
+        (λ item_says. Contains-append_right (joined told.ticks) (joined told.items) o
+        (in_some (λ group. is_at (cmp key) (group.0).1) told.items o item_says))
+        (Contains-append_cases
+        (joined (filter (λ group. is_at (cmp key) group.0) told.ticks))
+        (joined (filter (λ group. is_at (cmp key) (group.0).1) told.items)) o among)
 
 module _ (config : Config) where
   abbrev machine : Machine (List ℕ) Call (Timed CallItem) CallOut

@@ -1,6 +1,6 @@
 -- A PRACK that a side says follows the reliable provisional response that it acknowledges, of which
 -- the user was told.
-use Rattle.std.proofs.Common.{◌≡◌, ◌×◌, ℕ, Bool, true, false, List, [], ◌∷◌, ◌++◌, refl, sym, ap, ◌∙◌, subst, ⊎_elim}
+use Rattle.std.proofs.Common.{◌≡◌, ℕ, Bool, true, false, List, [], ◌∷◌, ◌++◌, refl, sym, ap, ◌∙◌, subst, ⊎_elim}
 use Rattle.std.specs.Prelude.{Contains, IfSome, IsTrue, Option, None, Some, codes, if◌then◌else◌}
 use Rattle.std.specs.List.{AllByRecursion, list_any}
 use Rattle.std.proofs.lemmas.Bool.{false≢true}
@@ -126,10 +126,10 @@ module _ (calls : Calls) (key : List ℕ) where
 -- ---- messages
 
 come_cseq : (source : Addr) (message : Message) → (come_from source message).cseq ≡ message.cseq
+unfolding stamped
 come_cseq source message = by_request (is_request_message message)
   where
     by_request : (b : Bool) → (if b then stamped message source else message).cseq ≡ message.cseq
-    unfolding stamped
     by_request true = refl
     by_request false = refl
 
@@ -147,108 +147,108 @@ no_ack same = absurd cc
 
 module _ (config : Config) (rounds : List Round)
     (alone : EachKeyAlone call_cmp (call_machine (calls_of config)) tick_at) (call_id : List ℕ)
-    where
-  abbrev calls : Calls
-  calls = calls_of config
+  where
+    abbrev calls : Calls
+    calls = calls_of config
 
-  abbrev inputs : List (Timed CallItem)
-  inputs = call_inputs_of config rounds call_id
+    abbrev inputs : List (Timed CallItem)
+    inputs = call_inputs_of config rounds call_id
 
-  abbrev outs_of_call : List CallOut
-  outs_of_call = outputs_from (call_machine calls) call_id None inputs
+    abbrev outs_of_call : List CallOut
+    outs_of_call = outputs_from (call_machine calls) call_id None inputs
 
-  same_outs : said_of_call config rounds call_id ≡ outs_of_call
-  same_outs = call_alone calls alone [] (past_of config rounds).calls call_id
+    same_outs : said_of_call config rounds call_id ≡ outs_of_call
+    same_outs = call_alone calls alone [] (past_of config rounds).calls call_id
 
-  said_by_it : (out : CallOut) → Contains outs_of_call out
-      → Contains (said_of_call config rounds call_id) out
-  said_by_it out among = subst (λ outs. Contains outs out) (sym same_outs) among
+    said_by_it : (out : CallOut) → Contains outs_of_call out
+        → Contains (said_of_call config rounds call_id) out
+    said_by_it out among = subst (λ outs. Contains outs out) (sym same_outs) among
 
-  told_to_user : (told : Notice) → Contains outs_of_call (call_out.Notice told)
-      → Contains (all_given (answers config rounds)) (output.Notice told)
-  told_to_user told among =
-      (kept_among (is_notice_of call_id) (all_given (answers config rounds)) (output.Notice told)
-      (subst (λ outs. Contains outs (output.Notice told))
-      (sym (notices_given config rounds call_id))
-      (in_all_of notice_in (said_of_call config rounds call_id) (call_out.Notice told)
-      (output.Notice told) (said_by_it (call_out.Notice told) among)
-      (among_first (output.Notice told) [])))).0
+    told_to_user : (told : Notice) → Contains outs_of_call (call_out.Notice told)
+        → Contains (all_given (answers config rounds)) (output.Notice told)
+    told_to_user told among =
+        (kept_among (is_notice_of call_id) (all_given (answers config rounds)) (output.Notice told)
+        (subst (λ outs. Contains outs (output.Notice told))
+        (sym (notices_given config rounds call_id))
+        (in_all_of notice_in (said_of_call config rounds call_id) (call_out.Notice told)
+        (output.Notice told) (said_by_it (call_out.Notice told) among)
+        (among_first (output.Notice told) [])))).0
 
-  -- what it starts with a RAck is a PRACK of a response of which the user was told
-  told_of : (id : Id) (key : Key) (of : List ℕ) (prack : Message) (to : Addr)
-      → Contains (said_of_call config rounds call_id)
-      (call_out.Command id (order.Start key of prack to)) → (rack : RAck)
-      → prack.rack ≡ Some rack
-      → (rack.method ≡ codes "INVITE") × WasTold calls inputs rack.rseq rack.cseq
-  told_of id key of prack to among =
-      each_of (OutIsTold calls inputs) (said_of_call config rounds call_id)
-      (call_out.Command id (order.Start key of prack to))
-      (subst (AllByRecursion (OutIsTold calls inputs)) (sym same_outs)
-      (all_told calls call_id inputs (events_differ config call_id rounds))) among
+    -- what it starts with a RAck is a PRACK of a response of which the user was told
+    told_of : (id : Id) (key : Key) (of : List ℕ) (prack : Message) (to : Addr)
+        → Contains (said_of_call config rounds call_id)
+        (call_out.Command id (order.Start key of prack to)) → (rack : RAck)
+        → prack.rack ≡ Some rack
+        → (rack.method ≡ codes "INVITE") × WasTold calls inputs rack.rseq rack.cseq
+    told_of id key of prack to among =
+        each_of (OutIsTold calls inputs) (said_of_call config rounds call_id)
+        (call_out.Command id (order.Start key of prack to))
+        (subst (AllByRecursion (OutIsTold calls inputs)) (sym same_outs)
+        (all_told calls call_id inputs (events_differ config call_id rounds))) among
 
-  -- and has its Call-ID
-  own_call : (id : Id) (key : Key) (of : List ℕ) (prack : Message) (to : Addr)
-      → Contains (said_of_call config rounds call_id)
-      (call_out.Command id (order.Start key of prack to)) → prack.call_id ≡ call_id
-  own_call id key of prack to among =
-      let IsOwn = OutIsOwn calls call_id (IsOrigin config rounds call_id) in
-      (each_of IsOwn (said_of_call config rounds call_id)
-      (call_out.Command id (order.Start key of prack to))
-      (subst (AllByRecursion IsOwn) (sym same_outs)
-      (all_own calls call_id (IsOrigin config rounds call_id) None inputs
-      (inputs_come config rounds call_id) tt tt)) among).own.call
+    -- and has its Call-ID
+    own_call : (id : Id) (key : Key) (of : List ℕ) (prack : Message) (to : Addr)
+        → Contains (said_of_call config rounds call_id)
+        (call_out.Command id (order.Start key of prack to)) → prack.call_id ≡ call_id
+    own_call id key of prack to among =
+        let IsOwn = OutIsOwn calls call_id (IsOrigin config rounds call_id) in
+        (each_of IsOwn (said_of_call config rounds call_id)
+        (call_out.Command id (order.Start key of prack to))
+        (subst (AllByRecursion IsOwn) (sym same_outs)
+        (all_own calls call_id (IsOrigin config rounds call_id) None inputs
+        (inputs_come config rounds call_id) tt tt)) among).own.call
 
-  module _ (rseq number : ℕ) (was : WasTold calls inputs rseq number) where
-    -- the input that brought the response
-    its_own : (P : Timed CallItem → Type 0) → AllByRecursion P inputs → P was.timed
-    its_own P all =
-        each_of P inputs was.timed all
-        (subst (λ all. Contains all was.timed) (sym was.are)
-        (Contains-append_right was.before (was.timed ∷ was.after) was.timed
-        (among_first was.timed was.after)))
+    module _ (rseq number : ℕ) (was : WasTold calls inputs rseq number) where
+      -- the input that brought the response
+      its_own : (P : Timed CallItem → Type 0) → AllByRecursion P inputs → P was.timed
+      its_own P all =
+          each_of P inputs was.timed all
+          (subst (λ all. Contains all was.timed) (sym was.are)
+          (Contains-append_right was.before (was.timed ∷ was.after) was.timed
+          (among_first was.timed was.after)))
 
-    -- the INVITE went out under its id
-    went : WentOut outs_of_call was.up.id was.client.request
-    went =
-        let early = held_went calls call_id was.before was.up.id was.client
-        (ap (λ o. client_at was.up.id (side_held o).clients) was.held ∙ was.client_is) in
-        record {
-          one = early.one;
-          among = subst (λ all. Contains (outputs_from (call_machine calls) call_id None all)
-              early.one) (sym was.are)
-              (of_first_inputs calls call_id None was.before (was.timed ∷ was.after) early.one
-              early.among);
-          starts = early.starts;
-          sends = early.sends;
-        }
+      -- the INVITE went out under its id
+      went : WentOut outs_of_call was.up.id was.client.request
+      went =
+          let early = held_went calls call_id was.before was.up.id was.client
+          (ap (λ o. client_at was.up.id (side_held o).clients) was.held ∙ was.client_is) in
+          record {
+            one = early.one;
+            among = subst (λ all. Contains (outputs_from (call_machine calls) call_id None all)
+                early.one) (sym was.are)
+                (of_first_inputs calls call_id None was.before (was.timed ∷ was.after) early.one
+                early.among);
+            starts = early.starts;
+            sends = early.sends;
+          }
 
-    abbrev IsOwnClient : Client → Type 0
-    IsOwnClient = Own calls.seed call_id (IsOrigin config rounds call_id)
+      abbrev IsOwnClient : Client → Type 0
+      IsOwnClient = Own calls.seed call_id (IsOrigin config rounds call_id)
 
-    -- it is an INVITE
-    invites : was.client.request.cseq.method ≡ codes "INVITE"
-    invites =
-        let Came = IsOrigin config rounds call_id in
-        let parts = all_of_parts (λ timed. InputComes calls call_id Came timed.input) was.before
-        (was.timed ∷ was.after)
-        (subst (AllByRecursion (λ timed. InputComes calls call_id Came timed.input)) was.are
-        (inputs_come config rounds call_id)) in
-        let own = subst (HeldOwn calls call_id Came) was.held
-        (held_own calls call_id Came None was.before parts.0 tt tt) in
-        let its : IsOwnClient was.client = subst (λ o. IfSome o IsOwnClient) was.client_is
-        (found_one IsOwnClient (is_id was.up.id) was.call.clients own) in
-        its.invites was.kind
+      -- it is an INVITE
+      invites : was.client.request.cseq.method ≡ codes "INVITE"
+      invites =
+          let Came = IsOrigin config rounds call_id in
+          let parts = all_of_parts (λ timed. InputComes calls call_id Came timed.input) was.before
+          (was.timed ∷ was.after)
+          (subst (AllByRecursion (λ timed. InputComes calls call_id Came timed.input)) was.are
+          (inputs_come config rounds call_id)) in
+          let own = subst (HeldOwn calls call_id Came) was.held
+          (held_own calls call_id Came None was.before parts.0 tt tt) in
+          let its : IsOwnClient was.client = subst (λ o. IfSome o IsOwnClient) was.client_is
+          (found_one IsOwnClient (is_id was.up.id) was.call.clients own) in
+          its.invites was.kind
 
-    -- each output of that input is among those of the call
-    of_its_input : (out : CallOut)
-        → Contains (call_step calls (Some was.call) was.timed.input was.timed.moment).1 out
-        → Contains outs_of_call out
-    of_its_input out among =
-        subst (λ all. Contains (outputs_from (call_machine calls) call_id None all) out)
-        (sym was.are)
-        (of_one_input calls call_id None was.before was.timed was.after out
-        (subst (λ state. Contains (call_step calls state was.timed.input was.timed.moment).1 out)
-        (sym was.held) among))
+      -- each output of that input is among those of the call
+      of_its_input : (out : CallOut)
+          → Contains (call_step calls (Some was.call) was.timed.input was.timed.moment).1 out
+          → Contains outs_of_call out
+      of_its_input out among =
+          subst (λ all. Contains (outputs_from (call_machine calls) call_id None all) out)
+          (sym was.are)
+          (of_one_input calls call_id None was.before was.timed was.after out
+          (subst (λ state. Contains (call_step calls state was.timed.input was.timed.moment).1 out)
+          (sym was.held) among))
 
 -- ---- a turn
 
@@ -288,9 +288,11 @@ module _ (configs : Side → Config) (fair : IsFair configs) (before : List Turn
         (subst (λ rounds. IsGiven local_config rounds key
         (Start was.up.id of begun.request begun.to)) longer begun.given)
         sent.one
-        (subst (λ rounds. CallSays local_config rounds sent.one) longer
-        (call_id, said_by_it local_config rounds_now (fair.calls turn.side) call_id sent.one
-        sent.among))
+        (subst (λ rounds. CallSays local_config rounds sent.one) longer (
+          call_id,
+          said_by_it local_config rounds_now (fair.calls turn.side) call_id sent.one
+              sent.among,
+        ))
         sent.starts
 
     response_tells : (response : Message)
@@ -336,19 +338,19 @@ module _ (configs : Side → Config) (fair : IsFair configs) (before : List Turn
         → FollowsResponse configs before turn call_id rack
     by_out method (call_out.Notice (notice.Response of id status local_tag remote_tag body)) among
         is fits = record {
-      id = id;
-      status = status;
-      local_tag = local_tag;
-      remote_tag = remote_tag;
-      body = body;
-      told = subst (λ c. Contains (given_by configs (before ++ turn ∷ []) turn.side)
-          (output.Notice (notice.Response c id status local_tag remote_tag body))) fits.of_is
-          (told_to_user local_config rounds_now (fair.calls turn.side) call_id
-          (notice.Response of id status local_tag remote_tag body) among);
-      said = fits.said;
-      cseq = fits.cseq;
-      method = method;
-    }
+          id = id;
+          status = status;
+          local_tag = local_tag;
+          remote_tag = remote_tag;
+          body = body;
+          told = subst (λ c. Contains (given_by configs (before ++ turn ∷ []) turn.side)
+              (output.Notice (notice.Response c id status local_tag remote_tag body))) fits.of_is
+              (told_to_user local_config rounds_now (fair.calls turn.side) call_id
+              (notice.Response of id status local_tag remote_tag body) among);
+          said = fits.said;
+          cseq = fits.cseq;
+          method = method;
+        }
     by_out method (call_out.Notice (notice.Request of id name local_tag remote_tag body)) among is
         fits = absurd (false≢true is)
     by_out method (call_out.Notice (notice.Ack of id body)) among is fits = absurd (false≢true is)

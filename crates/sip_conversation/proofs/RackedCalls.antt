@@ -1,6 +1,6 @@
 -- Each request with a RAck that a call starts is a PRACK for which a response asks, of which the
 -- user is told at one of the call's inputs.
-use Rattle.std.proofs.Common.{◌≡◌, ◌×◌, ℕ, Bool, true, false, cond, List, [], ◌∷◌, ◌++◌, map, refl, sym, ap, ◌∙◌, subst, append_assoc}
+use Rattle.std.proofs.Common.{◌≡◌, ℕ, Bool, true, false, cond, List, [], ◌∷◌, ◌++◌, map, refl, sym, ap, ◌∙◌, subst, append_assoc}
 use Rattle.std.specs.Prelude.{Contains, Option, None, Some, IfSome, codes, filter_map}
 use Rattle.std.specs.List.{AllByRecursion, IsDistinct, list_any}
 use Rattle.std.specs.Option.{option_map}
@@ -94,26 +94,26 @@ prack_asked status client response rseq number asks =
 -- At one of these inputs a reliable provisional response with this RSeq comes up, to an INVITE with
 -- this CSeq number, and the user is told of a response.
 pub record WasTold (calls : Calls) (inputs : List (Timed CallItem)) (rseq number : ℕ) : Type 0
-    where
-  pub before : List (Timed CallItem)
-  pub timed : Timed CallItem
-  pub after : List (Timed CallItem)
-  pub are : inputs ≡ before ++ timed ∷ after
-  pub call : Call
-  pub held : call_from calls None before ≡ Some call
-  pub event : Id
-  pub up : AnUp
-  pub comes : timed.input ≡ Some (event, Up up)
-  pub response : Message
-  pub kind_is : up.kind ≡ kind.Response response
-  pub client : Client
-  pub client_is : client_at up.id call.clients ≡ Some client
-  pub kind : is_invite_kind client.kind ≡ true
-  pub number_is : client.request.cseq.number ≡ number
-  pub status : ℕ
-  pub status_is : status_of response.start ≡ Some status
-  pub rseq_is : provisional_number (Some status) response ≡ Some rseq
-  pub told : list_any is_response (call_step calls (Some call) timed.input timed.moment).1 ≡ true
+  where
+    pub before : List (Timed CallItem)
+    pub timed : Timed CallItem
+    pub after : List (Timed CallItem)
+    pub are : inputs ≡ before ++ timed ∷ after
+    pub call : Call
+    pub held : call_from calls None before ≡ Some call
+    pub event : Id
+    pub up : AnUp
+    pub comes : timed.input ≡ Some (event, Up up)
+    pub response : Message
+    pub kind_is : up.kind ≡ kind.Response response
+    pub client : Client
+    pub client_is : client_at up.id call.clients ≡ Some client
+    pub kind : is_invite_kind client.kind ≡ true
+    pub number_is : client.request.cseq.number ≡ number
+    pub status : ℕ
+    pub status_is : status_of response.start ≡ Some status
+    pub rseq_is : provisional_number (Some status) response ≡ Some rseq
+    pub told : list_any is_response (call_step calls (Some call) timed.input timed.moment).1 ≡ true
 
 asked_told : (calls : Calls) (front rest : List (Timed CallItem)) (rseq number : ℕ)
     → WasAskedFor calls front (Prack rseq number) → WasTold calls (front ++ rest) rseq number
@@ -227,11 +227,13 @@ module _ (calls : Calls) (all : List (Timed CallItem)) where
     owed_so call are held name dialog at (Ack invite number) among = tt
     owed_so call are held name dialog at (Prack rseq number) among =
         let owed = owes_as_told calls front differ name dialog
-        (ap (λ o. dialog_at name (side_held o).dialogs) held ∙ at) in
-        (refl, subst (λ inputs. WasTold calls inputs rseq number) (sym are)
-        (asked_told calls front rest rseq number
-        (owed_was_asked calls name front (Prack rseq number)
-        (subst (λ pending. Contains pending (Prack rseq number)) owed among))))
+        (ap (λ o. dialog_at name (side_held o).dialogs) held ∙ at) in (
+          refl,
+          subst (λ inputs. WasTold calls inputs rseq number) (sym are)
+              (asked_told calls front rest rseq number
+              (owed_was_asked calls name front (Prack rseq number)
+              (subst (λ pending. Contains pending (Prack rseq number)) owed among))),
+        )
 
   hears_so : (front rest : List (Timed CallItem)) (call : Call) (id : Id) (now : ℕ) (up : AnUp)
       → all ≡ front ++ record { moment = now; input = Some (id, Up up) } ∷ rest
