@@ -13,6 +13,7 @@ use Rattle.sip_message.specs.declared.id.Id.{Id}
 use Rattle.sip_message.specs.declared.key.Key.{Key}
 use Rattle.sip_message.specs.declared.message.Message.{Message}
 use Rattle.sip_message.specs.declared.rack.RAck.{RAck}
+use Rattle.sip_dialog.specs.Request.{contact_of}
 use Rattle.sip_transactions.specs.declared.input.Command.TheVariants as order
 use Rattle.sip_transactions.proofs.RowFacts.{and-left}
 use Rattle.sip_common.specs.Dialogs.{Dialogs, ended_at, is_dialog_id, tag_text}
@@ -37,7 +38,7 @@ use Rattle.sip_common.specs.declared.refusal.Refusal.TheVariants.{AlreadyFinal, 
 use Rattle.sip_common.proofs.Each.{both}
 use Rattle.sip_common.proofs.Starts.{ended_starts, starts}
 use Rattle.sip_clients.specs.Client.{Clients, ClientTaken, Side}
-use Rattle.sip_clients.specs.Rules.Requests.{PendingOutcome, ack_command, ack_kept, cancel_command, cancel_of_request, cancel_request, dialog_of_kind, has_command, invite_command, is_asked, is_invite_kind, is_same_pending, method_of, oldest_pending, pending_by_user, pending_command, pending_outcome, pending_sent, pending_with, plain_command, prack_command, refusals_in, refuse, request_command, request_in_dialog, request_with_next_number, start, with_100rel, with_number}
+use Rattle.sip_clients.specs.Rules.Requests.{PendingOutcome, ack_command, ack_kept, cancel_command, cancel_of_request, cancel_request, dialog_of_kind, has_command, invite_command, is_asked, is_invite_kind, is_same_pending, method_of, oldest_pending, pending_by_user, pending_command, pending_outcome, pending_sent, pending_with, plain_command, prack_command, refusals_in, refuse, request_command, request_in_dialog, request_outside, request_with_next_number, start, with_100rel, with_number}
 use Rattle.sip_clients.specs.Provisionals.{is_response, provisional_number}
 use Rattle.sip_clients.specs.Rules.Ends.{request_is_lost, request_over}
 use Rattle.sip_clients.specs.Rules.Responses.{Outcome, accepted, asks_for, dialog_made_by, dialog_response, first_success, has_dialog, is_initial, kept, last_response, notice_of, outcome_of, reliable_response, response_received, response_to, status_of, success_again, success_in, waiting_cancel}
@@ -501,20 +502,29 @@ module _ (Fact : RAck → Type 0) where
   pub invite_racked : (event : Event) (invite : Invite) (clients : Clients)
       → Say (invite_command event invite clients).1
   unfolding invite_command
-  invite_racked event invite clients = (
-    no_rack_of _ (content_rack (with_100rel invite.support _) invite.content
-        ∙ supported_rack invite.support _),
-    tt,
-  )
+  invite_racked event invite clients =
+      let request : Message = record (request_outside event invite.call_id (codes "INVITE")
+      invite.request_uri invite.from invite.to invite.routes) {
+        contacts = contact_of event.local ∷ [];
+      } in
+      let supporting = with_100rel invite.support request in (
+        no_rack_of (with_content_of supporting invite.content)
+            (content_rack supporting invite.content ∙ supported_rack invite.support request),
+        tt,
+      )
 
   pub plain_racked : (event : Event) (plain : Plain) (clients : Clients)
       → Say (plain_command event plain clients).1
   unfolding plain_command
   plain_racked event plain clients =
+      let request = request_outside event plain.call_id plain.method plain.request_uri plain.from
+      plain.to plain.routes in
       either (λ (done : Clients × List CallOut). Say done.1)
       (has_command plain.method || bytes_eq plain.method (codes "INVITE")
       || bytes_eq plain.method (codes "BYE")) _ _
-      (λ bad. (tt, tt)) (λ good. (no_rack_of _ (content_rack _ plain.content), tt))
+      (λ bad. (tt, tt))
+      (λ good. (no_rack_of (with_content_of request plain.content)
+      (content_rack request plain.content), tt))
 
   pub lost_racked : (id : Id) (timed_out : Bool) (side : Side)
       → Taken (request_is_lost id timed_out side)
