@@ -1,6 +1,6 @@
 -- Each client request that a call holds went out under its id.
 use Rattle.std.proofs.Common.{◌≡◌, ⊎_elim, ℕ, Bool, true, false, cond, List, [], ◌∷◌, ◌++◌, map, refl, sym, ap, ◌∙◌, subst}
-use Rattle.std.specs.Prelude.{Contains, Option, None, Some, filter, filter_map, fold, if◌then◌else◌}
+use Rattle.std.specs.Prelude.{Contains, Option, None, Some, filter_map, fold, if◌then◌else◌}
 use Rattle.std.specs.List.{AllByRecursion, cons_option, list_any}
 use Rattle.std.specs.Map.{lookup, remove_entry, set_value}
 use Rattle.std.specs.Option.{option_map_or}
@@ -21,10 +21,10 @@ use Rattle.sip_common.specs.declared.item.CallOut.{CallOut}
 use Rattle.sip_common.specs.declared.item.CallOut.TheVariants as out
 use Rattle.sip_common.specs.declared.item.Item.TheVariants.{Up, User}
 use Rattle.sip_common.proofs.Each.{filtered}
-use Rattle.sip_clients.specs.Client.{Clients, Side, client_at}
+use Rattle.sip_clients.specs.Client.{Side, client_at}
 use Rattle.sip_clients.specs.ClientLife.{ClientHappening, Outgoing, request_in, requests_out}
 use Rattle.sip_clients.specs.ClientStory.{ClientStory, client_told, lives_on}
-use Rattle.sip_clients.specs.ClientTelling.{ClientStories, ack_told, begin_stories, begin_story, cancel_told, happens_to, invite_owed, reply_told, response_told}
+use Rattle.sip_clients.specs.ClientTelling.{ClientStories, begin_stories, begin_story, happens_to, reply_told, response_told}
 use Rattle.sip_clients.specs.Clients.{status_of}
 use Rattle.sip_clients.specs.RefusedCommands.{is_refusal}
 use Rattle.sip_clients.specs.ReceivedResponse.{is_last}

@@ -27,7 +27,7 @@ use Rattle.sip_round.specs.declared.round.Round.{Round}
 use Rattle.sip_round.specs.Answers.{Past, calls_of, given_second, no_past, past_after, past_of, said_by_calls, second}
 use Rattle.sip_round.specs.Outputs.{all_said, joined}
 use Rattle.sip_round.proofs.GivenNotices.{calls_are, calls_from}
-use Rattle.sip_round.proofs.StartedOnce.{counted, counted_one, how_many-append, started_from, started_once}
+use Rattle.sip_round.proofs.StartedOnce.{counted, counted_one, started_from, started_once}
 use Rattle.sip_conversation.specs.Messages.{CallSays, message_of}
 use Rattle.sip_conversation.proofs.Among.{first_or_later, in_all_of, in_one_of, kept_among, none_among}
 use Rattle.sip_conversation.proofs.Rounds.{calls_give}

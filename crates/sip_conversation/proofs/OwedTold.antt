@@ -1,6 +1,6 @@
 -- What is owed in a dialog over all inputs of a call, a response asked for of which the user was
 -- told.
-use Rattle.std.proofs.Common.{◌≡◌, ⊎_elim, ℕ, Bool, true, false, not, ◌&&◌, List, [], ◌∷◌, ◌++◌, refl, sym, ap, ◌∙◌, subst, append_assoc}
+use Rattle.std.proofs.Common.{◌≡◌, ⊎_elim, ℕ, Bool, true, false, not, ◌&&◌, List, [], ◌∷◌, ◌++◌, refl, sym, ap, ◌∙◌, append_assoc}
 use Rattle.std.specs.Prelude.{Contains, Option, None, Some, filter, find, if◌then◌else◌}
 use Rattle.std.specs.List.{list_any}
 use Rattle.std.specs.Option.{option_map_or}
@@ -9,11 +9,10 @@ use Rattle.std.proofs.lemmas.List.Elements.{Contains-append_cases}
 use Rattle.sip_message.specs.declared.id.Id.{Id}
 use Rattle.sip_message.specs.declared.message.Message.{Message}
 use Rattle.sip_model.specs.Machine.{Timed}
-use Rattle.sip_model.proofs.Ordered.{by_bool}
 use Rattle.sip_transactions.specs.declared.output.Kind.{Kind}
 use Rattle.sip_transactions.specs.declared.output.Kind.TheVariants as kind
 use Rattle.sip_transactions.specs.declared.output.Up.{Up as AnUp}
-use Rattle.sip_transactions.proofs.RowFacts.{and-left, and-right}
+use Rattle.sip_transactions.proofs.RowFacts.{and-right}
 use Rattle.sip_common.specs.Dialogs.{dialog_at, is_dialog_id}
 use Rattle.sip_common.specs.declared.command.DialogBody.{DialogBody}
 use Rattle.sip_common.specs.declared.command.UserCommand.{UserCommand}
@@ -21,7 +20,6 @@ use Rattle.sip_common.specs.declared.command.UserCommand.TheVariants as user
 use Rattle.sip_common.specs.declared.held_dialog.DialogId.{DialogId}
 use Rattle.sip_common.specs.declared.held_dialog.HeldDialog.{HeldDialog}
 use Rattle.sip_common.specs.declared.item.CallOut.{CallOut}
-use Rattle.sip_common.specs.declared.item.Item.{Item}
 use Rattle.sip_common.specs.declared.item.Item.TheVariants.{Up, User}
 use Rattle.sip_common.specs.declared.pending_request.PendingRequest.{PendingRequest}
 use Rattle.sip_common.specs.declared.pending_request.PendingRequest.TheVariants.{Ack, Prack}
@@ -38,7 +36,7 @@ use Rattle.sip_clients.specs.declared.client.RequestKind.{RequestKind}
 use Rattle.sip_clients.specs.declared.client.RequestKind.TheVariants.{InDialog, InitialInvite, OutOfDialog, ReInvite}
 use Rattle.sip_calls.specs.Call.{CallItem, call_step}
 use Rattle.sip_calls.specs.Histories.{call_from, is_born_of}
-use Rattle.sip_calls.specs.Owing.{owed_by, owed_by_command, owed_by_kind, owed_from, owed_in, owed_next}
+use Rattle.sip_calls.specs.Owing.{owed_by_command, owed_by_kind, owed_from, owed_in, owed_next}
 use Rattle.sip_calls.specs.Provisionals.{event_in, side_held}
 use Rattle.sip_calls.specs.Sides.{side_of}
 use Rattle.sip_calls.specs.declared.call.Call.{Call}

@@ -1,10 +1,9 @@
 -- A PRACK that a side says follows the reliable provisional response that it acknowledges, of which
 -- the user was told.
-use Rattle.std.proofs.Common.{◌≡◌, ℕ, Bool, true, false, List, [], ◌∷◌, ◌++◌, refl, sym, ap, ◌∙◌, subst, ⊎_elim}
+use Rattle.std.proofs.Common.{◌≡◌, ℕ, Bool, true, false, ◌||◌, List, [], ◌∷◌, ◌++◌, refl, sym, ap, ◌∙◌, subst, ⊎_elim}
 use Rattle.std.specs.Prelude.{Contains, IfSome, IsTrue, Option, None, Some, codes, if◌then◌else◌}
 use Rattle.std.specs.List.{AllByRecursion, list_any}
 use Rattle.std.proofs.lemmas.Bool.{false≢true}
-use Rattle.std.proofs.lemmas.Cmp.{nat_list_cmp_total}
 use Rattle.std.proofs.lemmas.List.Elements.{Contains-append_cases, Contains-append_left, Contains-append_right}
 use Rattle.sip_text.specs.Token.{is_token}
 use Rattle.sip_message.specs.Message.{is_request_message}
@@ -23,9 +22,7 @@ use Rattle.sip_model.specs.Laws.{EachKeyAlone}
 use Rattle.sip_model.specs.Machine.{Timed, outputs_from, tick_at}
 use Rattle.sip_transactions.specs.declared.input.Input.TheVariants.{Start}
 use Rattle.sip_transactions.specs.declared.input.Command.TheVariants as order
-use Rattle.sip_transactions.specs.declared.output.Kind.{Kind}
 use Rattle.sip_transactions.specs.declared.output.Kind.TheVariants as kind
-use Rattle.sip_transactions.specs.declared.output.Up.{Up as AnUp}
 use Rattle.sip_common.specs.Ids.{is_id}
 use Rattle.sip_common.specs.declared.item.CallOut.{CallOut}
 use Rattle.sip_common.specs.declared.item.CallOut.TheVariants as call_out
@@ -45,7 +42,6 @@ use Rattle.sip_calls.specs.Provisionals.{side_held}
 use Rattle.sip_calls.specs.declared.call.Call.{Call}
 use Rattle.sip_calls.specs.declared.calls.Calls.{Calls}
 use Rattle.sip_round.specs.declared.config.Config.{Config}
-use Rattle.sip_round.specs.declared.output.Output.{Output}
 use Rattle.sip_round.specs.declared.output.Output.TheVariants as output
 use Rattle.sip_round.specs.declared.round.Round.{Round}
 use Rattle.sip_round.specs.Answers.{answers, calls_of, past_of}
@@ -61,7 +57,7 @@ use Rattle.sip_conversation.specs.Pracks.{FollowsResponse, PracksFollowResponses
 use Rattle.sip_conversation.specs.Provisionals.{SaidReliably}
 use Rattle.sip_conversation.specs.Replies.{AreCounted, IsStartedFor}
 use Rattle.sip_conversation.proofs.AckTexts.{is_ack}
-use Rattle.sip_conversation.proofs.Among.{among_first, among_later, each_of, first_or_later, in_all_of, kept_among, none_among}
+use Rattle.sip_conversation.proofs.Among.{among_first, among_later, each_of, in_all_of, kept_among, none_among}
 use Rattle.sip_conversation.proofs.Branches.{Own}
 use Rattle.sip_conversation.proofs.CallBranches.{HeldOwn, InputComes, OutIsOwn, all_own, held_own}
 use Rattle.sip_conversation.proofs.CallOuts.{InputFits, KindTells, OutFits, ResponseTells, step_fits}
@@ -229,9 +225,9 @@ module _ (config : Config) (rounds : List Round)
       invites : was.client.request.cseq.method ≡ codes "INVITE"
       invites =
           let Came = IsOrigin config rounds call_id in
-          let parts = all_of_parts (λ timed. InputComes calls call_id Came timed.input) was.before
+          let parts = all_of_parts (λ (timed : Timed CallItem). InputComes calls call_id Came timed.input) was.before
           (was.timed ∷ was.after)
-          (subst (AllByRecursion (λ timed. InputComes calls call_id Came timed.input)) was.are
+          (subst (AllByRecursion (λ (timed : Timed CallItem). InputComes calls call_id Came timed.input)) was.are
           (inputs_come config rounds call_id)) in
           let own = subst (HeldOwn calls call_id Came) was.held
           (held_own calls call_id Came None was.before parts.0 tt tt) in

@@ -1,11 +1,10 @@
 -- Each request with a RAck that a call starts is a PRACK for which a response asks, of which the
 -- user is told at one of the call's inputs.
-use Rattle.std.proofs.Common.{◌≡◌, ℕ, Bool, true, false, cond, List, [], ◌∷◌, ◌++◌, map, refl, sym, ap, ◌∙◌, subst, append_assoc}
-use Rattle.std.specs.Prelude.{Contains, Option, None, Some, IfSome, codes, filter_map}
+use Rattle.std.proofs.Common.{◌≡◌, ℕ, Bool, true, false, List, [], ◌∷◌, ◌++◌, refl, sym, ap, ◌∙◌, subst, append_assoc}
+use Rattle.std.specs.Prelude.{Contains, Option, None, Some, codes, filter_map, if◌then◌else◌}
 use Rattle.std.specs.List.{AllByRecursion, IsDistinct, list_any}
 use Rattle.std.specs.Option.{option_map}
 use Rattle.std.proofs.lemmas.List.Elements.{filter_map-append}
-use Rattle.std.proofs.lemmas.Map.Keys.{IsDistinct-cons, IsDistinct-head, IsDistinct-tail}
 use Rattle.sip_message.specs.declared.id.Id.{Id}
 use Rattle.sip_message.specs.declared.message.Message.{Message}
 use Rattle.sip_message.specs.declared.rack.RAck.{RAck}
@@ -36,7 +35,7 @@ use Rattle.sip_clients.specs.Owing.{asked_for}
 use Rattle.sip_clients.specs.Provisionals.{is_response, provisional_number}
 use Rattle.sip_clients.specs.Rules.Requests.{is_invite_kind}
 use Rattle.sip_clients.specs.declared.client.Client.{Client}
-use Rattle.sip_calls.specs.Call.{CallItem, CallTaken, call_machine, call_step, event_of, item_of_call, kept, made_tag, new_call, received, side_of}
+use Rattle.sip_calls.specs.Call.{CallItem, CallTaken, call_machine, call_step, event_of, item_of_call, made_tag, new_call, received, side_of}
 use Rattle.sip_calls.specs.Histories.{call_from}
 use Rattle.sip_calls.specs.Provisionals.{EventsDiffer, event_in, side_held}
 use Rattle.sip_calls.specs.declared.call.Call.{Call}
@@ -45,7 +44,7 @@ use Rattle.sip_calls.proofs.CallStarts.{tick_silent}
 use Rattle.sip_calls.proofs.Owing.{owes_as_told}
 use Rattle.sip_conversation.proofs.OwedTold.{WasAskedFor, owed_was_asked}
 use Rattle.sip_conversation.proofs.PracksOfCalls.{from_more}
-use Rattle.sip_conversation.proofs.RackedSteps.{Hears, IsToldOf, OutRacked, Pays, Say, ack_racked, cancel_command_racked, invite_racked, lost_racked, no_requests, plain_racked, prack_command_racked, received_racked, request_command_racked}
+use Rattle.sip_conversation.proofs.RackedSteps.{Hears, OutRacked, Pays, Say, ack_racked, cancel_command_racked, invite_racked, lost_racked, no_requests, plain_racked, prack_command_racked, received_racked, request_command_racked}
 
 -- ---- the first of different ids differ too
 
@@ -81,8 +80,8 @@ prack_asked status client response rseq number asks =
     by_success (is_success status) (provisional_number (Some status) response) refl asks
   where
     by_success : (b : Bool) (o : Option ℕ) → provisional_number (Some status) response ≡ o
-        → cond b (Some (Ack client.id client.request.cseq.number))
-        (option_map (λ r. Prack r client.request.cseq.number) o) ≡ Some (Prack rseq number)
+        → (if b then Some (Ack client.id client.request.cseq.number)
+        else option_map (λ r. Prack r client.request.cseq.number) o) ≡ Some (Prack rseq number)
         → IsAsked status client response rseq number
     by_success true o is asks = absurd cc
     by_success false None is asks = absurd cc

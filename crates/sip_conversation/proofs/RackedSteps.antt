@@ -523,8 +523,11 @@ module _ (Fact : RAck → Type 0) where
       (has_command plain.method || bytes_eq plain.method (codes "INVITE")
       || bytes_eq plain.method (codes "BYE")) _ _
       (λ bad. (tt, tt))
-      (λ good. (no_rack_of (with_content_of request plain.content)
-      (content_rack request plain.content), tt))
+      (λ good. (
+        no_rack_of (with_content_of request plain.content)
+            (content_rack request plain.content),
+        tt,
+      ))
 
   pub lost_racked : (id : Id) (timed_out : Bool) (side : Side)
       → Taken (request_is_lost id timed_out side)
