@@ -87,8 +87,12 @@ pub fn provisionals_told_were_said(one: Config, other: Config)
 /// 200, 420, 481, 482, 487 or 500 and no body. The response copies Via, From, Call-ID and CSeq from
 /// a request that came to the other side, and that this side said before, except for the stamp (RFC
 /// 3261, section 8.2.6.2). A transaction with its branch and method was started under the Call-ID
-/// that the user is told. The response has that Call-ID, if the rounds of the side that is told have
-/// numbers below 2^64 and fewer than 2^64 events each: branches are made of these numbers.
+/// and the id that the user is told.
+///
+/// If the rounds of the side that is told have numbers below 2^64 and fewer than 2^64 events each,
+/// of which branches are made: the response has that Call-ID. And unless it is to a CANCEL, it
+/// answers the request of that id: the request that came to the other side is the one with which
+/// that transaction was started, with the stamp of its source.
 pub fn responses_told_were_said(one: Config, other: Config)
     ensures { (turns : List Turn) → Carried (of_sides one other) turns
         → CallsKeepRules (of_sides one other) turns
