@@ -38,3 +38,4 @@ pub mod RackedSteps
 pub mod RackedCalls
 pub mod ClientsSent
 pub mod PracksFollow
+pub mod FirstTold

@@ -427,6 +427,20 @@ module _ (configs : Side → Config) (fair : IsFair configs) (before : List Turn
       rack is =
       absurd (no_ack (sym (ap (λ (m : Message). m.cseq.method) same) ∙ method))
 
+-- where there is no round nothing is said
+pub no_rounds_say : (config : Config) (prack : Message) → is_request_message prack ≡ true
+    → prack.cseq.method ≡ codes "PRACK" → IsSaid config [] prack → ⊥
+unfolding past_of
+no_rounds_say config prack asks method (Asked id command says same) =
+    none_among (call_out.Command id command) says.1
+no_rounds_say config prack asks method (Direct to says) =
+    none_among (call_out.Direct to (written prack)) says.1
+no_rounds_say config prack asks method (Trying key id request reply_to given asked same) =
+    false≢true (sym (ap is_request_message same) ∙ asks)
+no_rounds_say config prack asks method
+    (Acknowledges key id answered of invite response to reply_to begun heard same) =
+    no_ack (sym (ap (λ (m : Message). m.cseq.method) same) ∙ method)
+
 pub pracks_follow : (configs : Side → Config) → IsFair configs → (turns : List Turn)
     → Carried configs turns → CallsKeepRules configs turns → PracksFollowResponses configs turns
 pracks_follow configs fair turns carried keep before after turn same prack said asks method rack

@@ -1,16 +1,21 @@
 -- A PRACK that a side says follows the reliable provisional response that it acknowledges: the user
 -- was told of that response (RFC 3262, sections 4 and 7.2).
-use Rattle.std.specs.Prelude.{◌≡◌, ℕ, true, List, [], ◌∷◌, ◌++◌, Contains, Some, codes}
+use Rattle.std.specs.Prelude.{◌≡◌, ◌<◌, ℕ, true, List, [], ◌∷◌, ◌++◌, Contains, Some, codes}
+use Rattle.std.specs.List.{AllByRecursion}
 use Rattle.sip_message.specs.declared.id.Id.{Id}
 use Rattle.sip_message.specs.declared.message.Message.{Message}
 use Rattle.sip_message.specs.declared.rack.RAck.{RAck}
 use Rattle.sip_message.specs.Message.{is_request_message}
+use Rattle.sip_common.specs.declared.held_dialog.DialogReference.{DialogReference}
+use Rattle.sip_common.specs.declared.item.CallOut.{CallOut}
+use Rattle.sip_common.specs.declared.item.CallOut.TheVariants as call_out
 use Rattle.sip_common.specs.declared.notice.Notice.TheVariants.{Response}
+use Rattle.sip_clients.specs.Provisionals.{AnInvite}
 use Rattle.sip_round.specs.declared.config.Config.{Config}
 use Rattle.sip_round.specs.declared.output.Output.TheVariants.{Notice}
 use Rattle.sip_conversation.specs.Conversation.{Side, Turn, given_by, rounds_of}
 use Rattle.sip_conversation.specs.Messages.{IsSaid}
-use Rattle.sip_conversation.specs.Provisionals.{SaidReliably}
+use Rattle.sip_conversation.specs.Provisionals.{SaidReliably, told_reliably}
 use Rattle.sip_conversation.specs.Replies.{AreCounted}
 
 -- Up to a turn's end the user of its side was told of a response of this call. The other side said
@@ -39,3 +44,40 @@ PracksFollowResponses configs turns =
     → is_request_message prack ≡ true → prack.cseq.method ≡ codes "PRACK"
     → (rack : RAck) → prack.rack ≡ Some rack
     → FollowsResponse configs before turn prack.call_id rack
+
+-- ---- the first is told before the others
+
+-- In one of these turns the user of this side was told of a response of RSeq 1, to the INVITE that
+-- this response answers: one with its Call-ID and the number of its CSeq.
+pub record WasToldFirst (configs : Side → Config) (turns : List Turn) (side : Side)
+    (response : Message) : Type 0 where
+  pub before : List Turn
+  pub turn : Turn
+  pub after : List Turn
+  pub turns_are : turns ≡ before ++ turn ∷ after
+  pub side_is : turn.side ≡ side
+  pub first : FollowsResponse configs before turn response.call_id
+      record { rseq = 1; cseq = response.cseq.number; method = codes "INVITE" }
+
+-- The other side said such a response. If its RSeq is above 1, the user was told of the first
+-- before.
+pub record FollowsTheFirst (configs : Side → Config) (turns : List Turn) (side : Side)
+    (rseq status : ℕ) (local_tag remote_tag body : List ℕ) : Type 0 where
+  pub said : SaidReliably configs turns side rseq status local_tag remote_tag body
+  pub first : 1 < rseq → WasToldFirst configs turns side said.response.original
+
+-- it is the notice of such a response
+abbrev pub IsAfterTheFirst : (Side → Config) → List Turn → Side → ℕ → CallOut → Type 0
+IsAfterTheFirst configs turns side rseq
+    (call_out.Notice (Response call_id id status local_tag remote_tag body)) =
+    FollowsTheFirst configs turns side rseq status local_tag remote_tag body
+IsAfterTheFirst configs turns side rseq _ = ⊥
+
+-- For every turn, call, INVITE and life of a dialog: so is each reliable provisional response that
+-- the user is told of, up to the turn's end.
+abbrev pub TheFirstIsToldFirst : (Side → Config) → List Turn → Type 0
+TheFirstIsToldFirst configs turns =
+    (before after : List Turn) (turn : Turn) → turns ≡ before ++ turn ∷ after
+    → (call_id : List ℕ) (invite : AnInvite) (life : DialogReference)
+    → AllByRecursion (λ told. IsAfterTheFirst configs before turn.side told.0 told.1)
+    (told_reliably configs before turn call_id invite life)
