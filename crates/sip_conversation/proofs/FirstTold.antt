@@ -2,24 +2,19 @@
 -- one with RSeq 1 before.
 use Rattle.std.proofs.Common.{◌≡◌, ◌⊎◌, inl, inr, ℕ, ◌<◌, Bool, true, false, cond, List, [], ◌∷◌, ◌++◌, map, refl, sym, ap, ◌∙◌, subst, append-nil, append_assoc, ⊎_elim}
 use Rattle.std.specs.Prelude.{codes}
-use Rattle.std.specs.List.{AllByRecursion}
 use Rattle.std.proofs.lemmas.Bool.{false≢true}
-use Rattle.sip_message.specs.Message.{is_request_message}
 use Rattle.sip_message.specs.declared.message.Message.{Message}
-use Rattle.sip_common.specs.declared.held_dialog.DialogReference.{DialogReference}
 use Rattle.sip_common.specs.declared.item.CallOut.{CallOut}
 use Rattle.sip_common.specs.declared.item.CallOut.TheVariants as out
-use Rattle.sip_common.specs.declared.notice.Notice.{Notice}
 use Rattle.sip_common.specs.declared.notice.Notice.TheVariants as notice
-use Rattle.sip_clients.specs.Provisionals.{AnInvite}
 use Rattle.sip_round.specs.declared.config.Config.{Config}
 use Rattle.sip_round.specs.declared.round.Round.{Round}
 use Rattle.sip_round.specs.Laws.{ProvisionalsInLives}
 use Rattle.sip_conversation.specs.Conversation.{Carried, Side, Turn, is_side, rounds_of}
 use Rattle.sip_conversation.specs.Conversation as side
 use Rattle.sip_conversation.specs.Messages.{CallsKeepRules, IsSaid}
-use Rattle.sip_conversation.specs.Pracks.{FollowsResponse, FollowsTheFirst, IsAfterTheFirst, PracksFollowResponses, TheFirstIsToldFirst, WasToldFirst}
-use Rattle.sip_conversation.specs.Provisionals.{IsSaidReliably, SaidPrack, SaidReliably, told_reliably}
+use Rattle.sip_conversation.specs.Pracks.{FollowsResponse, IsAfterTheFirst, PracksFollowResponses, TheFirstIsToldFirst, WasToldFirst}
+use Rattle.sip_conversation.specs.Provisionals.{IsSaidReliably, SaidPrack, told_reliably}
 use Rattle.sip_conversation.proofs.Among.{all_go}
 use Rattle.sip_conversation.proofs.Fronts.{carried_before, keeps_before}
 use Rattle.sip_conversation.proofs.Longer.{rounds_of-append}
