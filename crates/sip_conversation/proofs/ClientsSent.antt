@@ -5,7 +5,6 @@ use Rattle.std.specs.List.{AllByRecursion, cons_option, list_any}
 use Rattle.std.specs.Map.{lookup, remove_entry, set_value}
 use Rattle.std.specs.Option.{option_map_or}
 use Rattle.std.proofs.lemmas.List.Elements.{filter_map-append}
-use Rattle.indexmap.specs.IndexMap.{insert_entry}
 use Rattle.sip_message.specs.declared.id.Id.{Id}
 use Rattle.sip_message.specs.declared.message.Message.{Message}
 use Rattle.sip_model.specs.Machine.{Timed, outputs_from}
@@ -22,10 +21,11 @@ use Rattle.sip_common.specs.declared.item.CallOut.TheVariants as out
 use Rattle.sip_common.specs.declared.item.Item.TheVariants.{Up, User}
 use Rattle.sip_common.proofs.Each.{filtered}
 use Rattle.sip_clients.specs.Client.{Side, client_at}
-use Rattle.sip_clients.specs.ClientLife.{ClientHappening, Outgoing, request_in, requests_out}
+use Rattle.sip_clients.specs.ClientLife.{ClientHappening, Outgoing, SendsAck, acks_out, request_in, requests_out}
 use Rattle.sip_clients.specs.ClientStory.{ClientStory, client_told, lives_on}
 use Rattle.sip_clients.specs.ClientTelling.{ClientStories, begin_stories, begin_story, happens_to, reply_told, response_told}
 use Rattle.sip_clients.specs.Clients.{status_of}
+use Rattle.sip_clients.specs.Commands.{name_in}
 use Rattle.sip_clients.specs.RefusedCommands.{is_refusal}
 use Rattle.sip_clients.specs.ReceivedResponse.{is_last}
 use Rattle.sip_clients.specs.declared.client.Client.{Client}
@@ -50,45 +50,38 @@ module _ {X : Type 0} (P : Id → X → Type 0) where
   abbrev Every : List (Id × X) → Type 0
   Every entries = AllByRecursion (λ (entry : Id × X). P entry.0 entry.1) entries
 
-  inserted : (id : Id) (x : X) → P id x → (es : List (Id × X)) → Every es
-      → Every (insert_entry is_id es id x)
-  inserted id x new [] every = (new, tt)
-  inserted id x new (e ∷ es) every = by_key (is_id id e.0) refl
-    where
-      by_key : (b : Bool) → is_id id e.0 ≡ b
-          → Every (cond b ((e.0, x) ∷ es) (e ∷ insert_entry is_id es id x))
-      by_key true at = (subst (λ k. P k x) (id_exact id e.0 at) new, every.1)
-      by_key false at = (every.0, inserted id x new es every.1)
-
   put : (id : Id) (x : X) → P id x → (es : List (Id × X)) → Every es
       → Every (set_value (is_id id) es x)
   put id x new [] every = tt
-  put id x new (e ∷ es) every = by_key (is_id id e.0) refl
+  put id x new (e ∷ es) every = by_key (is_id id e.0) refl (put id x new es every.1)
     where
-      by_key : (b : Bool) → is_id id e.0 ≡ b
+      by_key : (b : Bool) → is_id id e.0 ≡ b → Every (set_value (is_id id) es x)
           → Every (cond b ((e.0, x) ∷ es) (e ∷ set_value (is_id id) es x))
-      by_key true at = (subst (λ k. P k x) (id_exact id e.0 at) new, every.1)
-      by_key false at = (every.0, put id x new es every.1)
+      by_key true at rest = (subst (λ k. P k x) (id_exact id e.0 at) new, every.1)
+      by_key false at rest = (every.0, rest)
 
   found_at : (id : Id) (es : List (Id × X)) → Every es → (x : X)
       → lookup (is_id id) es ≡ Some x → P id x
   found_at id [] every x is = absurd cc
-  found_at id (e ∷ es) every x is = by_key (is_id id e.0) refl is
+  found_at id (e ∷ es) every x is =
+      by_key (is_id id e.0) refl is (λ later. found_at id es every.1 x later)
     where
       by_key : (b : Bool) → is_id id e.0 ≡ b
-          → cond b (Some e.1) (lookup (is_id id) es) ≡ Some x → P id x
-      by_key true at is =
+          → cond b (Some e.1) (lookup (is_id id) es) ≡ Some x
+          → (lookup (is_id id) es ≡ Some x → P id x) → P id x
+      by_key true at is rest =
           let same : e.1 ≡ x = cc in
           subst (P id) same (subst (λ k. P k e.1) (sym (id_exact id e.0 at)) every.0)
-      by_key false at is = found_at id es every.1 x is
+      by_key false at is rest = rest is
 
   removed : (id : Id) (es : List (Id × X)) → Every es → Every (remove_entry (is_id id) es)
   removed id [] every = tt
-  removed id (e ∷ es) every = by_key (is_id id e.0)
+  removed id (e ∷ es) every = by_key (is_id id e.0) (removed id es every.1)
     where
-      by_key : (b : Bool) → Every (cond b es (e ∷ remove_entry (is_id id) es))
-      by_key true = every.1
-      by_key false = (every.0, removed id es every.1)
+      by_key : (b : Bool) → Every (remove_entry (is_id id) es)
+          → Every (cond b es (e ∷ remove_entry (is_id id) es))
+      by_key true rest = every.1
+      by_key false rest = (every.0, rest)
 
 -- ---- the stories
 
@@ -104,19 +97,33 @@ module _ (Went : Outgoing → Type 0) where
   abbrev OutsWent : List CallOut → Type 0
   OutsWent outs = AllByRecursion Went (requests_out outs)
 
+  one_begins : (sent_for : Message → RequestKind) (sent : Outgoing) → Went sent
+      → (stories : ClientStories) → AllWent stories → AllWent (begin_story sent_for stories sent)
+  one_begins sent_for sent went [] all = ((refl, went), tt)
+  one_begins sent_for sent went (e ∷ es) all =
+      by_key (is_id sent.id e.0) refl (one_begins sent_for sent went es all.1)
+    where
+      story : ClientStory
+      story = record {
+        id = sent.id;
+        kind = sent_for sent.request;
+        request = sent.request;
+        to = sent.to;
+        life = [];
+      }
+
+      by_key : (b : Bool) → is_id sent.id e.0 ≡ b → AllWent (begin_story sent_for es sent)
+          → AllWent (cond b ((e.0, story) ∷ es) (e ∷ begin_story sent_for es sent))
+      by_key true at rest = ((id_exact sent.id e.0 at, went), all.1)
+      by_key false at rest = (all.0, rest)
+
   begins : (sent_for : Message → RequestKind) (sents : List Outgoing) (stories : ClientStories)
       → AllByRecursion Went sents → AllWent stories
       → AllWent (fold (begin_story sent_for) stories sents)
   begins sent_for [] stories went all = all
   begins sent_for (sent ∷ sents) stories went all =
       begins sent_for sents (begin_story sent_for stories sent) went.1
-      (inserted StoryWent sent.id record {
-        id = sent.id;
-        kind = sent_for sent.request;
-        request = sent.request;
-        to = sent.to;
-        life = [];
-      } (refl, went.0) stories all)
+      (one_begins sent_for sent went.0 stories all)
 
   begun_went : (sent_for : Message → RequestKind) (outs : List CallOut) (stories : ClientStories)
       → OutsWent outs → AllWent stories → AllWent (begin_stories sent_for outs stories)
@@ -171,7 +178,10 @@ module _ (Went : Outgoing → Type 0) where
         begun_went _ outs stories went all
     command_went side event (user.Respond respond) stories all = all
     command_went side event (user.Ack ack) stories all =
-        found_or AllWent _ _ stories (λ invite is. happened invite _ stories all) (λ none. all)
+        let name = name_in ack.local_tag ack.remote_tag in
+        let acks = map (SendsAck name) (acks_out outs) in
+        found_or AllWent (λ invite. happens_to invite acks stories) _ stories
+        (λ invite is. happened invite acks stories all) (λ none. all)
     command_went side event (user.Prack prack) stories all =
         begun_went _ outs stories went all
     command_went side event (user.Cancel cancel) stories all =
@@ -257,17 +267,19 @@ first_out first outs id request start = record {
 out_of : (outs : List CallOut) (sent : Outgoing) → Contains (requests_out outs) sent
     → WentOut outs sent.id sent.request
 out_of [] sent among = absurd (none_among sent among)
-out_of (first ∷ outs) sent among = by_first (request_in first) refl among
+out_of (first ∷ outs) sent among =
+    by_first (request_in first) refl among (λ later. out_of outs sent later)
   where
     by_first : (o : Option Outgoing) → request_in first ≡ o
         → Contains (cons_option o (requests_out outs)) sent
+        → (Contains (requests_out outs) sent → WentOut outs sent.id sent.request)
         → WentOut (first ∷ outs) sent.id sent.request
-    by_first None is among = later_out first outs sent.id sent.request (out_of outs sent among)
-    by_first (Some made) is among =
+    by_first None is among rest = later_out first outs sent.id sent.request (rest among)
+    by_first (Some made) is among rest =
         ⊎_elim
         (λ same. first_out first outs sent.id sent.request
         (subst (λ (s : Outgoing). IsStartOf first s.id s.request) same (start_so first made is)))
-        (λ later. later_out first outs sent.id sent.request (out_of outs sent later))
+        (λ later. later_out first outs sent.id sent.request (rest later))
         (first_or_later made (requests_out outs) sent among)
 
 -- a held client request has the id under which it is held, and went out under it

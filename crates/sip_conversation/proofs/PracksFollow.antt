@@ -3,9 +3,10 @@
 use Rattle.std.proofs.Common.{◌≡◌, ℕ, Bool, true, false, ◌||◌, List, [], ◌∷◌, ◌++◌, refl, sym, ap, ◌∙◌, subst, ⊎_elim}
 use Rattle.std.specs.Prelude.{Contains, IfSome, IsTrue, Option, None, Some, codes, if◌then◌else◌}
 use Rattle.std.specs.List.{AllByRecursion, list_any}
+use Rattle.std.specs.Str.{bytes_eq}
 use Rattle.std.proofs.lemmas.Bool.{false≢true}
 use Rattle.std.proofs.lemmas.List.Elements.{Contains-append_cases, Contains-append_left, Contains-append_right}
-use Rattle.sip_text.specs.Token.{is_token}
+use Rattle.sip_text.specs.Token.{is_token, is_token_byte}
 use Rattle.sip_message.specs.Message.{is_request_message}
 use Rattle.sip_message.specs.Party.{tag_of}
 use Rattle.sip_message.specs.Source.{stamped}
@@ -79,14 +80,17 @@ use Rattle.sip_conversation.proofs.Ups.{ItemCame, TimedCame}
 some_response : (outs : List CallOut) → list_any is_response outs ≡ true
     → (out : CallOut) × Contains outs out × (is_response out ≡ true)
 some_response [] told = absurd (false≢true told)
-some_response (first ∷ outs) told = by_first (is_response first) refl told
+some_response (first ∷ outs) told =
+    by_first (is_response first) refl told (λ later. some_response outs later)
   where
     by_first : (b : Bool) → is_response first ≡ b → (b || list_any is_response outs) ≡ true
+        → (list_any is_response outs ≡ true
+        → (out : CallOut) × Contains outs out × (is_response out ≡ true))
         → (out : CallOut) × Contains (first ∷ outs) out × (is_response out ≡ true)
-    by_first true is told = (first, among_first first outs, is)
-    by_first false is told =
-        let rest = some_response outs told in
-        (rest.0, among_later first outs rest.0 rest.1, rest.2)
+    by_first true is told rest = (first, among_first first outs, is)
+    by_first false is told rest =
+        let later = rest told in
+        (later.0, among_later first outs later.0 later.1, later.2)
 
 module _ (calls : Calls) (key : List ℕ) where
   -- what one input gives is among what all give
@@ -128,14 +132,14 @@ come_cseq source message = by_request (is_request_message message)
     by_request false = refl
 
 prack_token : IsTrue (is_token (codes "PRACK"))
-unfolding is_token
-prack_token = tt
+unfolding is_token is_token_byte
+prack_token = refl
 
 no_cancel : codes "CANCEL" ≡ codes "INVITE" → ⊥
-no_cancel same = absurd cc
+no_cancel same = false≢true (ap (λ m. bytes_eq m (codes "INVITE")) same)
 
 no_ack : codes "ACK" ≡ codes "PRACK" → ⊥
-no_ack same = absurd cc
+no_ack same = false≢true (ap (λ m. bytes_eq m (codes "PRACK")) same)
 
 -- ---- a call
 

@@ -1,9 +1,11 @@
 -- A reliable provisional response with an RSeq above 1 that the other side said, it said after this
 -- side said the PRACK of the response of RSeq 1 to the same INVITE.
-use Rattle.std.proofs.Common.{◌≡◌, ℕ, ◌<◌, Bool, true, false, ◌&&◌, not, ◌==◌, List, [], ◌∷◌, ◌++◌, refl, sym, ap, ◌∙◌, subst}
+use Rattle.std.proofs.Common.{◌≡◌, ℕ, ◌<◌, Bool, true, false, ◌&&◌, not, ◌==◌, List, [], ◌∷◌, ◌++◌, refl, sym, ap, ◌∙◌, subst, arith}
 use Rattle.std.specs.Prelude.{IfSome, IsTrue, Option, None, Some, codes, find, is_some, length, unwrap_or, if◌then◌else◌}
 use Rattle.std.specs.List.{AllByRecursion}
 use Rattle.std.specs.Str.{str_eq_ignore_ascii_case}
+use Rattle.std.proofs.lemmas.Bool.{false≢true}
+use Rattle.std.proofs.lemmas.Bool.Decides.{nat_tests}
 use Rattle.sip_text.specs.Token.{is_token}
 use Rattle.sip_parts.specs.Parameters.{parameter_named, value_named, value_or_nothing}
 use Rattle.sip_parts.specs.Tag.{has_good_tag, is_good_tag, is_token_value}
@@ -113,17 +115,19 @@ came_alike source said = by_request (is_request_message said)
 find_last : (p : Parameter → Bool) (parameters : List Parameter) (last : Parameter)
     → find p parameters ≡ None → p last ≡ true → find p (parameters ++ last ∷ []) ≡ Some last
 find_last p [] last none passes = ap (λ b. if b then Some last else None) passes
-find_last p (first ∷ parameters) last none passes = by_first (p first) none
+find_last p (first ∷ parameters) last none passes =
+    by_first (p first) none (λ later. find_last p parameters last later passes)
   where
     by_first : (b : Bool) → (if b then Some first else find p parameters) ≡ None
+        → (find p parameters ≡ None → find p (parameters ++ last ∷ []) ≡ Some last)
         → (if b then Some first else find p (parameters ++ last ∷ [])) ≡ Some last
-    by_first true none = absurd cc
-    by_first false none = find_last p parameters last none passes
+    by_first true none rest = absurd cc
+    by_first false none rest = rest none
 
 no_empty_token : (value : List ℕ) → IsTrue (is_token value) → (length value == 0) ≡ false
 unfolding is_token
-no_empty_token [] token = absurd token
-no_empty_token (byte ∷ bytes) token = refl
+no_empty_token [] token = absurd (false≢true token)
+no_empty_token (byte ∷ bytes) token = grind (arith, nat_tests)
 
 -- it is that of its request, or else the made one
 to_tag : (party : Party) (made : List ℕ) → IsTrue (has_good_tag party.parameters)
@@ -138,14 +142,14 @@ to_tag party made good =
 
     by_value : (o : Option (List ℕ)) → IsTrue (is_token_value o)
         → unwrap_or o [] ≡ (if length (unwrap_or o []) == 0 then made else unwrap_or o [])
-    by_value None good = absurd good
+    by_value None good = absurd (false≢true good)
     by_value (Some value) good =
         sym (ap (λ b. if b then made else value) (no_empty_token value good))
 
     by_parameter : (o : Option Parameter)
         → parameter_named (codes "tag") party.parameters ≡ o → IsTrue (is_good_tag o)
-        → value_or_nothing (find tag_is (if is_some o then party.parameters
-        else party.parameters ++ tag_parameter made ∷ []))
+        → tag_of (if is_some o then party
+        else record party { parameters = party.parameters ++ tag_parameter made ∷ [] })
         ≡ (if length (value_or_nothing o) == 0 then made else value_or_nothing o)
     by_parameter None is good =
         ap value_or_nothing (find_last tag_is party.parameters (tag_parameter made) is refl)
