@@ -66,9 +66,9 @@ use Rattle.sip_conversation.proofs.Fronts.{carried_before, carried_to, keeps_bef
 use Rattle.sip_conversation.proofs.OneCallId.{IsOfStart, out_replies, started_request}
 use Rattle.sip_conversation.proofs.OneTransaction.{KindCame}
 use Rattle.sip_conversation.proofs.Origins.{IsOrigin, TimedComes, inputs_come}
-use Rattle.sip_conversation.proofs.Provisionals.{said_so}
+use Rattle.sip_conversation.proofs.Provisionals.{said_reliably}
 use Rattle.sip_conversation.proofs.RackedCalls.{OutIsTold, WasTold, all_told}
-use Rattle.sip_conversation.proofs.RepliesSaid.{Came, Comes, IsFair, inputs_come as ups_come, response_said}
+use Rattle.sip_conversation.proofs.RepliesSaid.{Came, Comes, IsFair, inputs_come as ups_come}
 use Rattle.sip_conversation.proofs.Rounds.{all_of_parts}
 use Rattle.sip_conversation.proofs.StartedFor.{KindStarted, response_key}
 use Rattle.sip_conversation.proofs.ToldCallId.{own_reply}
@@ -301,26 +301,27 @@ module _ (configs : Side → Config) (fair : IsFair configs) (before : List Turn
         → provisional_number (status_of response.start) response ≡ Some rack.rseq
         → ResponseTells (IsTelling call_id rack) was.up.call_id was.up.id response
     response_tells response came started of_is number status is =
-        let so = response_said configs fair before turn carried keep response came status is in
+        let so = said_reliably configs fair before turn carried keep response came rack.rseq number
+        status is in
+        let reply = so.said.response in
         let begun = subst (IsStartedFor local_config rounds_now was.up.call_id was.up.id)
         (sym so.whole) (started status is) in
         record {
           of_is = of_is;
-          said = said_so configs fair before turn carried keep response came rack.rseq number
-              was.up.call_id was.up.id status is;
+          said = so.said;
           cseq = λ few.
               let own = own_reply configs fair.calls before turn was.up.call_id was.up.id status
-              (tag_of response.from) (tag_of response.to) response.body so.said begun few in
-              let start = own_start was.up.call_id so.said.original few begun in
+              (tag_of response.from) (tag_of response.to) response.body reply begun few in
+              let start = own_start was.up.call_id reply.original few begun in
               let same : begun.request ≡ was.client.request =
               sym (start.same begun.request) ∙ sent.sends begun.request in
-              let method : so.said.original.cseq.method ≡ codes "INVITE" =
-              start.method (top_branch so.said.original) so.said.original.cseq.method
-              (response_key so.said.original status so.said.status_is)
+              let method : reply.original.cseq.method ≡ codes "INVITE" =
+              start.method (top_branch reply.original) reply.original.cseq.method
+              (response_key reply.original status reply.status_is)
               ∙ (ap (λ (m : Message). m.cseq.method) same
               ∙ invites local_config rounds_now (fair.calls turn.side) call_id rack.rseq rack.cseq
               was) in
-              ap (λ (c : CSeq). c.number) (so.said.request.copies.cseq
+              ap (λ (c : CSeq). c.number) (reply.request.copies.cseq
               ∙ (ap (λ (m : Message). m.cseq)
               (own.same (λ cancel. no_cancel (sym cancel ∙ method)))
               ∙ (come_cseq local_config.local begun.request

@@ -5,6 +5,7 @@ use Rattle.std.specs.List.{AllByRecursion}
 use Rattle.std.specs.Option.{option_and_then}
 use Rattle.std.proofs.lemmas.List.{map-append}
 use Rattle.sip_message.specs.declared.id.Id.{Id}
+use Rattle.sip_message.specs.Party.{tag_of}
 use Rattle.sip_message.specs.declared.message.Message.{Message}
 use Rattle.sip_model.specs.Machine.{Timed}
 use Rattle.sip_transactions.specs.declared.output.Kind.{Kind}
@@ -110,23 +111,39 @@ module _ (configs : Side → Config) (fair : IsFair configs) (before : List Turn
 
   -- ---- a response that comes
 
-  pub said_so : (response : Message) → Comes response → (rseq : ℕ)
-      → provisional_number (status_of response.start) response ≡ Some rseq
-      → (call_id : List ℕ) (id : Id) → ResponseTells (Said rseq) call_id id response
-  said_so response comes rseq number call_id id status is =
+  -- the other side said the response that comes, exactly as it is
+  pub record IsReliablySo (response : Message) (rseq status : ℕ) : Type 0 where
+    pub said : SaidReliably configs before turn.side rseq status (tag_of response.from)
+        (tag_of response.to) response.body
+    pub whole : said.response.original ≡ response
+
+  pub said_reliably : (response : Message) → Comes response → (rseq : ℕ)
+      → provisional_number (status_of response.start) response ≡ Some rseq → (status : ℕ)
+      → status_of response.start ≡ Some status → IsReliablySo response rseq status
+  said_reliably response comes rseq number status is =
       let so = response_said configs fair before turn carried keep response comes status is in
       let here : provisional_number (Some status) response ≡ Some rseq =
       ap (λ o. provisional_number o response) (sym is) ∙ number in
       let numbered = ap (provisional_number (Some status)) so.whole ∙ here in
       record {
-        response = so.said;
-        number = numbered;
-        by_user = by_user (configs (peer turn.side)) (rounds_of (peer turn.side) before) response
-            rseq status response.body here so.said.answered;
-        pracked = prack_said configs before turn.side (fair.calls (peer turn.side))
-            (inputs_unchanged fair.transactions configs fair.addresses before carried keep
-            (peer turn.side)) so.said.original so.said.said status rseq so.said.status_is numbered;
+        said = record {
+          response = so.said;
+          number = numbered;
+          by_user = by_user (configs (peer turn.side)) (rounds_of (peer turn.side) before)
+              response rseq status response.body here so.said.answered;
+          pracked = prack_said configs before turn.side (fair.calls (peer turn.side))
+              (inputs_unchanged fair.transactions configs fair.addresses before carried keep
+              (peer turn.side)) so.said.original so.said.said status rseq so.said.status_is
+              numbered;
+        };
+        whole = so.whole;
       }
+
+  said_so : (response : Message) → Comes response → (rseq : ℕ)
+      → provisional_number (status_of response.start) response ≡ Some rseq
+      → (call_id : List ℕ) (id : Id) → ResponseTells (Said rseq) call_id id response
+  said_so response comes rseq number call_id id status is =
+      (said_reliably response comes rseq number status is).said
 
   module _ (calls : Calls) (invite : AnInvite) (life : DialogReference) where
     chosen : (b : Bool) (response : Message) → Comes response → (rseq : ℕ)
