@@ -134,7 +134,8 @@ pub fn pracks_follow_responses(one: Config, other: Config)
 /// In such a conversation, if the user is told of a reliable provisional response with an RSeq above
 /// 1, he was told of one with RSeq 1 in the turns before, under the Call-ID of that response. The
 /// other side said it with the number of that response's CSeq, if the rounds of the side that is
-/// told are counted as above (RFC 3262, sections 3 and 4).
+/// told are counted as above (RFC 3262, sections 3 and 4). The law doesn't say that both were to one
+/// INVITE in one dialog.
 pub fn the_first_is_told_first(one: Config, other: Config)
     ensures { (turns : List Turn) → Carried (of_sides one other) turns
         → CallsKeepRules (of_sides one other) turns
