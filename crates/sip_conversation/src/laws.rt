@@ -60,9 +60,9 @@ pub fn calls_hear_unchanged(one: Config, other: Config)
 /// section 4). In the turns before the one in which the user is told, the other side said a
 /// reliable provisional response with this RSeq and with the status, the tags and the body that are
 /// told. Its user gave the command to respond with that status and body. If the RSeq is above 1,
-/// this side said in those turns, in the dialog of that response, a PRACK whose RAck has RSeq 1, the
-/// response's CSeq number and INVITE (RFC 3262, section 7.2). The law doesn't say that the response was to this INVITE, or that
-/// the first of these RSeqs is 1.
+/// this side said in those turns, in the dialog of that response, a PRACK whose RAck has RSeq 1,
+/// the response's CSeq number and INVITE (RFC 3262, section 7.2). The law doesn't say that the
+/// response was to this INVITE, or that the first of these RSeqs is 1.
 pub fn provisionals_told_were_said(one: Config, other: Config)
     ensures { (turns : List Turn) → Carried (of_sides one other) turns
         → CallsKeepRules (of_sides one other) turns
@@ -131,11 +131,11 @@ pub fn pracks_follow_responses(one: Config, other: Config)
     laws_of_phases(&calls_of_other);
 }
 
-/// In such a conversation, if the user is told of a reliable provisional response with an RSeq above
-/// 1, he was told of one with RSeq 1 in the turns before, under the Call-ID of that response. The
-/// other side said it with the number of that response's CSeq, if the rounds of the side that is
-/// told are counted as above (RFC 3262, sections 3 and 4). The law doesn't say that both were to one
-/// INVITE in one dialog.
+/// In such a conversation, if the user is told of a reliable provisional response with an RSeq
+/// above 1, he was told of one with RSeq 1 in the turns before, under the Call-ID of that response.
+/// The other side said it with the number of that response's CSeq, if the rounds of the side that
+/// is told are counted as above (RFC 3262, sections 3 and 4). The law doesn't say that both were to
+/// one INVITE in one dialog.
 pub fn the_first_is_told_first(one: Config, other: Config)
     ensures { (turns : List Turn) → Carried (of_sides one other) turns
         → CallsKeepRules (of_sides one other) turns
