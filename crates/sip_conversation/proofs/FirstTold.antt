@@ -1,4 +1,4 @@
--- Where the user is told of a reliable provisional response with an RSeq above 1, he was told of the
+-- Where the user is told of a reliable provisional response with an RSeq above 1, he was told of
 -- one with RSeq 1 before.
 use Rattle.std.proofs.Common.{◌≡◌, ◌⊎◌, inl, inr, ℕ, ◌<◌, Bool, true, false, cond, List, [], ◌∷◌, ◌++◌, map, refl, sym, ap, ◌∙◌, subst, append-nil, append_assoc, ⊎_elim}
 use Rattle.std.specs.Prelude.{codes}
@@ -108,7 +108,10 @@ module _ (configs : Side → Config) where
         → IsAfterTheFirst configs turns s rseq one
     notice_after rseq
         (out.Notice (notice.Response call_id id status local_tag remote_tag body)) said =
-        record { said = said; first = λ more. told_first said.response.original (said.pracked more) }
+        record {
+          said = said;
+          first = λ more. told_first said.response.original (said.pracked more);
+        }
     notice_after rseq (out.Notice (notice.Request call_id id method local_tag remote_tag body))
         said = absurd said
     notice_after rseq (out.Notice (notice.Ack call_id id body)) said = absurd said

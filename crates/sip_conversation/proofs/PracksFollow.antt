@@ -227,10 +227,10 @@ module _ (config : Config) (rounds : List Round)
       invites : was.client.request.cseq.method ≡ codes "INVITE"
       invites =
           let Came = IsOrigin config rounds call_id in
-          let parts = all_of_parts (λ (timed : Timed CallItem). InputComes calls call_id Came timed.input) was.before
-          (was.timed ∷ was.after)
-          (subst (AllByRecursion (λ (timed : Timed CallItem). InputComes calls call_id Came timed.input)) was.are
-          (inputs_come config rounds call_id)) in
+          let TimedIs : Timed CallItem → Type 0 = λ timed.
+          InputComes calls call_id Came timed.input in
+          let parts = all_of_parts TimedIs was.before (was.timed ∷ was.after)
+          (subst (AllByRecursion TimedIs) was.are (inputs_come config rounds call_id)) in
           let own = subst (HeldOwn calls call_id Came) was.held
           (held_own calls call_id Came None was.before parts.0 tt tt) in
           let its : IsOwnClient was.client = subst (λ o. IfSome o IsOwnClient) was.client_is
@@ -400,7 +400,8 @@ module _ (configs : Side → Config) (fair : IsFair configs) (before : List Turn
         (step_fits (IsTelling call_id rack) (calls_of local_config) (Some was.call)
         was.timed.input was.timed.moment fits) one.1)
 
-  said_follows : Carried configs (before ++ turn ∷ []) → CallsKeepRules configs (before ++ turn ∷ [])
+  said_follows : Carried configs (before ++ turn ∷ [])
+      → CallsKeepRules configs (before ++ turn ∷ [])
       → (prack : Message) → IsSaid local_config rounds_now prack
       → is_request_message prack ≡ true → prack.cseq.method ≡ codes "PRACK" → (rack : RAck)
       → prack.rack ≡ Some rack → FollowsResponse configs before turn prack.call_id rack
@@ -450,7 +451,8 @@ pub pracks_follow : (configs : Side → Config) → IsFair configs → (turns : 
     → Carried configs turns → CallsKeepRules configs turns → PracksFollowResponses configs turns
 pracks_follow configs fair turns carried keep before after turn same prack said asks method rack
     is =
-    said_follows configs fair before turn (carried_before configs turns before after turn same carried)
+    said_follows configs fair before turn
+    (carried_before configs turns before after turn same carried)
     (keeps_before configs turns before after turn same keep)
     (carried_to configs turns before after turn same carried)
     (keeps_to configs turns before after turn same keep) prack said asks method rack is

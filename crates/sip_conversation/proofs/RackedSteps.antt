@@ -322,14 +322,15 @@ module _ (Fact : RAck → Type 0) where
         prack = tt;
         told = tt;
       })
-      (λ more. either (IsReplied Told) (final && is_some answer) (success_again answer client dialogs)
-      third (λ again. again_racked Told answer client dialogs)
+      (λ more. either (IsReplied Told) (final && is_some answer)
+      (success_again answer client dialogs) third (λ again. again_racked Told answer client dialogs)
       (λ new. either (IsReplied Told) (final && has_dialog client dialogs)
       (first_success reply client dialogs) fourth
       (λ success. asks_racked Told (Ack client.id client.request.cseq.number) reply client
       (accepted reply client)
       (option_map_or (success_in (is_initial client) reply.response)
-      (lookup (is_dialog_id reply.name) dialogs) (dialog_made_by reply client)) dialogs (λ told. tt))
+      (lookup (is_dialog_id reply.name) dialogs) (dialog_made_by reply client)) dialogs
+      (λ told. tt))
       (λ none. either (IsReplied Told) final late fifth
       (λ over. record { outs = (tt, tt); prack = tt; told = tt })
       (λ provisional. either (IsReplied Told) is_told told (dialog_response reply client dialogs)

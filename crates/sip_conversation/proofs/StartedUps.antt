@@ -119,7 +119,8 @@ module _ (branch method : List ℕ) (all : List (Timed Input)) where
   sends_started to None = tt
   sends_started to (Some bytes) = (tt, tt)
 
-  last_started : (context : Context) (made : Option (List ℕ)) → WasStarted context.id context.call_id
+  last_started : (context : Context) (made : Option (List ℕ))
+      → WasStarted context.id context.call_id
       → WasStarted (last_of made context).id (last_of made context).call_id
   last_started context None started = started
   last_started context (Some bytes) started = started

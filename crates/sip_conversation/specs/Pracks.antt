@@ -19,8 +19,8 @@ use Rattle.sip_conversation.specs.Provisionals.{SaidReliably, told_reliably}
 use Rattle.sip_conversation.specs.Replies.{AreCounted}
 
 -- Up to a turn's end the user of its side was told of a response of this call. The other side said
--- it in the turns before, as a reliable provisional one with the RSeq of this RAck. If the rounds of
--- the turn's side are counted, its CSeq has the number of the RAck. The RAck's method is INVITE.
+-- it in the turns before, as a reliable provisional one with the RSeq of this RAck. If the rounds
+-- of the turn's side are counted, its CSeq has the number of the RAck. The RAck's method is INVITE.
 pub record FollowsResponse (configs : Side → Config) (before : List Turn) (turn : Turn)
     (call_id : List ℕ) (rack : RAck) : Type 0 where
   pub id : Id
@@ -47,8 +47,8 @@ PracksFollowResponses configs turns =
 
 -- ---- the first is told before the others
 
--- In one of these turns the user of this side was told of a response of RSeq 1, to the INVITE that
--- this response answers: one with its Call-ID and the number of its CSeq.
+-- In one of these turns the user of this side was told of a reliable provisional response of RSeq 1,
+-- under the Call-ID of this response, and to an INVITE with the number of its CSeq.
 pub record WasToldFirst (configs : Side → Config) (turns : List Turn) (side : Side)
     (response : Message) : Type 0 where
   pub before : List Turn
