@@ -2,7 +2,7 @@
 -- held dialog, or for which that response asks; then the user is told of that response.
 use Rattle.std.proofs.Common.{◌≡◌, ℕ, ◌+◌, Bool, true, false, ◌||◌, ◌&&◌, not, ◌==◌, List, [], ◌∷◌, ◌++◌, refl, sym, ap, ◌∙◌, subst}
 use Rattle.std.proofs.lemmas.List.Folds.{list_any-append}
-use Rattle.std.specs.Prelude.{Contains, Option, None, Some, IfSome, codes, filter, find, fold, is_some, length, unwrap_or, if◌then◌else◌}
+use Rattle.std.specs.Prelude.{Contains, Option, None, Some, codes, filter, find, fold, is_some, length, unwrap_or, if◌then◌else◌}
 use Rattle.std.specs.List.{AllByRecursion, list_any}
 use Rattle.std.specs.Map.{lookup, remove_entry, set_value}
 use Rattle.std.specs.Option.{option_map_or}

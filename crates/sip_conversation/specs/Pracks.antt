@@ -47,8 +47,8 @@ PracksFollowResponses configs turns =
 
 -- ---- the first is told before the others
 
--- In one of these turns the user of this side was told of a reliable provisional response of RSeq 1,
--- under the Call-ID of this response, and to an INVITE with the number of its CSeq.
+-- In one of these turns the user of this side was told of a reliable provisional response of RSeq
+-- 1, under the Call-ID of this response, and to an INVITE with the number of its CSeq.
 pub record WasToldFirst (configs : Side → Config) (turns : List Turn) (side : Side)
     (response : Message) : Type 0 where
   pub before : List Turn
