@@ -1,7 +1,7 @@
 """The SVG picture of a ladder.
 
-Requests are blue, responses green, repeats orange and dashed, and red is what was dropped or is no
-message. What is only computed, not captured, is pale. Texts can be selected, and each arrow has its
+Requests are blue, responses green, repeats orange and dashed. What was dropped, or isn't a message,
+is red. What is only computed, not captured, is pale. Texts can be selected, and each arrow has its
 whole label as a title.
 """
 
