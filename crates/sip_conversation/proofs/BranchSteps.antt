@@ -214,7 +214,7 @@ module _ (seed call_id : List ℕ) (Came : Id → Type 0) where
 
   -- ---- the end of a request
 
-  over_silent : (client : Client) (ends : Bool) (dialogs : Dialogs)
+  pub over_silent : (client : Client) (ends : Bool) (dialogs : Dialogs)
       → starts (request_over client ends dialogs).1 ≡ []
   over_silent client ends dialogs =
       let early = early_ended client.id dialogs in
@@ -281,7 +281,7 @@ module _ (seed call_id : List ℕ) (Came : Id → Type 0) where
       (dialog_made_by reply client)
       (λ held is. success_dialog initial reply.response held
       (dialog_found reply.name dialogs own held is))
-      (λ none. its.call))
+      (λ none. its.own.call))
 
   reliable_own : (reply : Reply) (client : Client) (dialogs : Dialogs) (held : HeldDialog)
       (rseq : ℕ) → ComesOf reply.event → OwnRequest client → IsDialogOf call_id held
@@ -313,7 +313,7 @@ module _ (seed call_id : List ℕ) (Came : Id → Type 0) where
       (kept client _ (notice_of reply ∷ []))
       (λ rseq is. reliable_own reply client dialogs held rseq comes its
       (made_or found (dialog_made_by reply client)
-      (found_one (IsDialogOf call_id) (is_dialog_id reply.name) dialogs own) its.call))
+      (found_one (IsDialogOf call_id) (is_dialog_id reply.name) dialogs own) its.own.call))
       (λ none. record { request = its; outs = (tt, tt); prack = tt })
     where
       made_or : (o : Option HeldDialog) (made : HeldDialog) → IfSome o (IsDialogOf call_id)

@@ -1,11 +1,12 @@
 -- What the client side starts has the Call-ID of its call and a branch that an event of the call
 -- made, and is no ACK.
-use Rattle.std.proofs.Common.{◌≡◌, ℕ, Bool, true, false, ◌||◌, List, [], ◌∷◌, ◌++◌, refl, sym, ap, ◌∙◌, subst}
+use Rattle.std.proofs.Common.{◌≡◌, ℕ, Bool, true, false, ◌||◌, List, [], ◌∷◌, ◌++◌, refl, sym, ap, ◌∙◌}
 use Rattle.std.specs.Prelude.{Option, None, Some, codes, fold, take, if◌then◌else◌}
 use Rattle.std.specs.List.{AllByRecursion, slice_get}
 use Rattle.std.specs.Option.{option_map_or}
 use Rattle.std.specs.Str.{bytes_eq}
 use Rattle.std.proofs.lemmas.Bool.{false≢true}
+use Rattle.std.proofs.lemmas.Slice.Eq.{bytes_eq-Decides}
 use Rattle.sip_message.specs.Content.{Content, with_content_of}
 use Rattle.sip_message.specs.Key.{client_key}
 use Rattle.sip_message.specs.TopVia.{top_branch}
@@ -29,6 +30,7 @@ use Rattle.sip_common.specs.declared.command.Plain.{Plain}
 use Rattle.sip_common.specs.declared.command.ProvisionalSupport.{ProvisionalSupport}
 use Rattle.sip_common.specs.declared.command.ProvisionalSupport.TheVariants as support
 use Rattle.sip_common.specs.declared.held_dialog.DialogId.{DialogId}
+use Rattle.sip_common.specs.declared.held_dialog.DialogReference.{DialogReference}
 use Rattle.sip_common.specs.declared.held_dialog.HeldDialog.{HeldDialog}
 use Rattle.sip_common.specs.declared.item.CallOut.{CallOut}
 use Rattle.sip_common.specs.declared.item.CallOut.TheVariants as out
@@ -40,8 +42,10 @@ use Rattle.sip_common.proofs.Starts.{starts}
 use Rattle.sip_clients.specs.Client.{Clients}
 use Rattle.sip_clients.specs.Event.{branch_of}
 use Rattle.sip_clients.specs.Name.{name_of}
-use Rattle.sip_clients.specs.Rules.Requests.{PendingOutcome, cancel_request, has_command, invite_command, method_of, pending_outcome, pending_sent, pending_with, plain_command, refusals_in, request_outside, request_with_next_number, start, with_100rel}
+use Rattle.sip_clients.specs.Rules.Requests.{PendingOutcome, cancel_request, has_command, invite_command, is_invite_kind, method_of, pending_outcome, pending_sent, pending_with, plain_command, refusals_in, request_outside, request_with_next_number, start, with_100rel}
 use Rattle.sip_clients.specs.declared.client.Client.{Client}
+use Rattle.sip_clients.specs.declared.client.RequestKind.{RequestKind}
+use Rattle.sip_clients.specs.declared.client.RequestKind.TheVariants.{InDialog, ReInvite}
 use Rattle.sip_clients.specs.declared.event.Event.{Event}
 
 -- ---- choices
@@ -131,32 +135,38 @@ module _ (seed call_id : List ℕ) (Came : Id → Type 0) where
   abbrev pub HasBranch : List ℕ → Type 0
   HasBranch branch = (id : Id) × Came id × (branch ≡ codes "z9hG4bK" ++ name_of seed id 0)
 
-  pub record IsOwn (message : Message) : Type 0 where
+  -- it is of the call, with the branch of an event: that of its id, unless it is a CANCEL
+  pub record IsOwn (id : Id) (message : Message) : Type 0 where
     pub call : message.call_id ≡ call_id
     pub branch : HasBranch (top_branch message)
     pub method : message.cseq.method ≡ codes "ACK" → ⊥
+    pub event_is : (message.cseq.method ≡ codes "CANCEL" → ⊥) → branch.0 ≡ id
 
   -- ---- what is held and said
 
+  pub record IsOwnOf (id : Id) (kind : RequestKind) (request : Message) : Type 0 where
+    pub own : IsOwn id request
+    pub invites : is_invite_kind kind ≡ true → request.cseq.method ≡ codes "INVITE"
+
   abbrev pub Own : Client → Type 0
-  Own client = IsOwn client.request
+  Own client = IsOwnOf client.id client.kind client.request
 
   abbrev pub AreOwn : Clients → Type 0
   AreOwn clients = AllByRecursion (λ (entry : Id × Client). Own entry.1) clients
 
   -- a transaction is started with such a request, under its branch, its method and its Call-ID
-  pub record IsStarted (key : Key) (of : List ℕ) (message : Message) : Type 0 where
-    pub own : IsOwn message
+  pub record IsStarted (id : Id) (key : Key) (of : List ℕ) (message : Message) : Type 0 where
+    pub own : IsOwn id message
     pub key_is : key ≡ client_key (top_branch message) message.cseq.method
     pub of_is : of ≡ message.call_id
 
-  abbrev pub CommandSays : Command → Type 0
-  CommandSays (order.Start key of message to) = IsStarted key of message
-  CommandSays (order.Answer key message) = Unit {0}
+  abbrev pub CommandSays : Id → Command → Type 0
+  CommandSays id (order.Start key of message to) = IsStarted id key of message
+  CommandSays id (order.Answer key message) = Unit {0}
 
   abbrev pub OutSays : CallOut → Type 0
   OutSays (out.Notice notice) = Unit {0}
-  OutSays (out.Command id command) = CommandSays command
+  OutSays (out.Command id command) = CommandSays id command
   OutSays (out.Direct to bytes) = Unit {0}
 
   abbrev pub Say : List CallOut → Type 0
@@ -181,7 +191,7 @@ module _ (seed call_id : List ℕ) (Came : Id → Type 0) where
       → Done (start done client)
   start_own done client own its = (
     each_inserted Own is_id client.id client its done.0 own.0,
-    both OutSays done.1 _ own.1 (record { own = its; key_is = refl; of_is = refl }, tt),
+    both OutSays done.1 _ own.1 (record { own = its.own; key_is = refl; of_is = refl }, tt),
   )
 
   pub starts_own : (clients : List Client) (done : Clients × List CallOut) → Done done
@@ -192,28 +202,31 @@ module _ (seed call_id : List ℕ) (Came : Id → Type 0) where
 
   -- ---- the requests
 
-  own_branch : (event : Event) → Comes event → HasBranch (branch_of event)
-  own_branch event comes = (
-    event.id,
-    comes.came,
-    made_branch event ∙ ap (λ s. codes "z9hG4bK" ++ name_of s event.id 0) comes.seed_is,
-  )
+  own_branch : (event : Event) → Comes event
+      → branch_of event ≡ codes "z9hG4bK" ++ name_of seed event.id 0
+  own_branch event comes =
+      made_branch event ∙ ap (λ s. codes "z9hG4bK" ++ name_of s event.id 0) comes.seed_is
 
-  like_own : (one other : Message) → IsLike one other → IsOwn other → IsOwn one
-  like_own one other like own = record {
+  like_own : (id : Id) (one other : Message) → IsLike one other → IsOwn id other → IsOwn id one
+  like_own id one other like own = record {
     call = like.call ∙ own.call;
     branch = (own.branch.0, own.branch.1, like.branch ∙ own.branch.2);
     method = λ is. own.method (sym like.method ∙ is);
+    event_is = λ other. own.event_is (λ is. other (like.method ∙ is));
   }
 
   outside_own : (event : Event) (of method uri from to : List ℕ) (routes : List NameAddr)
       → Comes event → of ≡ call_id → (method ≡ codes "ACK" → ⊥)
-      → IsOwn (request_outside event of method uri from to routes)
+      → IsOwn event.id (request_outside event of method uri from to routes)
   outside_own event of method uri from to routes comes is other = record {
     call = is;
-    branch = subst HasBranch (sym (agent_branch event.local (branch_of event)))
-        (own_branch event comes);
+    branch = (
+      event.id,
+      comes.came,
+      agent_branch event.local (branch_of event) ∙ own_branch event comes,
+    );
     method = other;
+    event_is = λ other. refl;
   }
 
   pub invite_own : (event : Event) (invite : Invite) (clients : Clients) → Comes event
@@ -225,13 +238,18 @@ module _ (seed call_id : List ℕ) (Came : Id → Type 0) where
       let support = like_support invite.support _ in
       let content = like_content (with_100rel invite.support _) invite.content in
       start_own (clients, []) _ (own, tt) (record {
-        call = content.call ∙ (support.call ∙ outside.call);
-        branch = (
-          outside.branch.0,
-          outside.branch.1,
-          content.branch ∙ (support.branch ∙ outside.branch.2),
-        );
-        method = λ ack. outside.method (sym support.method ∙ (sym content.method ∙ ack));
+        own = record {
+          call = content.call ∙ (support.call ∙ outside.call);
+          branch = (
+            outside.branch.0,
+            outside.branch.1,
+            content.branch ∙ (support.branch ∙ outside.branch.2),
+          );
+          method = λ ack. outside.method (sym support.method ∙ (sym content.method ∙ ack));
+          event_is = λ other. outside.event_is
+              (λ is. other (content.method ∙ (support.method ∙ is)));
+        };
+        invites = λ is. content.method ∙ support.method;
       })
 
   pub plain_own : (event : Event) (plain : Plain) (clients : Clients) → Comes event
@@ -242,21 +260,33 @@ module _ (seed call_id : List ℕ) (Came : Id → Type 0) where
       let second = bytes_eq plain.method (codes "INVITE") in
       either Done (first || second || bytes_eq plain.method (codes "BYE")) _ _
       (λ bad. (own, (tt, tt)))
-      (λ good. start_own (clients, []) _ (own, tt)
-      (like_own _ _ (like_content _ plain.content)
-      (outside_own event plain.call_id plain.method plain.request_uri plain.from plain.to
-      plain.routes comes is
-      (no_command plain.method (first_false first second
-      (first_false (first || second) (bytes_eq plain.method (codes "BYE")) good))))))
+      (λ good. start_own (clients, []) _ (own, tt) (record {
+        own = like_own event.id _ _ (like_content _ plain.content)
+            (outside_own event plain.call_id plain.method plain.request_uri plain.from plain.to
+            plain.routes comes is
+            (no_command plain.method (first_false first second
+            (first_false (first || second) (bytes_eq plain.method (codes "BYE")) good))));
+        invites = λ is. absurd (false≢true is);
+      }))
 
   pub cancel_own : (id : Id) (invite : Client) → Own invite → Own (cancel_request id invite)
-  cancel_own id invite own = record {
-    call = own.call;
-    branch = subst HasBranch (sym (top_alone invite.request.vias)) own.branch;
-    method = no_cancel;
-  }
+  cancel_own id invite its =
+      let own = its.own in record {
+        own = record {
+          call = own.call;
+          branch = (own.branch.0, own.branch.1, top_alone invite.request.vias ∙ own.branch.2);
+          method = no_cancel;
+          event_is = λ other. absurd (other refl);
+        };
+        invites = λ is. absurd (false≢true is);
+      }
 
   -- ---- in a dialog
+
+  re_invites : (b : Bool) (reference : DialogReference)
+      → is_invite_kind (if b then ReInvite reference else InDialog reference) ≡ true → b ≡ true
+  re_invites true reference is = refl
+  re_invites false reference is = is
 
   pub next_own : (event : Event) (name : DialogId) (method : List ℕ) (rack : Option RAck)
       (content : Content) (held : HeldDialog) → Comes event → IsDialogOf call_id held
@@ -264,11 +294,20 @@ module _ (seed call_id : List ℕ) (Came : Id → Type 0) where
       → Own (request_with_next_number event name method rack content held)
   next_own event name method rack content held comes its other =
       let like = like_content _ content in record {
-        call = like.call ∙ its;
-        branch = subst HasBranch
-            (sym (like.branch ∙ agent_branch event.local (branch_of event)))
-            (own_branch event comes);
-        method = λ ack. other (sym like.method ∙ ack);
+        own = record {
+          call = like.call ∙ its;
+          branch = (
+            event.id,
+            comes.came,
+            like.branch
+                ∙ (agent_branch event.local (branch_of event) ∙ own_branch event comes),
+          );
+          method = λ ack. other (sym like.method ∙ ack);
+          event_is = λ other. refl;
+        };
+        invites = λ is. like.method ∙ (bytes_eq-Decides method (codes "INVITE")).0
+            (re_invites (bytes_eq method (codes "INVITE"))
+            (record { name = name; created_by = held.created_by }) is);
       }
 
   pub record IsPaid (done : PendingOutcome) : Type 0 where

@@ -23,6 +23,7 @@ use Rattle.sip_served.specs.State.{ServedTaken}
 use Rattle.sip_clients.specs.Rules.Ends.{client_tick}
 use Rattle.sip_clients.specs.declared.event.Event.{Event}
 use Rattle.sip_calls.specs.Call.{CallItem, CallTaken, Taken, call_machine, call_step, call_tick, event_of, item_of_call, kept, made_tag, new_call, received, side_of}
+use Rattle.sip_calls.specs.Histories.{call_from}
 use Rattle.sip_calls.specs.OwnCall.{AreSidesOf, IsCallOf, IsInputOf}
 use Rattle.sip_calls.specs.Provisionals.{event_in, event_of_kind}
 use Rattle.sip_calls.specs.Sides.{holds_any}
@@ -34,7 +35,7 @@ use Rattle.sip_conversation.proofs.Branches.{AreOwn, Comes, Own, OutSays, invite
 use Rattle.sip_conversation.proofs.BranchSteps.{ack_own, cancel_taken, lost_own, prack_own, received_own, request_own}
 
 module _ (calls : Calls) (call_id : List ℕ) (Came : Id → Type 0) where
-  abbrev OwnClients : Call → Type 0
+  abbrev pub OwnClients : Call → Type 0
   OwnClients call = AreOwn calls.seed call_id Came call.clients
 
   abbrev pub OutIsOwn : CallOut → Type 0
@@ -134,7 +135,7 @@ module _ (calls : Calls) (call_id : List ℕ) (Came : Id → Type 0) where
   new_sides : (local : Addr) → AreSidesOf call_id (new_call local)
   new_sides local = record { state = empty_is call_id local; clients = tt }
 
-  abbrev HeldOwn : Option Call → Type 0
+  abbrev pub HeldOwn : Option Call → Type 0
   HeldOwn held = IfSome held OwnClients
 
   abbrev After : Taken → Type 0
@@ -187,3 +188,15 @@ module _ (calls : Calls) (call_id : List ℕ) (Came : Id → Type 0) where
       (comes.0).0 in
       both OutIsOwn step.1 (outputs_from (call_machine calls) call_id step.0 inputs) after.1
       (all_own step.0 inputs comes.1 later.0 after.0)
+
+  -- what is held after them is of its own
+  pub held_own : (state : Option Call) (inputs : List (Timed CallItem))
+      → AllByRecursion (λ timed. InputComes timed.input) inputs → IsCallOf call_id state
+      → HeldOwn state → HeldOwn (call_from calls state inputs)
+  held_own state [] comes of own = own
+  held_own state (timed ∷ inputs) comes of own =
+      let step = call_step calls state timed.input timed.moment in
+      let after = step_own state timed.input timed.moment (comes.0) of own in
+      let later = each_notice_is_own calls call_id state timed.input timed.moment of
+      (comes.0).0 in
+      held_own step.0 inputs comes.1 later.0 after.0

@@ -1,4 +1,4 @@
--- A call tells its user of a response only if one comes up, with its Call-ID, status, tags and
+-- A call tells its user of a response only if one comes up, with its Call-ID, id, status, tags and
 -- body.
 use Rattle.sip_calls.specs.Call.{CallItem, Taken, call_machine, call_step, event_of, made_tag, new_call}
 use Rattle.sip_calls.specs.Sides.{by_server, side_of}
@@ -59,11 +59,12 @@ any_kind (kind.Response response) = tt
 any_kind kind.Timeout = tt
 any_kind kind.Failed = tt
 
-module _ (Tells : List ℕ → ℕ → List ℕ → List ℕ → List ℕ → Type 0) where
-  -- this is true of the Call-ID, status, tags and body of each response that the user is told of
+module _ (Tells : List ℕ → Id → ℕ → List ℕ → List ℕ → List ℕ → Type 0) where
+  -- this is true of the Call-ID, id, status, tags and body of each response that the user is told
+  -- of
   abbrev pub NoticeTells : Notice → Type 0
   NoticeTells (notice.Response call_id id status local_tag remote_tag body) =
-      Tells call_id status local_tag remote_tag body
+      Tells call_id id status local_tag remote_tag body
   NoticeTells _ = Unit {0}
 
   abbrev pub OutFits : CallOut → Type 0
@@ -136,25 +137,25 @@ module _ (Tells : List ℕ → ℕ → List ℕ → List ℕ → List ℕ → Ty
 
   -- ---- a call
 
-  -- this is true of a response that comes up under a Call-ID, if it has a status
-  abbrev pub ResponseTells : List ℕ → Message → Type 0
-  ResponseTells call_id response = (status : ℕ) → status_of response.start ≡ Some status
-      → Tells call_id status (tag_of response.from) (tag_of response.to) response.body
+  -- this is true of a response that comes up under a Call-ID and an id, if it has a status
+  abbrev pub ResponseTells : List ℕ → Id → Message → Type 0
+  ResponseTells call_id id response = (status : ℕ) → status_of response.start ≡ Some status
+      → Tells call_id id status (tag_of response.from) (tag_of response.to) response.body
 
   -- this is true of a response that comes up
-  abbrev pub KindTells : List ℕ → Kind → Type 0
-  KindTells call_id (kind.Request request reply_to) = Unit {0}
-  KindTells call_id (kind.Ack ack) = Unit {0}
-  KindTells call_id (kind.Response response) = ResponseTells call_id response
-  KindTells call_id kind.Timeout = Unit {0}
-  KindTells call_id kind.Failed = Unit {0}
+  abbrev pub KindTells : List ℕ → Id → Kind → Type 0
+  KindTells call_id id (kind.Request request reply_to) = Unit {0}
+  KindTells call_id id (kind.Ack ack) = Unit {0}
+  KindTells call_id id (kind.Response response) = ResponseTells call_id id response
+  KindTells call_id id kind.Timeout = Unit {0}
+  KindTells call_id id kind.Failed = Unit {0}
 
   abbrev pub InputFits : Option CallItem → Type 0
   InputFits None = Unit {0}
-  InputFits (Some (event, Up up)) = KindTells up.call_id up.kind
+  InputFits (Some (event, Up up)) = KindTells up.call_id up.id up.kind
   InputFits (Some (event, User command)) = Unit {0}
 
-  up_fits : (call : Call) (event : Event) (up : AnUp) (k : Kind) → KindTells up.call_id k
+  up_fits : (call : Call) (event : Event) (up : AnUp) (k : Kind) → KindTells up.call_id up.id k
       → Fit (up_taken call event up k).1
   up_fits call event up (kind.Request request reply_to) tells =
       served_told call event up (kind.Request request reply_to)

@@ -25,6 +25,7 @@ pub mod OnceOnly
 pub mod Branches
 pub mod BranchSteps
 pub mod CallBranches
+pub mod OneStart
 pub mod Origins
 pub mod OneCallId
 pub mod ToldCallId
@@ -32,3 +33,9 @@ pub mod PracksCame
 pub mod PracksServed
 pub mod PracksOfCalls
 pub mod PracksSaid
+pub mod OwedTold
+pub mod RackedSteps
+pub mod RackedCalls
+pub mod ClientsSent
+pub mod PracksFollow
+pub mod FirstTold

@@ -1,7 +1,7 @@
 -- A request that was said, and a transaction that was started with its branch and its method, have
--- one Call-ID.
+-- one Call-ID. Unless it is a CANCEL, the transaction was started with that request.
 use Rattle.std.proofs.Common.{◌≡◌, ℕ, suc, zero, ◌/◌, ◌%◌, true, false, List, [], ◌∷◌, ◌++◌, drop, refl, sym, ap, ◌∙◌, subst, arith, codes}
-use Rattle.std.specs.Prelude.{Option, None, Some, IsTrue}
+use Rattle.std.specs.Prelude.{Contains, Option, None, Some, IsTrue}
 use Rattle.std.specs.Char.{to_ascii_lowercase}
 use Rattle.std.specs.List.{AllByRecursion}
 use Rattle.std.specs.Str.{str_to_ascii_lowercase}
@@ -53,8 +53,15 @@ use Rattle.sip_conversation.proofs.Bridge.{any_arrival}
 use Rattle.sip_conversation.proofs.CallBranches.{OutIsOwn, all_own}
 use Rattle.sip_conversation.proofs.CallSays.{InputGives, UserGives, all_say}
 use Rattle.sip_conversation.proofs.Longer.{says_longer}
+use Rattle.sip_conversation.proofs.OneStart.{calls_say, one_start, start_id, started_with}
 use Rattle.sip_conversation.proofs.Origins.{IsOrigin, counted, inputs_come, one_call}
 use Rattle.sip_conversation.proofs.Rounds.{ArrivalFits, OutFits, RoundFits, TimedFits, call_says, calls_give, inputs_fit}
+
+-- a transaction with this key was started with this request, by this output
+pub record IsOfStart (key : Key) (request : Message) (out : CallOut) : Type 0 where
+  pub same : (otherwise : Message) → started_with otherwise out ≡ request
+  pub method : (branch method : List ℕ) → key ≡ client_key branch method
+      → method ≡ request.cseq.method
 
 -- ---- branches in lower case
 
@@ -157,8 +164,12 @@ module _ (config : Config)
     rounds = early ++ more
 
     -- a call starts a transaction with this request, which is of its own
-    abbrev IsStartedBy : List ℕ → Key → List ℕ → Message → Type 0
+    abbrev IsStartedBy : List ℕ → Id → Key → List ℕ → Message → Type 0
     IsStartedBy call_id = IsStarted config.seed call_id (IsOrigin config rounds call_id)
+
+    -- what all calls give
+    abbrev given_out : List CallOut
+    given_out = calls_give config config.first no_past rounds
 
     out_own : (out : CallOut) → (says : CallSays config rounds out)
         → OutIsOwn (calls_of config) says.0 (IsOrigin config rounds says.0) out
@@ -173,23 +184,31 @@ module _ (config : Config)
 
     -- ---- what a transaction is started with
 
+    -- some call starts it
+    record StartedSo (id : Id) (key : Key) (of : List ℕ) (message : Message) (to : Addr) : Type 0
+      where
+        pub call_id : List ℕ
+        pub by : IsStartedBy call_id id key of message
+        pub among : Contains given_out (call_out.Command id (order.Start key of message to))
+
     abbrev StartFits : Key → Input → Type 0
     StartFits key (input.Receive id message reply_to) = Unit {0}
-    StartFits key (input.Start id of message to) = (call_id : List ℕ)
-        × IsStartedBy call_id key of message
+    StartFits key (input.Start id of message to) = StartedSo id key of message to
     StartFits key (input.Answer id message) = Unit {0}
     StartFits key (input.Failed id) = Unit {0}
 
-    out_fits : (out : CallOut) → CallSays config rounds out → OutFits config StartFits out
-    out_fits (call_out.Notice notice) says = tt
-    out_fits (call_out.Command id (order.Start key of message to)) says =
-        (says.0, out_own (call_out.Command id (order.Start key of message to)) says)
-    out_fits (call_out.Command id (order.Answer key message)) says = tt
-    out_fits (call_out.Direct to bytes) says = tt
+    out_fits : (out : CallOut) → Contains given_out out → OutFits config StartFits out
+    out_fits (call_out.Notice notice) among = tt
+    out_fits (call_out.Command id (order.Start key of message to)) among =
+        let out = call_out.Command id (order.Start key of message to) in
+        let says = call_says config rounds out among in
+        record { call_id = says.0; by = out_own out says; among = among }
+    out_fits (call_out.Command id (order.Answer key message)) among = tt
+    out_fits (call_out.Direct to bytes) among = tt
 
     started_so : (key : Key) (id : Id) (of : List ℕ) (message : Message) (to : Addr)
         → IsGiven config rounds key (input.Start id of message to)
-        → (call_id : List ℕ) × IsStartedBy call_id key of message
+        → StartedSo id key of message to
     started_so key id of message to given =
         each_of (TimedFits config StartFits key) (inputs_of config rounds key)
         (given_at given.0 (input.Start id of message to))
@@ -200,78 +219,118 @@ module _ (config : Config)
         (λ e has id. any_arrival config StartFits (λ id message reply_to. tt) (λ key id. tt) id
         e)))
         (all_of (OutFits config StartFits) (calls_give config config.first no_past rounds)
-        (λ out among. out_fits out (call_says config rounds out among)))) given.1
+        out_fits)) given.1
+
+    -- one output alone starts a transaction under its id
+    pub started_request : (key : Key) (id : Id) (of : List ℕ) (request : Message) (to : Addr)
+        → IsGiven config rounds key (input.Start id of request to) → (out : CallOut)
+        → CallSays config rounds out → start_id out ≡ Some id → IsOfStart key request out
+    started_request key id of request to given out says starts =
+        let started = started_so key id of request to given in
+        record {
+          same = λ otherwise. ap (started_with otherwise)
+              (one_start config rounds id out
+              (call_out.Command id (order.Start key of request to))
+              (calls_say config rounds out says) started.among starts refl);
+          method = λ branch method is. ap method_in (sym is ∙ started.by.key_is);
+        }
 
     -- ---- one branch, one Call-ID
 
     abbrev IsBranch : List ℕ → List ℕ → Type 0
     IsBranch call_id = HasBranch config.seed call_id (IsOrigin config rounds call_id)
 
-    one_branch : (call_id other : List ℕ) (one two : List ℕ) → IsBranch call_id one
-        → IsBranch other two → lower one ≡ lower two → call_id ≡ other
-    one_branch call_id other one two has holds same =
+    -- branches that differ in no letter's case are of one event
+    one_event : (call_id other : List ℕ) (one two : List ℕ) → (has : IsBranch call_id one)
+        → (holds : IsBranch other two) → lower one ≡ lower two → has.0 ≡ holds.0
+    one_event call_id other one two has holds same =
         let here = counted config rounds few call_id has.0 has.1 in
         let there = counted config rounds few other holds.0 holds.1 in
         let names : name_of config.seed has.0 0 ≡ name_of config.seed holds.0 0 =
         same_name (name_of config.seed has.0 0) (name_of config.seed holds.0 0)
         (sym (branch_low config.seed has.0) ∙ (ap lower (sym has.2) ∙ (same ∙ (ap lower holds.2
         ∙ branch_low config.seed holds.0)))) in
-        let ids : has.0 ≡ holds.0 =
         (names_differ config.seed config.seed has.0 holds.0 0 0 here.round there.round here.place
-        there.place (omega arith) (omega arith) names).0 in
-        one_call config rounds call_id other holds.0
-        (subst (IsOrigin config rounds call_id) ids has.1) holds.1
+        there.place (omega arith) (omega arith) names).0
 
     -- ---- a request that was said
 
-    same_call : (message : Message) (key : Key)
+    -- the transaction of this Call-ID was started with it, unless it is a CANCEL
+    pub record IsStartedWith (message : Message) (of : List ℕ) (request : Message) : Type 0 where
+      pub call : message.call_id ≡ of
+      pub same : (message.cseq.method ≡ codes "CANCEL" → ⊥) → message ≡ request
+
+    same_start : (message : Message) (key : Key)
         → key ≡ client_key (top_branch message) message.cseq.method
-        → (one : List ℕ) (of : List ℕ) (request : Message)
-        → IsBranch one (top_branch message) → message.call_id ≡ one
-        → (call_id : List ℕ) → IsStartedBy call_id key of request → message.call_id ≡ of
-    same_call message key is one of request has own call_id started =
+        → (one : List ℕ) (other : Id) (asked : Key) (at : List ℕ) (sent_to : Addr)
+        → IsStartedBy one other asked at message
+        → Contains given_out (call_out.Command other (order.Start asked at message sent_to))
+        → (id : Id) (of : List ℕ) (request : Message) (to : Addr)
+        → StartedSo id key of request to → IsStartedWith message of request
+    same_start message key is one other asked at sent_to by among id of request to started =
+        let there = started.by in
         let lowered : lower (top_branch message) ≡ lower (top_branch request) =
-        ap branch_in (sym is ∙ started.key_is) in
-        own ∙ (one_branch one call_id (top_branch message) (top_branch request) has
-        started.own.branch lowered ∙ (sym started.own.call ∙ sym started.of_is))
+        ap branch_in (sym is ∙ there.key_is) in
+        let methods : message.cseq.method ≡ request.cseq.method =
+        ap method_in (sym is ∙ there.key_is) in
+        let event = one_event one started.call_id (top_branch message) (top_branch request)
+        by.own.branch there.own.branch lowered in
+        let calls : one ≡ started.call_id =
+        one_call config rounds one started.call_id (there.own.branch).0
+        (subst (IsOrigin config rounds one) event (by.own.branch).1) (there.own.branch).1 in
+        record {
+          call = by.own.call ∙ (calls ∙ (sym there.own.call ∙ sym there.of_is));
+          same = λ no_cancel.
+              let ids : other ≡ id =
+              sym (by.own.event_is no_cancel) ∙ (event
+              ∙ there.own.event_is (λ cancel. no_cancel (methods ∙ cancel))) in
+              ap (started_with message)
+              (one_start config rounds id
+              (call_out.Command other (order.Start asked at message sent_to))
+              (call_out.Command id (order.Start key of request to)) among started.among
+              (ap (λ i. Some i) ids) refl);
+        }
 
     no_ack : (message : Message) (key : Key)
         → key ≡ client_key (top_branch message) message.cseq.method
-        → (of : List ℕ) (request : Message) (call_id : List ℕ)
-        → IsStartedBy call_id key of request → message.cseq.method ≡ codes "ACK" → ⊥
-    no_ack message key is of request call_id started ack =
+        → (of : List ℕ) (request : Message) (call_id : List ℕ) (id : Id)
+        → IsStartedBy call_id id key of request → message.cseq.method ≡ codes "ACK" → ⊥
+    no_ack message key is of request call_id id started ack =
         started.own.method (ap method_in (sym started.key_is ∙ is) ∙ ack)
 
-    pub one_call_id : (message : Message) → IsSaid config early message
+    pub one_start_of : (message : Message) → IsSaid config early message
         → is_request_message message ≡ true → IsTrue (is_token message.cseq.method) → (key : Key)
         → key ≡ client_key (top_branch message) message.cseq.method
         → (id : Id) (of : List ℕ) (request : Message) (to : Addr)
-        → IsGiven config rounds key (input.Start id of request to) → message.call_id ≡ of
-    one_call_id message (Asked other (order.Start asked call_id sent at) says same) asks token key
+        → IsGiven config rounds key (input.Start id of request to)
+        → IsStartedWith message of request
+    one_start_of message (Asked other (order.Start asked call_id sent at) says same) asks token key
         is id of request to given =
         let started = started_so key id of request to given in
-        let longer = says_longer config early more
-        (call_out.Command other (order.Start asked call_id sent at)) says in
-        let own = out_own (call_out.Command other (order.Start asked call_id sent at)) longer in
-        same_call message key is longer.0 of request
-        (subst (λ (m : Message). IsBranch longer.0 (top_branch m)) same own.own.branch)
-        (ap (λ (m : Message). m.call_id) (sym same) ∙ own.own.call) started.0 started.1
-    one_call_id message (Asked other (order.Answer asked sent) says same) asks token key is id of
+        let out = call_out.Command other (order.Start asked call_id sent at) in
+        let longer = says_longer config early more out says in
+        let own = out_own out longer in
+        same_start message key is longer.0 other asked call_id at
+        (subst (IsStartedBy longer.0 other asked call_id) same own)
+        (subst (λ (m : Message).
+        Contains given_out (call_out.Command other (order.Start asked call_id m at))) same
+        (calls_say config rounds out longer)) id of request to started
+    one_start_of message (Asked other (order.Answer asked sent) says same) asks token key is id of
         request to given =
         absurd (false≢true (sym (out_replies early
         (call_out.Command other (order.Answer asked sent)) says)
         ∙ (ap is_request_message same ∙ asks)))
-    one_call_id message (Direct at says) asks token key is id of request to given =
+    one_start_of message (Direct at says) asks token key is id of request to given =
         let started = started_so key id of request to given in
         let ack = out_replies early (call_out.Direct at (written message)) says in
-        absurd (no_ack message key is of request started.0 started.1
+        absurd (no_ack message key is of request started.call_id id started.by
         (is_ack message ack.0 asks token (ack.2).request (ack.2).method ack.1))
-    one_call_id message (Trying of_key other got reply_to received asked same) asks token key is
+    one_start_of message (Trying of_key other got reply_to received asked same) asks token key is
         id of request to given =
         absurd (false≢true (sym (ap is_request_message same) ∙ asks))
-    one_call_id message
+    one_start_of message
         (Acknowledges of_key other answered call_id invite response at reply_to begun heard same)
         asks token key is id of request to given =
         let started = started_so key id of request to given in
-        absurd (no_ack message key is of request started.0 started.1
+        absurd (no_ack message key is of request started.call_id id started.by
         (ap (λ (m : Message). m.cseq.method) same))

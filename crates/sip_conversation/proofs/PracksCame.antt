@@ -1,6 +1,6 @@
--- What a held request keeps: where responses above RSeq 1 may go out to it, a PRACK came whose RAck
--- has RSeq 1 and the CSeq of that request.
-use Rattle.std.proofs.Common.{◌≡◌, ℕ, ◌+◌, ◌<◌, Bool, true, false, ◌||◌, ◌&&◌, not, ◌==◌, cond, List, [], ◌∷◌, ◌++◌, map, refl, sym, ap, ◌∙◌, subst, arith}
+-- What a held request keeps: where responses above RSeq 1 may go out to it, a PRACK came in its
+-- dialog whose RAck has RSeq 1 and the CSeq of that request.
+use Rattle.std.proofs.Common.{◌≡◌, ℕ, ◌+◌, ◌<◌, Bool, true, false, ◌||◌, ◌&&◌, not, ◌==◌, cond, List, [], ◌∷◌, ◌++◌, map, refl, sym, ap, ◌∙◌, arith}
 use Rattle.std.specs.Prelude.{IfSome, Option, None, Some, codes, filter, is_none, is_some, length, nat_le, nat_lt, if◌then◌else◌}
 use Rattle.std.specs.List.{AllByRecursion, flat_map, list_any}
 use Rattle.std.specs.Option.{option_map_or}
@@ -8,8 +8,8 @@ use Rattle.std.proofs.lemmas.Bool.{false≢true}
 use Rattle.std.proofs.lemmas.Grind.{common_steps}
 use Rattle.std.proofs.lemmas.List.Folds.{list_any-append}
 use Rattle.sip_message.specs.Content.{with_content_of}
-use Rattle.sip_message.specs.Response.{response_of}
-use Rattle.sip_message.specs.declared.cseq.CSeq.{CSeq}
+use Rattle.sip_message.specs.Party.{tag_of}
+use Rattle.sip_message.specs.Response.{answering_to, response_of}
 use Rattle.sip_message.specs.declared.key.Key.{Key}
 use Rattle.sip_dialog.specs.Request.{contact_of}
 use Rattle.sip_transactions.specs.declared.input.Command.TheVariants as order
@@ -24,7 +24,8 @@ use Rattle.sip_reliable.specs.Provisional.{Provisional, is_given_up, is_late, is
 use Rattle.sip_reliable.specs.declared.provisional.TheConstants.{MOST_WAITING}
 use Rattle.sip_common.specs.Dialogs.{Dialogs, lives}
 use Rattle.sip_common.specs.Refusal.{first_refusal}
-use Rattle.sip_common.specs.Requests.{is_final, is_invite, is_success}
+use Rattle.sip_common.specs.Requests.{dialog_id_of, dialog_id_of_tags, is_final, is_invite, is_success}
+use Rattle.sip_common.specs.declared.held_dialog.DialogReference.{DialogReference}
 use Rattle.sip_common.specs.declared.command.Respond.{Respond}
 use Rattle.sip_common.specs.declared.refusal.Refusal.TheVariants as why
 use Rattle.sip_common.proofs.Each.{both, filtered}
@@ -32,10 +33,11 @@ use Rattle.sip_served.specs.declared.held_request.HeldRequest.{HeldRequest}
 use Rattle.sip_served.specs.declared.held_request.Success.{Success}
 use Rattle.sip_served.specs.declared.provisionals.ReliableResponse.{ReliableResponse}
 use Rattle.sip_served.specs.Rules.Arrivals.{after_487, after_ack, after_prack}
-use Rattle.sip_served.specs.Rules.Responses.{held_after, is_dialog_response, is_reliable, is_sent_reliably, may_be_reliable, provisional_sent, response_refusal, response_sent, success_sent}
+use Rattle.sip_served.specs.Rules.Responses.{held_after, is_dialog_response, is_reliable, is_sent_reliably, makes_dialog, may_be_reliable, provisional_sent, response_refusal, response_sent, success_sent}
 use Rattle.sip_served.specs.Rules.Ticks.{provisionals_tick, server_tick, success_at, success_tick}
 use Rattle.sip_served.specs.State.{ServedTaken, State}
 use Rattle.sip_served.proofs.Rseqs.{given_up_numbers, repeated_numbers}
+use Rattle.sip_clients.specs.Clients.{status_of}
 use Rattle.sip_conversation.proofs.Branches.{either}
 
 -- ---- numbers among which one is, or isn't
@@ -93,14 +95,30 @@ pub no_rseq : (rseq : ℕ) → None ≡ Some rseq → ⊥
 no_rseq rseq is = absurd cc
 
 module _ (Brought : Message → Type 0) where
-  -- a PRACK came of the response of RSeq 1 to the INVITE of this number
-  abbrev pub Pracked : ℕ → Type 0
-  Pracked number = (prack : Message) × Brought prack × (prack.cseq.method ≡ codes "PRACK")
-      × (prack.rack ≡ Some record { rseq = 1; cseq = number; method = codes "INVITE" })
+  -- a PRACK came of the response of RSeq 1 to this INVITE, in the dialog that the tag makes
+  pub record Pracked (invite : Message) (tag : List ℕ) : Type 0 where
+    pub prack : Message
+    pub brought : Brought prack
+    pub method : prack.cseq.method ≡ codes "PRACK"
+    pub rack : prack.rack
+        ≡ Some record { rseq = 1; cseq = invite.cseq.number; method = codes "INVITE" }
+    pub name : dialog_id_of_tags (tag_of prack.to) (tag_of prack.from) ≡ dialog_id_of invite tag
+
+  -- one came of the response of RSeq 1 to the INVITE that this response answers
+  pub record PrackedFor (response : Message) : Type 0 where
+    pub invite : Message
+    pub came : Brought invite
+    pub tag : List ℕ
+    pub pracked : Pracked invite tag
+    pub status : ℕ
+    pub status_is : status_of response.start ≡ Some status
+    pub from : response.from ≡ invite.from
+    pub to : response.to ≡ answering_to invite.to status tag
+    pub call_id : response.call_id ≡ invite.call_id
+    pub cseq : response.cseq ≡ invite.cseq
 
   abbrev pub Given : Message → Type 0
-  Given response = (rseq : ℕ) → response.rseq ≡ Some rseq → 1 < rseq
-      → Pracked response.cseq.number
+  Given response = (rseq : ℕ) → response.rseq ≡ Some rseq → 1 < rseq → PrackedFor response
 
   pub none_given : (response : Message) → response.rseq ≡ None → Given response
   none_given response none rseq is more = absurd (no_rseq (response.rseq) none is)
@@ -109,22 +127,31 @@ module _ (Brought : Message → Type 0) where
       no_rseq None none is = absurd cc
       no_rseq (Some other) none is = absurd cc
 
+  -- the name of a dialog is that of this request's answers
+  abbrev pub IsNamed : HeldRequest → Type 0
+  IsNamed held = IfSome held.dialog
+      (λ reference. reference.name ≡ dialog_id_of held.request held.tag)
+
   pub record Holds (held : HeldRequest) : Type 0 where
+    pub came : Brought held.request
+    pub named : IsNamed held
     pub first : held.ledger.first ≡ 1
     pub acked : 1 < held.ledger.next
         → has_number 1 (numbers_of held.ledger.waiting) ≡ false
-        → Pracked held.request.cseq.number
+        → Pracked held.request held.tag
     pub kept : AllByRecursion (λ one. Given one.response) held.provisionals
     pub success : IfSome held.success (λ success. Given success.response)
 
   -- ---- a PRACK, an ACK and a CANCEL
 
   pub prack_holds : (rseq : ℕ) (held : HeldRequest) → Holds held
-      → (rseq ≡ 1 → Pracked held.request.cseq.number) → Holds (after_prack rseq held)
-  prack_holds rseq held holds named = record {
+      → (rseq ≡ 1 → Pracked held.request held.tag) → Holds (after_prack rseq held)
+  prack_holds rseq held holds pracked = record {
+    came = holds.came;
+    named = holds.named;
     first = holds.first;
     acked = λ more none. by_bool (rseq == 1)
-        (λ is. named (equal rseq 1 is))
+        (λ is. pracked (equal rseq 1 is))
         (λ isnt. holds.acked more (sym (but_other 1 rseq isnt held.ledger.waiting) ∙ none));
     kept = filtered (λ one. Given one.response) (λ one. not (one.number == rseq))
         held.provisionals holds.kept;
@@ -133,6 +160,8 @@ module _ (Brought : Message → Type 0) where
 
   pub ack_holds : (held : HeldRequest) → Holds held → Holds (after_ack held)
   ack_holds held holds = record {
+    came = holds.came;
+    named = holds.named;
     first = holds.first;
     acked = holds.acked;
     kept = holds.kept;
@@ -147,6 +176,8 @@ module _ (Brought : Message → Type 0) where
 
   pub cancel_holds : (now : ℕ) (held : HeldRequest) → Holds held → Holds (after_487 now held)
   cancel_holds now held holds = record {
+    came = holds.came;
+    named = holds.named;
     first = holds.first;
     acked = holds.acked;
     kept = holds.kept;
@@ -207,13 +238,24 @@ module _ (Brought : Message → Type 0) where
         then record plain { require = codes "100rel" ∷ []; rseq = Some held.ledger.next }
         else plain) respond.content
 
-    so_numbered : (reliable routed : Bool)
-        → (sent_so reliable routed).cseq ≡ held.request.cseq
+    -- what it copies
+    record CopiesSo (response : Message) : Type 0 where
+      pub status_is : status_of response.start ≡ Some respond.status
+      pub from : response.from ≡ held.request.from
+      pub to : response.to ≡ answering_to held.request.to respond.status held.tag
+      pub call_id : response.call_id ≡ held.request.call_id
+      pub cseq : response.cseq ≡ held.request.cseq
+
+    so_copied : (reliable routed : Bool) → CopiesSo (sent_so reliable routed)
     unfolding with_content_of
-    so_numbered true true = refl
-    so_numbered true false = refl
-    so_numbered false true = refl
-    so_numbered false false = refl
+    so_copied true true =
+        record { status_is = refl; from = refl; to = refl; call_id = refl; cseq = refl }
+    so_copied true false =
+        record { status_is = refl; from = refl; to = refl; call_id = refl; cseq = refl }
+    so_copied false true =
+        record { status_is = refl; from = refl; to = refl; call_id = refl; cseq = refl }
+    so_copied false false =
+        record { status_is = refl; from = refl; to = refl; call_id = refl; cseq = refl }
 
     so_sent : (reliable routed : Bool)
         → (sent_so reliable routed).rseq ≡ (if reliable then Some held.ledger.next else None)
@@ -233,11 +275,25 @@ module _ (Brought : Message → Type 0) where
           same_number held.ledger.next rseq (sym (ap number reliable) ∙ (sym sent ∙ is)) in
           let none : must_wait held.ledger ≡ false =
           sym (ap (λ b. b && must_wait held.ledger) reliable) ∙ sends in
-          subst Pracked (sym (ap (λ (cseq : CSeq). cseq.number)
-          (so_numbered (is_sent_reliably held respond) (is_dialog_response held respond.status))))
-          (holds.acked (omega (arith, next, more)) (none_waits held.ledger holds.first none)))
+          record {
+            invite = held.request;
+            came = holds.came;
+            tag = held.tag;
+            pracked = holds.acked (omega (arith, next, more))
+                (none_waits held.ledger holds.first none);
+            status = respond.status;
+            status_is = copied.status_is;
+            from = copied.from;
+            to = copied.to;
+            call_id = copied.call_id;
+            cseq = copied.cseq;
+          })
           (λ plain. absurd (no_rseq rseq (sym (ap number plain) ∙ (sym sent ∙ is))))
         where
+          copied : CopiesSo (response_sent local held respond)
+          copied =
+              so_copied (is_sent_reliably held respond) (is_dialog_response held respond.status)
+
           sent : (response_sent local held respond).rseq
               ≡ (if is_sent_reliably held respond then Some held.ledger.next else None)
           sent = so_sent (is_sent_reliably held respond) (is_dialog_response held respond.status)
@@ -248,7 +304,7 @@ module _ (Brought : Message → Type 0) where
       more_wait : (sent : Provisional) → sent.number ≡ held.ledger.next
           → 1 < held.ledger.next + 1
           → has_number 1 (numbers_of (held.ledger.waiting ++ sent ∷ [])) ≡ false
-          → Pracked held.request.cseq.number
+          → Pracked held.request held.tag
       more_wait sent is more none =
           let waiting = held.ledger.waiting in
           let parts : (has_number 1 (numbers_of waiting) || ((sent.number == 1) || false)) ≡ false =
@@ -265,11 +321,25 @@ module _ (Brought : Message → Type 0) where
           above next more other = by_bool (next == 1) (λ is. absurd (other (equal next 1 is)))
               (λ isnt. grind (arith, common_steps, more, isnt))
 
+      -- the dialog that it makes has that name
+      answer_named : (event : Id)
+          → IfSome (if makes_dialog held respond.status then Some record {
+            name = dialog_id_of held.request held.tag;
+            created_by = event;
+          } else held.dialog) (λ reference. reference.name ≡ dialog_id_of held.request held.tag)
+      answer_named event =
+          either (λ o. IfSome o (λ (reference : DialogReference).
+          reference.name ≡ dialog_id_of held.request held.tag)) (makes_dialog held respond.status)
+          (Some record { name = dialog_id_of held.request held.tag; created_by = event })
+          held.dialog (λ makes. refl) (λ other. holds.named)
+
       pub answer_holds : (event : Id) (now : ℕ)
           → Holds (held_after event held respond (response_sent local held respond) now)
       answer_holds event now =
           either Holds (is_sent_reliably held respond) _ _
           (λ reliable. record {
+            came = holds.came;
+            named = answer_named event;
             first = holds.first;
             acked = λ more none. more_wait (provisional_sent held.ledger.next
                 (response_sent local held respond) now) refl more none;
@@ -279,6 +349,8 @@ module _ (Brought : Message → Type 0) where
           })
           (λ plain. either Holds (is_final respond.status) _ _
           (λ final. record {
+            came = holds.came;
+            named = answer_named event;
             first = holds.first;
             acked = holds.acked;
             kept = holds.kept;
@@ -288,6 +360,8 @@ module _ (Brought : Message → Type 0) where
                 (λ accepted. answer_given) (λ other. holds.success);
           })
           (λ other. record {
+            came = holds.came;
+            named = answer_named event;
             first = holds.first;
             acked = holds.acked;
             kept = holds.kept;
@@ -363,6 +437,8 @@ module _ (Brought : Message → Type 0) where
   tick_holds now held holds =
       let same = provisionals_same now held holds in
       let success = success_so now held held.success holds.success in record {
+        came = holds.came;
+        named = holds.named;
         first = same.first ∙ holds.first;
         acked = λ more none. holds.acked (omega (arith, more, same.next))
             (sym (ap (has_number 1) same.numbers) ∙ none);

@@ -102,7 +102,7 @@ fronts_apart calls front rest rise =
     (subst IdsRise (filter_map-append (λ (timed : Timed CallItem). request_brought timed.input)
     front rest) rise)))
 
-from_more : (calls : Calls) (call : Option Call) (front : List (Timed CallItem))
+pub from_more : (calls : Calls) (call : Option Call) (front : List (Timed CallItem))
     (timed : Timed CallItem)
     → call_from calls call (front ++ timed ∷ [])
     ≡ (call_step calls (call_from calls call front) timed.input timed.moment).0

@@ -1,12 +1,15 @@
 -- Each step of the server side keeps what a held request keeps of its PRACKs, and gives such
 -- responses alone.
 use Rattle.std.proofs.Common.{◌≡◌, ℕ, Bool, true, false, ◌||◌, ◌&&◌, not, ◌==◌, cond, List, [], ◌∷◌, ◌++◌, map, refl, sym, ap, ◌∙◌, subst, arith}
-use Rattle.std.specs.Prelude.{Contains, Option, None, Some, codes, filter, find, is_none, nat_le, reverse, if◌then◌else◌}
+use Rattle.std.specs.Prelude.{Contains, IfSome, Option, None, Some, codes, filter, find, is_none, length, nat_eq, nat_le, reverse, if◌then◌else◌}
 use Rattle.std.specs.List.{AllByRecursion, list_any}
 use Rattle.std.specs.Map.{values_of}
-use Rattle.std.specs.Option.{option_map_or}
+use Rattle.std.specs.Option.{option_map, option_map_or}
+use Rattle.std.specs.Cmp.Lexicographic.{pointwise}
+use Rattle.std.proofs.lemmas.Bool.{false≢true}
 use Rattle.std.specs.Str.{bytes_eq}
 use Rattle.std.proofs.lemmas.Slice.Eq.{bytes_eq-Decides}
+use Rattle.sip_message.specs.Party.{tag_of}
 use Rattle.sip_message.specs.Response.{response_of}
 use Rattle.sip_message.specs.declared.id.Id.{Id}
 use Rattle.sip_message.specs.declared.message.Message.{Message}
@@ -14,12 +17,14 @@ use Rattle.sip_message.specs.declared.rack.RAck.{RAck}
 use Rattle.sip_transactions.specs.declared.output.Kind.{Kind}
 use Rattle.sip_transactions.specs.declared.output.Kind.TheVariants as kind
 use Rattle.sip_transactions.specs.declared.output.Up.{Up as AnUp}
+use Rattle.sip_transactions.proofs.RowFacts.{and-left, and-right}
 use Rattle.sip_reliable.specs.Ledger.{waits_for}
-use Rattle.sip_common.specs.Dialogs.{Dialogs, dialog_at, dialog_changed, early_ended, ended_at, ended_notice, is_early_of, is_dialog_id}
+use Rattle.sip_common.specs.Dialogs.{Dialogs, dialog_at, dialog_changed, early_ended, ended_at, ended_notice, is_early_of, is_dialog_id, reference_at}
 use Rattle.sip_common.specs.Ids.{is_id}
-use Rattle.sip_common.specs.Requests.{dialog_id_of, has_to_tag, is_bye, is_cancel, is_invite, is_prack, is_success, is_unknown_option}
+use Rattle.sip_common.specs.Requests.{dialog_id_of, dialog_id_of_tags, has_to_tag, is_bye, is_cancel, is_invite, is_prack, is_success, is_unknown_option}
 use Rattle.sip_common.specs.declared.command.Respond.{Respond}
 use Rattle.sip_common.specs.declared.held_dialog.DialogId.{DialogId}
+use Rattle.sip_common.specs.declared.held_dialog.DialogReference.{DialogReference}
 use Rattle.sip_common.specs.declared.held_dialog.HeldDialog.{HeldDialog}
 use Rattle.sip_common.specs.declared.item.CallOut.{CallOut}
 use Rattle.sip_common.specs.declared.item.CallOut.TheVariants as out
@@ -68,13 +73,36 @@ changed_so P test change (x ∷ xs) keeps all =
 same_bytes : (one two : List ℕ) → bytes_eq one two ≡ true → one ≡ two
 same_bytes one two is = (bytes_eq-Decides one two).0 is
 
-three_of : (a b c d e : Bool) → (a && b && c && d && e) ≡ true
-    → (b ≡ true) × (c ≡ true) × (d ≡ true)
-three_of true true true true e all = (refl, refl, refl)
-three_of true true true false e all = absurd cc
-three_of true true false d e all = absurd cc
-three_of true false c d e all = absurd cc
-three_of false b c d e all = absurd cc
+four_of : (a b c d e : Bool) → (a && b && c && d && e) ≡ true
+    → (a ≡ true) × (b ≡ true) × (c ≡ true) × (d ≡ true)
+four_of true true true true e all = (refl, refl, refl, refl)
+four_of true true true false e all = absurd cc
+four_of true true false d e all = absurd cc
+four_of true false c d e all = absurd cc
+four_of false b c d e all = absurd cc
+
+-- dialog IDs that are the same
+same_name : (one two : DialogId) → is_dialog_id one two ≡ true → one ≡ two
+same_name one two is =
+    let local : one.local ≡ two.local =
+    same_bytes one.local two.local (and-left (pointwise nat_eq one.local two.local)
+    (pointwise nat_eq one.remote two.remote) is) in
+    let remote : one.remote ≡ two.remote =
+    same_bytes one.remote two.remote (and-right (pointwise nat_eq one.local two.local)
+    (pointwise nat_eq one.remote two.remote) is) in
+    (λ i. record { local = local i; remote = remote i })
+
+-- inside of a dialog the To tag is its own
+own_name : (request : Message) (made : List ℕ) → has_to_tag request ≡ true
+    → dialog_id_of_tags (tag_of request.to) (tag_of request.from) ≡ dialog_id_of request made
+own_name request made tagged =
+    by_tag (length (tag_of request.to) == 0) tagged
+  where
+    by_tag : (b : Bool) → not b ≡ true
+        → dialog_id_of_tags (tag_of request.to) (tag_of request.from)
+        ≡ dialog_id_of_tags (if b then made else tag_of request.to) (tag_of request.from)
+    by_tag true none = absurd (false≢true none)
+    by_tag false some = refl
 
 -- no two held requests have an id
 abbrev pub Apart : List HeldRequest → Type 0
@@ -121,12 +149,32 @@ module _ (Brought : Message → Type 0) where
 
   -- ---- a request that comes up
 
-  user_done : (state : State) (call_id : List ℕ) (name : DialogId) (arrival : Arrival)
-      → HoldsAll state.requests → Done (request_for_user state call_id name arrival)
-  user_done state call_id name arrival all =
-      let request = arrival.request in record {
+  -- the dialog that a request is in has its name
+  reference_named : (name : DialogId) (dialogs : Dialogs)
+      → IfSome (reference_at name dialogs)
+      (λ (reference : DialogReference). reference.name ≡ name)
+  reference_named name dialogs = by_dialog (dialog_at name dialogs)
+    where
+      reference_to : HeldDialog → DialogReference
+      reference_to held = record { name = name; created_by = held.created_by }
+
+      by_dialog : (o : Option HeldDialog) → IfSome (option_map reference_to o)
+          (λ (reference : DialogReference). reference.name ≡ name)
+      by_dialog None = tt
+      by_dialog (Some held) = refl
+
+  user_done : (state : State) (call_id : List ℕ) (arrival : Arrival) → Brought arrival.request
+      → HoldsAll state.requests
+      → Done (request_for_user state call_id (dialog_id_of arrival.request arrival.tag) arrival)
+  user_done state call_id arrival brought all =
+      let request = arrival.request in
+      let name = dialog_id_of request arrival.tag in record {
         requests = both (Holds Brought) state.requests _ all (
           record {
+            came = brought;
+            named = either (λ o. IfSome o (λ (reference : DialogReference).
+                reference.name ≡ name)) (has_to_tag request) (reference_at name state.dialogs)
+                None (λ tagged. reference_named name state.dialogs) (λ other. tt);
             first = refl;
             acked = λ more none. absurd (omega (arith, more));
             kept = tt;
@@ -143,41 +191,58 @@ module _ (Brought : Message → Type 0) where
       }
 
   -- what the RAck of a PRACK names
-  named_so : (rack : RAck) (name : DialogId) (created_by : Id) (invite : HeldRequest)
-      (prack : Message) → Brought prack → is_prack prack ≡ true → prack.rack ≡ Some rack
-      → is_named_by rack name created_by invite ≡ true → rack.rseq ≡ 1
-      → Pracked Brought invite.request.cseq.number
-  named_so rack name created_by invite prack brought is has named first =
-      let parts = three_of
+  -- the name of the dialog of an INVITE
+  invite_named : (o : Option DialogReference) (name its : DialogId) (created_by : Id)
+      → IfSome o (λ (reference : DialogReference). reference.name ≡ its)
+      → option_map_or (λ (reference : DialogReference). is_dialog_id reference.name name
+      && is_id reference.created_by created_by) o false ≡ true → its ≡ name
+  invite_named None name its created_by named is = absurd (false≢true is)
+  invite_named (Some reference) name its created_by named is =
+      sym named ∙ same_name reference.name name
+      (and-left (is_dialog_id reference.name name) (is_id reference.created_by created_by) is)
+
+  named_so : (rack : RAck) (created_by : Id) (invite : HeldRequest) (prack : Message)
+      (made : List ℕ) → Holds Brought invite → Brought prack → is_prack prack ≡ true
+      → has_to_tag prack ≡ true → prack.rack ≡ Some rack
+      → is_named_by rack (dialog_id_of prack made) created_by invite ≡ true → rack.rseq ≡ 1
+      → Pracked Brought invite.request invite.tag
+  named_so rack created_by invite prack made holds brought is tagged has named first =
+      let name = dialog_id_of prack made in
+      let parts = four_of
       (option_map_or (λ reference. is_dialog_id reference.name name
       && is_id reference.created_by created_by) invite.dialog false)
       (is_invite invite.request) (bytes_eq rack.method invite.request.cseq.method)
       (invite.request.cseq.number == rack.cseq) (waits_for rack.rseq invite.ledger) named in
-      let inviting : is_invite invite.request ≡ true = parts.0 in
+      let inviting : is_invite invite.request ≡ true = parts.1 in
       let method : rack.method ≡ invite.request.cseq.method =
-      same_bytes rack.method invite.request.cseq.method parts.1 in
+      same_bytes rack.method invite.request.cseq.method parts.2 in
       let number : invite.request.cseq.number ≡ rack.cseq =
-      equal invite.request.cseq.number rack.cseq parts.2 in
+      equal invite.request.cseq.number rack.cseq parts.3 in
       let of_invite : rack.method ≡ codes "INVITE" =
-      method ∙ same_bytes invite.request.cseq.method (codes "INVITE") inviting in (
-        prack,
-        brought,
-        same_bytes prack.cseq.method (codes "PRACK") is,
-        has ∙ (λ i. Some record {
+      method ∙ same_bytes invite.request.cseq.method (codes "INVITE") inviting in record {
+        prack = prack;
+        brought = brought;
+        method = same_bytes prack.cseq.method (codes "PRACK") is;
+        rack = has ∙ (λ i. Some record {
           rseq = first i;
           cseq = sym number i;
           method = of_invite i;
-        }),
-      )
+        });
+        name = own_name prack made tagged
+            ∙ sym (invite_named invite.dialog name (dialog_id_of invite.request invite.tag)
+            created_by holds.named parts.0);
+      }
 
-  prack_done : (state : State) (call_id : List ℕ) (name : DialogId) (created_by : Id)
-      (arrival : Arrival) (rack : Option RAck) → arrival.request.rack ≡ rack
-      → Brought arrival.request → is_prack arrival.request ≡ true → Apart state.requests
-      → HoldsAll state.requests
-      → Done (prack_received state call_id name created_by arrival rack)
-  prack_done state call_id name created_by arrival None has brought is apart all =
+  prack_done : (state : State) (call_id : List ℕ) (created_by : Id) (arrival : Arrival)
+      (rack : Option RAck) → arrival.request.rack ≡ rack → Brought arrival.request
+      → is_prack arrival.request ≡ true → has_to_tag arrival.request ≡ true
+      → Apart state.requests → HoldsAll state.requests
+      → Done (prack_received state call_id (dialog_id_of arrival.request arrival.tag) created_by
+      arrival rack)
+  prack_done state call_id created_by arrival None has brought is tagged apart all =
       no_call_done state arrival all
-  prack_done state call_id name created_by arrival (Some rack) has brought is apart all =
+  prack_done state call_id created_by arrival (Some rack) has brought is tagged apart all =
+      let name = dialog_id_of arrival.request arrival.tag in
       found_or Done (prack_for state call_id arrival rack)
       (find (is_named_by rack name created_by) state.requests) (no_such_call state arrival)
       (λ invite found.
@@ -185,9 +250,11 @@ module _ (Brought : Message → Type 0) where
         requests = changed_so (Holds Brought) (has_id invite.id) (after_prack rack.rseq)
             state.requests
             (λ one among here holds. prack_holds Brought rack.rseq one holds
-            (λ first. subst (λ (held : HeldRequest). Pracked Brought held.request.cseq.number)
+            (λ first. subst (λ (held : HeldRequest). Pracked Brought held.request held.tag)
             (sym (apart one invite among so.0 here))
-            (named_so rack name created_by invite arrival.request brought is has so.1 first)))
+            (named_so rack created_by invite arrival.request arrival.tag
+            (each_of (Holds Brought) state.requests invite all so.0) brought is tagged has so.1
+            first)))
             all;
         outs = outs_both (own_response arrival 200 (codes "OK"))
             (out.Notice (notice.Prack call_id invite.id rack.rseq arrival.request.body) ∷ [])
@@ -195,12 +262,14 @@ module _ (Brought : Message → Type 0) where
       })
       (λ none. no_call_done state arrival all)
 
-  dialog_done : (state : State) (call_id : List ℕ) (name : DialogId) (arrival : Arrival)
-      (held_dialog : HeldDialog) → Brought arrival.request → Apart state.requests
-      → HoldsAll state.requests
-      → Done (request_in_dialog state call_id name arrival held_dialog)
-  dialog_done state call_id name arrival held_dialog brought apart all =
+  dialog_done : (state : State) (call_id : List ℕ) (arrival : Arrival)
+      (held_dialog : HeldDialog) → Brought arrival.request → has_to_tag arrival.request ≡ true
+      → Apart state.requests → HoldsAll state.requests
+      → Done (request_in_dialog state call_id (dialog_id_of arrival.request arrival.tag) arrival
+      held_dialog)
+  dialog_done state call_id arrival held_dialog brought tagged apart all =
       let request = arrival.request in
+      let name = dialog_id_of request arrival.tag in
       let noted : State = record state {
         dialogs = dialog_changed name (after_request request) state.dialogs;
       } in
@@ -216,9 +285,9 @@ module _ (Brought : Message → Type 0) where
         outs = own_given arrival 500 (codes "Server Internal Error");
       })
       (λ above. either Done (is_prack request) prack user
-      (λ is. prack_done noted call_id name held_dialog.created_by arrival request.rack refl brought
-      is apart all)
-      (λ other. user_done noted call_id name arrival all))
+      (λ is. prack_done noted call_id held_dialog.created_by arrival request.rack refl brought
+      is tagged apart all)
+      (λ other. user_done noted call_id arrival brought all))
 
   -- ---- a CANCEL, and an ACK
 
@@ -308,12 +377,12 @@ module _ (Brought : Message → Type 0) where
       (λ fine. either Done (has_to_tag request) inside outside
       (λ tagged. found_or Done (request_in_dialog state call_id name arrival)
       (dialog_at name state.dialogs) (no_such_call state arrival)
-      (λ held found. dialog_done state call_id name arrival held brought apart all)
+      (λ held found. dialog_done state call_id arrival held brought tagged apart all)
       (λ none. no_call_done state arrival all))
       (λ untagged. either Done (is_bye request || is_prack request) (no_such_call state arrival)
       (request_for_user state call_id name arrival)
       (λ odd. no_call_done state arrival all)
-      (λ plain. user_done state call_id name arrival all)))))
+      (λ plain. user_done state call_id arrival brought all)))))
 
   abbrev pub KindBrought : Kind → Type 0
   KindBrought (kind.Request request reply_to) = Brought request

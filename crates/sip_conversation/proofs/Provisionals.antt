@@ -5,6 +5,7 @@ use Rattle.std.specs.List.{AllByRecursion}
 use Rattle.std.specs.Option.{option_and_then}
 use Rattle.std.proofs.lemmas.List.{map-append}
 use Rattle.sip_message.specs.declared.id.Id.{Id}
+use Rattle.sip_message.specs.Party.{tag_of}
 use Rattle.sip_message.specs.declared.message.Message.{Message}
 use Rattle.sip_model.specs.Machine.{Timed}
 use Rattle.sip_transactions.specs.declared.output.Kind.{Kind}
@@ -101,8 +102,8 @@ by_user config rounds response rseq status body number (ByAgent among none) =
 
 module _ (configs : Side → Config) (fair : IsFair configs) (before : List Turn) (turn : Turn)
     (carried : Carried configs before) (keep : CallsKeepRules configs before) where
-  abbrev Said : ℕ → List ℕ → ℕ → List ℕ → List ℕ → List ℕ → Type 0
-  Said rseq call_id status local_tag remote_tag body =
+  abbrev Said : ℕ → List ℕ → Id → ℕ → List ℕ → List ℕ → List ℕ → Type 0
+  Said rseq call_id id status local_tag remote_tag body =
       SaidReliably configs before turn.side rseq status local_tag remote_tag body
 
   abbrev Comes : Message → Type 0
@@ -110,41 +111,58 @@ module _ (configs : Side → Config) (fair : IsFair configs) (before : List Turn
 
   -- ---- a response that comes
 
-  said_so : (response : Message) → Comes response → (rseq : ℕ)
-      → provisional_number (status_of response.start) response ≡ Some rseq
-      → (call_id : List ℕ) → ResponseTells (Said rseq) call_id response
-  said_so response comes rseq number call_id status is =
+  -- the other side said the response that comes, exactly as it is
+  pub record IsReliablySo (response : Message) (rseq status : ℕ) : Type 0 where
+    pub said : SaidReliably configs before turn.side rseq status (tag_of response.from)
+        (tag_of response.to) response.body
+    pub whole : said.response.original ≡ response
+
+  pub said_reliably : (response : Message) → Comes response → (rseq : ℕ)
+      → provisional_number (status_of response.start) response ≡ Some rseq → (status : ℕ)
+      → status_of response.start ≡ Some status → IsReliablySo response rseq status
+  said_reliably response comes rseq number status is =
       let so = response_said configs fair before turn carried keep response comes status is in
       let here : provisional_number (Some status) response ≡ Some rseq =
       ap (λ o. provisional_number o response) (sym is) ∙ number in
       let numbered = ap (provisional_number (Some status)) so.whole ∙ here in
       record {
-        response = so.said;
-        number = numbered;
-        by_user = by_user (configs (peer turn.side)) (rounds_of (peer turn.side) before) response
-            rseq status response.body here so.said.answered;
-        pracked = prack_said configs before turn.side (fair.calls (peer turn.side))
-            (inputs_unchanged fair.transactions configs fair.addresses before carried keep
-            (peer turn.side)) so.said.original so.said.said status rseq so.said.status_is numbered;
+        said = record {
+          response = so.said;
+          number = numbered;
+          by_user = by_user (configs (peer turn.side)) (rounds_of (peer turn.side) before)
+              response rseq status response.body here so.said.answered;
+          pracked = prack_said configs before turn.side (fair.calls (peer turn.side))
+              (inputs_unchanged fair.transactions configs fair.addresses before carried keep
+              (peer turn.side)) so.said.original so.said.said status rseq so.said.status_is
+              numbered;
+        };
+        whole = so.whole;
       }
+
+  said_so : (response : Message) → Comes response → (rseq : ℕ)
+      → provisional_number (status_of response.start) response ≡ Some rseq
+      → (call_id : List ℕ) (id : Id) → ResponseTells (Said rseq) call_id id response
+  said_so response comes rseq number call_id id status is =
+      (said_reliably response comes rseq number status is).said
 
   module _ (calls : Calls) (invite : AnInvite) (life : DialogReference) where
     chosen : (b : Bool) (response : Message) → Comes response → (rseq : ℕ)
         → cond b (provisional_number (status_of response.start) response) None ≡ Some rseq
-        → (call_id : List ℕ) → ResponseTells (Said rseq) call_id response
-    chosen true response comes rseq is call_id = said_so response comes rseq is call_id
-    chosen false response comes rseq is call_id = absurd cc
+        → (call_id : List ℕ) (id : Id) → ResponseTells (Said rseq) call_id id response
+    chosen true response comes rseq is call_id id = said_so response comes rseq is call_id id
+    chosen false response comes rseq is call_id id = absurd cc
 
     by_client : (o : Option Client) (id : Id) (response : Message) → Comes response → (rseq : ℕ)
         → option_and_then (number_for invite life id response) o ≡ Some rseq
-        → (call_id : List ℕ) → ResponseTells (Said rseq) call_id response
+        → (call_id : List ℕ) → ResponseTells (Said rseq) call_id id response
     by_client None id response comes rseq is call_id = absurd cc
     by_client (Some client) id response comes rseq is call_id =
         chosen (is_for invite life id client client.kind response) response comes rseq is call_id
+        id
 
     kind_number : (k : Kind) (id : Id) (held : Held) → KindCame Comes k → (rseq : ℕ)
         → number_up invite life id k held ≡ Some rseq
-        → (call_id : List ℕ) → KindTells (Said rseq) call_id k
+        → (call_id : List ℕ) → KindTells (Said rseq) call_id id k
     kind_number (kind.Request request reply_to) id held came rseq is call_id = tt
     kind_number (kind.Ack ack) id held came rseq is call_id = tt
     kind_number (kind.Response response) id held came rseq is call_id =

@@ -42,7 +42,7 @@ use Rattle.sip_conversation.proofs.Answered.{AllCame, IsAnswer, answered}
 use Rattle.sip_conversation.proofs.Fronts.{carried_before, carried_to, keeps_before, keeps_to, peer_rounds}
 use Rattle.sip_conversation.proofs.OneTransaction.{KindCame}
 use Rattle.sip_conversation.proofs.CallOuts.{InputFits, KindTells, NoticeTells, OutFits, all_fit}
-use Rattle.sip_conversation.proofs.ToldCallId.{own_call}
+use Rattle.sip_conversation.proofs.ToldCallId.{own_reply}
 use Rattle.sip_conversation.proofs.StartedFor.{KindStarted, UpStarted, responses_started}
 use Rattle.sip_conversation.proofs.Unchanged.{inputs_unchanged, messages_unchanged, ups_unchanged}
 use Rattle.sip_conversation.proofs.Unstamped.{same_response}
@@ -50,7 +50,7 @@ use Rattle.sip_conversation.proofs.Ups.{ItemCame, OutCame, TimedCame, UpCame, in
 
 -- ---- one call
 
-module _ (Tells : List ℕ → ℕ → List ℕ → List ℕ → List ℕ → Type 0) where
+module _ (Tells : List ℕ → Id → ℕ → List ℕ → List ℕ → List ℕ → Type 0) where
   abbrev Fits : Timed CallItem → Type 0
   Fits timed = InputFits Tells timed.input
 
@@ -68,7 +68,7 @@ module _ (Tells : List ℕ → ℕ → List ℕ → List ℕ → List ℕ → Ty
   notices_tell (call_out.Command id command ∷ outs) tells = notices_tell outs tells.1
   notices_tell (call_out.Direct to bytes ∷ outs) tells = notices_tell outs tells.1
 
-module _ (Tells : List ℕ → ℕ → List ℕ → List ℕ → List ℕ → Type 0) (config : Config)
+module _ (Tells : List ℕ → Id → ℕ → List ℕ → List ℕ → List ℕ → Type 0) (config : Config)
     (rounds : List Round)
     (alone : EachKeyAlone call_cmp (call_machine (calls_of config)) tick_at) where
   told_in_rounds : (call_id : List ℕ)
@@ -76,7 +76,7 @@ module _ (Tells : List ℕ → ℕ → List ℕ → List ℕ → List ℕ → Ty
       → (id : Id) (status : ℕ) (local_tag remote_tag body : List ℕ)
       → Contains (all_given (answers config rounds))
       (output.Notice (Response call_id id status local_tag remote_tag body))
-      → Tells call_id status local_tag remote_tag body
+      → Tells call_id id status local_tag remote_tag body
   told_in_rounds call_id fit id status local_tag remote_tag body among =
       let told : Output = output.Notice (Response call_id id status local_tag remote_tag body) in
       each_of (OutputTells Tells)
@@ -153,37 +153,40 @@ module _ (configs : Side → Config) (fair : IsFair configs) (before : List Turn
         whole = whole;
       }
 
-  abbrev Said : List ℕ → ℕ → List ℕ → List ℕ → List ℕ → Type 0
-  Said call_id status local_tag remote_tag body =
-      ToldResponse configs before turn call_id status local_tag remote_tag body
+  abbrev Said : List ℕ → Id → ℕ → List ℕ → List ℕ → List ℕ → Type 0
+  Said call_id id status local_tag remote_tag body =
+      ToldResponse configs before turn call_id id status local_tag remote_tag body
 
-  -- what comes up is such a message, under a Call-ID under which its transaction was started
-  abbrev Comes : AnUp → Type 0
+  -- what comes up is such a message, under the id and Call-ID under which its transaction was
+  -- started
+  abbrev pub Comes : AnUp → Type 0
   Comes up = UpCame Came up
       × UpStarted (configs turn.side) (rounds_of turn.side (before ++ turn ∷ [])) up
 
-  up_said : (call_id : List ℕ) (k : Kind) → KindCame Came k
-      → KindStarted (configs turn.side) (rounds_of turn.side (before ++ turn ∷ [])) call_id k
-      → KindTells Said call_id k
-  up_said call_id (kind.Request request reply_to) came started = tt
-  up_said call_id (kind.Ack ack) came started = tt
-  up_said call_id (kind.Response response) came started = λ status is.
+  up_said : (call_id : List ℕ) (id : Id) (k : Kind) → KindCame Came k
+      → KindStarted (configs turn.side) (rounds_of turn.side (before ++ turn ∷ [])) id call_id k
+      → KindTells Said call_id id k
+  up_said call_id id (kind.Request request reply_to) came started = tt
+  up_said call_id id (kind.Ack ack) came started = tt
+  up_said call_id id (kind.Response response) came started = λ status is.
       let so = response_said response came status is in
       let begun = subst (IsStartedFor (configs turn.side)
-      (rounds_of turn.side (before ++ turn ∷ [])) call_id) (sym so.whole) (started status is) in
+      (rounds_of turn.side (before ++ turn ∷ [])) call_id id) (sym so.whole) (started status is) in
+      let own = own_reply configs fair.calls before turn call_id id status (tag_of response.from)
+      (tag_of response.to) response.body so.said begun in
       record {
         response = so.said;
         started = begun;
-        call_id_is = own_call configs fair.calls before turn call_id status (tag_of response.from)
-            (tag_of response.to) response.body so.said begun;
+        call_id_is = λ few. (own few).call;
+        request_is = λ few. (own few).same;
       }
-  up_said call_id kind.Timeout came started = tt
-  up_said call_id kind.Failed came started = tt
+  up_said call_id id kind.Timeout came started = tt
+  up_said call_id id kind.Failed came started = tt
 
   input_said : (input : Option CallItem) → IfSome input (λ i. ItemCame Comes i.1)
       → InputFits Said input
   input_said None came = tt
-  input_said (Some (event, Up up)) came = up_said up.call_id up.kind came.0 came.1
+  input_said (Some (event, Up up)) came = up_said up.call_id up.id up.kind came.0 came.1
   input_said (Some (event, User command)) came = tt
 
   timed_said : (timed : Timed CallItem) → TimedCame Comes timed → InputFits Said timed.input
@@ -196,7 +199,7 @@ module _ (configs : Side → Config) (fair : IsFair configs) (before : List Turn
   out_comes (out.Send key to bytes) came started = tt
   out_comes (out.Dropped place why) came started = tt
 
-  inputs_come : Carried configs (before ++ turn ∷ [])
+  pub inputs_come : Carried configs (before ++ turn ∷ [])
       → CallsKeepRules configs (before ++ turn ∷ []) → (call_id : List ℕ)
       → AllByRecursion (TimedCame Comes)
       (call_inputs_of (configs turn.side) (rounds_of turn.side (before ++ turn ∷ [])) call_id)

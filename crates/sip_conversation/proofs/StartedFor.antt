@@ -1,5 +1,5 @@
--- A response that comes up to a call comes up under a Call-ID under which a transaction with its
--- branch and method was started.
+-- A response that comes up to a call comes up under an id and a Call-ID under which a transaction
+-- with its branch and method was started.
 use Rattle.std.proofs.Common.{◌≡◌, ℕ, List, [], refl, sym, subst, ap, ◌∙◌, arith}
 use Rattle.std.specs.Prelude.{None, Some}
 use Rattle.std.specs.List.{AllByRecursion}
@@ -90,16 +90,16 @@ module _ (config : Config) (rounds : List Round) where
 
   -- ---- what comes up
 
-  abbrev pub KindStarted : List ℕ → Kind → Type 0
-  KindStarted call_id (kind.Request request reply_to) = Unit {0}
-  KindStarted call_id (kind.Ack ack) = Unit {0}
-  KindStarted call_id (kind.Response response) = (status : ℕ)
-      → status_of response.start ≡ Some status → IsStartedFor config rounds call_id response
-  KindStarted call_id kind.Timeout = Unit {0}
-  KindStarted call_id kind.Failed = Unit {0}
+  abbrev pub KindStarted : Id → List ℕ → Kind → Type 0
+  KindStarted id call_id (kind.Request request reply_to) = Unit {0}
+  KindStarted id call_id (kind.Ack ack) = Unit {0}
+  KindStarted id call_id (kind.Response response) = (status : ℕ)
+      → status_of response.start ≡ Some status → IsStartedFor config rounds call_id id response
+  KindStarted id call_id kind.Timeout = Unit {0}
+  KindStarted id call_id kind.Failed = Unit {0}
 
   abbrev pub UpStarted : AnUp → Type 0
-  UpStarted up = KindStarted up.call_id up.kind
+  UpStarted up = KindStarted up.id up.call_id up.kind
 
   abbrev HasKey : Key → Message → Type 0
   HasKey key message = key_of_message message ≡ key
@@ -116,25 +116,24 @@ module _ (config : Config) (rounds : List Round) where
       }) key
 
   module _ (branch method : List ℕ) where
-    client_kind : (call_id : List ℕ) (k : Kind)
-        → WasStarted branch method (inputs_of config rounds (key.Client branch method)) call_id
-        → KindCame (HasKey (key.Client branch method)) k → KindStarted call_id k
-    client_kind call_id (kind.Request request reply_to) started key = tt
-    client_kind call_id (kind.Ack ack) started key = tt
-    client_kind call_id (kind.Response response) started key = λ status is. record {
-      id = started.1;
-      request = started.2;
-      to = started.3;
-      given = subst (λ k. IsGiven config rounds k
-          (input.Start started.1 call_id started.2 started.3)) (sym key) (started.0, started.4);
+    client_kind : (id : Id) (call_id : List ℕ) (k : Kind)
+        → WasStarted branch method (inputs_of config rounds (key.Client branch method)) id call_id
+        → KindCame (HasKey (key.Client branch method)) k → KindStarted id call_id k
+    client_kind id call_id (kind.Request request reply_to) started key = tt
+    client_kind id call_id (kind.Ack ack) started key = tt
+    client_kind id call_id (kind.Response response) started key = λ status is. record {
+      request = started.1;
+      to = started.2;
+      given = subst (λ k. IsGiven config rounds k (input.Start id call_id started.1 started.2))
+          (sym key) (started.0, started.3);
     }
-    client_kind call_id kind.Timeout started key = tt
-    client_kind call_id kind.Failed started key = tt
+    client_kind id call_id kind.Timeout started key = tt
+    client_kind id call_id kind.Failed started key = tt
 
     client_out : (o : Out)
         → UpIsStarted branch method (inputs_of config rounds (key.Client branch method)) o
         → IsFaithful Any (HasKey (key.Client branch method)) o → OutCame UpStarted o
-    client_out (out.Up up) started keys = client_kind up.call_id up.kind started keys
+    client_out (out.Up up) started keys = client_kind up.id up.call_id up.kind started keys
     client_out (out.Send key to bytes) started keys = tt
     client_out (out.Dropped place why) started keys = tt
 
@@ -142,19 +141,19 @@ module _ (config : Config) (rounds : List Round) where
     not_both : (side : ℕ) → side ≡ 0 → side ≡ 1 → ⊥
     not_both side zero one = absurd (omega arith)
 
-    server_kind : (call_id : List ℕ) (k : Kind) → KindCame (HasKey server) k
-        → KindStarted call_id k
-    server_kind call_id (kind.Request request reply_to) key = tt
-    server_kind call_id (kind.Ack ack) key = tt
-    server_kind call_id (kind.Response response) key = λ status is.
+    server_kind : (id : Id) (call_id : List ℕ) (k : Kind) → KindCame (HasKey server) k
+        → KindStarted id call_id k
+    server_kind id call_id (kind.Request request reply_to) key = tt
+    server_kind id call_id (kind.Ack ack) key = tt
+    server_kind id call_id (kind.Response response) key = λ status is.
         absurd (not_both (side_of (key_of_message response))
         (ap side_of (response_key response status is))
         (ap side_of key ∙ apart))
-    server_kind call_id kind.Timeout key = tt
-    server_kind call_id kind.Failed key = tt
+    server_kind id call_id kind.Timeout key = tt
+    server_kind id call_id kind.Failed key = tt
 
     server_out : (o : Out) → IsFaithful Any (HasKey server) o → OutCame UpStarted o
-    server_out (out.Up up) keys = server_kind up.call_id up.kind keys
+    server_out (out.Up up) keys = server_kind up.id up.call_id up.kind keys
     server_out (out.Send key to bytes) keys = tt
     server_out (out.Dropped place why) keys = tt
 

@@ -1,5 +1,5 @@
--- What comes up from a client transaction comes up under the Call-ID under which the transaction
--- was started.
+-- What comes up from a client transaction comes up under the id and the Call-ID under which the
+-- transaction was started.
 use Rattle.std.proofs.Common.{◌≡◌, ℕ, Bool, true, false, cond, ◌&&◌, ◌||◌, List, [], ◌∷◌, refl, sym, ap, ◌∙◌, codes, subst}
 use Rattle.std.specs.Prelude.{Contains, IfSome, Option, None, Some, not, is_none, option_map, option_to_list, unwrap_or}
 use Rattle.std.specs.List.{AllByRecursion}
@@ -85,18 +85,18 @@ module _ (branch method : List ℕ) (all : List (Timed Input)) where
   abbrev client : Key
   client = key.Client branch method
 
-  -- it was started under this Call-ID
-  abbrev pub WasStarted : List ℕ → Type 0
-  WasStarted call_id = (now : ℕ) × (id : Id) × (message : Message) × (to : Addr)
+  -- it was started under this id and this Call-ID
+  abbrev pub WasStarted : Id → List ℕ → Type 0
+  WasStarted id call_id = (now : ℕ) × (message : Message) × (to : Addr)
       × Contains all (given_at now (Start id call_id message to))
 
   abbrev pub UpIsStarted : Out → Type 0
-  UpIsStarted (out.Up up) = WasStarted up.call_id
+  UpIsStarted (out.Up up) = WasStarted up.id up.call_id
   UpIsStarted (out.Send key to bytes) = Unit {0}
   UpIsStarted (out.Dropped place why) = Unit {0}
 
   abbrev LifeIsStarted : Option Life → Type 0
-  LifeIsStarted held = IfSome held (λ life. WasStarted life.context.call_id)
+  LifeIsStarted held = IfSome held (λ life. WasStarted life.context.id life.context.call_id)
 
   abbrev After : Option Life × List Out → Type 0
   After after = LifeIsStarted after.0 × AllByRecursion UpIsStarted after.1
@@ -104,7 +104,7 @@ module _ (branch method : List ℕ) (all : List (Timed Input)) where
   -- ---- a row
 
   handed_started : (context : Context) (handed : Handed) (arrived : Option (Message × Addr))
-      → WasStarted context.call_id
+      → WasStarted context.id context.call_id
       → AllByRecursion UpIsStarted (option_to_list (handed_out client context handed arrived))
   unfolding handed_out
   handed_started context up.Nothing arrived started = tt
@@ -119,19 +119,20 @@ module _ (branch method : List ℕ) (all : List (Timed Input)) where
   sends_started to None = tt
   sends_started to (Some bytes) = (tt, tt)
 
-  last_started : (context : Context) (made : Option (List ℕ)) → WasStarted context.call_id
-      → WasStarted (last_of made context).call_id
+  last_started : (context : Context) (made : Option (List ℕ))
+      → WasStarted context.id context.call_id
+      → WasStarted (last_of made context).id (last_of made context).call_id
   last_started context None started = started
   last_started context (Some bytes) started = started
 
   after_started : (context : Context) (step : Step) (now : ℕ) (next : Option State)
-      → WasStarted context.call_id
+      → WasStarted context.id context.call_id
       → LifeIsStarted (option_map (life_in (armed step.due now context)) next)
   after_started context step now None started = tt
   after_started context step now (Some state) started = started
 
   acted_started : (now : ℕ) (input : Option Input) (state : Option State) (context : Context)
-      (step : Step) → WasStarted context.call_id
+      (step : Step) → WasStarted context.id context.call_id
       → After (acted_if client now input state (Some context) step)
   unfolding life_after outputs_of
   acted_started now input state context step started =
@@ -206,7 +207,7 @@ module _ (branch method : List ℕ) (all : List (Timed Input)) where
       by_step After client None (given_at now (Start id call_id message to)) (tt, tt)
       (λ step row. acted_started now (Some (Start id call_id message to)) None
       (context_by id call_id to (cond (keeps_request (role_of client)) (Some message) None)) step
-      (now, id, message, to, among))
+      (now, message, to, among))
   first_input now (Some (Answer id message)) among =
       by_step After client None (given_at now (Answer id message)) (tt, tt)
       (λ step row. (tt, tt))

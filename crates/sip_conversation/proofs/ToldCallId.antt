@@ -1,5 +1,6 @@
--- A response that is told has the Call-ID with which it is told.
-use Rattle.std.proofs.Common.{◌≡◌, ℕ, Bool, true, List, [], ◌∷◌, ◌++◌, refl, sym, ap, ◌∙◌, subst}
+-- A response that is told has the Call-ID with which it is told, and answers the request of the id
+-- with which it is told.
+use Rattle.std.proofs.Common.{◌≡◌, ℕ, Bool, true, List, [], ◌∷◌, ◌++◌, refl, sym, ap, ◌∙◌, subst, codes}
 use Rattle.std.specs.Prelude.{if◌then◌else◌}
 use Rattle.std.specs.List.{slice_get}
 use Rattle.std.specs.Option.{option_map_or}
@@ -12,6 +13,7 @@ use Rattle.sip_message.specs.TopVia.{top_branch}
 use Rattle.sip_message.specs.Via.{branch_of}
 use Rattle.sip_message.specs.declared.addr.Addr.{Addr}
 use Rattle.sip_message.specs.declared.cseq.CSeq.{CSeq}
+use Rattle.sip_message.specs.declared.id.Id.{Id}
 use Rattle.sip_message.specs.declared.message.Message.{Message}
 use Rattle.sip_message.specs.declared.via.Via.{Via}
 use Rattle.sip_message.proofs.Stamps.{stamp_leaves}
@@ -28,7 +30,7 @@ use Rattle.sip_conversation.specs.Conversation as side
 use Rattle.sip_conversation.specs.Messages.{ComesUnchanged, IsGiven, IsSaid, come_from}
 use Rattle.sip_conversation.specs.Replies.{AreCounted, IsStartedFor, SaidResponse}
 use Rattle.sip_conversation.proofs.Longer.{rounds_of-append}
-use Rattle.sip_conversation.proofs.OneCallId.{one_call_id}
+use Rattle.sip_conversation.proofs.OneCallId.{one_start_of}
 use Rattle.sip_conversation.proofs.StartedFor.{response_key}
 
 -- ---- a request as it came, and as it was said
@@ -74,12 +76,19 @@ module _ (configs : Side → Config)
   abbrev whole : List Turn
   whole = before ++ turn ∷ []
 
-  pub own_call : (call_id : List ℕ) (status : ℕ) (local_tag remote_tag body : List ℕ)
+  -- the response is to the request with which the transaction was started
+  pub record IsOwnReply (call_id : List ℕ) (response came request : Message) : Type 0 where
+    pub call : response.call_id ≡ call_id
+    pub same : (response.cseq.method ≡ codes "CANCEL" → ⊥)
+        → came ≡ come_from (configs turn.side).local request
+
+  pub own_reply : (call_id : List ℕ) (id : Id) (status : ℕ) (local_tag remote_tag body : List ℕ)
       → (said : SaidResponse configs before turn.side status local_tag remote_tag body)
-      → IsStartedFor (configs turn.side) (rounds_of turn.side whole) call_id said.original
+      → (started : IsStartedFor (configs turn.side) (rounds_of turn.side whole) call_id id
+      said.original)
       → AreCounted (configs turn.side) (rounds_of turn.side whole)
-      → said.original.call_id ≡ call_id
-  own_call call_id status local_tag remote_tag body said started few =
+      → IsOwnReply call_id said.original said.request.request started.request
+  own_reply call_id id status local_tag remote_tag body said started few =
       let s = turn.side in
       let response = said.original in
       let came = said.request.request in
@@ -98,9 +107,15 @@ module _ (configs : Side → Config)
       let key : key_of_message response ≡ client_key (top_branch asked) asked.cseq.method =
       response_key response status said.status_is ∙ (λ i. client_key (branch i) (method i)) in
       let longer = rounds_of-append s before (turn ∷ []) in
-      copies.call_id ∙ (same.call
-      ∙ one_call_id (configs s) (alone s) (rounds_of s before) (rounds_of s (turn ∷ []))
+      let so = one_start_of (configs s) (alone s) (rounds_of s before) (rounds_of s (turn ∷ []))
       (subst (AreCounted (configs s)) longer few) asked spoken same.asks comes.rules.method
-      (key_of_message response) key started.id call_id started.request started.to
+      (key_of_message response) key id call_id started.request started.to
       (subst (λ rounds. IsGiven (configs s) rounds (key_of_message response)
-      (Start started.id call_id started.request started.to)) longer started.given))
+      (Start id call_id started.request started.to)) longer started.given) in
+      record {
+        call = copies.call_id ∙ (same.call ∙ so.call);
+        same = λ other.
+            comes.same
+            ∙ (ap (λ p. come_from (configs p).local asked) (peer_peer s)
+            ∙ ap (come_from (configs s).local) (so.same (λ cancel. other (method ∙ cancel))));
+      }

@@ -2,5 +2,6 @@ pub mod Answers
 pub mod Conversation
 pub mod Datagrams
 pub mod Messages
+pub mod Pracks
 pub mod Provisionals
 pub mod Replies

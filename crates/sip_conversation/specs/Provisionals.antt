@@ -1,9 +1,12 @@
 -- The reliable provisional responses that a user is told of have consecutive RSeqs, each is told
 -- once, and the other side said each of them before (RFC 3262, section 4).
-use Rattle.std.specs.Prelude.{◌≡◌, ◌≢◌, ◌<◌, ℕ, List, [], ◌∷◌, ◌++◌, AllPairs, Option, None, Some, codes, filter, map}
+use Rattle.std.specs.Prelude.{◌≡◌, ◌≢◌, ◌<◌, ℕ, true, List, [], ◌∷◌, ◌++◌, AllPairs, Option, None, Some, codes, filter, map}
 use Rattle.std.specs.List.{AllByRecursion}
+use Rattle.sip_message.specs.Message.{is_request_message}
+use Rattle.sip_message.specs.Party.{tag_of}
 use Rattle.sip_message.specs.declared.message.Message.{Message}
 use Rattle.sip_model.specs.Machine.{Timed}
+use Rattle.sip_common.specs.Requests.{dialog_id_of_tags}
 use Rattle.sip_common.specs.declared.held_dialog.DialogReference.{DialogReference}
 use Rattle.sip_common.specs.declared.item.CallOut.{CallOut}
 use Rattle.sip_common.specs.declared.item.CallOut.TheVariants.{Notice}
@@ -40,13 +43,17 @@ told_from calls invite life call (input ∷ inputs) =
 -- ---- what the other side said
 
 -- in these rounds an agent said the PRACK of the response of RSeq 1 to the INVITE that this
--- response answers (RFC 3262, section 7.2)
+-- response answers, in the dialog of this response (RFC 3262, sections 4 and 7.2)
 pub record SaidPrack (config : Config) (rounds : List Round) (response : Message) : Type 0 where
   pub prack : Message
   pub said : IsSaid config rounds prack
+  pub is_request : is_request_message prack ≡ true
   pub method : prack.cseq.method ≡ codes "PRACK"
   pub rack : prack.rack
       ≡ Some record { rseq = 1; cseq = response.cseq.number; method = codes "INVITE" }
+  pub call_id : prack.call_id ≡ response.call_id
+  pub dialog : dialog_id_of_tags (tag_of prack.from) (tag_of prack.to)
+      ≡ dialog_id_of_tags (tag_of response.from) (tag_of response.to)
 
 -- In these turns the other side said such a response as a reliable provisional one, with this RSeq
 -- and a tag in To, because its user responded that way. If the RSeq is above 1, this side said the

@@ -1,6 +1,6 @@
 -- A response that a user is told of is one that the other side said before, to a request that came
 -- to it.
-use Rattle.std.specs.Prelude.{◌≡◌, ◌<◌, ◌≤◌, ◌+◌, ◌^◌, ℕ, List, [], ◌∷◌, ◌++◌, Contains, Some, length}
+use Rattle.std.specs.Prelude.{◌≡◌, ◌≢◌, ◌<◌, ◌≤◌, ◌+◌, ◌^◌, ℕ, List, [], ◌∷◌, ◌++◌, Contains, Some, codes, length}
 use Rattle.std.specs.List.{AllByRecursion}
 use Rattle.sip_message.specs.declared.addr.Addr.{Addr}
 use Rattle.sip_message.specs.declared.id.Id.{Id}
@@ -16,7 +16,7 @@ use Rattle.sip_round.specs.declared.output.Output.TheVariants.{Notice}
 use Rattle.sip_round.specs.declared.round.Round.{Round}
 use Rattle.sip_conversation.specs.Answers.{AnswersARequest, IsAnswered}
 use Rattle.sip_conversation.specs.Conversation.{Side, Turn, given_by, peer, rounds_of}
-use Rattle.sip_conversation.specs.Messages.{ComesUnchanged, IsGiven, IsSaid}
+use Rattle.sip_conversation.specs.Messages.{ComesUnchanged, IsGiven, IsSaid, come_from}
 
 -- In these turns the other side said a response with this status, these tags in From and To, and
 -- this body. It is an answer of its user or of the agent itself, to a request that came to it. This
@@ -40,24 +40,27 @@ pub record AreCounted (config : Config) (rounds : List Round) : Type 0 where
   pub events : AllByRecursion (λ round. length round.events < 2 ^ 64) rounds
 
 -- in these rounds a transaction with the branch and the method of the response was started under
--- this Call-ID
-pub record IsStartedFor (config : Config) (rounds : List Round) (call_id : List ℕ)
+-- this Call-ID and this id, with this request
+pub record IsStartedFor (config : Config) (rounds : List Round) (call_id : List ℕ) (id : Id)
     (response : Message) : Type 0 where
-  pub id : Id
   pub request : Message
   pub to : Addr
   pub given : IsGiven config rounds (key_of_message response) (Start id call_id request to)
 
 -- The other side said such a response before a turn, and up to its end this side started a
--- transaction for it, under the Call-ID of the notice. That is the Call-ID of the response, if the
--- rounds of this side are counted so.
+-- transaction for it, under the Call-ID and the id of the notice. If the rounds of this side are
+-- counted so, that is the Call-ID of the response; and unless the response is to a CANCEL, the
+-- request that it answers came from that transaction: it is the one that the id names.
 pub record ToldResponse (configs : Side → Config) (before : List Turn) (turn : Turn)
-    (call_id : List ℕ) (status : ℕ) (local_tag remote_tag body : List ℕ) : Type 0 where
+    (call_id : List ℕ) (id : Id) (status : ℕ) (local_tag remote_tag body : List ℕ) : Type 0 where
   pub response : SaidResponse configs before turn.side status local_tag remote_tag body
   pub started : IsStartedFor (configs turn.side) (rounds_of turn.side (before ++ turn ∷ []))
-      call_id response.original
+      call_id id response.original
   pub call_id_is : AreCounted (configs turn.side) (rounds_of turn.side (before ++ turn ∷ []))
       → response.original.call_id ≡ call_id
+  pub request_is : AreCounted (configs turn.side) (rounds_of turn.side (before ++ turn ∷ []))
+      → response.original.cseq.method ≢ codes "CANCEL"
+      → (response.request).request ≡ come_from (configs turn.side).local started.request
 
 -- so is each response that the user of a turn's side is told of, up to the turn's end
 abbrev pub ResponsesToldWereSaid : (Side → Config) → List Turn → Type 0
@@ -66,4 +69,4 @@ ResponsesToldWereSaid configs turns =
     → (call_id : List ℕ) (id : Id) (status : ℕ) (local_tag remote_tag body : List ℕ)
     → Contains (given_by configs (before ++ turn ∷ []) turn.side)
     (Notice (Response call_id id status local_tag remote_tag body))
-    → ToldResponse configs before turn call_id status local_tag remote_tag body
+    → ToldResponse configs before turn call_id id status local_tag remote_tag body

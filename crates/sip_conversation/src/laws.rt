@@ -5,6 +5,7 @@ ghost use Rattle.sip_message.specs.Addr.{IsAddr};
 ghost use Rattle.sip_conversation.specs.Conversation.{Carried, Turn, of_sides};
 ghost use Rattle.sip_conversation.specs.Datagrams.{DatagramsAreTextsSaid};
 ghost use Rattle.sip_conversation.specs.Messages.{CallsHearUnchanged, CallsKeepRules, MessagesComeUnchanged};
+ghost use Rattle.sip_conversation.specs.Pracks.{PracksFollowResponses, TheFirstIsToldFirst};
 ghost use Rattle.sip_conversation.specs.Provisionals.{ProvisionalsToldAsSaid};
 ghost use Rattle.sip_conversation.specs.Replies.{ResponsesToldWereSaid};
 
@@ -59,9 +60,9 @@ pub fn calls_hear_unchanged(one: Config, other: Config)
 /// section 4). In the turns before the one in which the user is told, the other side said a
 /// reliable provisional response with this RSeq and with the status, the tags and the body that are
 /// told. Its user gave the command to respond with that status and body. If the RSeq is above 1,
-/// this side said in those turns a PRACK whose RAck has RSeq 1, the response's CSeq number and
-/// INVITE (RFC 3262, section 7.2). The law doesn't say that the response was to this INVITE, or that
-/// the first of these RSeqs is 1.
+/// this side said in those turns, in the dialog of that response, a PRACK whose RAck has RSeq 1,
+/// the response's CSeq number and INVITE (RFC 3262, section 7.2). The law doesn't say that the
+/// response was to this INVITE, or that the first of these RSeqs is 1.
 pub fn provisionals_told_were_said(one: Config, other: Config)
     ensures { (turns : List Turn) → Carried (of_sides one other) turns
         → CallsKeepRules (of_sides one other) turns
@@ -86,8 +87,12 @@ pub fn provisionals_told_were_said(one: Config, other: Config)
 /// 200, 420, 481, 482, 487 or 500 and no body. The response copies Via, From, Call-ID and CSeq from
 /// a request that came to the other side, and that this side said before, except for the stamp (RFC
 /// 3261, section 8.2.6.2). A transaction with its branch and method was started under the Call-ID
-/// that the user is told. The response has that Call-ID, if the rounds of the side that is told have
-/// numbers below 2^64 and fewer than 2^64 events each: branches are made of these numbers.
+/// and the id that the user is told.
+///
+/// If the rounds of the side that is told have numbers below 2^64 and fewer than 2^64 events each,
+/// of which branches are made: the response has that Call-ID. And unless it is to a CANCEL, it
+/// answers the request of that id: the request that came to the other side is the one with which
+/// that transaction was started, with the stamp of its source.
 pub fn responses_told_were_said(one: Config, other: Config)
     ensures { (turns : List Turn) → Carried (of_sides one other) turns
         → CallsKeepRules (of_sides one other) turns
@@ -102,6 +107,51 @@ pub fn responses_told_were_said(one: Config, other: Config)
     laws_of_phases(&Transactions);
     laws_of_phases(&calls_of_one);
     laws_of_phases(&calls_of_other);
+}
+
+/// In such a conversation, a PRACK with a RAck that a side says follows the response that it
+/// acknowledges: in the same turn or before, the user was told of a response under the Call-ID of
+/// the PRACK. In the turns before, the other side said that response as a reliable provisional one
+/// with the RSeq that the RAck names, as its user gave the command to respond so. Its CSeq has the
+/// number that the RAck names, if the rounds of the side that says the PRACK are counted as above;
+/// and the RAck's method is INVITE (RFC 3262, sections 4 and 7.2).
+pub fn pracks_follow_responses(one: Config, other: Config)
+    ensures { (turns : List Turn) → Carried (of_sides one other) turns
+        → CallsKeepRules (of_sides one other) turns
+        → PracksFollowResponses (of_sides one other) turns }
+{
+    numbers_fit(one.local);
+    numbers_fit(other.local);
+    let (local, seed) = (one.local, one.seed);
+    let calls_of_one = Calls { local, seed };
+    let (local, seed) = (other.local, other.seed);
+    let calls_of_other = Calls { local, seed };
+    laws_of_phases(&Transactions);
+    laws_of_phases(&calls_of_one);
+    laws_of_phases(&calls_of_other);
+}
+
+/// In such a conversation, if the user is told of a reliable provisional response with an RSeq
+/// above 1, he was told of one with RSeq 1 in the turns before, under the Call-ID of that response.
+/// The other side said it with the number of that response's CSeq, if the rounds of the side that
+/// is told are counted as above (RFC 3262, sections 3 and 4). The law doesn't say that both were to
+/// one INVITE in one dialog.
+pub fn the_first_is_told_first(one: Config, other: Config)
+    ensures { (turns : List Turn) → Carried (of_sides one other) turns
+        → CallsKeepRules (of_sides one other) turns
+        → TheFirstIsToldFirst (of_sides one other) turns }
+{
+    numbers_fit(one.local);
+    numbers_fit(other.local);
+    let (local, seed) = (one.local, one.seed);
+    let calls_of_one = Calls { local, seed };
+    let (local, seed) = (other.local, other.seed);
+    let calls_of_other = Calls { local, seed };
+    laws_of_phases(&Transactions);
+    laws_of_phases(&calls_of_one);
+    laws_of_phases(&calls_of_other);
+    provisionals_in_each_life(&one);
+    provisionals_in_each_life(&other);
 }
 
 fn numbers_fit(address: Addr)

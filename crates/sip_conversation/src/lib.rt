@@ -6,5 +6,6 @@ mod laws;
 
 pub use laws::{
     calls_hear_unchanged, datagrams_are_texts_said, messages_come_unchanged,
-    provisionals_told_were_said, responses_told_were_said,
+    pracks_follow_responses, provisionals_told_were_said, responses_told_were_said,
+    the_first_is_told_first,
 };

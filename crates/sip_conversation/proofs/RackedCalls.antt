@@ -1,0 +1,329 @@
+-- Each request with a RAck that a call starts is a PRACK for which a response asks, of which the
+-- user is told at one of the call's inputs.
+use Rattle.std.proofs.Common.{◌≡◌, ℕ, Bool, true, false, List, [], ◌∷◌, ◌++◌, refl, sym, ap, ◌∙◌, subst, append_assoc}
+use Rattle.std.specs.Prelude.{Contains, Option, None, Some, codes, filter_map, if◌then◌else◌}
+use Rattle.std.specs.List.{AllByRecursion, IsDistinct, list_any}
+use Rattle.std.specs.Option.{option_map}
+use Rattle.std.proofs.lemmas.List.Elements.{filter_map-append}
+use Rattle.sip_message.specs.declared.id.Id.{Id}
+use Rattle.sip_message.specs.declared.message.Message.{Message}
+use Rattle.sip_message.specs.declared.rack.RAck.{RAck}
+use Rattle.sip_model.specs.Machine.{Timed, outputs_from}
+use Rattle.sip_transactions.specs.declared.output.Kind.{Kind}
+use Rattle.sip_transactions.specs.declared.output.Kind.TheVariants as kind
+use Rattle.sip_transactions.specs.declared.output.Up.{Up as AnUp}
+use Rattle.sip_common.specs.Dialogs.{dialog_at}
+use Rattle.sip_common.specs.Ids.{is_id}
+use Rattle.sip_common.specs.Requests.{is_success}
+use Rattle.sip_common.specs.declared.command.UserCommand.{UserCommand}
+use Rattle.sip_common.specs.declared.command.UserCommand.TheVariants as user
+use Rattle.sip_common.specs.declared.held_dialog.DialogId.{DialogId}
+use Rattle.sip_common.specs.declared.held_dialog.HeldDialog.{HeldDialog}
+use Rattle.sip_common.specs.declared.item.CallOut.{CallOut}
+use Rattle.sip_common.specs.declared.item.Item.TheVariants.{Up, User}
+use Rattle.sip_common.specs.declared.pending_request.PendingRequest.{PendingRequest}
+use Rattle.sip_common.specs.declared.pending_request.PendingRequest.TheVariants.{Ack, Prack}
+use Rattle.sip_common.proofs.Each.{both}
+use Rattle.sip_common.proofs.Starts.{starts}
+use Rattle.sip_served.proofs.ArrivalRules.{kind_same}
+use Rattle.sip_served.proofs.NoStarts.{kind_starts, respond_starts}
+use Rattle.sip_served.proofs.ResponseRules.{respond_same}
+use Rattle.sip_served.specs.State.{ServedTaken}
+use Rattle.sip_clients.specs.Client.{client_at}
+use Rattle.sip_clients.specs.Clients.{status_of}
+use Rattle.sip_clients.specs.Owing.{asked_for}
+use Rattle.sip_clients.specs.Provisionals.{is_response, provisional_number}
+use Rattle.sip_clients.specs.Rules.Requests.{is_invite_kind}
+use Rattle.sip_clients.specs.declared.client.Client.{Client}
+use Rattle.sip_calls.specs.Call.{CallItem, CallTaken, call_machine, call_step, event_of, item_of_call, made_tag, new_call, received, side_of}
+use Rattle.sip_calls.specs.Histories.{call_from}
+use Rattle.sip_calls.specs.Provisionals.{EventsDiffer, event_in, side_held}
+use Rattle.sip_calls.specs.declared.call.Call.{Call}
+use Rattle.sip_calls.specs.declared.calls.Calls.{Calls}
+use Rattle.sip_calls.proofs.CallStarts.{tick_silent}
+use Rattle.sip_calls.proofs.Owing.{owes_as_told}
+use Rattle.sip_conversation.proofs.OwedTold.{WasAskedFor, owed_was_asked}
+use Rattle.sip_conversation.proofs.PracksOfCalls.{from_more}
+use Rattle.sip_conversation.proofs.RackedSteps.{Hears, OutRacked, Pays, Say, ack_racked, cancel_command_racked, invite_racked, lost_racked, no_requests, plain_racked, prack_command_racked, received_racked, request_command_racked}
+
+-- ---- the first of different ids differ too
+
+all_before : (P : Id → Type 0) (xs ys : List Id) → AllByRecursion P (xs ++ ys)
+    → AllByRecursion P xs
+all_before P [] ys all = tt
+all_before P (x ∷ xs) ys all = (all.0, all_before P xs ys all.1)
+
+distinct_before : (xs ys : List Id) → IsDistinct is_id (xs ++ ys) → IsDistinct is_id xs
+unfolding IsDistinct
+distinct_before [] ys apart = tt
+distinct_before (x ∷ xs) ys apart =
+    (all_before (λ y. is_id x y ≡ false) xs ys apart.0, distinct_before xs ys apart.1)
+
+front_differ : (front rest : List (Timed CallItem)) → EventsDiffer (front ++ rest)
+    → EventsDiffer front
+front_differ front rest differ =
+    distinct_before (filter_map (λ timed. event_in timed.input) front)
+    (filter_map (λ timed. event_in timed.input) rest)
+    (subst (IsDistinct is_id)
+    (filter_map-append (λ (timed : Timed CallItem). event_in timed.input) front rest) differ)
+
+-- ---- what a response asks for
+
+record IsAsked (status : ℕ) (client : Client) (response : Message) (rseq number : ℕ) : Type 0 where
+  pub rseq_is : provisional_number (Some status) response ≡ Some rseq
+  pub number_is : client.request.cseq.number ≡ number
+
+prack_asked : (status : ℕ) (client : Client) (response : Message) (rseq number : ℕ)
+    → asked_for status client response ≡ Some (Prack rseq number)
+    → IsAsked status client response rseq number
+prack_asked status client response rseq number asks =
+    by_success (is_success status) (provisional_number (Some status) response) refl asks
+  where
+    by_success : (b : Bool) (o : Option ℕ) → provisional_number (Some status) response ≡ o
+        → (if b then Some (Ack client.id client.request.cseq.number)
+        else option_map (λ r. Prack r client.request.cseq.number) o) ≡ Some (Prack rseq number)
+        → IsAsked status client response rseq number
+    by_success true o is asks = absurd cc
+    by_success false None is asks = absurd cc
+    by_success false (Some r) is asks =
+        let one : r ≡ rseq = cc in
+        let two : client.request.cseq.number ≡ number = cc in
+        record { rseq_is = is ∙ ap (λ r. Some r) one; number_is = two }
+
+-- At one of these inputs a reliable provisional response with this RSeq comes up, to an INVITE with
+-- this CSeq number, and the user is told of a response.
+pub record WasTold (calls : Calls) (inputs : List (Timed CallItem)) (rseq number : ℕ) : Type 0
+  where
+    pub before : List (Timed CallItem)
+    pub timed : Timed CallItem
+    pub after : List (Timed CallItem)
+    pub are : inputs ≡ before ++ timed ∷ after
+    pub call : Call
+    pub held : call_from calls None before ≡ Some call
+    pub event : Id
+    pub up : AnUp
+    pub comes : timed.input ≡ Some (event, Up up)
+    pub response : Message
+    pub kind_is : up.kind ≡ kind.Response response
+    pub client : Client
+    pub client_is : client_at up.id call.clients ≡ Some client
+    pub kind : is_invite_kind client.kind ≡ true
+    pub number_is : client.request.cseq.number ≡ number
+    pub status : ℕ
+    pub status_is : status_of response.start ≡ Some status
+    pub rseq_is : provisional_number (Some status) response ≡ Some rseq
+    pub told : list_any is_response (call_step calls (Some call) timed.input timed.moment).1 ≡ true
+
+asked_told : (calls : Calls) (front rest : List (Timed CallItem)) (rseq number : ℕ)
+    → WasAskedFor calls front (Prack rseq number) → WasTold calls (front ++ rest) rseq number
+asked_told calls front rest rseq number was =
+    let asked = prack_asked was.asks.status was.asks.client was.response rseq number was.asks.asks
+    in record {
+      before = was.before;
+      timed = was.timed;
+      after = was.after ++ rest;
+      are = ap (λ inputs. inputs ++ rest) was.are
+          ∙ append_assoc was.before (was.timed ∷ was.after) rest;
+      call = was.call;
+      held = was.held;
+      event = was.event;
+      up = was.up;
+      comes = was.comes;
+      response = was.response;
+      kind_is = was.kind_is;
+      client = was.asks.client;
+      client_is = was.asks.held;
+      kind = was.asks.kind;
+      number_is = asked.number_is;
+      status = was.asks.status;
+      status_is = was.asks.status_is;
+      rseq_is = asked.rseq_is;
+      told = was.asks.told;
+    }
+
+module _ (calls : Calls) (all : List (Timed CallItem)) where
+  -- the RAck is of an INVITE, and of a response of which the user is told
+  abbrev pub IsTold : RAck → Type 0
+  IsTold rack = (rack.method ≡ codes "INVITE") × WasTold calls all rack.rseq rack.cseq
+
+  abbrev pub OutIsTold : CallOut → Type 0
+  OutIsTold = OutRacked IsTold
+
+  abbrev Says : List CallOut → Type 0
+  Says = Say IsTold
+
+  -- ---- what comes up
+
+  -- of each response that comes up, of which the user is told, this is said
+  abbrev HearsUp : CallTaken → Call → Id → Kind → Type 0
+  HearsUp taken call id (kind.Response response) = (status : ℕ)
+      → status_of response.start ≡ Some status → (client : Client)
+      → client_at id call.clients ≡ Some client
+      → Hears IsTold (list_any is_response taken.1 ≡ true) response status client
+  HearsUp taken call id _ = Unit {0}
+
+  up_says : (call : Call) (id : Id) (now : ℕ) (up : AnUp) (k : Kind)
+      → HearsUp (received call (event_of calls id now) up k) call up.id k
+      → Says (received call (event_of calls id now) up k).1
+  up_says call id now up (kind.Request request reply_to) hears =
+      no_requests IsTold _ (ap (λ (taken : ServedTaken). starts taken.1)
+      (kind_same call.served (made_tag (event_of calls id now)) up
+      (kind.Request request reply_to) now)
+      ∙ kind_starts call.served (made_tag (event_of calls id now)) up
+      (kind.Request request reply_to) now)
+  up_says call id now up (kind.Ack ack) hears =
+      no_requests IsTold _ (ap (λ (taken : ServedTaken). starts taken.1)
+      (kind_same call.served (made_tag (event_of calls id now)) up (kind.Ack ack) now)
+      ∙ kind_starts call.served (made_tag (event_of calls id now)) up (kind.Ack ack) now)
+  up_says call id now up (kind.Response response) hears =
+      received_racked IsTold (event_of calls id now) up.id up.call_id response (side_of call) hears
+  up_says call id now up kind.Timeout hears =
+      (tt, lost_racked IsTold up.id true (side_of call))
+  up_says call id now up kind.Failed hears =
+      (tt, lost_racked IsTold up.id false (side_of call))
+
+  -- ---- commands
+
+  -- each pending request of a held dialog was asked for
+  abbrev PaysIn : Call → Type 0
+  PaysIn call = (name : DialogId) (held : HeldDialog)
+      → dialog_at name (side_of call).dialogs ≡ Some held → (pending : PendingRequest)
+      → Contains held.pending_requests pending → Pays IsTold pending
+
+  first_says : (call : Call) (id : Id) (now : ℕ) (command : UserCommand)
+      → Says (item_of_call false call (event_of calls id now) (User command)).1
+  first_says call id now (user.Invite invite) =
+      invite_racked IsTold (event_of calls id now) invite call.clients
+  first_says call id now (user.Plain plain) =
+      plain_racked IsTold (event_of calls id now) plain call.clients
+  first_says call id now (user.Request request) = (tt, tt)
+  first_says call id now (user.Respond respond) = (tt, tt)
+  first_says call id now (user.Ack ack) = (tt, tt)
+  first_says call id now (user.Prack prack) = (tt, tt)
+  first_says call id now (user.Cancel cancel) = (tt, tt)
+
+  command_says : (call : Call) (id : Id) (now : ℕ) (command : UserCommand) → PaysIn call
+      → Says (item_of_call true call (event_of calls id now) (User command)).1
+  command_says call id now (user.Invite invite) pays = (tt, tt)
+  command_says call id now (user.Plain plain) pays = (tt, tt)
+  command_says call id now (user.Request request) pays =
+      request_command_racked IsTold (event_of calls id now) request (side_of call)
+  command_says call id now (user.Respond respond) pays =
+      no_requests IsTold _ (ap (λ (taken : ServedTaken). starts taken.1)
+      (respond_same call.served id respond now) ∙ respond_starts call.served id respond now)
+  command_says call id now (user.Ack ack) pays =
+      ack_racked IsTold (event_of calls id now) ack (side_of call) pays
+  command_says call id now (user.Prack prack) pays =
+      prack_command_racked IsTold (event_of calls id now) prack (side_of call) pays
+  command_says call id now (user.Cancel cancel) pays =
+      cancel_command_racked IsTold (event_of calls id now) cancel (side_of call)
+
+  -- ---- one input, after others
+
+  module _ (front rest : List (Timed CallItem)) (differ : EventsDiffer front) where
+    owed_so : (call : Call) → all ≡ front ++ rest → call_from calls None front ≡ Some call
+        → PaysIn call
+    owed_so call are held name dialog at (Ack invite number) among = tt
+    owed_so call are held name dialog at (Prack rseq number) among =
+        let owed = owes_as_told calls front differ name dialog
+        (ap (λ o. dialog_at name (side_held o).dialogs) held ∙ at) in (
+          refl,
+          subst (λ inputs. WasTold calls inputs rseq number) (sym are)
+              (asked_told calls front rest rseq number
+              (owed_was_asked calls name front (Prack rseq number)
+              (subst (λ pending. Contains pending (Prack rseq number)) owed among))),
+        )
+
+  hears_so : (front rest : List (Timed CallItem)) (call : Call) (id : Id) (now : ℕ) (up : AnUp)
+      → all ≡ front ++ record { moment = now; input = Some (id, Up up) } ∷ rest
+      → call_from calls None front ≡ Some call → (k : Kind) → up.kind ≡ k
+      → HearsUp (received call (event_of calls id now) up k) call up.id k
+  hears_so front rest call id now up are held (kind.Response response) is =
+      λ status status_is client found rseq number kind told. (
+        refl,
+        record {
+          before = front;
+          timed = record { moment = now; input = Some (id, Up up) };
+          after = rest;
+          are = are;
+          call = call;
+          held = held;
+          event = id;
+          up = up;
+          comes = refl;
+          response = response;
+          kind_is = is;
+          client = client;
+          client_is = found;
+          kind = kind;
+          number_is = refl;
+          status = status;
+          status_is = status_is;
+          rseq_is = number;
+          told = ap (λ k. list_any is_response
+              (received call (event_of calls id now) up k).1) is ∙ told;
+        },
+      )
+  hears_so front rest call id now up are held (kind.Request request reply_to) is = tt
+  hears_so front rest call id now up are held (kind.Ack ack) is = tt
+  hears_so front rest call id now up are held kind.Timeout is = tt
+  hears_so front rest call id now up are held kind.Failed is = tt
+
+  none_hears : (taken : CallTaken) (call : Call) → call.clients ≡ [] → (id : Id) (k : Kind)
+      → HearsUp taken call id k
+  none_hears taken call none id (kind.Response response) =
+      λ status status_is client found. absurd (none_found client
+      (sym (ap (λ clients. client_at id clients) none) ∙ found))
+    where
+      none_found : (client : Client) → None ≡ Some client → ⊥
+      none_found client is = absurd cc
+  none_hears taken call none id (kind.Request request reply_to) = tt
+  none_hears taken call none id (kind.Ack ack) = tt
+  none_hears taken call none id kind.Timeout = tt
+  none_hears taken call none id kind.Failed = tt
+
+  step_says : (front rest : List (Timed CallItem)) (state : Option Call) (now : ℕ)
+      (input : Option CallItem)
+      → all ≡ front ++ record { moment = now; input = input } ∷ rest
+      → call_from calls None front ≡ state → EventsDiffer front
+      → Says (call_step calls state input now).1
+  step_says front rest None now None are held differ = tt
+  step_says front rest (Some call) now None are held differ =
+      no_requests IsTold _ (tick_silent calls (Some call) now)
+  step_says front rest None now (Some (id, Up up)) are held differ =
+      up_says (new_call calls.local) id now up up.kind
+      (none_hears (received (new_call calls.local) (event_of calls id now) up up.kind)
+      (new_call calls.local) refl up.id up.kind)
+  step_says front rest (Some call) now (Some (id, Up up)) are held differ =
+      up_says call id now up up.kind
+      (hears_so front rest call id now up are held up.kind refl)
+  step_says front rest None now (Some (id, User command)) are held differ =
+      first_says (new_call calls.local) id now command
+  step_says front rest (Some call) now (Some (id, User command)) are held differ =
+      command_says call id now command
+      (owed_so front (record { moment = now; input = Some (id, User command) } ∷ rest) differ call
+      are held)
+
+  -- ---- all inputs
+
+  from_says : (key : List ℕ) (front rest : List (Timed CallItem)) → all ≡ front ++ rest
+      → EventsDiffer all
+      → AllByRecursion OutIsTold
+      (outputs_from (call_machine calls) key (call_from calls None front) rest)
+  from_says key front [] are differ = tt
+  from_says key front (timed ∷ rest) are differ =
+      let state = call_from calls None front in
+      let step = call_step calls state timed.input timed.moment in
+      both OutIsTold step.1 (outputs_from (call_machine calls) key step.0 rest)
+      (step_says front rest state timed.moment timed.input are refl
+      (front_differ front (timed ∷ rest) (subst EventsDiffer are differ)))
+      (subst (λ s. AllByRecursion OutIsTold (outputs_from (call_machine calls) key s rest))
+      (from_more calls None front timed)
+      (from_says key (front ++ timed ∷ []) rest
+      (are ∙ sym (append_assoc front (timed ∷ []) rest)) differ))
+
+-- what a call starts with a RAck is a PRACK of a response that it was told of
+pub all_told : (calls : Calls) (key : List ℕ) (inputs : List (Timed CallItem))
+    → EventsDiffer inputs
+    → AllByRecursion (OutIsTold calls inputs) (outputs_from (call_machine calls) key None inputs)
+all_told calls key inputs differ = from_says calls inputs key [] inputs refl differ
