@@ -400,7 +400,7 @@ static inline const char *sip_ua_refusal_text(uint32_t number)
     case 11: return "the CSeq or RSeq numbers are used up";
     case 12: return "the first route is a strict router";
     case 13: return "the dialog has ended";
-    case 14: return "this command can't send this method";
+    case 14: return "this command can't send this method, or not in an early dialog";
     default: return "unknown reason";
     }
 }
