@@ -32,3 +32,8 @@ pub mod PracksCame
 pub mod PracksServed
 pub mod PracksOfCalls
 pub mod PracksSaid
+pub mod CommandAsks
+pub mod RequestUps
+pub mod RequestsAsked
+pub mod RequestsSaid
+pub mod RequestsTold

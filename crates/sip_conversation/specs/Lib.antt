@@ -4,3 +4,4 @@ pub mod Datagrams
 pub mod Messages
 pub mod Provisionals
 pub mod Replies
+pub mod Requests

@@ -1,0 +1,127 @@
+-- A request that an agent says is an ACK, a PRACK, a CANCEL, or one for which its user asked.
+use Rattle.std.proofs.Common.{◌≡◌, ℕ, true, false, List, sym, ap, ◌∙◌, subst}
+use Rattle.std.specs.Prelude.{Contains, None, Option, Some, codes}
+use Rattle.std.specs.List.{AllByRecursion}
+use Rattle.std.proofs.lemmas.Bool.{false≢true}
+use Rattle.sip_message.specs.declared.addr.Addr.{Addr}
+use Rattle.sip_message.specs.declared.id.Id.{Id}
+use Rattle.sip_message.specs.declared.key.Key.{Key}
+use Rattle.sip_message.specs.declared.message.Message.{Message}
+use Rattle.sip_message.specs.Message.{is_request_message}
+use Rattle.sip_message.specs.Rules.{IsMessage}
+use Rattle.sip_message.specs.Written.{written}
+use Rattle.sip_model.specs.Laws.{EachKeyAlone}
+use Rattle.sip_model.specs.Machine.{Timed, given_at, tick_at}
+use Rattle.sip_transactions.specs.declared.input.Command.TheVariants as order
+use Rattle.sip_common.specs.declared.command.UserCommand.{UserCommand}
+use Rattle.sip_common.specs.declared.item.CallOut.{CallOut}
+use Rattle.sip_common.specs.declared.item.CallOut.TheVariants as call_out
+use Rattle.sip_common.specs.declared.item.Item.TheVariants.{Up, User}
+use Rattle.sip_clients.specs.Commands.{is_own_kind}
+use Rattle.sip_calls.specs.Call.{CallItem, call_machine}
+use Rattle.sip_calls.specs.CallShard.{call_cmp}
+use Rattle.sip_round.specs.declared.config.Config.{Config}
+use Rattle.sip_round.specs.declared.round.Round.{Round}
+use Rattle.sip_round.specs.Answers.{calls_of, past_of}
+use Rattle.sip_round.specs.Laws.{call_inputs_of, said_of_call}
+use Rattle.sip_round.proofs.Said.{call_alone}
+use Rattle.sip_conversation.specs.Messages.{CallSays, IsSaid}
+use Rattle.sip_conversation.specs.Messages.IsSaid.{Acknowledges, Asked, Direct, Trying}
+use Rattle.sip_conversation.specs.Requests.{UserAsked, asked_by}
+use Rattle.sip_conversation.proofs.AckTexts.{is_ack}
+use Rattle.sip_conversation.proofs.Among.{all_of, each_of}
+use Rattle.sip_conversation.proofs.CallBranches.{OutIsOwn, all_own}
+use Rattle.sip_conversation.proofs.CommandAsks.{InputAsks, OutAsks, all_say}
+use Rattle.sip_conversation.proofs.OneCallId.{out_replies}
+use Rattle.sip_conversation.proofs.Origins.{IsOrigin, inputs_come}
+
+module _ (config : Config) (rounds : List Round)
+    (alone : EachKeyAlone call_cmp (call_machine (calls_of config)) tick_at) where
+  -- the user asked for such a request, by the command of this event
+  record IsGiven (call_id : List ℕ) (event : Id) (method body : List ℕ) : Type 0 where
+    pub now : ℕ
+    pub command : UserCommand
+    pub gave : Contains (call_inputs_of config rounds call_id)
+        (given_at now (event, User command))
+    pub asks : asked_by command ≡ Some (method, body)
+
+  input_asks : (call_id : List ℕ) (now : ℕ) (i : Option CallItem)
+      → Contains (call_inputs_of config rounds call_id) (record { moment = now; input = i })
+      → InputAsks (IsGiven call_id) i
+  input_asks call_id now None among = tt
+  input_asks call_id now (Some (event, Up up)) among = tt
+  input_asks call_id now (Some (event, User command)) among = λ method body asks.
+      record { now = now; command = command; gave = among; asks = asks }
+
+  out_asks : (out : CallOut) → (says : CallSays config rounds out)
+      → OutAsks (IsGiven says.0) out
+  out_asks out says =
+      let call_id = says.0 in
+      let Fits = OutAsks (IsGiven call_id) in
+      let inputs = call_inputs_of config rounds call_id in
+      each_of Fits (said_of_call config rounds call_id) out
+      (subst (AllByRecursion Fits)
+      (sym (call_alone (calls_of config) alone [] (past_of config rounds).calls call_id))
+      (all_say (IsGiven call_id) (calls_of config) call_id None inputs
+      (all_of (λ (timed : Timed CallItem). InputAsks (IsGiven call_id) timed.input) inputs
+      (λ timed among. input_asks call_id timed.moment timed.input among)))) says.1
+
+  out_own : (out : CallOut) → (says : CallSays config rounds out)
+      → OutIsOwn (calls_of config) says.0 (IsOrigin config rounds says.0) out
+  out_own out says =
+      let call_id = says.0 in
+      let Fits = OutIsOwn (calls_of config) call_id (IsOrigin config rounds call_id) in
+      each_of Fits (said_of_call config rounds call_id) out
+      (subst (AllByRecursion Fits)
+      (sym (call_alone (calls_of config) alone [] (past_of config rounds).calls call_id))
+      (all_own (calls_of config) call_id (IsOrigin config rounds call_id) None
+      (call_inputs_of config rounds call_id) (inputs_come config rounds call_id) tt tt)) says.1
+
+  -- ---- each way to say a request
+
+  started_asked : (id : Id) (key : Key) (of : List ℕ) (request : Message) (to : Addr)
+      → CallSays config rounds (call_out.Command id (order.Start key of request to))
+      → is_own_kind request.cseq.method ≡ false → UserAsked config rounds request
+  started_asked id key of request to says other =
+      let out = call_out.Command id (order.Start key of request to) in
+      let own = out_own out says in
+      let given = out_asks out says other in
+      record {
+        event = id;
+        now = given.now;
+        command = given.command;
+        gave = subst (λ call_id. Contains (call_inputs_of config rounds call_id)
+            (given_at given.now (id, User given.command))) (sym own.own.call) given.gave;
+        asks = given.asks;
+        key = key;
+        to = to;
+        starts = subst (λ call_id. CallSays config rounds
+            (call_out.Command id (order.Start key call_id request to))) own.of_is says;
+      }
+
+  no_request : (message : Message) → is_request_message message ≡ true
+      → is_request_message message ≡ false → ⊥
+  no_request message is isnt = false≢true (sym isnt ∙ is)
+
+  no_ack : (message : Message) → is_own_kind message.cseq.method ≡ false
+      → message.cseq.method ≡ codes "ACK" → ⊥
+  no_ack message other is = false≢true (sym other ∙ ap is_own_kind is)
+
+  pub user_asked : (message : Message) → IsSaid config rounds message → IsMessage message
+      → is_request_message message ≡ true → is_own_kind message.cseq.method ≡ false
+      → UserAsked config rounds message
+  user_asked message (Asked id (order.Start key of request to) says same) rules is other =
+      subst (UserAsked config rounds) same
+      (started_asked id key of request to says
+      (ap (λ (m : Message). is_own_kind m.cseq.method) same ∙ other))
+  user_asked message (Asked id (order.Answer key response) says same) rules is other =
+      absurd (no_request message is (ap is_request_message (sym same)
+      ∙ out_replies config alone rounds (call_out.Command id (order.Answer key response)) says))
+  user_asked message (Direct to says) rules is other =
+      let text = out_replies config alone rounds (call_out.Direct to (written message)) says in
+      absurd (no_ack message other (is_ack message text.0 is rules.method (text.2).request
+      (text.2).method text.1))
+  user_asked message (Trying key id request reply_to given asks same) rules is other =
+      absurd (no_request message is (ap is_request_message same))
+  user_asked message (Acknowledges key id answered of invite response to reply_to given heard same)
+      rules is other = absurd (no_ack message other (ap (λ (m : Message). m.cseq.method) same))
