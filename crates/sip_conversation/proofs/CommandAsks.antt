@@ -1,34 +1,33 @@
 -- What a call starts is an ACK, a PRACK, a CANCEL, or the request for which a command of its user
 -- asks, under the id of that command.
-use Rattle.std.proofs.Common.{◌≡◌, ℕ, Bool, true, false, cond, List, [], ◌∷◌, ◌++◌, refl, sym, ap, ◌∙◌, subst}
-use Rattle.std.specs.Prelude.{Option, None, Some, codes}
+use Rattle.std.proofs.Common.{◌≡◌, ℕ, ◌+◌, Bool, true, false, ◌&&◌, ◌||◌, List, [], ◌∷◌, ◌++◌, refl, sym, ap, ◌∙◌, subst}
+use Rattle.std.specs.Prelude.{Option, None, Some, codes, ◌==◌, filter, find, fold, is_some, length, not, unwrap_or, if◌then◌else◌}
 use Rattle.std.specs.List.{AllByRecursion}
-use Rattle.std.specs.Map.{set_value}
-use Rattle.std.specs.Option.{option_map}
+use Rattle.std.specs.Map.{lookup, remove_entry, set_value}
+use Rattle.std.specs.Option.{option_map_or}
+use Rattle.std.specs.Str.{bytes_eq}
 use Rattle.std.proofs.lemmas.Bool.{false≢true}
-use Rattle.sip_message.specs.Content.{Content, with_content_of}
+use Rattle.sip_message.specs.Content.{Content, content_of_body, with_content_of}
+use Rattle.sip_message.specs.Party.{tag_of}
 use Rattle.sip_message.specs.declared.id.Id.{Id}
 use Rattle.sip_message.specs.declared.key.Key.{Key}
 use Rattle.sip_message.specs.declared.message.Message.{Message}
 use Rattle.sip_message.specs.declared.rack.RAck.{RAck}
 use Rattle.sip_model.specs.Machine.{Timed, outputs_from}
-use Rattle.sip_model.proofs.Ordered.{by_bool}
-use Rattle.sip_dialog.specs.Fault.{ack_fault, request_fault}
-use Rattle.sip_dialog.specs.Request.{bare_request_in}
-use Rattle.sip_dialog.specs.declared.fault.DialogFault.{DialogFault}
+use Rattle.sip_dialog.specs.Request.{bare_request_in, contact_of}
 use Rattle.sip_transactions.specs.declared.input.Command.TheVariants as order
 use Rattle.sip_transactions.specs.declared.output.Kind.{Kind}
 use Rattle.sip_transactions.specs.declared.output.Kind.TheVariants as kind
 use Rattle.sip_transactions.specs.declared.output.Up.{Up as AnUp}
-use Rattle.sip_common.specs.Dialogs.{Dialogs, dialog_at}
+use Rattle.sip_common.specs.Dialogs.{Dialogs, early_ended, ended_at, is_dialog_id, lives, tag_text}
 use Rattle.sip_common.specs.Ids.{is_id}
-use Rattle.sip_common.specs.Notices.{refused}
-use Rattle.sip_common.specs.Requests.{is_final}
-use Rattle.sip_common.specs.declared.command.Cancel.{Cancel as CancelCommand}
+use Rattle.sip_common.specs.Refusal.{first_refusal}
+use Rattle.sip_common.specs.Requests.{dialog_id_of_tags, has_to_tag, is_final, is_success, requires_100rel}
+use Rattle.sip_common.specs.declared.command.Cancel.{Cancel}
 use Rattle.sip_common.specs.declared.command.DialogBody.{DialogBody}
 use Rattle.sip_common.specs.declared.command.DialogRequest.{DialogRequest}
-use Rattle.sip_common.specs.declared.command.Invite.{Invite as InviteCommand}
-use Rattle.sip_common.specs.declared.command.Plain.{Plain as PlainCommand}
+use Rattle.sip_common.specs.declared.command.Invite.{Invite}
+use Rattle.sip_common.specs.declared.command.Plain.{Plain}
 use Rattle.sip_common.specs.declared.command.ProvisionalSupport.{ProvisionalSupport}
 use Rattle.sip_common.specs.declared.command.ProvisionalSupport.TheVariants as support
 use Rattle.sip_common.specs.declared.command.UserCommand.{UserCommand}
@@ -40,131 +39,181 @@ use Rattle.sip_common.specs.declared.item.CallOut.TheVariants as out
 use Rattle.sip_common.specs.declared.item.Item.TheVariants.{Up, User}
 use Rattle.sip_common.specs.declared.pending_request.PendingRequest.{PendingRequest}
 use Rattle.sip_common.specs.declared.pending_request.PendingRequest.TheVariants.{Ack, Prack}
-use Rattle.sip_common.specs.declared.refusal.Refusal.TheVariants.{BadMethod, NoSuchDialog}
+use Rattle.sip_common.specs.declared.refusal.Refusal.{Refusal}
+use Rattle.sip_common.specs.declared.refusal.Refusal.TheVariants.{AlreadyFinal, BadMethod, NoSuchRequest, NothingToAck, NothingToPrack}
 use Rattle.sip_common.proofs.Each.{both}
-use Rattle.sip_common.proofs.Starts.{starts}
+use Rattle.sip_common.proofs.Starts.{early_starts, ended_starts, none_of_both, starts}
+use Rattle.sip_served.proofs.ArrivalRules.{kind_same}
 use Rattle.sip_served.proofs.NoStarts.{kind_starts, respond_starts}
-use Rattle.sip_clients.specs.Cancel.{after_response, asked, cancel_by_user, cancel_case, cancel_client, cancelled_as, cancelled_of, freed_by, sent_beside}
-use Rattle.sip_clients.specs.Client.{Clients, ClientTaken, Side, client_at, client_changed, client_for}
-use Rattle.sip_clients.specs.Clients.{ack_by_user, found_taken, invite_taken, lost_of, plain_taken, prack_by_user, prack_paid, reply_name, reply_of, reply_settled, request_by_user, request_lost, response_taken, settled, started, status_of}
-use Rattle.sip_clients.specs.Commands.{bye_ended, is_bad_outside, is_own_kind, name_in, pending_for, request_in_held, requested_at}
-use Rattle.sip_clients.specs.Dialogs.{dialog_for_provisional, paid_at, served_at}
+use Rattle.sip_served.proofs.ResponseRules.{respond_same}
+use Rattle.sip_served.specs.State.{ServedTaken}
+use Rattle.sip_clients.specs.Client.{Clients, ClientTaken, Side}
 use Rattle.sip_clients.specs.Event.{branch_of}
-use Rattle.sip_clients.specs.Outputs.{request_said, start_command}
-use Rattle.sip_clients.specs.Outside.{bare_invite, bare_plain, bare_request, invite_of, plain_of, supporting, through, with_contact}
-use Rattle.sip_clients.specs.Pending.{kept_pending, paid}
-use Rattle.sip_clients.specs.ReceivedResponse.{is_last, reply_case}
-use Rattle.sip_clients.specs.Replied.{Replied, after_dialog, by_reply_case, prack_owed, replied_in, reply_taken, request_over}
-use Rattle.sip_clients.specs.SendOutcome.{Outcome, acked, discharged, requested, sending_in, service_by}
-use Rattle.sip_clients.specs.declared.cancel.CancelCase.{CancelCase}
-use Rattle.sip_clients.specs.declared.cancel.CancelCase.TheVariants as ask
-use Rattle.sip_clients.specs.declared.client.Cancelling.TheVariants as cancel
+use Rattle.sip_clients.specs.Rules.Ends.{request_is_lost, request_over}
+use Rattle.sip_clients.specs.Rules.Requests.{PendingOutcome, ack_command, ack_kept, cancel_command, cancel_of_request, cancel_request, dialog_of_kind, has_command, invite_command, is_asked, is_invite_kind, is_same_pending, method_of, oldest_pending, pending_by_user, pending_command, pending_outcome, pending_sent, pending_with, plain_command, prack_command, refusals_in, refuse, request_command, request_in_dialog, request_outside, request_with_next_number, start, with_100rel, with_number}
+use Rattle.sip_clients.specs.Rules.Responses.{Outcome, accepted, asks_for, dialog_made_by, dialog_response, first_success, has_dialog, is_initial, kept as kept_outcome, last_response, notice_of, outcome_of, reliable_response, response_received, response_to, status_of, success_again, success_in, waiting_cancel}
+use Rattle.sip_clients.specs.declared.answers.SentAck.{SentAck}
+use Rattle.sip_clients.specs.declared.client.Cancelling.{Cancelling}
+use Rattle.sip_clients.specs.declared.client.Cancelling.TheVariants.{NotAsked, Sent, Waits}
 use Rattle.sip_clients.specs.declared.client.Client.{Client}
-use Rattle.sip_clients.specs.declared.client.RequestKind.TheVariants.{InitialInvite, OutOfDialog}
 use Rattle.sip_clients.specs.declared.event.Event.{Event}
-use Rattle.sip_clients.specs.declared.outputs.ClientChange.{ClientChange}
-use Rattle.sip_clients.specs.declared.outputs.ClientChange.TheVariants.{Over, Starts, Stays}
-use Rattle.sip_clients.specs.declared.pending.PendingKind.TheVariants as pending_kind
-use Rattle.sip_clients.specs.declared.reply.ReceivedResponse.{ReceivedResponse}
-use Rattle.sip_clients.specs.declared.reply.ReplyCase.{ReplyCase}
-use Rattle.sip_clients.specs.declared.reply.ReplyCase.TheVariants as reply
-use Rattle.sip_clients.specs.declared.send_outcome.OutgoingRequest.{OutgoingRequest}
-use Rattle.sip_clients.specs.declared.send_outcome.SendOutcome.{SendOutcome}
-use Rattle.sip_clients.specs.declared.send_outcome.SendOutcome.TheVariants.{Refused, Sent, Waits}
-use Rattle.sip_clients.proofs.ClientAsks.{Serves, content_method}
-use Rattle.sip_clients.proofs.ReplyStarts.{replies}
-use Rattle.sip_clients.proofs.Served.{bad_request, good_request, is_bad, paid_either, served_in}
-use Rattle.sip_clients.proofs.WithoutStarts.{ack_quiet, bye_quiet, lost_quiet, none_started, request_said_quiet}
-use Rattle.sip_calls.specs.Call.{CallItem, Taken, call_machine, call_step, event_of, made_tag, new_call}
-use Rattle.sip_calls.specs.Sides.{side_of}
-use Rattle.sip_calls.specs.Steps.Call.{command_taken, first_command_taken, step_taken, up_taken}
+use Rattle.sip_calls.specs.Call.{CallItem, Taken, call_machine, call_step, event_of, item_of_call, made_tag, new_call, received, side_of}
 use Rattle.sip_calls.specs.declared.call.Call.{Call}
 use Rattle.sip_calls.specs.declared.calls.Calls.{Calls}
 use Rattle.sip_calls.proofs.CallStarts.{tick_silent}
-use Rattle.sip_calls.proofs.SameSteps.{same_step}
 use Rattle.sip_conversation.specs.Requests.{asked_by}
+use Rattle.sip_conversation.proofs.Branches.{either, found_or}
 
--- ---- the methods and the bodies of the requests that are made
+-- the type of what a response is with all that comes up with it
+abbrev Domain : {A B : Type 0} → (A → B) → Type 0
+Domain {A} f = A
+
+abbrev Reply : Type 0
+Reply = Domain notice_of
+
+content_method : (message : Message) (content : Content)
+    → (with_content_of message content).cseq.method ≡ message.cseq.method
+unfolding with_content_of
+content_method message content = refl
 
 content_body : (message : Message) (content : Content)
     → (with_content_of message content).body ≡ content.body
 unfolding with_content_of
 content_body message content = refl
 
-bare_method : (event : Event) (call_id method uri from to : List ℕ)
-    → (bare_request event call_id method uri from to).cseq.method ≡ method
-unfolding bare_request
-bare_method event call_id method uri from to = refl
-
-supporting_method : (asked_for : ProvisionalSupport) (message : Message)
-    → (supporting asked_for message).cseq.method ≡ message.cseq.method
-supporting_method support.None message = refl
-supporting_method support.Supported message = refl
-supporting_method support.Required message = refl
-
-invite_method : (event : Event) (invite : InviteCommand)
-    → (invite_of event invite).cseq.method ≡ codes "INVITE"
-invite_method event invite =
-    content_method (through invite.routes (bare_invite event invite)) invite.content
-    ∙ (supporting_method invite.support (with_contact event.local (bare_request event
-    invite.call_id (codes "INVITE") invite.request_uri invite.from invite.to))
-    ∙ bare_method event invite.call_id (codes "INVITE") invite.request_uri invite.from invite.to)
-
-plain_method : (event : Event) (plain : PlainCommand)
-    → (plain_of event plain).cseq.method ≡ plain.method
-plain_method event plain =
-    content_method (through plain.routes (bare_plain event plain)) plain.content
-    ∙ bare_method event plain.call_id plain.method plain.request_uri plain.from plain.to
+support_method : (asked_for : ProvisionalSupport) (message : Message)
+    → (with_100rel asked_for message).cseq.method ≡ message.cseq.method
+support_method support.None message = refl
+support_method support.Supported message = refl
+support_method support.Required message = refl
 
 -- ---- ACK, PRACK and CANCEL have commands of their own
 
-abbrev IsOwnKind : Message → Type 0
-IsOwnKind message = is_own_kind message.cseq.method ≡ true
+abbrev IsOwnKind : Client → Type 0
+IsOwnKind client = has_command client.request.cseq.method ≡ true
 
-service_serves : (Q : Message → Type 0) (fault : Option DialogFault) (sending : OutgoingRequest)
-    → Q sending.message → Serves Q (service_by fault sending)
-service_serves Q None sending is = is
-service_serves Q (Some fault) sending is = tt
+-- only such requests go out by what is pending in a dialog, or by a response
+record IsPaid (done : PendingOutcome) : Type 0 where
+  pub prack : AllByRecursion IsOwnKind done.prack
+  pub outs : starts done.outs ≡ []
 
--- what is owed is of such a kind
-discharged_own : (event : Event) (pending : PendingRequest) (offer : Option Content)
-    (held : HeldDialog) → Serves IsOwnKind (discharged event pending offer held).1
-unfolding discharged
-discharged_own event pending None held = tt
-discharged_own event (Ack invite number) (Some content) held =
-    service_serves IsOwnKind (ack_fault held.dialog) _
-    (ap is_own_kind (content_method (bare_request_in held.dialog (codes "ACK") number
-    (branch_of event) event.local) content))
-discharged_own event (Prack rseq number) (Some content) held =
-    service_serves IsOwnKind (request_fault held.dialog (codes "PRACK")) _
-    (ap is_own_kind (content_method (bare_request_in held.dialog (codes "PRACK") _
-    (branch_of event) event.local) content))
+sent_paid : (event : Event) (name : DialogId) (pending : PendingRequest) (content : Content)
+    (held : HeldDialog) → IsPaid (pending_sent event name pending content held)
+sent_paid event name (Ack invite cseq) content held = record { prack = tt; outs = refl }
+sent_paid event name (Prack rseq cseq) content held = record {
+  prack = (
+    ap has_command (content_method (bare_request_in held.dialog (codes "PRACK")
+        (held.dialog.local_cseq + 1) (branch_of event) event.local) content),
+    tt,
+  );
+  outs = refl;
+}
 
-kept_own : (event : Event) (pending : PendingRequest) (offer : Option Content)
-    (held : HeldDialog) → Serves IsOwnKind (kept_pending event pending offer held).1
-unfolding kept_pending
-kept_own event pending offer held = discharged_own event pending offer held
+outcome_paid : (event : Event) (of : List ℕ) (name : DialogId) (pending : PendingRequest)
+    (content : Option Content) (without_it with_it : HeldDialog)
+    → IsPaid (pending_outcome event of name pending content without_it with_it)
+outcome_paid event of name pending content without_it with_it =
+    found_or IsPaid (pending_with event of name pending without_it with_it) content _
+    (λ content is. found_or IsPaid _
+    (first_refusal (refusals_in without_it.dialog (method_of pending)) None) _
+    (λ refusal refused. record { prack = tt; outs = refl })
+    (λ none. sent_paid event name pending content without_it))
+    (λ none. record { prack = tt; outs = refl })
 
-paid_own : (event : Event) (pending : PendingRequest) (content : Content) (held : HeldDialog)
-    → Serves IsOwnKind (paid event pending content held).1
-unfolding paid
-paid_own event pending content held = discharged_own event pending (Some content) held
+record IsReplied (done : Outcome) : Type 0 where
+  pub prack : AllByRecursion IsOwnKind done.prack
+  pub outs : starts done.outs ≡ []
 
-served_serves : (Q : Message → Type 0) (name : DialogId) (serve : HeldDialog → Outcome)
-    (otherwise : SendOutcome) → ((held : HeldDialog) → Serves Q (serve held).1)
-    → Serves Q otherwise → (dialogs : Dialogs)
-    → Serves Q (served_at name serve otherwise dialogs).1
-served_serves Q name serve otherwise serves other dialogs = by_found (dialog_at name dialogs)
-  where
-    by_found : (found : Option HeldDialog)
-        → Serves Q (served_in name serve otherwise dialogs found).1
-    by_found None = other
-    by_found (Some held) = serves held
+asks_replied : (pending : PendingRequest) (reply : Reply) (client : Client)
+    (after : Option SentAck → Client) (held : HeldDialog) (dialogs : Dialogs)
+    → IsReplied (asks_for pending reply client after held dialogs)
+asks_replied pending reply client after held dialogs =
+    let so = outcome_paid reply.event reply.call_id reply.name pending _ held _ in
+    record { prack = so.prack; outs = so.outs }
+
+reliable_replied : (reply : Reply) (client : Client) (dialogs : Dialogs) (held : HeldDialog)
+    (rseq : ℕ) → IsReplied (reliable_response reply client dialogs held rseq)
+reliable_replied reply client dialogs held rseq =
+    let initial = is_initial client in
+    let last = if initial then held.last_rseq else client.last_rseq in
+    let heard : Client = record client { last_rseq = Some rseq } in
+    let hears : HeldDialog = record held { last_rseq = Some rseq } in
+    let after : Option SentAck → Client = λ ack. if initial then client else heard in
+    let dialog : HeldDialog = if initial then hears else held in
+    let prack = Prack rseq client.request.cseq.number in
+    either IsReplied (not (option_map_or (λ last. rseq == last + 1) last true))
+    (kept_outcome client dialogs []) (asks_for prack reply client after dialog dialogs)
+    (λ passed. record { prack = tt; outs = refl })
+    (λ taken. asks_replied prack reply client after dialog dialogs)
+
+dialog_replied : (reply : Reply) (client : Client) (dialogs : Dialogs)
+    → IsReplied (dialog_response reply client dialogs)
+dialog_replied reply client dialogs =
+    let response = reply.response in
+    let held = unwrap_or (lookup (is_dialog_id reply.name) dialogs)
+    (dialog_made_by reply client) in
+    found_or IsReplied (reliable_response reply client dialogs held)
+    (if requires_100rel response then response.rseq else None) _
+    (λ rseq is. reliable_replied reply client dialogs held rseq)
+    (λ none. record { prack = tt; outs = refl })
+
+again_replied : (answer : Option (Option SentAck)) (client : Client) (dialogs : Dialogs)
+    → IsReplied (success_again answer client dialogs)
+again_replied None client dialogs = record { prack = tt; outs = refl }
+again_replied (Some None) client dialogs = record { prack = tt; outs = refl }
+again_replied (Some (Some ack)) client dialogs = record { prack = tt; outs = refl }
+
+over_silent : (client : Client) (ends : Bool) (dialogs : Dialogs)
+    → starts (request_over client ends dialogs).1 ≡ []
+over_silent client ends dialogs =
+    let early = early_ended client.id dialogs in
+    let Silent : Dialogs × List CallOut → Type 0 = λ ended. starts ended.1 ≡ [] in
+    none_of_both early.1 _ (early_starts client.id dialogs)
+    (found_or Silent _ (dialog_of_kind client.kind) (early.0, [])
+    (λ reference is. either Silent (ends && lives early.0 reference)
+    (ended_at reference.name early.0) (early.0, [])
+    (λ over. ended_starts reference.name early.0) (λ lives. refl))
+    (λ none. refl))
+
+outcome_replied : (reply : Reply) (client : Client) (dialogs : Dialogs)
+    → IsReplied (outcome_of reply client dialogs)
+outcome_replied reply client dialogs =
+    let final = is_final reply.status in
+    let answer = lookup (is_dialog_id reply.name) client.answers in
+    let told : Outcome = kept_outcome client dialogs (notice_of reply ∷ []) in
+    let late : Outcome = kept_outcome (accepted reply client None) dialogs (notice_of reply ∷ []) in
+    let is_told = not (has_dialog client dialogs && not (reply.status == 100)
+    && has_to_tag reply.response) in
+    let fifth : Outcome = if is_told then told else dialog_response reply client dialogs in
+    let fourth : Outcome = if final then late else fifth in
+    let third : Outcome = if final && has_dialog client dialogs
+    then first_success reply client dialogs else fourth in
+    let second : Outcome = if final && is_some answer
+    then success_again answer client dialogs else third in
+    either IsReplied (final && not (is_invite_kind client.kind && is_success reply.status))
+    (last_response reply client dialogs) second
+    (λ last. record {
+      prack = tt;
+      outs = over_silent client ((reply.status == 481) || (reply.status == 408)) dialogs;
+    })
+    (λ more. either IsReplied (final && is_some answer) (success_again answer client dialogs)
+    third (λ again. again_replied answer client dialogs)
+    (λ new. either IsReplied (final && has_dialog client dialogs)
+    (first_success reply client dialogs) fourth
+    (λ success. asks_replied (Ack client.id client.request.cseq.number) reply client
+    (accepted reply client)
+    (option_map_or (success_in (is_initial client) reply.response)
+    (lookup (is_dialog_id reply.name) dialogs) (dialog_made_by reply client)) dialogs)
+    (λ none. either IsReplied final late fifth
+    (λ over. record { prack = tt; outs = refl })
+    (λ provisional. either IsReplied is_told told (dialog_response reply client dialogs)
+    (λ other. record { prack = tt; outs = refl })
+    (λ early. dialog_replied reply client dialogs)))))
 
 module _ (Asks : Id → List ℕ → List ℕ → Type 0) where
   -- of a request of another kind this is said, of its method and its body, under this id
-  abbrev pub IsAsked : Id → Message → Type 0
-  IsAsked id request = is_own_kind request.cseq.method ≡ false
+  abbrev IsAsked : Id → Message → Type 0
+  IsAsked id request = has_command request.cseq.method ≡ false
       → Asks id request.cseq.method request.body
 
   abbrev pub OutAsks : CallOut → Type 0
@@ -187,7 +236,18 @@ module _ (Asks : Id → List ℕ → List ℕ → Type 0) where
   silent (out.Command id (order.Start key call_id message to) ∷ outs) none =
       absurd (some_started (id, key) (starts outs) none)
 
-  -- ---- the requests
+  -- ---- client requests
+
+  abbrev Asked : Client → Type 0
+  Asked client = IsAsked client.id client.request
+
+  own_asked : (client : Client) → IsOwnKind client → Asked client
+  own_asked client own other = absurd (false≢true (sym other ∙ own))
+
+  all_asked : (clients : List Client) → AllByRecursion IsOwnKind clients
+      → AllByRecursion Asked clients
+  all_asked [] all = tt
+  all_asked (client ∷ clients) all = (own_asked client all.0, all_asked clients all.1)
 
   asked_so : (id : Id) (method body : List ℕ) (request : Message)
       → request.cseq.method ≡ method → request.body ≡ body → Asks id method body
@@ -196,256 +256,237 @@ module _ (Asks : Id → List ℕ → List ℕ → Type 0) where
       subst (λ m. Asks id m request.body) (sym method_is)
       (subst (Asks id method) (sym body_is) asks)
 
-  own_kind_asked : (id : Id) (request : Message) → IsOwnKind request → IsAsked id request
-  own_kind_asked id request own other = absurd (false≢true (sym other ∙ own))
+  starts_say : (clients : List Client) (done : Clients × List CallOut) → Say done.1
+      → AllByRecursion Asked clients → Say (fold start done clients).1
+  starts_say [] done says all = says
+  starts_say (client ∷ clients) done says all =
+      starts_say clients (start done client) (both OutAsks done.1 _ says (all.0, tt)) all.1
 
-  own_served : (id : Id) (service : SendOutcome) → Serves IsOwnKind service
-      → Serves (IsAsked id) service
-  own_served id (Sent sending) own = own_kind_asked id sending.message own
-  own_served id Waits own = tt
-  own_served id (Refused refusal) own = tt
+  -- ---- commands outside of dialogs
 
-  request_served : (event : Event) (method : List ℕ) (content : Content) (held : HeldDialog)
-      → Asks event.id method content.body
-      → Serves (IsAsked event.id) (request_in_held event method content held).1
-  request_served event method content held asks =
-      let Fits : Outcome → Type 0 = λ done. Serves (IsAsked event.id) done.1 in
-      let sending = sending_in event method None content held in
-      let bare = bare_request_in held.dialog method _ (branch_of event) event.local in
-      by_bool (is_bad event method content held)
-      (λ bad. subst Fits (sym (bad_request event method content held bad)) tt)
-      (λ good. subst Fits (sym (good_request event method content held good))
-      (service_serves (IsAsked event.id) (request_fault held.dialog method) sending
-      (asked_so event.id method content.body sending.message (content_method bare content)
-      (content_body bare content) asks)))
+  invite_says : (event : Event) (invite : Invite) (clients : Clients)
+      → Asks event.id (codes "INVITE") invite.content.body
+      → Say (invite_command event invite clients).1
+  unfolding invite_command
+  invite_says event invite clients asks =
+      let outside = request_outside event invite.call_id (codes "INVITE") invite.request_uri
+      invite.from invite.to invite.routes in
+      let contact : Message = record outside { contacts = contact_of event.local ∷ [] } in
+      let supporting = with_100rel invite.support contact in (
+        asked_so event.id (codes "INVITE") invite.content.body
+            (with_content_of supporting invite.content)
+            (content_method supporting invite.content ∙ support_method invite.support contact)
+            (content_body supporting invite.content) asks,
+        tt,
+      )
 
-  requested_served : (name : DialogId) (event : Event) (command : DialogRequest)
-      (dialogs : Dialogs) → Asks event.id command.method command.content.body
-      → Serves (IsAsked event.id) (requested_at name event command dialogs).1
-  unfolding requested_at
-  requested_served name event command dialogs asks =
-      served_serves (IsAsked event.id) name
-      (request_in_held event command.method command.content) (Refused NoSuchDialog)
-      (λ held. request_served event command.method command.content held asks) tt dialogs
+  plain_says : (event : Event) (plain : Plain) (clients : Clients)
+      → Asks event.id plain.method plain.content.body
+      → Say (plain_command event plain clients).1
+  unfolding plain_command
+  plain_says event plain clients asks =
+      let outside = request_outside event plain.call_id plain.method plain.request_uri plain.from
+      plain.to plain.routes in
+      either (λ (done : Clients × List CallOut). Say done.1)
+      (has_command plain.method || bytes_eq plain.method (codes "INVITE")
+      || bytes_eq plain.method (codes "BYE")) _ _ (λ bad. (tt, tt))
+      (λ good. (
+        asked_so event.id plain.method plain.content.body
+            (with_content_of outside plain.content) (content_method outside plain.content)
+            (content_body outside plain.content) asks,
+        tt,
+      ))
 
-  -- ---- what is sent
-
-  client_says : (id : Id) (client : Client) → IsAsked id client.request
-      → OutAsks (start_command id client)
-  unfolding start_command
-  client_says id client is = is
-
-  abbrev ChangeAsks : Id → ClientChange → Type 0
-  ChangeAsks id Stays = Unit {0}
-  ChangeAsks id Over = Unit {0}
-  ChangeAsks id (Starts client) = IsAsked id client.request
-
-  said_change : (event : Event) (call_id : List ℕ) (name : DialogId) (service : SendOutcome)
-      → Serves (IsAsked event.id) service
-      → ChangeAsks event.id (request_said event call_id name service).1
-  said_change event call_id name (Sent sending) serves = serves
-  said_change event call_id name Waits serves = tt
-  said_change event call_id name (Refused refusal) serves = tt
-
-  settled_says : (event : Event) (id : Id) (change : ClientChange) (clients : Clients)
-      → ChangeAsks event.id change → Say (settled event id change clients).1
-  settled_says event id Stays clients is = tt
-  settled_says event id Over clients is = tt
-  settled_says event id (Starts client) clients is = (client_says event.id client is, tt)
-
-  -- what is told, and what is sent then
-  said_says : (event : Event) (call_id : List ℕ) (name : DialogId) (service : SendOutcome)
-      (clients : Clients) → Serves (IsAsked event.id) service
-      → Say ((request_said event call_id name service).0
-      ++ (settled event event.id (request_said event call_id name service).1 clients).1)
-  said_says event call_id name service clients serves =
-      let said = request_said event call_id name service in
-      both OutAsks said.0 (settled event event.id said.1 clients).1
-      (silent said.0 (none_started said.0 (request_said_quiet event call_id name service)))
-      (settled_says event event.id said.1 clients
-      (said_change event call_id name service serves))
-
-  beside_says : (freed : Option Id) (invite : Client) (done : Clients × List CallOut)
-      → Say done.1
-      → Say (sent_beside (option_map (λ id. cancel_client id invite) freed) done).1
-  beside_says None invite done says = says
-  beside_says (Some id) invite done says =
-      let cancels = cancel_client id invite in
-      both OutAsks done.1 (start_command id cancels ∷ []) says
-      (client_says id cancels (own_kind_asked id cancels.request refl), tt)
-
-  -- ---- a response
-
-  case_change : (case : ReplyCase) (client : Client) (found : Option HeldDialog)
-      (answer : ReceivedResponse)
-      → ChangeAsks answer.event.id (by_reply_case case client found answer).3
-  unfolding prack_owed
-  case_change reply.Repeated client found answer = tt
-  case_change reply.Accepted client found answer = tt
-  case_change reply.Late client found answer = tt
-  case_change (reply.Reliable number) client found answer =
-      let held = dialog_for_provisional client answer found in
-      let service = (prack_owed number client held answer).1 in
-      said_change answer.event answer.call_id answer.name service
-      (own_served answer.event.id service (kept_own answer.event _ _ _))
-  case_change reply.Passed client found answer = tt
-  case_change reply.Early client found answer = tt
-  case_change reply.Told client found answer = tt
-
-  reply_change : (client : Client) (dialogs : Dialogs) (answer : ReceivedResponse)
-      → ChangeAsks answer.event.id (reply_taken client dialogs answer).3
-  reply_change client dialogs answer = by_last (is_last client.kind answer.status)
-    where
-      found : Option HeldDialog
-      found = dialog_at answer.name dialogs
-
-      by_last : (last : Bool) → ChangeAsks answer.event.id (cond {A = Replied} last
-          (request_over client dialogs answer)
-          (after_dialog answer.name dialogs (replied_in client found answer))).3
-      by_last true = tt
-      by_last false = case_change (reply_case client found answer) client found answer
-
-  replied_says : (answer : ReceivedResponse) (client : Client) (side : Side)
-      → Say (reply_settled answer client side).1
-  replied_says answer client side =
-      let final = is_final answer.status in
-      let after = after_response final client in
-      let done = reply_taken after side.dialogs answer in
-      let put = set_value (is_id answer.id) side.clients done.0 in
-      let rest = settled answer.event answer.id done.3 put in
-      beside_says (freed_by final client.cancel) client (rest.0, done.2 ++ rest.1)
-      (both OutAsks done.2 rest.1
-      (silent done.2 (none_started done.2 (replies after side.dialogs answer).quiet))
-      (settled_says answer.event answer.id done.3 put
-      (reply_change after side.dialogs answer)))
-
-  found_says : (event : Event) (id : Id) (call_id : List ℕ) (response : Message)
-      (status : Option ℕ) (found : Option Client) (side : Side)
-      → Say (found_taken event id call_id response status found side).1
-  found_says event id call_id response None found side = tt
-  found_says event id call_id response (Some status) None side = tt
-  found_says event id call_id response (Some status) (Some client) side =
-      replied_says (reply_of event id call_id (reply_name client.kind client response) status
-      response) client side
-
-  lost_says : (id : Id) (timed_out : Bool) (side : Side)
-      → Say (request_lost id timed_out side).1
-  lost_says id timed_out side =
-      let found = client_at id side.clients in
-      silent (lost_of id timed_out found side).1
-      (none_started (lost_of id timed_out found side).1 (lost_quiet id timed_out found side))
-
-  -- ---- commands
+  -- ---- commands in a dialog
 
   abbrev SideSays : ClientTaken → Type 0
   SideSays taken = Say taken.1
 
-  invite_says : (event : Event) (invite : InviteCommand) (clients : Clients)
-      → Asks event.id (codes "INVITE") invite.content.body
-      → Say (invite_taken event invite clients).1
-  invite_says event invite clients asks =
-      let request = invite_of event invite in (
-        client_says event.id (client_for event.id InitialInvite request invite.address)
-            (asked_so event.id (codes "INVITE") invite.content.body request
-            (invite_method event invite)
-            (content_body (through invite.routes (bare_invite event invite)) invite.content)
-            asks),
+  request_held : (event : Event) (command : DialogRequest) (side : Side) (name : DialogId)
+      (held : HeldDialog) → Asks event.id command.method command.content.body
+      → SideSays (request_in_dialog event command side name held)
+  request_held event command side name held asks =
+      let method = command.method in
+      let sent = start (side.clients, [])
+      (request_with_next_number event name method None command.content held) in
+      let dialogs = set_value (is_dialog_id name) side.dialogs (with_number held) in
+      let bare = bare_request_in held.dialog method (held.dialog.local_cseq + 1)
+      (branch_of event) event.local in
+      let says : Say sent.1 = (
+        asked_so event.id method command.content.body
+            (request_with_next_number event name method None command.content held).request
+            (content_method bare command.content) (content_body bare command.content) asks,
         tt,
-      )
-
-  plain_by : (b : Bool) (event : Event) (plain : PlainCommand) (clients : Clients)
-      → Asks event.id plain.method plain.content.body
-      → Say (cond {A = Clients × List CallOut} b
-      (clients, refused event.id plain.call_id BadMethod)
-      (started event (client_for event.id OutOfDialog (plain_of event plain) plain.address)
-      clients)).1
-  plain_by true event plain clients asks = (tt, tt)
-  plain_by false event plain clients asks =
-      let request = plain_of event plain in (
-        client_says event.id (client_for event.id OutOfDialog request plain.address)
-            (asked_so event.id plain.method plain.content.body request
-            (plain_method event plain)
-            (content_body (through plain.routes (bare_plain event plain)) plain.content) asks),
-        tt,
-      )
+      ) in
+      found_or SideSays _
+      (first_refusal ((has_command method, BadMethod) ∷ refusals_in held.dialog method) None) _
+      (λ refusal refused. (tt, tt))
+      (λ none. either (λ (ended : Dialogs × List CallOut). Say (sent.1 ++ ended.1))
+      (bytes_eq method (codes "BYE")) (ended_at name dialogs) (dialogs, [])
+      (λ bye. both OutAsks sent.1 (ended_at name dialogs).1 says
+      (silent (ended_at name dialogs).1 (ended_starts name dialogs)))
+      (λ other. both OutAsks sent.1 [] says tt))
 
   request_says : (event : Event) (command : DialogRequest) (side : Side)
       → Asks event.id command.method command.content.body
-      → SideSays (request_by_user event command side)
+      → SideSays (request_command event command side)
+  unfolding request_command
   request_says event command side asks =
-      let name = name_in command.local_tag command.remote_tag in
-      let done = requested_at name event command side.dialogs in
-      let said = request_said event command.call_id name done.1 in
-      let after = settled event event.id said.1 side.clients in
-      let bye = bye_ended name command.method done.1 done.0 in
-      both OutAsks (said.0 ++ after.1) bye.1
-      (said_says event command.call_id name done.1 side.clients
-      (requested_served name event command side.dialogs asks))
-      (silent bye.1 (none_started bye.1 (bye_quiet name command.method done.1 done.0)))
+      let name = dialog_id_of_tags (tag_text command.local_tag) (tag_text command.remote_tag) in
+      found_or SideSays (request_in_dialog event command side name)
+      (lookup (is_dialog_id name) side.dialogs) _
+      (λ held is. request_held event command side name held asks) (λ none. (tt, tt))
 
-  prack_paid_says : (event : Event) (command : DialogBody) (name : DialogId)
-      (pending : PendingRequest) (side : Side)
-      → SideSays (prack_paid event command name pending side)
-  prack_paid_says event command name pending side =
-      let service = (paid_at name event pending command.content side.dialogs).1 in
-      said_says event command.call_id name service side.clients
-      (own_served event.id service (served_serves IsOwnKind name
-      (paid event pending command.content) Waits (paid_own event pending command.content) tt
-      side.dialogs))
+  by_user_says : (event : Event) (command : DialogBody) (side : Side) (name : DialogId)
+      (held : HeldDialog) (pending : PendingRequest)
+      → SideSays (pending_by_user event command side name held pending)
+  by_user_says event command side name held pending =
+      let others = filter (λ other. not (is_same_pending pending other)) held.pending_requests in
+      let without_it : HeldDialog = record held { pending_requests = others } in
+      let content = Some command.content in
+      let done = pending_outcome event command.call_id name pending content without_it held in
+      let so = outcome_paid event command.call_id name pending content without_it held in
+      starts_say done.prack (ack_kept pending name done.ack side.clients, done.outs)
+      (silent done.outs so.outs) (all_asked done.prack so.prack)
+
+  pending_says : (method : List ℕ) (nothing : Refusal) (event : Event) (command : DialogBody)
+      (side : Side) → SideSays (pending_command method nothing event command side)
+  pending_says method nothing event command side =
+      let name = dialog_id_of_tags (tag_text command.local_tag) (tag_text command.remote_tag) in
+      found_or SideSays (oldest_pending method nothing event command side name)
+      (lookup (is_dialog_id name) side.dialogs) _
+      (λ held is. found_or SideSays (pending_by_user event command side name held)
+      (find (λ pending. bytes_eq (method_of pending) method) held.pending_requests) _
+      (λ pending found. by_user_says event command side name held pending) (λ none. (tt, tt)))
+      (λ none. (tt, tt))
+
+  ack_says : (event : Event) (command : DialogBody) (side : Side)
+      → SideSays (ack_command event command side)
+  unfolding ack_command
+  ack_says event command side = pending_says (codes "ACK") NothingToAck event command side
 
   prack_says : (event : Event) (command : DialogBody) (side : Side)
-      → SideSays (prack_by_user event command side)
-  prack_says event command side =
-      let name = name_in command.local_tag command.remote_tag in
-      paid_either SideSays event command (prack_paid event command name) side
-      (pending_for pending_kind.Prack name side.dialogs) (λ refusal. (tt, tt))
-      (λ pending. prack_paid_says event command name pending side)
+      → SideSays (prack_command event command side)
+  unfolding prack_command
+  prack_says event command side = pending_says (codes "PRACK") NothingToPrack event command side
 
-  cancel_as : (as_case : CancelCase) (event : Event) (command : CancelCommand)
-      (invite : Client) (clients : Clients)
-      → Say (cancelled_as as_case event command invite clients).1
-  cancel_as (ask.Refused refusal) event command invite clients = (tt, tt)
-  cancel_as ask.Repeated event command invite clients = tt
-  cancel_as ask.Waits event command invite clients = tt
-  cancel_as ask.Starts event command invite clients =
-      beside_says (Some event.id) invite
-      (client_changed command.id (asked cancel.Sent) clients, []) tt
+  -- ---- CANCEL
 
-  cancel_found : (found : Option Client) (event : Event) (command : CancelCommand)
-      (clients : Clients) → Say (cancelled_of found event command clients).1
-  cancel_found None event command clients = (tt, tt)
-  cancel_found (Some invite) event command clients =
-      cancel_as (cancel_case invite) event command invite clients
+  cancel_held : (event : Event) (command : Cancel) (side : Side) (invite : Client)
+      → SideSays (cancel_of_request event command side invite)
+  cancel_held event command side invite =
+      let with_cancel : Cancelling → Clients = λ cancel.
+      set_value (is_id command.id) side.clients (record invite { cancel = cancel }) in
+      let cancels = cancel_request event.id invite in
+      let started : Clients × List CallOut = start (with_cancel Sent, []) cancels in
+      let waits : Clients × List CallOut = (with_cancel (Waits event.id), []) in
+      let done : Clients × List CallOut = if invite.provisional then started else waits in
+      let first : ClientTaken = (record side { clients = done.0 }, done.1) in
+      let asked : ClientTaken = if is_asked invite.cancel then (side, []) else first in
+      let late : ClientTaken = if is_some invite.removal
+      then refuse event command.call_id side AlreadyFinal else asked in
+      either SideSays (not (is_invite_kind invite.kind))
+      (refuse event command.call_id side NoSuchRequest) late (λ is. (tt, tt))
+      (λ is. either SideSays (is_some invite.removal)
+      (refuse event command.call_id side AlreadyFinal) asked (λ final. (tt, tt))
+      (λ still. either SideSays (is_asked invite.cancel) (side, []) first (λ again. tt)
+      (λ none. either (λ (done : Clients × List CallOut). Say done.1) invite.provisional started
+      waits (λ came. (own_asked cancels refl, tt)) (λ none. tt))))
+
+  cancel_says : (event : Event) (command : Cancel) (side : Side)
+      → SideSays (cancel_command event command side)
+  unfolding cancel_command
+  cancel_says event command side =
+      found_or SideSays (cancel_of_request event command side)
+      (lookup (is_id command.id) side.clients) _
+      (λ invite is. cancel_held event command side invite) (λ none. (tt, tt))
+
+  -- ---- a response, and a request that is lost
+
+  response_says : (event : Event) (id : Id) (of : List ℕ) (response : Message) (side : Side)
+      (status : ℕ) (client : Client)
+      → SideSays (response_to event id of response side status client)
+  response_says event id of response side status client =
+      let final = is_final status in
+      let waiting = waiting_cancel client.cancel in
+      let cancels : List Client = if final then []
+      else option_map_or (λ asked_by. cancel_request asked_by client ∷ []) waiting [] in
+      let after : Client = record client {
+        provisional = client.provisional || not final;
+        cancel = option_map_or (λ asked_by. if final then NotAsked else Sent) waiting
+            client.cancel;
+      } in
+      let reply : Reply = record {
+        event = event;
+        id = id;
+        call_id = of;
+        name = option_map_or (λ reference. reference.name) (dialog_of_kind client.kind)
+            (dialog_id_of_tags (tag_of client.request.from) (tag_of response.to));
+        status = status;
+        response = response;
+      } in
+      let done = outcome_of reply after side.dialogs in
+      let clients : Clients = option_map_or (set_value (is_id id) side.clients) done.request
+      (remove_entry (is_id id) side.clients) in
+      let so = outcome_replied reply after side.dialogs in
+      starts_say (done.prack ++ cancels) (clients, done.outs) (silent done.outs so.outs)
+      (both Asked done.prack cancels (all_asked done.prack so.prack)
+      (either (AllByRecursion Asked) final []
+      (option_map_or (λ asked_by. cancel_request asked_by client ∷ []) waiting [])
+      (λ final. tt)
+      (λ provisional. found_or (AllByRecursion Asked)
+      (λ asked_by. cancel_request asked_by client ∷ []) waiting []
+      (λ asked_by is. (own_asked (cancel_request asked_by client) refl, tt)) (λ none. tt))))
+
+  received_says : (event : Event) (id : Id) (of : List ℕ) (response : Message) (side : Side)
+      → SideSays (response_received event id of response side)
+  unfolding response_received
+  received_says event id of response side =
+      found_or SideSays _ (status_of response.start) (side, [])
+      (λ status is. found_or SideSays (response_to event id of response side status)
+      (lookup (is_id id) side.clients) (side, [])
+      (λ client found. response_says event id of response side status client) (λ none. tt))
+      (λ none. tt)
+
+  lost_says : (id : Id) (timed_out : Bool) (side : Side)
+      → SideSays (request_is_lost id timed_out side)
+  unfolding request_is_lost
+  lost_says id timed_out side =
+      found_or (λ (ended : Dialogs × List CallOut). Say ended.1) _
+      (lookup (is_id id) side.clients) (side.dialogs, [])
+      (λ client is. silent (request_over client timed_out side.dialogs).1
+      (over_silent client timed_out side.dialogs)) (λ none. tt)
 
   -- ---- a call
 
   up_says : (call : Call) (event : Event) (up : AnUp) (k : Kind)
-      → Say (up_taken call event up k).1
+      → Say (received call event up k).1
   up_says call event up (kind.Request request reply_to) =
-      silent (up_taken call event up (kind.Request request reply_to)).1
-      (kind_starts call.served (made_tag event) up (kind.Request request reply_to)
-      event.moment)
+      let k = kind.Request request reply_to in
+      silent _ (ap (λ (taken : ServedTaken). starts taken.1)
+      (kind_same call.served (made_tag event) up k event.moment)
+      ∙ kind_starts call.served (made_tag event) up k event.moment)
   up_says call event up (kind.Ack ack) =
-      silent (up_taken call event up (kind.Ack ack)).1
-      (kind_starts call.served (made_tag event) up (kind.Ack ack) event.moment)
+      silent _ (ap (λ (taken : ServedTaken). starts taken.1)
+      (kind_same call.served (made_tag event) up (kind.Ack ack) event.moment)
+      ∙ kind_starts call.served (made_tag event) up (kind.Ack ack) event.moment)
   up_says call event up (kind.Response response) =
-      found_says event up.id up.call_id response (status_of response.start)
-      (client_at up.id call.clients) (side_of call)
+      received_says event up.id up.call_id response (side_of call)
   up_says call event up kind.Timeout = (tt, lost_says up.id true (side_of call))
   up_says call event up kind.Failed = (tt, lost_says up.id false (side_of call))
 
   -- this is said of the request for which a command asks
-  abbrev pub CommandAsks : Id → UserCommand → Type 0
+  abbrev CommandAsks : Id → UserCommand → Type 0
   CommandAsks id command = (method body : List ℕ) → asked_by command ≡ Some (method, body)
       → Asks id method body
 
   first_says : (call : Call) (event : Event) (command : UserCommand)
-      → CommandAsks event.id command → Say (first_command_taken call event command).1
+      → CommandAsks event.id command
+      → Say (item_of_call false call event (User command)).1
   first_says call event (user.Invite invite) asks =
       invite_says event invite call.clients (asks (codes "INVITE") invite.content.body refl)
   first_says call event (user.Plain plain) asks =
-      plain_by (is_bad_outside plain.method) event plain call.clients
-      (asks plain.method plain.content.body refl)
+      plain_says event plain call.clients (asks plain.method plain.content.body refl)
   first_says call event (user.Request request) asks = (tt, tt)
   first_says call event (user.Respond respond) asks = (tt, tt)
   first_says call event (user.Ack ack) asks = (tt, tt)
@@ -453,44 +494,38 @@ module _ (Asks : Id → List ℕ → List ℕ → Type 0) where
   first_says call event (user.Cancel cancel) asks = (tt, tt)
 
   command_says : (call : Call) (event : Event) (command : UserCommand)
-      → CommandAsks event.id command → Say (command_taken call event command).1
+      → CommandAsks event.id command
+      → Say (item_of_call true call event (User command)).1
   command_says call event (user.Invite invite) asks = (tt, tt)
   command_says call event (user.Plain plain) asks = (tt, tt)
   command_says call event (user.Request request) asks =
-      request_says event request (side_of call) (asks request.method request.content.body refl)
+      request_says event request (side_of call)
+      (asks request.method request.content.body refl)
   command_says call event (user.Respond respond) asks =
-      silent (command_taken call event (user.Respond respond)).1
-      (respond_starts call.served event.id respond event.moment)
-  command_says call event (user.Ack ack) asks =
-      silent (command_taken call event (user.Ack ack)).1
-      (none_started _ (ack_quiet event ack (side_of call)))
+      silent _ (ap (λ (taken : ServedTaken). starts taken.1)
+      (respond_same call.served event.id respond event.moment)
+      ∙ respond_starts call.served event.id respond event.moment)
+  command_says call event (user.Ack ack) asks = ack_says event ack (side_of call)
   command_says call event (user.Prack prack) asks = prack_says event prack (side_of call)
-  command_says call event (user.Cancel cancel) asks =
-      cancel_found (client_at cancel.id call.clients) event cancel call.clients
+  command_says call event (user.Cancel cancel) asks = cancel_says event cancel (side_of call)
 
   abbrev pub InputAsks : Option CallItem → Type 0
   InputAsks None = Unit {0}
   InputAsks (Some (id, Up up)) = Unit {0}
   InputAsks (Some (id, User command)) = CommandAsks id command
 
-  item_says : (calls : Calls) (state : Option Call) (item : CallItem) (now : ℕ)
-      → InputAsks (Some item) → Say (step_taken calls state (Some item) now).1
-  item_says calls None (id, Up up) now asks =
-      up_says (new_call calls.local) (event_of calls id now) up up.kind
-  item_says calls (Some call) (id, Up up) now asks =
-      up_says call (event_of calls id now) up up.kind
-  item_says calls None (id, User command) now asks =
-      first_says (new_call calls.local) (event_of calls id now) command asks
-  item_says calls (Some call) (id, User command) now asks =
-      command_says call (event_of calls id now) command asks
-
   step_says : (calls : Calls) (state : Option Call) (input : Option CallItem) (now : ℕ)
       → InputAsks input → Say (call_step calls state input now).1
   step_says calls state None now asks =
       silent (call_step calls state None now).1 (tick_silent calls state now)
-  step_says calls state (Some item) now asks =
-      subst (λ (taken : Taken). Say taken.1) (sym (same_step calls state (Some item) now))
-      (item_says calls state item now asks)
+  step_says calls None (Some (id, Up up)) now asks =
+      up_says (new_call calls.local) (event_of calls id now) up up.kind
+  step_says calls (Some call) (Some (id, Up up)) now asks =
+      up_says call (event_of calls id now) up up.kind
+  step_says calls None (Some (id, User command)) now asks =
+      first_says (new_call calls.local) (event_of calls id now) command asks
+  step_says calls (Some call) (Some (id, User command)) now asks =
+      command_says call (event_of calls id now) command asks
 
   -- ---- all inputs
 

@@ -1,8 +1,10 @@
 -- A call tells its user of a request only if one comes up that is neither a CANCEL nor a PRACK, with
 -- its method, its tags and its body.
-use Rattle.std.proofs.Common.{◌≡◌, ℕ, Bool, true, false, ◌||◌, not, List, [], ◌∷◌, refl, sym, ap, ◌∙◌, subst}
-use Rattle.std.specs.Prelude.{Option, None, Some, if◌then◌else◌}
+use Rattle.std.proofs.Common.{◌≡◌, ℕ, Bool, true, false, ◌||◌, ◌&&◌, List, [], ◌∷◌, refl, sym, ap, ◌∙◌, subst}
+use Rattle.std.specs.Prelude.{Option, None, Some, codes, find, not, if◌then◌else◌}
 use Rattle.std.specs.List.{AllByRecursion, cons_option, list_any}
+use Rattle.std.specs.Option.{option_map_or}
+use Rattle.std.proofs.lemmas.Bool.{false≢true}
 use Rattle.sip_message.specs.Party.{tag_of}
 use Rattle.sip_message.specs.declared.id.Id.{Id}
 use Rattle.sip_message.specs.declared.message.Message.{Message}
@@ -12,7 +14,7 @@ use Rattle.sip_model.proofs.Ordered.{by_bool}
 use Rattle.sip_transactions.specs.declared.output.Kind.{Kind}
 use Rattle.sip_transactions.specs.declared.output.Kind.TheVariants as kind
 use Rattle.sip_transactions.specs.declared.output.Up.{Up as AnUp}
-use Rattle.sip_common.specs.Dialogs.{Dialogs, dialog_at, takes}
+use Rattle.sip_common.specs.Dialogs.{Dialogs, dialog_at, dialog_changed, ended_at}
 use Rattle.sip_common.specs.Notices.{request_told_by}
 use Rattle.sip_common.specs.Requests.{dialog_id_of, has_to_tag, is_bye, is_cancel, is_prack, is_unknown_option, local_tag_of}
 use Rattle.sip_common.specs.declared.command.UserCommand.{UserCommand}
@@ -27,21 +29,19 @@ use Rattle.sip_common.specs.declared.notice.Notice.{Notice}
 use Rattle.sip_common.specs.declared.notice.Notice.TheVariants as notice
 use Rattle.sip_common.proofs.Each.{both}
 use Rattle.sip_common.proofs.ToldRequests.{end_shown, shown}
-use Rattle.sip_served.specs.Arrival.{arrival_of, by_case, bye_taken, case_inside, case_of, case_outside, is_merged, named_invite, noted, prack_case, request_held}
+use Rattle.sip_served.specs.Arrival.{arrival_of, case_of}
 use Rattle.sip_served.specs.ForUser.{if_for_user}
 use Rattle.sip_served.specs.Run.{Event as ServerEvent, Takes, Ticks, event_taken}
-use Rattle.sip_served.specs.State.{State}
-use Rattle.sip_served.specs.Step.{kind_taken}
+use Rattle.sip_served.specs.Rules.Arrivals.{after_request, bad_extension, cancel_received, is_above, is_merged, is_named_by, no_such_call, own_response, prack_for, prack_received, request_for_user, request_in_dialog, request_received}
+use Rattle.sip_served.specs.State.{ServedTaken, State}
 use Rattle.sip_served.specs.Tick.{tick_taken}
 use Rattle.sip_served.specs.declared.arrival.Arrival.{Arrival}
-use Rattle.sip_served.specs.declared.arrival.ArrivalCase.{ArrivalCase}
-use Rattle.sip_served.specs.declared.arrival.ArrivalCase.TheVariants as case
-use Rattle.sip_served.specs.declared.held_request.HeldRequest.{HeldRequest}
+use Rattle.sip_served.proofs.ArrivalRules.{kind_same}
 use Rattle.sip_served.proofs.Shows.{event_shows}
 use Rattle.sip_clients.specs.Tick.{clients_ticked}
 use Rattle.sip_clients.specs.declared.event.Event.{Event}
 use Rattle.sip_clients.proofs.NoRequests.{ack_command_asks, cancel_asks, invite_asks, lost_asks, plain_asks, prack_command_asks, request_asks, response_asks, tick_asks}
-use Rattle.sip_calls.specs.Call.{CallItem, Taken, call_machine, call_step, event_of, made_tag, new_call}
+use Rattle.sip_calls.specs.Call.{CallItem, Taken as CallTaken, call_machine, call_step, event_of, made_tag, new_call}
 use Rattle.sip_calls.specs.Sides.{by_server, side_of}
 use Rattle.sip_calls.specs.Steps.Call.{command_taken, first_command_taken, step_taken, ticked, up_taken}
 use Rattle.sip_calls.specs.declared.call.Call.{Call}
@@ -49,53 +49,11 @@ use Rattle.sip_calls.specs.declared.calls.Calls.{Calls}
 use Rattle.sip_calls.proofs.SameSteps.{same_step}
 use Rattle.sip_conversation.proofs.Branches.{either, found_or}
 
--- ---- a request for the user is no PRACK
+-- ---- what is told
 
 second_false : (one two : Bool) → (one || two) ≡ false → two ≡ false
 second_false true two none = absurd cc
 second_false false two none = none
-
-module _ (request : Message) where
-  abbrev IsNoPrack : ArrivalCase → Type 0
-  IsNoPrack case.ForUser = is_prack request ≡ false
-  IsNoPrack _ = Unit {0}
-
-  of_rack : (requests : List HeldRequest) (name : DialogId) (created_by : Id)
-      (rack : Option RAck) → IsNoPrack (prack_case requests name created_by rack)
-  of_rack requests name created_by None = tt
-  of_rack requests name created_by (Some rack) =
-      found_or IsNoPrack (λ id. case.Acknowledges id rack.rseq)
-      (named_invite requests name created_by rack) case.AcknowledgesNothing (λ id is. tt)
-      (λ none. tt)
-
-  inside : (requests : List HeldRequest) (name : DialogId) (found : Option HeldDialog)
-      → IsNoPrack (case_inside requests name request found)
-  inside requests name None = tt
-  inside requests name (Some held) =
-      either IsNoPrack (not (takes held request.cseq.number)) case.OutOfOrder _ (λ low. tt)
-      (λ above. either IsNoPrack (is_prack request)
-      (prack_case requests name held.created_by request.rack) case.ForUser
-      (λ is. of_rack requests name held.created_by request.rack) (λ other. other))
-
-  outside : IsNoPrack (case_outside request)
-  outside =
-      either IsNoPrack (is_bye request || is_prack request) case.NoDialog case.ForUser
-      (λ is. tt) (second_false (is_bye request) (is_prack request))
-
-  no_prack : (requests : List HeldRequest) (dialogs : Dialogs) (name : DialogId)
-      → IsNoPrack (case_of requests dialogs name request)
-  no_prack requests dialogs name =
-      either IsNoPrack (merged requests) case.Merged _ (λ is. tt)
-      (λ new. either IsNoPrack (list_any is_unknown_option request.require) case.BadExtension _
-      (λ unknown. tt)
-      (λ known. either IsNoPrack (has_to_tag request)
-      (case_inside requests name request (dialog_at name dialogs)) (case_outside request)
-      (λ tagged. inside requests name (dialog_at name dialogs)) (λ bare. outside)))
-    where
-      merged : List HeldRequest → Bool
-      merged requests = not (has_to_tag request) && list_any (is_merged request) requests
-
--- ---- what is told
 
 head_none : (first : Option Id) (rest : List Id) → cons_option first rest ≡ []
     → (first ≡ None) × (rest ≡ [])
@@ -143,30 +101,96 @@ module _ (Tells : List ℕ → List ℕ → List ℕ → List ℕ → List ℕ �
 
   -- ---- a request that comes up
 
-  bye_shown : (request : Message) (name : DialogId) (state : State)
-      → shown (bye_taken request name state).1 ≡ []
-  bye_shown request name state =
-      by_bool (has_to_tag request && is_bye request) (λ e. rw e (end_shown name state.dialogs))
-      (λ e. rw e refl)
+  abbrev Taken : ServedTaken → Type 0
+  Taken taken = Fit taken.1
 
-  case_tells : (one : ArrivalCase) (state : State) (call_id : List ℕ) (name : DialogId)
-      (arrival : Arrival) → IsNoPrack arrival.request one
+  for_user_tells : (state : State) (call_id : List ℕ) (name : DialogId) (arrival : Arrival)
+      → Tells call_id arrival.request.cseq.method arrival.tag (tag_of arrival.request.from)
+      arrival.request.body
+      → Taken (request_for_user state call_id name arrival)
+  for_user_tells state call_id name arrival tells = (
+    tells,
+    either (λ (after : Dialogs × List CallOut). Fit after.1)
+        (has_to_tag arrival.request && is_bye arrival.request) (ended_at name state.dialogs)
+        (state.dialogs, [])
+        (λ ends. none_told (ended_at name state.dialogs).1 (end_shown name state.dialogs))
+        (λ stays. tt),
+  )
+
+  prack_tells : (state : State) (call_id : List ℕ) (name : DialogId) (created_by : Id)
+      (arrival : Arrival) (rack : Option RAck)
+      → Taken (prack_received state call_id name created_by arrival rack)
+  prack_tells state call_id name created_by arrival None = (tt, tt)
+  prack_tells state call_id name created_by arrival (Some rack) =
+      found_or Taken (prack_for state call_id arrival rack)
+      (find (is_named_by rack name created_by) state.requests) (no_such_call state arrival)
+      (λ invite is. (tt, (tt, tt))) (λ none. (tt, tt))
+
+  inside_tells : (state : State) (call_id : List ℕ) (name : DialogId) (arrival : Arrival)
+      (held : HeldDialog)
       → (is_prack arrival.request ≡ false
       → Tells call_id arrival.request.cseq.method arrival.tag (tag_of arrival.request.from)
       arrival.request.body)
-      → Fit (by_case one state call_id name arrival).1
-  case_tells case.Merged state call_id name arrival is tells = (tt, tt)
-  case_tells case.BadExtension state call_id name arrival is tells = (tt, tt)
-  case_tells case.NoDialog state call_id name arrival is tells = (tt, tt)
-  case_tells case.OutOfOrder state call_id name arrival is tells = (tt, tt)
-  case_tells (case.Acknowledges invite rseq) state call_id name arrival is tells = (tt, (tt, tt))
-  case_tells case.AcknowledgesNothing state call_id name arrival is tells = (tt, tt)
-  case_tells case.ForUser state call_id name arrival is tells =
-      let seen = noted state name arrival.request in
-      let held = (request_held seen call_id name arrival).0 in (
-        tells is,
-        none_told (bye_taken arrival.request name held).1 (bye_shown arrival.request name held),
-      )
+      → Taken (request_in_dialog state call_id name arrival held)
+  inside_tells state call_id name arrival held tells =
+      let request = arrival.request in
+      let seen : State =
+      record state { dialogs = dialog_changed name (after_request request) state.dialogs } in
+      let by_prack =
+      prack_received seen call_id name held.created_by arrival request.rack in
+      let by_user = request_for_user seen call_id name arrival in
+      either Taken (not (is_above held request.cseq.number)) _
+      (if is_prack request then by_prack else by_user) (λ low. (tt, tt))
+      (λ above. either Taken (is_prack request) by_prack by_user
+      (λ is. prack_tells seen call_id name held.created_by arrival request.rack)
+      (λ other. for_user_tells seen call_id name arrival (tells other)))
+
+  outside_tells : (state : State) (call_id : List ℕ) (name : DialogId) (arrival : Arrival)
+      → (is_prack arrival.request ≡ false
+      → Tells call_id arrival.request.cseq.method arrival.tag (tag_of arrival.request.from)
+      arrival.request.body)
+      → Taken (if is_bye arrival.request || is_prack arrival.request
+      then no_such_call state arrival else request_for_user state call_id name arrival)
+  outside_tells state call_id name arrival tells =
+      let bye = is_bye arrival.request in
+      let prack = is_prack arrival.request in
+      either Taken (bye || prack) (no_such_call state arrival)
+      (request_for_user state call_id name arrival) (λ is. (tt, tt))
+      (λ other. for_user_tells state call_id name arrival
+      (tells (second_false bye prack other)))
+
+  arrival_tells : (state : State) (call_id : List ℕ) (arrival : Arrival) (now : ℕ)
+      → is_cancel arrival.request ≡ false
+      → (is_prack arrival.request ≡ false
+      → Tells call_id arrival.request.cseq.method arrival.tag (tag_of arrival.request.from)
+      arrival.request.body)
+      → Taken (request_received state call_id arrival now)
+  unfolding request_received
+  arrival_tells state call_id arrival now no_cancel tells =
+      let request = arrival.request in
+      let name = dialog_id_of request arrival.tag in
+      let outside = if is_bye request || is_prack request then no_such_call state arrival
+      else request_for_user state call_id name arrival in
+      let inside = option_map_or (request_in_dialog state call_id name arrival)
+      (dialog_at name state.dialogs) (no_such_call state arrival) in
+      let known = if has_to_tag request then inside else outside in
+      let new = if list_any is_unknown_option request.require then bad_extension state arrival
+      else known in
+      let other : ServedTaken =
+      if not (has_to_tag request) && list_any (is_merged request) state.requests
+      then (state, own_response arrival 482 (codes "Loop Detected")) else new in
+      either Taken (is_cancel request) (cancel_received state call_id arrival now) other
+      (λ is. absurd (false≢true (sym no_cancel ∙ is)))
+      (λ none. either Taken
+      (not (has_to_tag request) && list_any (is_merged request) state.requests) _ new
+      (λ merged. (tt, tt))
+      (λ first. either Taken (list_any is_unknown_option request.require)
+      (bad_extension state arrival) known (λ unknown. (tt, tt))
+      (λ all_known. either Taken (has_to_tag request) inside outside
+      (λ tagged. found_or Taken (request_in_dialog state call_id name arrival)
+      (dialog_at name state.dialogs) (no_such_call state arrival)
+      (λ held is. inside_tells state call_id name arrival held tells) (λ gone. (tt, tt)))
+      (λ bare. outside_tells state call_id name arrival tells))))
 
   -- this is true of a request that comes up under a Call-ID, if it is neither a CANCEL nor a PRACK;
   -- a tag may be made for one without a tag in To
@@ -203,13 +227,12 @@ module _ (Tells : List ℕ → List ℕ → List ℕ → List ℕ → List ℕ �
       let state = call.served in
       let arrival = arrival_of up request reply_to made in
       let name = dialog_id_of request arrival.tag in
-      let case = case_of state.requests state.dialogs name request in
+      let ids = if_for_user up.id (case_of state.requests state.dialogs name request) in
       by_bool (is_cancel request)
       (λ is. none_told (up_taken call event up k).1
-      (event_shows state (up_event event up k)
-      ∙ ap (λ b. if b then [] else if_for_user up.id case) is))
-      (λ other. rw other (case_tells case state up.call_id name arrival
-      (no_prack request state.requests state.dialogs name) (tells made other)))
+      (event_shows state (up_event event up k) ∙ ap (λ b. if b then [] else ids) is))
+      (λ other. subst Taken (kind_same state made up k event.moment)
+      (arrival_tells state up.call_id arrival event.moment other (tells made other)))
   up_tells call event up (kind.Ack ack) tells =
       none_told (up_taken call event up (kind.Ack ack)).1
       (event_shows call.served (up_event event up (kind.Ack ack)))
@@ -279,7 +302,7 @@ module _ (Tells : List ℕ → List ℕ → List ℕ → List ℕ → List ℕ �
   step_tells : (calls : Calls) (state : Option Call) (input : Option CallItem) (now : ℕ)
       → InputTells input → Fit (call_step calls state input now).1
   step_tells calls state input now tells =
-      subst (λ (taken : Taken). Fit taken.1) (sym (same_step calls state input now))
+      subst (λ (taken : CallTaken). Fit taken.1) (sym (same_step calls state input now))
       (taken_tells calls state input now tells)
 
   -- ---- all inputs
