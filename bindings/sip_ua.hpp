@@ -1,5 +1,5 @@
-// A SIP user agent core for C++17: a class over sip_ua.h, of one file. An Agent is moved and never
-// copied, and ends what it holds. Calls throw sip::Error where the library answers a fault.
+// A SIP user agent core for C++17: a class over sip_ua.h, in one file. An Agent can be moved, not
+// copied, and frees what it holds. Calls throw sip::Error if the library returns a fault.
 #ifndef SIP_UA_HPP
 #define SIP_UA_HPP
 
@@ -16,8 +16,8 @@
 
 namespace sip {
 
-/// What the library answered; `status` is one of SIP_UA_.., and after SIP_UA_BAD_FIELD `bad_field`
-/// one of SIP_UA_FIELD_..
+/// A fault of a call: `status` is one of SIP_UA_.., and after SIP_UA_BAD_FIELD `bad_field` is one
+/// of SIP_UA_FIELD_..
 struct Error : std::runtime_error {
     explicit Error(std::uint32_t status, std::uint32_t bad_field = 0)
         : std::runtime_error(std::string("sip_ua: ") + sip_ua_status_text(status)), status(status),
@@ -29,9 +29,9 @@ struct Error : std::runtime_error {
 using Address = sip_ua_address;
 using Configuration = sip_ua_configuration;
 
-/// An output of a round: a datagram with the address that it goes to, or a line without one.
-/// `place` is that of the event that it comes of, from 1, or 0 where no event stands behind it: it
-/// comes with time, or is the request or the answer of a command.
+/// An output of a round: a datagram with the address to send it to, or a line without one. `place`
+/// is that of the event that caused it, from 1. It is 0 if a timer caused it, or if a command sends
+/// it.
 struct Output {
     std::size_t index;
     std::optional<Address> to;
@@ -107,14 +107,14 @@ struct TypedOutput {
     std::string body;
 };
 
-/// A datagram that came in.
+/// A received datagram.
 struct Datagram {
     Address from;
     std::string bytes;
 };
 
-/// A start line: of a request its method and Request-URI, of a response (without a method) its
-/// status and reason.
+/// A start line: the method and Request-URI of a request, or the status and reason of a response
+/// (without a method).
 struct StartLine {
     std::string method;
     std::string uri;
@@ -143,8 +143,8 @@ public:
 
     ~Agent() { sip_ua_free(&agent); }
 
-    /// Ends the agent before the object ends. A second time is SIP_UA_NOT_HELD, as is any other
-    /// call after it, or on an object that was moved from.
+    /// Frees the agent before the destructor does. A second close, any later call, and any call on
+    /// an object that was moved from is SIP_UA_NOT_HELD.
     void close() { check(sip_ua_free(&agent)); }
 
     void datagram(const Address &from, std::string_view bytes) {
@@ -153,18 +153,18 @@ public:
                               bytes.size()));
     }
 
-    /// A line of an event file without its end, as a command of the user.
+    /// Adds an event as a line of an event file, without its line feed.
     void event_line(std::string_view line) {
         check(sip_ua_event_line(&agent, line.empty() ? "" : line.data(), line.size()));
     }
 
-    /// The lines of an event as a session file has them, without the end of the last: a command
-    /// with its header lines before it.
+    /// Adds an event as lines of a session file, the last one without its line feed: a command may
+    /// have header lines before it.
     void event_lines(std::string_view lines) {
         check(sip_ua_event_lines(&agent, lines.empty() ? "" : lines.data(), lines.size()));
     }
 
-    /// Starts a call. Here and below: the id by which notices tell of the command.
+    /// Starts a call. Each command returns the id that the notices about it have.
     sip_ua_id invite(const Invite &given) {
         const auto headers = headers_of(given.headers);
         const sip_ua_invite_fields fields = {
@@ -195,7 +195,7 @@ public:
         return asked(sip_ua_request, fields);
     }
 
-    /// Answers a request.
+    /// Sends a response to a request.
     sip_ua_id respond(const Respond &given) {
         const auto headers = headers_of(given.headers);
         const sip_ua_respond_fields fields = {
@@ -204,26 +204,26 @@ public:
         return asked(sip_ua_respond, fields);
     }
 
-    /// Sends the ACK of the oldest 2xx of a dialog that is owed one.
+    /// Sends the ACK of the dialog's oldest 2xx that still needs one.
     sip_ua_id ack(const Body &given) { return body(sip_ua_ack, given); }
 
-    /// Sends the PRACK of the oldest provisional response of a dialog that is owed one.
+    /// Sends the PRACK of the dialog's oldest provisional response that still needs one.
     sip_ua_id prack(const Body &given) { return body(sip_ua_prack, given); }
 
-    /// Cancels an INVITE that was sent, by its id.
+    /// Cancels an INVITE that you sent, by its id.
     sip_ua_id cancel(std::string_view call_id, sip_ua_id id) {
         const sip_ua_cancel_fields fields = {bytes(call_id), id};
         return asked(sip_ua_cancel, fields);
     }
 
-    /// What is held, and what waits.
+    /// Counts what is held, and what waits.
     sip_ua_counts stats() {
         sip_ua_counts told;
         check(sip_ua_stats(&agent, &told));
         return told;
     }
 
-    /// A round at a moment in ms, and its outputs by their fields.
+    /// Runs a round at a moment in ms, and returns its outputs by their fields.
     std::vector<TypedOutput> run(std::uint64_t moment) {
         check(sip_ua_run(&agent, moment));
         std::vector<TypedOutput> outputs;
@@ -243,17 +243,17 @@ public:
         }
     }
 
-    /// The id of the event that was given last, if the next round has one.
+    /// The id of the event that was added last, if the next round has one.
     std::optional<sip_ua_id> last_id() {
         sip_ua_id id{};
         check(sip_ua_last_id(&agent, &id));
         return id.is_given ? std::optional(id) : std::nullopt;
     }
 
-    /// The send of this index of the last round could not be sent.
+    /// Says that the send with this index, of the last round, couldn't be sent.
     void failed(std::size_t output) { check(sip_ua_failed(&agent, output)); }
 
-    /// The same, with what is told as lines of an output file.
+    /// The same, with notices and drops as lines of an output file.
     std::vector<Output> run_lines(std::uint64_t moment) {
         check(sip_ua_run(&agent, moment));
         std::vector<Output> outputs;
@@ -269,7 +269,7 @@ public:
         return due.is_due ? std::optional(due.moment) : std::nullopt;
     }
 
-    /// The datagram that came in at a place of the last round.
+    /// The datagram with this place in the last round, if there is one.
     std::optional<Datagram> datagram_at(std::uint32_t place) {
         sip_ua_arrival came{};
         const std::string bytes = text_of(
@@ -298,7 +298,7 @@ public:
         return std::nullopt;
     }
 
-    /// The values of a header of it, by its long or its compact name in any case.
+    /// The values of one of its headers, by the long or the compact name, in any case.
     std::vector<std::string> header_values(std::uint32_t place, std::string_view name) {
         std::vector<std::string> values;
         for (;;) {
@@ -352,7 +352,7 @@ private:
         return asked(call, fields);
     }
 
-    // The text that a call writes, of the length that it tells then. The buffer grows for it.
+    // The text that a call writes, with the length that it returns. The buffer grows for it.
     template <class Call, class Length> std::string text_of(Call call, Length length) {
         if (buffer.empty())
             buffer.resize(1);

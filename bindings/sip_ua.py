@@ -1,8 +1,8 @@
 """A SIP user agent core (RFC 3261, with reliable provisional responses) for Python 3.9 and later:
 one file over ctypes, no build step.
 
-The program has the socket, the clock and the user. An Agent is given datagrams, commands and
-moments, and gives back what is to be sent and told:
+Your program has the socket, the clock and the user. Give an Agent datagrams, commands and times. It
+returns datagrams to send, and notices:
 
     agent = Agent("./libsip_ua.so", ("192.0.2.1", 5060), os.urandom(32))
     agent.ask(Invite("c1", ("192.0.2.9", 5060), "sip:b@192.0.2.9", "sip:a@192.0.2.1",
@@ -16,13 +16,13 @@ moments, and gives back what is to be sent and told:
         .. unless a command waits, wait for a datagram, the user, or agent.next_due()
         agent.datagram(source, data)
 
-What is asked for is a Command: Invite, Plain, Request, Response, Ack, Prack, Cancel. What a round
-gives is an Output: a Send, a Drop, or a Notice of one of eleven types. sip_ua_udp.py is that loop
-over asyncio.
+The commands are Invite, Plain, Request, Response, Ack, Prack and Cancel. A round gives outputs: a
+Send, a Drop, or a Notice of one of eleven types. sip_ua_udp.py runs this loop on asyncio.
 
-Texts are str, UTF-8 on the wire; bytes that are none go through it unchanged (surrogateescape).
-Bodies and datagrams are bytes. Moments are in ms from any beginning, and never go back. An agent is
-used by one thread at a time. The library is libsip_ua.so of `bindings/install`.
+Texts are str, in UTF-8 on the wire. Bytes that aren't UTF-8 pass through unchanged
+(surrogateescape). Bodies and datagrams are bytes. Moments are times in ms from any starting point,
+and never go back. One thread at a time uses an agent. The library is libsip_ua.so, which
+`bindings/install` builds.
 """
 
 import ctypes
@@ -48,7 +48,7 @@ class _Number(enum.IntEnum):
 
 
 class Status(_Number):
-    """What the library answered. After all but BROKEN the agent is as it was before the call."""
+    """A fault of a call. Only BROKEN changes the agent."""
 
     NOT_HELD = 1
     HELD = 2
@@ -67,7 +67,7 @@ class Status(_Number):
 
 
 class Field(_Number):
-    """The part of a command that doesn't keep its rule; sip_ua.h says the rules."""
+    """The bad field of a command; sip_ua.h says when a field is bad."""
 
     CALL_ID = 1
     METHOD = 2
@@ -119,7 +119,7 @@ class DropReason(_Number):
 
 
 class Error(Exception):
-    """The library answered a fault: `status`, and after BAD_FIELD the `field` that is bad."""
+    """A call failed: with `status`, and after BAD_FIELD with the bad `field`."""
 
     def __init__(self, status: int, field: int = 0):
         self.status = Status(status)
@@ -128,7 +128,7 @@ class Error(Exception):
 
 
 class Id(NamedTuple):
-    """The id of a request or a command: the number of a round, and the place in it from 1."""
+    """The id of a request or a command: the number of its round, and its place there, from 1."""
 
     round: int
     place: int
@@ -142,8 +142,8 @@ class Id(NamedTuple):
 
 @dataclass(frozen=True)
 class Command:
-    """What an agent can be asked for. Headers are pairs of a name and a value. A body has the type
-    application/sdp where no header Content-Type says another one."""
+    """What `Agent.ask` takes. Headers are pairs of a name and a value. A body has the type
+    application/sdp, unless a header Content-Type says another one."""
 
     call_id: str
     _name: ClassVar[str] = ""
@@ -154,7 +154,7 @@ class Command:
 
 @dataclass(frozen=True)
 class Invite(Command):
-    """Starts a call: a first INVITE to an address. `from_uri` and `to_uri` have no tags."""
+    """Starts a call: sends an initial INVITE to an address. The URIs have no tags."""
 
     address: Address
     request_uri: str
@@ -174,7 +174,7 @@ class Invite(Command):
 
 @dataclass(frozen=True)
 class Plain(Command):
-    """Sends a request outside of any dialog to an address, as REGISTER or OPTIONS."""
+    """Sends a request outside of any dialog to an address, such as REGISTER or OPTIONS."""
 
     address: Address
     method: str
@@ -192,7 +192,7 @@ class Plain(Command):
 
 @dataclass(frozen=True)
 class Request(Command):
-    """Sends a request in a dialog, as BYE or a later INVITE. Notices tell its tags."""
+    """Sends a request in a dialog, such as BYE or a re-INVITE. Notices have the dialog's tags."""
 
     local_tag: str
     remote_tag: str
@@ -207,7 +207,7 @@ class Request(Command):
 
 @dataclass(frozen=True)
 class Response(Command):
-    """Answers a request, by the id that its RequestNotice tells. The status is 101 to 699."""
+    """Answers the request with this id, that of its RequestNotice. The status is 101 to 699."""
 
     id: Id
     status: int
@@ -224,7 +224,7 @@ class Response(Command):
 
 @dataclass(frozen=True)
 class Ack(Command):
-    """Sends the ACK of the oldest 2xx of a dialog that is owed one. Most go out by themselves."""
+    """Sends the ACK of the dialog's oldest 2xx that still needs one. Most go out by themselves."""
 
     local_tag: str
     remote_tag: str
@@ -238,7 +238,7 @@ class Ack(Command):
 
 @dataclass(frozen=True)
 class Prack(Command):
-    """Sends the PRACK of the oldest reliable provisional response of a dialog that is owed one.
+    """Sends the PRACK of the dialog's oldest reliable provisional response that still needs one.
     Most go out by themselves."""
 
     local_tag: str
@@ -253,7 +253,7 @@ class Prack(Command):
 
 @dataclass(frozen=True)
 class Cancel(Command):
-    """Cancels an INVITE that was sent, by the id that `ask` gave for it."""
+    """Cancels an INVITE that you sent. The id is the one that `ask` returned for it."""
 
     id: Id
     headers: ClassVar[Headers] = ()
@@ -268,15 +268,15 @@ class Cancel(Command):
 
 @dataclass(frozen=True)
 class Output:
-    """What a round gives. `place` is that of the event that it comes of, from 1; it is 0 where no
-    event stands behind it: it comes with time, or is the request or the answer of a command."""
+    """What a round gives. `place` is that of the event that caused it, from 1. It is 0 if a timer
+    caused it, or if a command sends it."""
 
     place: int
 
 
 @dataclass(frozen=True)
 class Send(Output):
-    """A datagram to be sent to an address. Where that fails, `Agent.failed` takes the index."""
+    """A datagram to send to an address. If that fails, give the index to `Agent.failed`."""
 
     index: int
     to: Address
@@ -285,14 +285,14 @@ class Send(Output):
 
 @dataclass(frozen=True)
 class Line(Output):
-    """What is told as a line of an output file, without its end; `run_lines` gives it."""
+    """A notice or a drop as a line of an output file, without its LF; `run_lines` gives it."""
 
     text: str
 
 
 @dataclass(frozen=True)
 class Drop(Output):
-    """The datagram of `place` was dropped; after MISSING and REPEATED `header` is the header."""
+    """The datagram of `place` was dropped. For MISSING and REPEATED, `header` is that header."""
 
     reason: DropReason
     header: Optional[str]
@@ -300,14 +300,14 @@ class Drop(Output):
 
 @dataclass(frozen=True)
 class Notice(Output):
-    """What the user is told of a call."""
+    """What the user is told about a call."""
 
     call_id: str
 
 
 @dataclass(frozen=True)
 class RequestNotice(Notice):
-    """A request to answer. `local_tag` is the one that the answers carry."""
+    """A request to answer. Your responses carry `local_tag`."""
 
     id: Id
     method: str
@@ -318,8 +318,8 @@ class RequestNotice(Notice):
 
 @dataclass(frozen=True)
 class ResponseNotice(Notice):
-    """A response to the request of this id, which a command sent. The tags are those of its dialog:
-    the local one of From, the remote one of To."""
+    """A response to the request of the command with this id. The local tag is that of From, the
+    remote tag that of To."""
 
     id: Id
     status: int
@@ -338,7 +338,7 @@ class AckNotice(Notice):
 
 @dataclass(frozen=True)
 class PrackNotice(Notice):
-    """The PRACK of a provisional response to the INVITE of this id came, and was answered."""
+    """The PRACK of a provisional response to the INVITE of this id came, and got its 200."""
 
     id: Id
     rseq: int
@@ -347,14 +347,14 @@ class PrackNotice(Notice):
 
 @dataclass(frozen=True)
 class TimeoutNotice(Notice):
-    """No response to the request of this id came in time, or no ACK of its rejection."""
+    """No response to the request of this id came in time, or no ACK of its 300 to 699."""
 
     id: Id
 
 
 @dataclass(frozen=True)
 class FailedNotice(Notice):
-    """A send of the request of this id, or of its answer, failed."""
+    """A send of the request of this id, or of its response, failed."""
 
     id: Id
 
@@ -375,14 +375,14 @@ class NoPrackNotice(Notice):
 
 @dataclass(frozen=True)
 class CancelNotice(Notice):
-    """The peer cancelled the INVITE of this id, and 487 answers it."""
+    """The peer cancelled the INVITE of this id; the agent sent 487."""
 
     id: Id
 
 
 @dataclass(frozen=True)
 class EndedNotice(Notice):
-    """The dialog of these tags ended."""
+    """The dialog with these tags ended."""
 
     local_tag: str
     remote_tag: str
@@ -390,19 +390,19 @@ class EndedNotice(Notice):
 
 @dataclass(frozen=True)
 class RefusedNotice(Notice):
-    """The command of this id was refused; or an ACK or a PRACK that was to go out by itself, after
-    the event of this id."""
+    """The command of this id was refused; or the ACK or PRACK that the agent would have sent by
+    itself because of the event with this id."""
 
     id: Id
     refusal: Refusal
 
 
-# ---- what is asked of an agent
+# ---- what an agent says of itself and of datagrams
 
 
 class Stats(NamedTuple):
-    """What is held: transactions and calls. What waits: events of the next round, which has this
-    number, and outputs of the last one."""
+    """The transactions and calls that are held, the number of the next round, the events that wait
+    for it, and the outputs of the last round that weren't taken."""
 
     transactions: int
     calls: int
@@ -412,7 +412,7 @@ class Stats(NamedTuple):
 
 
 class StartLine(NamedTuple):
-    """A start line: of a request method and Request-URI, of a response status and reason."""
+    """A start line: method and Request-URI of a request, or status and reason of a response."""
 
     method: Optional[str]
     uri: Optional[str]
@@ -421,7 +421,7 @@ class StartLine(NamedTuple):
 
 
 class Datagram(NamedTuple):
-    """A datagram that came in."""
+    """A received datagram."""
 
     source: Address
     data: bytes
@@ -627,7 +627,7 @@ def _passed(words: tuple) -> list:
 
 
 def _notice(told: _TypedOutput, round: int, texts: List[bytes]) -> Notice:
-    """The notice of a kind from 4 on."""
+    """The notice of a kind, from 4 on."""
     call_id, local_tag, remote_tag, method = map(_decoded, texts[:4])
     place, body, event = told.place, texts[4], told.id.told()
     tags = (local_tag, remote_tag)
@@ -648,12 +648,13 @@ def _notice(told: _TypedOutput, round: int, texts: List[bytes]) -> Notice:
 
 
 class Agent:
-    """One user agent. Use it in a `with`, or end it by `close`.
+    """One user agent. Use it in a `with` statement, or free it by `close`.
 
-    `library` is the path of libsip_ua.so. `local` is the address that Via and Contact say: mostly
-    the socket's own, behind a NAT the one by which peers reach it. `seed` is a secret of 32 random
-    bytes, from which tags and branches are made, another one for each agent. `first` is the number
-    of the first round. More than one shard, up to 256, changes no answer.
+    `library` is the path of libsip_ua.so. `local` is the address that Via and Contact say:
+    usually the socket's own, behind a NAT the one at which peers reach it. `seed` is a secret of 32
+    random bytes, different for each agent; tags and branches are made from it. `first` is the
+    number of the first round. The number of shards, up to 256,
+    changes no output.
     """
 
     def __init__(
@@ -675,7 +676,7 @@ class Agent:
             raise Error(status)
 
     def _texts(self, name: str, told, *words) -> List[bytes]:
-        """What is told is filled in, and its texts given, for which the buffer grows."""
+        """Fills in the next output and returns its texts. The buffer grows for them."""
         self._call(name, *words, told, self._buffer, len(self._buffer))
         if sum(told.lengths()) > len(self._buffer):
             self._buffer = ctypes.create_string_buffer(sum(told.lengths()))
@@ -686,16 +687,16 @@ class Agent:
             start += length
         return texts
 
-    # -- what goes in
+    # -- events of the next round
 
     def datagram(self, source: Address, data: bytes) -> None:
-        """A datagram came in from this address."""
+        """Adds a datagram that was received from this address."""
         self._call("datagram", _address(source), data)
 
     def ask(self, command: Command) -> Id:
-        """Asks for a command in the next round. The id is the one by which notices tell of it. A
-        part that doesn't keep its rule is an Error BAD_FIELD, and nothing is asked for; what the
-        agent itself refuses, as a dialog that isn't held, a RefusedNotice tells."""
+        """Adds a command to the next round. Notices about it have the id that this returns. A bad
+        field raises Error BAD_FIELD, and there is no command. If the agent refuses it later, such
+        as for a dialog that isn't held, a RefusedNotice says so."""
         words, asked = command._words(), _Asked()
         for name, value in command.headers:
             try:
@@ -710,29 +711,29 @@ class Agent:
         return asked.id.told()
 
     def event_line(self, line: str) -> None:
-        """A line of an event file without its end: a command, or another event."""
+        """Adds an event as a line of an event file, without its LF."""
         self._call("event_line", line)
 
     def event_lines(self, lines: str) -> None:
-        """The lines of an event of a session file, the last one without its end: a command with its
+        """Adds an event as lines of a session file, the last one without its LF: a command may have
         header lines before it."""
         self._call("event_lines", lines)
 
     def last_id(self) -> Optional[Id]:
-        """The id of the event that was given last, if the next round has one."""
+        """The id of the event that was added last, if the next round has one."""
         told = _Id()
         self._call("last_id", told)
         return told.told() if told.is_given else None
 
     def failed(self, index: int) -> None:
-        """The Send of this index of the last round could not be sent."""
+        """Says that the Send with this index, of the last round, couldn't be sent."""
         self._call("failed", _number(index, 64))
 
     # -- a round
 
     def run(self, moment: int) -> List[Output]:
-        """Runs a round: deals with all events since the last one, at a moment in ms. Its outputs:
-        Send, Drop, and the types of Notice."""
+        """Runs a round: handles all events since the last one, at a moment in ms. Returns its
+        outputs: Send, Drop, and the types of Notice."""
         self._call("run", _number(moment, 64))
         outputs, told = [], _TypedOutput()
         while True:
@@ -750,7 +751,7 @@ class Agent:
         return outputs
 
     def run_lines(self, moment: int) -> List[Union[Send, Line]]:
-        """The same round. What is told is a Line of an output file (docs/FORMATS.md)."""
+        """The same. Notices and drops are Lines of an output file (docs/FORMATS.md)."""
         self._call("run", _number(moment, 64))
         outputs, told = [], _LineOutput()
         while True:
@@ -765,7 +766,7 @@ class Agent:
         return outputs
 
     def next_due(self) -> Optional[int]:
-        """The first moment at which something is due, if there is one: run a round then."""
+        """The first moment at which something is due, if there is one. Run a round then."""
         due = _Due()
         self._call("next_due", due)
         return due.moment if due.is_due else None
@@ -773,7 +774,7 @@ class Agent:
     # -- what the datagrams of the last round say
 
     def datagram_at(self, place: int) -> Optional[Datagram]:
-        """The datagram that came in at this place of the last round, if one did."""
+        """The datagram with this place in the last round, if there is one."""
         told = _Arrival()
         (data,) = self._texts("datagram_at", told, _number(place, 32))
         return Datagram(told.source.told(), data) if told.is_there else None
@@ -787,8 +788,8 @@ class Agent:
         return StartLine(None, None, told.status, text) if told.kind == _RESPONSE else None
 
     def header_values(self, place: int, name: str) -> List[str]:
-        """The values of a header of it, by its long or its compact name in any case. A value has no
-        folds, and no blanks at its ends."""
+        """The values of one of its headers, by the long or the compact name, in any case. They are
+        unfolded, without white space around them."""
         values: List[str] = []
         while True:
             told = _Text()
@@ -799,13 +800,13 @@ class Agent:
             values.append(_decoded(value))
 
     def stats(self) -> Stats:
-        """What is held, and what waits."""
+        """Counts what is held, and what waits."""
         told = _Stats()
         self._call("stats", told)
         return Stats(told.transactions, told.calls, told.next_round, told.events, told.outputs)
 
     def close(self) -> None:
-        """Ends the agent. A second time, and any call after it, is NOT_HELD."""
+        """Frees the agent. A second close, and any later call, is NOT_HELD."""
         self._call("free")
 
     def __enter__(self) -> "Agent":

@@ -1,12 +1,12 @@
-"""An agent of sip_ua.py over a UDP socket of asyncio: rounds are run when something came or is due.
+"""An agent of sip_ua.py on a UDP socket of asyncio. It runs a round when something came or is due.
 
     endpoint = await open_endpoint("./libsip_ua.so", ("192.0.2.1", 5060), on_told)
     endpoint.ask(Plain("c1", ("192.0.2.9", 5060), "OPTIONS", "sip:b@192.0.2.9", ..))
 
-`on_told(output)` is called with each Notice and each Drop, after all sends of its round. In it
+`on_told(output)` is called with each Notice and each Drop, after all sends of its round. There,
 `endpoint.agent.start_line(output.place)` and `header_values(output.place, name)` read the datagram
-that it tells of; it may ask for commands, and close the endpoint. All is used from the thread of
-the event loop.
+that caused the output. `on_told` may give commands, and close the endpoint. Use everything from the
+thread of the event loop.
 """
 
 import asyncio
@@ -22,7 +22,7 @@ OnTold = Callable[[Union[Notice, Drop]], None]
 
 
 class Endpoint(asyncio.DatagramProtocol):
-    """An agent at a socket; `open_endpoint` makes one, and `close` ends it."""
+    """An agent with its socket. `open_endpoint` opens one, and `close` closes it."""
 
     def __init__(self, on_told: OnTold):
         self.agent: Optional[Agent] = None
@@ -34,13 +34,13 @@ class Endpoint(asyncio.DatagramProtocol):
         self._has_failed = False
 
     def ask(self, command: Command) -> Id:
-        """Asks for a command; the id by which notices tell of it."""
+        """Gives a command. Notices about it have the id that this returns."""
         event = self.agent.ask(command)
         self._run_soon()
         return event
 
     def close(self) -> None:
-        """Ends the agent and closes the socket."""
+        """Frees the agent and closes the socket."""
         if self._next is not None:
             self._next.cancel()
         self.agent.close()
@@ -56,7 +56,7 @@ class Endpoint(asyncio.DatagramProtocol):
             self._run_soon()
 
     def error_received(self, exc: OSError) -> None:
-        """A send failed: called within sendto, or later for one that the network refused."""
+        """A send failed: called within sendto, or later if the network refused it."""
         self._has_failed = True
 
     def _run_soon(self) -> None:
@@ -85,7 +85,7 @@ class Endpoint(asyncio.DatagramProtocol):
         return not self._has_failed
 
     def _wait(self) -> None:
-        """Until something is due; a ms more, so that its moment has come."""
+        """Waits until something is due, and one ms more, so that its moment has come."""
         due = self.agent.next_due()
         if due is not None:
             self._next = self._loop.call_at(self._start + (due + 1) / 1000, self._run)
@@ -98,8 +98,8 @@ async def open_endpoint(
     local: Optional[Address] = None,
     seed: Optional[bytes] = None,
 ) -> Endpoint:
-    """An endpoint whose socket has this address; port 0 takes a free one. `local` is what Via and
-    Contact say, where that isn't the socket's address: behind a NAT the one by which peers reach
+    """Opens an endpoint whose socket has this address; port 0 takes a free one. `local` is what Via
+    and Contact say, if that isn't the socket's address: behind a NAT the one at which peers reach
     it. Without a seed it takes a random one."""
     transport, endpoint = await asyncio.get_running_loop().create_datagram_endpoint(
         lambda: Endpoint(on_told), local_addr=address

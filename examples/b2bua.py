@@ -1,11 +1,12 @@
-"""A back-to-back user agent: for each call that comes it places one to the next hop, and passes on
-what either side says: answers, re-INVITEs, INFOs, BYEs and CANCELs, with their bodies and headers.
+"""A back-to-back user agent: for each incoming call it places one to the next hop. It passes on
+what either side sends: answers, re-INVITEs, INFOs, BYEs and CANCELs, with their bodies and headers.
 
     PYTHONPATH=bindings python3 examples/b2bua.py LIBRARY LOCAL NEXT
 
-LOCAL and NEXT are an address and a port, as in 192.0.2.1:5060. Both calls are of one agent. Headers
-of one side alone stay there: routes, Contacts, and those by which a message is recognized. So does
-the caller's name, since the From of an INVITE of ours is a URI. It doesn't do 100rel."""
+LOCAL and NEXT are an address and a port, as in 192.0.2.1:5060. One agent handles both calls. It
+doesn't pass on headers that concern one side alone: routes, Contacts, and those that identify a
+message. Nor does it pass on the caller's name, since the From of its own INVITE is a URI. It
+doesn't support 100rel."""
 
 import asyncio
 import sys
@@ -87,7 +88,7 @@ class B2bua:
                 self.respond(Leg(output.call_id), output.id, 400, "Bad Request")
 
     def headers(self, place, of_one_side=OF_ONE_SIDE):
-        """The headers of a datagram that go on."""
+        """The headers of a datagram that are passed on."""
         agent, names = self.endpoint.agent, {}
         head = agent.datagram_at(place).data.partition(b"\r\n\r\n")[0].decode("latin-1")
         for line in head.split("\n")[1:]:
@@ -116,7 +117,7 @@ class B2bua:
         self.came.pop(request.id, None)
 
     def over(self, leg):
-        """Nothing of the two calls goes on."""
+        """Both calls have ended."""
         for side in (leg, leg.other):
             self.legs.pop(side.key(), None)
             for request in side.requests:
@@ -157,7 +158,7 @@ class B2bua:
         self.legs[leg.key()] = leg
 
     def told_CancelNotice(self, told):
-        """487 has answered the INVITE that came; the one that was passed on is cancelled."""
+        """The incoming INVITE got its 487; cancels the one that was passed on."""
         request = self.came.get(told.id)
         if request:
             request.is_cancelled = True
@@ -192,7 +193,7 @@ class B2bua:
         return request.is_cancelled or is_fork
 
     def follow(self, leg, tags, is_up):
-        """The other leg has the dialog that answered last, and then the one that is up."""
+        """The other leg has the dialog that answered last, then the one that is up."""
         other = leg.other
         self.legs.pop(other.key(), None)
         other.local_tag, other.remote_tag = tags
@@ -206,14 +207,14 @@ class B2bua:
         self.respond(request.leg, request.id, told.status, reason, told.body, headers)
 
     def told_AckNotice(self, told):
-        """An ACK goes out by itself, unless it has to answer an offer that came in the 2xx."""
+        """An ACK goes out by itself, unless it has to answer an offer in the 2xx."""
         request = self.came.get(told.id)
         if request and request.owes_ack:
             request.owes_ack = False
             headers = self.headers(told.place) if told.body else ()
             self.endpoint.ask(Ack(*request.leg.other.key(), told.body, headers))
 
-    # -- what comes with time
+    # -- timeouts and failures
 
     def told_TimeoutNotice(self, told):
         self.give_up(told.id, 408, "Request Timeout")

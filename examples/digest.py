@@ -10,7 +10,7 @@ def digest(*parts):
 
 
 def credentials(challenge, name, password, method, uri):
-    """What Authorization or Proxy-Authorization says for a request of this method and URI."""
+    """The value of Authorization or Proxy-Authorization for a request of this method and URI."""
     found = re.findall(r'(\w+)=(?:"([^"]*)"|([^\s,]+))', challenge)
     given = {key.lower(): quoted or plain for key, quoted, plain in found}
     realm, nonce = given["realm"], given["nonce"]

@@ -3,8 +3,8 @@ answers, holds, sends and shows tones (DTMF by INFO), and hangs up.
 
     PYTHONPATH=bindings python3 examples/phone.py LIBRARY LOCAL NAME@DOMAIN [REGISTRAR PASSWORD]
 
-LOCAL and REGISTRAR are an address and a port, as in 192.0.2.1:5060. Without a registrar a call goes
-straight to the address in its URI. A line of the terminal is a command:
+LOCAL and REGISTRAR are an address and a port, as in 192.0.2.1:5060. Without a registrar, a call
+goes directly to the address in its URI. A line of the terminal is a command:
 
     call URI    answer    busy    hold    resume    tone DIGIT    hangup    quit"""
 
@@ -24,7 +24,7 @@ CHALLENGES = {
     401: ("WWW-Authenticate", "Authorization"),
     407: ("Proxy-Authenticate", "Proxy-Authorization"),
 }
-# What answers the direction of media that an offer says (RFC 3264, section 6.1).
+# The direction of media that answers the one in an offer (RFC 3264, section 6.1).
 ANSWERS = {"sendonly": "recvonly", "recvonly": "sendonly", "inactive": "inactive"}
 TONE = ("Content-Type", "application/dtmf-relay")
 
@@ -41,7 +41,7 @@ def direction_of(sdp):
 
 @dataclass
 class Call:
-    """The call that goes on. `invite` is the INVITE that opened it, the peer's or our own."""
+    """The current call. `invite` is the INVITE that opened it, the peer's or our own."""
 
     call_id: str
     invite: Id
@@ -87,7 +87,7 @@ class Phone:
         await asyncio.sleep(0.5)
         self.endpoint.close()
 
-    # -- what the user wants
+    # -- commands of the user
 
     def do_call(self, uri):
         if self.call:
@@ -123,8 +123,8 @@ class Phone:
             self.ask(self.call.request("INFO", body, [TONE]))
 
     def do_hangup(self, _):
-        """Leaves a call: by BYE, CANCEL or 603. One that is answered all the same, or whose ACK is
-        still to come, gets its BYE then."""
+        """Leaves a call: by BYE, CANCEL or 603. If it is answered anyway, or its ACK hasn't come,
+        its BYE follows then."""
         call = self.call
         if not call or call.is_left:
             return
@@ -137,7 +137,7 @@ class Phone:
             self.respond(call.call_id, call.invite, 603, "Decline")
             self.over()
 
-    # -- what goes out
+    # -- sending
 
     def ask(self, command):
         asked = self.endpoint.ask(command)
@@ -160,12 +160,12 @@ class Phone:
         self.endpoint.ask(Response(call_id, request, status, reason, body))
 
     def offer_again(self, direction):
-        """A re-INVITE, which holds the call or takes it back."""
+        """A re-INVITE, which holds or resumes the call."""
         if self.call and self.call.is_up:
             self.ask(self.call.request("INVITE", self.sdp(direction)))
 
     def sdp(self, direction):
-        """Audio that goes to the port `discard`."""
+        """Audio to the port `discard`."""
         self.sdp_version += 1
         ip = self.local.partition(":")[0]
         return (
@@ -176,7 +176,7 @@ class Phone:
     def answer_to(self, offer):
         return self.sdp(ANSWERS.get(direction_of(offer), "sendrecv"))
 
-    # -- what is told
+    # -- notices
 
     def told(self, output):
         action = getattr(self, f"told_{type(output).__name__}", None)
@@ -209,7 +209,7 @@ class Phone:
         print("call from", self.header(output, "From").partition(";tag=")[0], flush=True)
 
     def offered(self, output):
-        """A re-INVITE of the peer: it holds the call or takes it back."""
+        """A re-INVITE of the peer: it holds or resumes the call."""
         is_held = direction_of(output.body) in ("sendonly", "inactive")
         print("held by the peer" if is_held else "no longer held", flush=True)
         self.respond(output.call_id, output.id, 200, "OK", self.answer_to(output.body))
@@ -242,7 +242,7 @@ class Phone:
             print("on hold" if direction_of(command.body) == "sendonly" else "resumed", flush=True)
 
     def may_ask_again(self, command, answer):
-        """A challenge is answered once, and not where the user has left the call."""
+        """Answers a challenge once, unless the user has left the call."""
         is_wanted = isinstance(command, Plain)
         if isinstance(command, Invite) and self.call:
             is_wanted = self.call.call_id == command.call_id and not self.call.is_left

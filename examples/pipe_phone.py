@@ -2,9 +2,9 @@
 
     python3 examples/pipe_phone.py UA LOCAL REGISTRAR NAME@DOMAIN PASSWORD [URI]
 
-LOCAL and REGISTRAR are an address and a port, as in 192.0.2.1:5060. With a URI it calls there once
-it is registered, and hangs up after three seconds; without, it answers each call. A challenge is
-answered by Digest with MD5 (RFC 3261, section 22), and a 302 is followed."""
+LOCAL and REGISTRAR are an address and a port, as in 192.0.2.1:5060. With a URI, it calls that URI
+once it is registered, and hangs up after three seconds. Without one, it answers each call. It
+answers a challenge by Digest with MD5 (RFC 3261, section 22), and follows a 302."""
 
 import re
 import subprocess

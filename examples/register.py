@@ -3,8 +3,8 @@ registrar holds.
 
     PYTHONPATH=bindings python3 examples/register.py LIBRARY LOCAL REGISTRAR NAME@DOMAIN PASSWORD
 
-LOCAL and REGISTRAR are an address and a port, as in 192.0.2.1:5060. A challenge is answered by
-Digest. Status 0 where the registrar answered 200."""
+LOCAL and REGISTRAR are an address and a port, as in 192.0.2.1:5060. It answers a challenge by
+Digest. Its status is 0 if the registrar answered 200."""
 
 import asyncio
 import sys

@@ -1,45 +1,42 @@
-/* A SIP user agent core (RFC 3261, with reliable provisional responses) for programs that have the
- * socket, the clock and the user themselves. The library has no thread, no socket, no clock and no
- * global state: it is given datagrams, commands and moments, and gives back what is to be sent and
- * told.
+/* A SIP user agent core (RFC 3261, with reliable provisional responses) for programs that have a
+ * socket, a clock and a user. The library has no thread, no socket, no clock and no global state.
+ * You give it datagrams, commands and times. It returns datagrams to send, and notices.
  *
  * The life of an agent:
  *
  *     sip_ua agent = SIP_UA_NONE;
  *     sip_ua_new(&agent, &configuration, 1);
  *     for (;;) {
- *         .. wait for a datagram, a command of the user, or the moment of sip_ua_next_due
+ *         .. wait for a datagram, a command of the user, or the time of sip_ua_next_due
  *         sip_ua_datagram(..), sip_ua_invite(..), sip_ua_respond(..) .. sip_ua_failed(..)
  *         sip_ua_run(&agent, moment);
  *         while (sip_ua_next(&agent, &output, buffer, room) == SIP_UA_OK
  *                && output.kind != SIP_UA_NOTHING)
- *             .. send it, or take what is told
+ *             .. send the datagram, or handle the notice
  *     }
  *     sip_ua_free(&agent);
  *
- * Whose is what. A `sip_ua` is the program's: on the stack, in a struct or on the heap, with all
- * bytes 0 before its first use. What it holds is the library's, taken by malloc and given back by
- * sip_ua_free. Nothing that is passed to a call is kept after it: bytes are copied. Buffers are the
- * program's, and are written only within the room that is named.
+ * Memory. The program owns each `sip_ua`: on the stack, in a struct or on the heap. All its bytes
+ * are 0 before its first use. The library allocates what the agent holds by malloc, and
+ * sip_ua_free frees it. No call keeps a pointer that it is given: it copies the bytes. The program
+ * owns the buffers. The library writes at most `room` bytes to a buffer.
  *
- * Threads. An agent is used by one thread at a time; different agents by different threads. No call
- * blocks, and none may be made from a signal handler, or in the forked child of a process with
- * threads.
+ * Threads. One thread at a time uses an agent; several threads can use different agents. No call
+ * blocks. Make no call from a signal handler, or in the forked child of a process with threads.
  *
- * Moments are in ms, from any beginning, up to 2^62, and never go back. Ports and numbers are in
- * the byte order of the machine, addresses as four bytes, the first one first.
+ * Moments are times in ms from any starting point, up to 2^62. They never go back. Ports and
+ * numbers are in host byte order. Addresses are four bytes, the first one first.
  *
- * Linking needs libsip_ua.a or libsip_ua.so, as they are installed, and no other library; from the
- * build, libsip_c.a and the toolchain's liblibc_c.a.
+ * Link libsip_ua.a or libsip_ua.so, as installed, and no other library. From the build, link
+ * libsip_c.a and the toolchain's liblibc_c.a.
  *
- * What can't be told, and is the program's to keep:
- * - a `sip_ua` that is copied, moved in a union, or written to by the program; one whose bytes were
- *   not 0 before sip_ua_new
- * - a pointer that isn't NULL and leads nowhere, or to less room than is named
- * - two calls on one agent at the same time
- * - a `sip_ua` that is given up without sip_ua_free (its memory is lost)
- * - malloc, realloc and free that are not of one allocator, or that align a block of 16 bytes and
- *   more to less than 16
+ * What the program must ensure, since the library can't check it:
+ * - It doesn't copy or write to a `sip_ua`, or move one in a union. The bytes of a `sip_ua` are 0
+ *   before sip_ua_new.
+ * - Each pointer is NULL, or points to as much memory as the call says.
+ * - It makes one call at a time on one agent.
+ * - It frees each agent with sip_ua_free; otherwise its memory is lost.
+ * - malloc, realloc and free are of one allocator, which aligns blocks of 16 bytes and more to 16.
  */
 #ifndef SIP_UA_H
 #define SIP_UA_H
@@ -53,13 +50,13 @@
 extern "C" {
 #endif
 
-/* The version: what a program that uses an earlier one of the same major number can go on with. */
+/* The version. A program written for an earlier version with the same major number still works. */
 #define SIP_UA_VERSION_MAJOR 0
 #define SIP_UA_VERSION_MINOR 3
 #define SIP_UA_VERSION_PATCH 0
 #define SIP_UA_VERSION "0.3.0"
 
-/* An agent, or none. Its fields are not for the program. */
+/* An agent, or none. Its fields are private. */
 typedef struct sip_ua {
     bool held;
     void *at;
@@ -73,33 +70,37 @@ typedef struct sip_ua_address {
     uint16_t port;
 } sip_ua_address;
 
-/* What an agent is started with: the address that Via and Contact say, which is mostly that of the
- * socket, and behind a NAT the one by which peers reach it; a secret of 32 random bytes, from which
- * tags and branches are made, another one for each agent; and the number of its first round, at
- * most 2^62, mostly 0. */
+/* How an agent is set up.
+ * - `local` is the address that Via and Contact say: usually that of the socket, behind a NAT the
+ *   one at which peers reach it.
+ * - `seed` is a secret of 32 random bytes, different for each agent. Tags and branches are made
+ *   from it.
+ * - `first` is the number of the first round, at most 2^62, usually 0. */
 typedef struct sip_ua_configuration {
     sip_ua_address local;
     uint8_t seed[32];
     uint64_t first;
 } sip_ua_configuration;
 
-/* The id of an event: in lines it stands as `round.place`. */
+/* The id of an event. In lines it is written `round.place`. */
 typedef struct sip_ua_id {
     bool is_given;
     uint32_t place;
     uint64_t round;
 } sip_ua_id;
 
-/* Bytes of the program: a text, without an end, or a body. Where `len` is 0, `at` may be NULL. */
+/* A text, not terminated by a zero byte, or a body. If `len` is 0, `at` may be NULL. */
 typedef struct sip_ua_bytes {
     const void *at;
     size_t len;
 } sip_ua_bytes;
 
-/* An output. `to` counts for a send alone; `place` is that of the event that it comes of, from 1 in
- * the order in which the events were given, or 0 where no event stands behind it: it comes with
- * time, or is the request or the answer of a command; `index` counts the outputs of a round from 0;
- * `len` is the length of its text in bytes. */
+/* An output.
+ * - `to` is the address to send to, only of a send.
+ * - `place` is that of the event that caused the output, from 1 in the order in which the events
+ *   were given. It is 0 if a timer caused it, or if a command sends it.
+ * - `index` counts the outputs of a round from 0.
+ * - `len` is the length of its text in bytes. */
 typedef struct sip_ua_output {
     uint32_t kind;
     sip_ua_address to;
@@ -111,32 +112,32 @@ typedef struct sip_ua_output {
 enum {
     SIP_UA_NOTHING = 0, /* no output is left */
     SIP_UA_SEND = 1,    /* the text is a datagram for the address `to` */
-    SIP_UA_LINE = 2     /* the text is a line: what the user is told, or what was dropped and why */
+    SIP_UA_LINE = 2     /* the text is a line: a notice, or a drop with its reason */
 };
 
-/* An output by its fields. What `sip_ua_output` has of it is the same here; each other field is 0
- * where the output has none of it. Its texts stand one behind the other in the buffer, in the order
- * of their lengths; `sip_ua_texts_of` finds them. */
+/* An output by its fields. The fields that `sip_ua_output` also has are the same here. A field that
+ * the output doesn't have is 0. The texts follow each other in the buffer, in the order of their
+ * lengths here; `sip_ua_texts_of` finds them. */
 typedef struct sip_ua_typed_output {
     uint32_t kind;
     sip_ua_address to;
     uint32_t place;
     size_t index;
-    sip_ua_id id;     /* the request that a notice tells of */
+    sip_ua_id id;     /* of a notice: the request that it is about */
     uint32_t status;  /* of a response */
     uint32_t rseq;    /* of a PRACK: the provisional response that it acknowledges */
-    uint32_t command; /* refused: the place of the command in its round */
-    uint32_t refusal; /* refused: SIP_UA_REFUSAL_.. */
-    uint32_t reason;  /* dropped: SIP_UA_DROP_.. */
-    uint32_t header;  /* dropped: the header that is missing or repeated, for sip_ua_header_text */
+    uint32_t command; /* of a refusal: the place of the command in its round */
+    uint32_t refusal; /* of a refusal: SIP_UA_REFUSAL_.. */
+    uint32_t reason;  /* of a drop: SIP_UA_DROP_.. */
+    uint32_t header;  /* of a drop: the missing or repeated header, for sip_ua_header_text */
     size_t call_id_len;
     size_t local_tag_len;
     size_t remote_tag_len;
     size_t method_len;
-    size_t body_len; /* of a send the datagram */
+    size_t body_len; /* of a send: that of the datagram */
 } sip_ua_typed_output;
 
-/* The texts of an output, within the buffer that they were written to. */
+/* The texts of an output, in the buffer to which they were written. */
 typedef struct sip_ua_texts {
     sip_ua_bytes call_id;
     sip_ua_bytes local_tag;
@@ -145,19 +146,19 @@ typedef struct sip_ua_texts {
     sip_ua_bytes body;
 } sip_ua_texts;
 
-/* The kinds of sip_ua_next, beside SIP_UA_NOTHING and SIP_UA_SEND: what docs/FORMATS.md says of the
- * line of the same name. */
+/* The kinds of output that sip_ua_next gives, besides SIP_UA_NOTHING and SIP_UA_SEND. Each means
+ * what the line of the same name means in docs/FORMATS.md. */
 enum {
     SIP_UA_DROP = 3,              /* the datagram of `place` was dropped */
     SIP_UA_NOTICE_REQUEST = 4,    /* a request to answer: method, local tag, remote tag, body */
     SIP_UA_NOTICE_RESPONSE = 5,   /* status, local tag, remote tag, body */
-    SIP_UA_NOTICE_ACK = 6,        /* of a 2xx: body */
+    SIP_UA_NOTICE_ACK = 6,        /* the ACK of a 2xx: body */
     SIP_UA_NOTICE_PRACK = 7,      /* rseq, body */
     SIP_UA_NOTICE_TIMEOUT = 8,    /* no response, or no ACK of a rejection, came in time */
     SIP_UA_NOTICE_FAILED = 9,     /* a send failed */
     SIP_UA_NOTICE_NO_ACK = 10,    /* no ACK of a 2xx came in time */
     SIP_UA_NOTICE_NO_PRACK = 11,  /* no PRACK came in time */
-    SIP_UA_NOTICE_CANCEL = 12,    /* the peer cancelled the INVITE, and 487 answers it */
+    SIP_UA_NOTICE_CANCEL = 12,    /* the peer cancelled the INVITE; the agent sent 487 */
     SIP_UA_NOTICE_ENDED = 13,     /* a dialog ended: local tag, remote tag */
     SIP_UA_NOTICE_REFUSED = 14    /* a command was refused: command, refusal */
 };
@@ -197,8 +198,8 @@ enum {
     SIP_UA_DROP_NO_MEMORY = 13
 };
 
-/* What is held: transactions and calls that have begun and not ended. What waits: events of the
- * next round, which has this number, and outputs of the last one. */
+/* Counts of an agent: the transactions and calls that have begun and not ended, the number of the
+ * next round, the events that wait for it, and the outputs of the last round that weren't taken. */
 typedef struct sip_ua_counts {
     uint64_t transactions;
     uint64_t calls;
@@ -212,22 +213,22 @@ typedef struct sip_ua_due {
     uint64_t moment;
 } sip_ua_due;
 
-/* A header of a command: its name, the long or the compact one in any case, and its value. */
+/* A header of a command: its name, long or compact, in any case, and its value. */
 typedef struct sip_ua_header {
     sip_ua_bytes name;
     sip_ua_bytes value;
 } sip_ua_header;
 
-/* What is told of a command: the id of its event, and after SIP_UA_BAD_FIELD which part is bad. */
+/* The id of a command's event. After SIP_UA_BAD_FIELD, the bad field: SIP_UA_FIELD_.. */
 typedef struct sip_ua_asked {
     sip_ua_id id;
     uint32_t bad_field;
 } sip_ua_asked;
 
-/* The parts of a command that can be bad. */
+/* The fields of a command that can be bad, and when they are. */
 enum {
     SIP_UA_FIELD_CALL_ID = 1,     /* empty, or with a space, a tab or a line end */
-    SIP_UA_FIELD_METHOD = 2,      /* no token */
+    SIP_UA_FIELD_METHOD = 2,      /* not a token */
     SIP_UA_FIELD_REQUEST_URI = 3, /* empty, or with a space, a tab, a line end, `<`, `>` or `"` */
     SIP_UA_FIELD_FROM = 4,        /* the same */
     SIP_UA_FIELD_TO = 5,          /* the same */
@@ -235,14 +236,14 @@ enum {
     SIP_UA_FIELD_REMOTE_TAG = 7,  /* the same */
     SIP_UA_FIELD_STATUS = 8,      /* not 101 to 699 */
     SIP_UA_FIELD_REASON = 9,      /* with a line end */
-    SIP_UA_FIELD_HEADERS = 10     /* a header that isn't the user's, a value that isn't in the form
-                                     of its header, a Route where the command takes none, or any
+    SIP_UA_FIELD_HEADERS = 10     /* a header that a user can't give, a value that doesn't have its
+                                     header's form, a Route for a command that takes none, or any
                                      header of a cancel */
 };
 
-/* A first INVITE. It goes to `address`, with `request_uri`, and `from` and `to` are URIs too,
- * without tags. What `requires_100rel` requires is supported as well. Here and below a body is of
- * the type application/sdp where no header Content-Type says another one. */
+/* An initial INVITE. It is sent to `address`. `request_uri`, `from` and `to` are URIs, without
+ * tags. If 100rel is required, it is also supported. For all commands: a body has the type
+ * application/sdp, unless a header Content-Type says another one. */
 typedef struct sip_ua_invite_fields {
     sip_ua_bytes call_id;
     sip_ua_address address;
@@ -256,7 +257,7 @@ typedef struct sip_ua_invite_fields {
     size_t header_count;
 } sip_ua_invite_fields;
 
-/* A request outside of any dialog, as REGISTER or OPTIONS. */
+/* A request outside of any dialog, such as REGISTER or OPTIONS. */
 typedef struct sip_ua_plain_fields {
     sip_ua_bytes call_id;
     sip_ua_address address;
@@ -269,7 +270,7 @@ typedef struct sip_ua_plain_fields {
     size_t header_count;
 } sip_ua_plain_fields;
 
-/* A request in a dialog, as BYE or a later INVITE. The tags are those that notices tell; an absent
+/* A request in a dialog, such as BYE or a re-INVITE. The tags are those of the notices; an absent
  * tag is empty. */
 typedef struct sip_ua_request_fields {
     sip_ua_bytes call_id;
@@ -281,7 +282,7 @@ typedef struct sip_ua_request_fields {
     size_t header_count;
 } sip_ua_request_fields;
 
-/* The answer to a request, by the id that its notice tells. */
+/* The response to a request. The id is that of the request's notice. */
 typedef struct sip_ua_respond_fields {
     sip_ua_bytes call_id;
     sip_ua_id id;
@@ -293,7 +294,7 @@ typedef struct sip_ua_respond_fields {
     size_t header_count;
 } sip_ua_respond_fields;
 
-/* An ACK or a PRACK of a dialog. */
+/* An ACK or a PRACK in a dialog. */
 typedef struct sip_ua_body_fields {
     sip_ua_bytes call_id;
     sip_ua_bytes local_tag;
@@ -303,27 +304,27 @@ typedef struct sip_ua_body_fields {
     size_t header_count;
 } sip_ua_body_fields;
 
-/* The CANCEL of an INVITE that was sent, by its id. */
+/* The CANCEL of an INVITE that you sent. The id is that of the INVITE. */
 typedef struct sip_ua_cancel_fields {
     sip_ua_bytes call_id;
     sip_ua_id id;
 } sip_ua_cancel_fields;
 
-/* A datagram that came in, if one did. */
+/* A datagram that was received, or none. */
 typedef struct sip_ua_arrival {
     bool is_there;
     sip_ua_address from;
     size_t len;
 } sip_ua_arrival;
 
-/* A text, if there is one. */
+/* A text, or none. */
 typedef struct sip_ua_text {
     bool is_there;
     size_t len;
 } sip_ua_text;
 
-/* A start line. `status` counts for a response, `method_len` for a request; `len` is the length of
- * the Request-URI or of the reason. */
+/* A start line. A response has `status`, a request `method_len`. `len` is the length of the
+ * Request-URI or of the reason phrase. */
 typedef struct sip_ua_start {
     uint32_t kind;
     uint32_t status;
@@ -332,55 +333,55 @@ typedef struct sip_ua_start {
 } sip_ua_start;
 
 enum {
-    SIP_UA_NO_START = 0, /* no datagram came in there, or its first line is no start line */
-    SIP_UA_REQUEST = 1,  /* the text is the method and, right behind it, the Request-URI */
-    SIP_UA_RESPONSE = 2  /* the text is the reason */
+    SIP_UA_NO_START = 0, /* no datagram has this place, or its first line isn't a start line */
+    SIP_UA_REQUEST = 1,  /* the text is the method and, directly after it, the Request-URI */
+    SIP_UA_RESPONSE = 2  /* the text is the reason phrase */
 };
 
-/* What calls answer. After all but SIP_UA_OK and SIP_UA_BROKEN the agent is as it was before. */
+/* The statuses that calls return. Only SIP_UA_OK and SIP_UA_BROKEN change the agent. */
 enum {
     SIP_UA_OK = 0,
-    SIP_UA_NOT_HELD = 1,          /* no agent: before sip_ua_new, or after sip_ua_free */
-    SIP_UA_HELD = 2,              /* sip_ua_new on an agent that was not freed */
+    SIP_UA_NOT_HELD = 1,          /* there is no agent: before sip_ua_new, or after sip_ua_free */
+    SIP_UA_HELD = 2,              /* sip_ua_new for an agent that wasn't freed */
     SIP_UA_BAD_LINE = 3,          /* not the line of an event */
     SIP_UA_TOO_MANY_EVENTS = 4,   /* 65,536 events wait for the next round */
-    SIP_UA_NO_SEND = 5,           /* that output of the last round is no send */
-    SIP_UA_OUTPUTS_LEFT = 6,      /* outputs of the last round were not taken */
-    SIP_UA_BACKWARDS = 7,         /* the moment lies before that of the last round */
+    SIP_UA_NO_SEND = 5,           /* that output of the last round isn't a send */
+    SIP_UA_OUTPUTS_LEFT = 6,      /* not all outputs of the last round were taken */
+    SIP_UA_BACKWARDS = 7,         /* the moment is earlier than that of the last round */
     SIP_UA_TOO_LARGE = 8,         /* the moment is above 2^62 */
     SIP_UA_USED_UP = 9,           /* the number of the round would be above 2^62 */
-    SIP_UA_NO_MEMORY = 10,        /* malloc gave NULL; the call can be made again */
-    SIP_UA_BROKEN = 11,           /* malloc gave NULL within a round: the agent holds nothing, and
-                                     only sip_ua_free is left */
+    SIP_UA_NO_MEMORY = 10,        /* malloc returned NULL; the call can be made again */
+    SIP_UA_BROKEN = 11,           /* malloc returned NULL within a round: the agent holds nothing
+                                     any more, and can only be freed */
     SIP_UA_BAD_CONFIGURATION = 12, /* not 1 to 256 shards, or a first round above 2^62 */
     SIP_UA_NULL = 13,             /* a pointer was NULL */
-    SIP_UA_BAD_FIELD = 14         /* a part of a command doesn't keep its rule */
+    SIP_UA_BAD_FIELD = 14         /* a field of a command is bad */
 };
 
-/* What a status means, in English; never NULL. */
+/* What a status means, in English. Never NULL. */
 static inline const char *sip_ua_status_text(uint32_t status)
 {
     switch (status) {
     case SIP_UA_OK: return "success";
-    case SIP_UA_NOT_HELD: return "no agent is held";
-    case SIP_UA_HELD: return "an agent is held already";
+    case SIP_UA_NOT_HELD: return "there is no agent";
+    case SIP_UA_HELD: return "there is an agent already";
     case SIP_UA_BAD_LINE: return "not the line of an event";
     case SIP_UA_TOO_MANY_EVENTS: return "too many events for one round";
-    case SIP_UA_NO_SEND: return "that output is no send";
-    case SIP_UA_OUTPUTS_LEFT: return "outputs of the last round were not taken";
-    case SIP_UA_BACKWARDS: return "the moment lies before that of the last round";
+    case SIP_UA_NO_SEND: return "that output isn't a send";
+    case SIP_UA_OUTPUTS_LEFT: return "not all outputs of the last round were taken";
+    case SIP_UA_BACKWARDS: return "the moment is earlier than that of the last round";
     case SIP_UA_TOO_LARGE: return "the moment is too large";
-    case SIP_UA_USED_UP: return "the numbers of rounds are used up";
-    case SIP_UA_NO_MEMORY: return "no memory";
-    case SIP_UA_BROKEN: return "no memory within a round; the agent holds nothing";
+    case SIP_UA_USED_UP: return "the round numbers are used up";
+    case SIP_UA_NO_MEMORY: return "out of memory";
+    case SIP_UA_BROKEN: return "out of memory within a round; the agent holds nothing";
     case SIP_UA_BAD_CONFIGURATION: return "not 1 to 256 shards, or a first round that is too large";
     case SIP_UA_NULL: return "a pointer is NULL";
-    case SIP_UA_BAD_FIELD: return "a part of a command doesn't keep its rule";
-    default: return "no status";
+    case SIP_UA_BAD_FIELD: return "a field of the command is bad";
+    default: return "unknown status";
     }
 }
 
-/* Why a command was refused, by the number of a notice `refused`, in English; never NULL. */
+/* Why a command was refused, by the number in the notice, in English. Never NULL. */
 static inline const char *sip_ua_refusal_text(uint32_t number)
 {
     switch (number) {
@@ -388,42 +389,42 @@ static inline const char *sip_ua_refusal_text(uint32_t number)
     case 2: return "no such call";
     case 3: return "no such dialog";
     case 4: return "no such request";
-    case 5: return "the request has its final response";
+    case 5: return "the request already has a final response";
     case 6: return "the status isn't 101 to 699";
-    case 7: return "reliable responses wait for a PRACK";
+    case 7: return "a PRACK is missing";
     case 8: return "the response can't be reliable";
-    case 9: return "no ACK is owed";
-    case 10: return "no PRACK is owed";
-    case 11: return "the sequence numbers of the dialog are used up";
+    case 9: return "no 2xx needs an ACK";
+    case 10: return "no response needs a PRACK";
+    case 11: return "the CSeq or RSeq numbers are used up";
     case 12: return "the first route is a strict router";
     case 13: return "the dialog has ended";
-    case 14: return "the method can't be sent so";
-    default: return "no reason that is known here";
+    case 14: return "this command can't send this method";
+    default: return "unknown reason";
     }
 }
 
-/* Why a datagram was dropped, in English; never NULL. */
+/* Why a datagram was dropped, in English. Never NULL. */
 static inline const char *sip_ua_drop_text(uint32_t reason)
 {
     switch (reason) {
     case SIP_UA_DROP_NOT_OURS: return "a response to another sender";
     case SIP_UA_DROP_NO_TRANSACTION: return "a response that no transaction waits for";
     case SIP_UA_DROP_TOO_LONG: return "more than 65,535 bytes";
-    case SIP_UA_DROP_NO_EMPTY_LINE: return "no empty line after the headers";
+    case SIP_UA_DROP_NO_EMPTY_LINE: return "no empty line ends the headers";
     case SIP_UA_DROP_BAD_START_LINE: return "neither a request line nor a status line";
-    case SIP_UA_DROP_BAD_HEADER: return "a header line that isn't in its form";
+    case SIP_UA_DROP_BAD_HEADER: return "a malformed header line";
     case SIP_UA_DROP_MISSING: return "a header is missing";
-    case SIP_UA_DROP_REPEATED: return "a header stands there twice";
-    case SIP_UA_DROP_BAD_NUMBER: return "a number that is none, or is too large";
+    case SIP_UA_DROP_REPEATED: return "a header is repeated";
+    case SIP_UA_DROP_BAD_NUMBER: return "a malformed number, or one that is too large";
     case SIP_UA_DROP_OLD_BRANCH: return "a branch that doesn't begin with z9hG4bK";
     case SIP_UA_DROP_METHOD_MISMATCH: return "the CSeq has another method";
     case SIP_UA_DROP_TRUNCATED: return "shorter than its Content-Length";
-    case SIP_UA_DROP_NO_MEMORY: return "no memory";
-    default: return "no reason that is known here";
+    case SIP_UA_DROP_NO_MEMORY: return "out of memory";
+    default: return "unknown reason";
     }
 }
 
-/* The name of the header that a drop tells as missing or repeated; never NULL. */
+/* The name of the header that is missing or repeated. Never NULL. */
 static inline const char *sip_ua_header_text(uint32_t header)
 {
     static const char *const names[] = { "", "Via", "From", "To", "Call-ID", "CSeq", "Max-Forwards",
@@ -432,7 +433,7 @@ static inline const char *sip_ua_header_text(uint32_t header)
     return names[header < sizeof names / sizeof *names ? header : 0];
 }
 
-/* The functions of the library, which test no pointer. Call those below. */
+/* The functions of the library. They don't test pointers: call those below instead. */
 uint32_t sip_ua_raw_new(sip_ua *agent, const sip_ua_configuration *configuration, size_t shards);
 uint32_t sip_ua_raw_datagram(sip_ua *agent, const sip_ua_address *from, const uint8_t *bytes,
                              size_t len);
@@ -486,8 +487,9 @@ uint32_t sip_ua_raw_header_value(sip_ua *agent, uint32_t place, const uint8_t *n
                                  uint8_t *buffer, size_t room);
 uint32_t sip_ua_raw_free(sip_ua *agent);
 
-/* Begins an agent, in a `sip_ua` that holds none. One shard serves; more of them, up to 256, change
- * no answer. SIP_UA_HELD, SIP_UA_BAD_CONFIGURATION, SIP_UA_NO_MEMORY. */
+/* Creates an agent, in a `sip_ua` that has none. One shard is enough. The number of shards, up to
+ * 256, changes no output. Faults: SIP_UA_HELD, SIP_UA_BAD_CONFIGURATION, SIP_UA_NO_MEMORY. Here and
+ * below, SIP_UA_NULL and SIP_UA_NOT_HELD aren't listed. */
 static inline uint32_t sip_ua_new(sip_ua *agent, const sip_ua_configuration *configuration,
                                   size_t shards)
 {
@@ -496,7 +498,8 @@ static inline uint32_t sip_ua_new(sip_ua *agent, const sip_ua_configuration *con
     return sip_ua_raw_new(agent, configuration, shards);
 }
 
-/* A datagram came in: an event of the next round. SIP_UA_TOO_MANY_EVENTS, SIP_UA_NO_MEMORY. */
+/* Adds a received datagram to the events of the next round. Faults: SIP_UA_TOO_MANY_EVENTS,
+ * SIP_UA_NO_MEMORY. */
 static inline uint32_t sip_ua_datagram(sip_ua *agent, const sip_ua_address *from,
                                        const uint8_t *bytes, size_t len)
 {
@@ -505,8 +508,8 @@ static inline uint32_t sip_ua_datagram(sip_ua *agent, const sip_ua_address *from
     return sip_ua_raw_datagram(agent, from, bytes, len);
 }
 
-/* A line of an event file, without its line feed: a command of the user, or another event
- * (docs/FORMATS.md). An event of the next round. SIP_UA_BAD_LINE, SIP_UA_TOO_MANY_EVENTS,
+/* Adds an event to the next round: a command of the user, or another event, as a line of an event
+ * file without its line feed (docs/FORMATS.md). Faults: SIP_UA_BAD_LINE, SIP_UA_TOO_MANY_EVENTS,
  * SIP_UA_NO_MEMORY. */
 static inline uint32_t sip_ua_event_line(sip_ua *agent, const char *line, size_t len)
 {
@@ -515,10 +518,10 @@ static inline uint32_t sip_ua_event_line(sip_ua *agent, const char *line, size_t
     return sip_ua_raw_event_line(agent, (const uint8_t *)line, len);
 }
 
-/* The lines of an event as a session file has them, the last one without its line feed. Before the
- * line of a command may stand its header lines: each begins with a space and ends in a line feed,
- * as " Contact: <sip:a@192.0.2.1>\n"; a backslash in one is spelled as two, and the command
- * `cancel` takes none (docs/FORMATS.md). An event of the next round. The same answers. */
+/* The same for the lines of a session file, the last one without its line feed: a command may have
+ * header lines before it. Each begins with a space and ends in a line feed, as in
+ * " Contact: <sip:a@192.0.2.1>\n". A backslash in it is written twice. The command `cancel` takes
+ * none. Faults: as above. */
 static inline uint32_t sip_ua_event_lines(sip_ua *agent, const char *lines, size_t len)
 {
     if (agent == NULL || lines == NULL)
@@ -528,19 +531,19 @@ static inline uint32_t sip_ua_event_lines(sip_ua *agent, const char *lines, size
 
 /* ---- commands of the user by their fields, each an event of the next round
  *
- * What is asked for is what the line of the same name in docs/FORMATS.md asks for. Of `asked`,
- * which may be NULL, `id` is the one by which notices tell of the command, and `bad_field` is 0 but
- * after SIP_UA_BAD_FIELD. That, SIP_UA_TOO_MANY_EVENTS, SIP_UA_NO_MEMORY, SIP_UA_NULL: nothing was
- * asked for. A command that the core then refuses is told by a notice. */
+ * A command means what the line of the same name means in docs/FORMATS.md. `asked` may be NULL.
+ * Otherwise its `id` is the one that the notices about the command have, and `bad_field` is 0,
+ * except after SIP_UA_BAD_FIELD. After SIP_UA_BAD_FIELD, SIP_UA_TOO_MANY_EVENTS, SIP_UA_NO_MEMORY
+ * and SIP_UA_NULL there is no command. If the core refuses a command later, a notice says so. */
 
-/* The bytes of a string, without its end. */
+/* The bytes of a string, without the zero byte at its end. */
 static inline sip_ua_bytes sip_ua_string(const char *string)
 {
     sip_ua_bytes bytes = { string, string == NULL ? 0 : strlen(string) };
     return bytes;
 }
 
-/* Bytes for the library, which takes no NULL. */
+/* A pointer for the library, which takes no NULL. */
 static inline const uint8_t *sip_ua_raw_at(sip_ua_bytes bytes)
 {
     return (const uint8_t *)(bytes.at == NULL ? "" : bytes.at);
@@ -572,7 +575,7 @@ static inline uint32_t sip_ua_raw_headers(sip_ua *agent, const sip_ua_header *he
     return SIP_UA_OK;
 }
 
-/* Where to tell of a command, with zeros. */
+/* Where to write the id of a command, filled with zeros. */
 static inline sip_ua_asked *sip_ua_raw_asked(sip_ua_asked *asked, sip_ua_asked *otherwise)
 {
     sip_ua_asked *told = asked == NULL ? otherwise : asked;
@@ -580,7 +583,7 @@ static inline sip_ua_asked *sip_ua_raw_asked(sip_ua_asked *asked, sip_ua_asked *
     return told;
 }
 
-/* Starts a call: sends a first INVITE. */
+/* Starts a call: sends an initial INVITE. */
 static inline uint32_t sip_ua_invite(sip_ua *agent, const sip_ua_invite_fields *fields,
                                      sip_ua_asked *asked)
 {
@@ -640,7 +643,7 @@ static inline uint32_t sip_ua_request(sip_ua *agent, const sip_ua_request_fields
                               sip_ua_raw_at(fields->body), fields->body.len, told);
 }
 
-/* Answers a request. */
+/* Sends a response to a request. */
 static inline uint32_t sip_ua_respond(sip_ua *agent, const sip_ua_respond_fields *fields,
                                       sip_ua_asked *asked)
 {
@@ -658,7 +661,7 @@ static inline uint32_t sip_ua_respond(sip_ua *agent, const sip_ua_respond_fields
                               told);
 }
 
-/* Sends the ACK of the oldest 2xx of a dialog that is owed one. */
+/* Sends the ACK of the dialog's oldest 2xx that still needs one. */
 static inline uint32_t sip_ua_ack(sip_ua *agent, const sip_ua_body_fields *fields,
                                   sip_ua_asked *asked)
 {
@@ -676,7 +679,7 @@ static inline uint32_t sip_ua_ack(sip_ua *agent, const sip_ua_body_fields *field
                           sip_ua_raw_at(fields->body), fields->body.len, told);
 }
 
-/* Sends the PRACK of the oldest provisional response of a dialog that is owed one. */
+/* Sends the PRACK of the dialog's oldest reliable provisional response that still needs one. */
 static inline uint32_t sip_ua_prack(sip_ua *agent, const sip_ua_body_fields *fields,
                                     sip_ua_asked *asked)
 {
@@ -694,7 +697,7 @@ static inline uint32_t sip_ua_prack(sip_ua *agent, const sip_ua_body_fields *fie
                             sip_ua_raw_at(fields->body), fields->body.len, told);
 }
 
-/* Cancels an INVITE that was sent. */
+/* Cancels an INVITE that you sent. */
 static inline uint32_t sip_ua_cancel(sip_ua *agent, const sip_ua_cancel_fields *fields,
                                      sip_ua_asked *asked)
 {
@@ -707,9 +710,9 @@ static inline uint32_t sip_ua_cancel(sip_ua *agent, const sip_ua_cancel_fields *
 
 /* ---- the rest of a host's loop */
 
-/* The send of this index among the outputs of the last round could not be sent (the socket refused
- * it): an event of the next round. To be called before that. SIP_UA_NO_SEND,
- * SIP_UA_TOO_MANY_EVENTS, SIP_UA_NO_MEMORY. */
+/* Says that the socket refused the send with this index, of the last round: an event of the next
+ * round. Call it before that round. Faults: SIP_UA_NO_SEND, SIP_UA_TOO_MANY_EVENTS,
+ * SIP_UA_NO_MEMORY. */
 static inline uint32_t sip_ua_failed(sip_ua *agent, size_t output)
 {
     if (agent == NULL)
@@ -717,10 +720,9 @@ static inline uint32_t sip_ua_failed(sip_ua *agent, size_t output)
     return sip_ua_raw_failed(agent, output);
 }
 
-/* Runs a round: deals with all events since the last one, at this moment. All outputs of the last
- * round must have been taken. SIP_UA_OUTPUTS_LEFT, SIP_UA_BACKWARDS, SIP_UA_TOO_LARGE,
- * SIP_UA_USED_UP, SIP_UA_NO_MEMORY (nothing has changed, and the events still wait),
- * SIP_UA_BROKEN. */
+/* Runs a round: handles all events since the last one, at this moment. Take all outputs of the last
+ * round first. Faults: SIP_UA_OUTPUTS_LEFT, SIP_UA_BACKWARDS, SIP_UA_TOO_LARGE, SIP_UA_USED_UP,
+ * SIP_UA_NO_MEMORY (the events still wait), SIP_UA_BROKEN. */
 static inline uint32_t sip_ua_run(sip_ua *agent, uint64_t moment)
 {
     if (agent == NULL)
@@ -728,10 +730,10 @@ static inline uint32_t sip_ua_run(sip_ua *agent, uint64_t moment)
     return sip_ua_raw_run(agent, moment);
 }
 
-/* The next output of the last round. Where its `len` is at most `room`, its text was written to the
- * buffer, and the output is taken; else the buffer is as it was, and the next call gives the same
- * output again. A line ends in a line feed; no text ends in a zero byte. 65,535 bytes hold every
- * datagram that can be sent. SIP_UA_NO_MEMORY. */
+/* Takes the next output of the last round. If its `len` is at most `room`, its text is written to
+ * the buffer. Otherwise the buffer isn't changed, and the next call gives the same output again. A
+ * line ends in a line feed; no text ends in a zero byte. 65,535 bytes are enough for each datagram
+ * that can be sent. Fault: SIP_UA_NO_MEMORY. */
 static inline uint32_t sip_ua_next_output(sip_ua *agent, sip_ua_output *output, uint8_t *buffer,
                                           size_t room)
 {
@@ -740,10 +742,9 @@ static inline uint32_t sip_ua_next_output(sip_ua *agent, sip_ua_output *output, 
     return sip_ua_raw_next_output(agent, output, buffer, room);
 }
 
-/* The next output of the last round, by its fields, as sip_ua_next_output gives it with a line.
- * Where its texts fit into `room` they were written to the buffer, and the output is taken; else
- * the buffer is as it was, and the next call gives the same output again: sip_ua_texts_len tells
- * how much room it needs. SIP_UA_NO_MEMORY. */
+/* Takes the next output of the last round, by its fields. If its texts fit into `room` bytes, they
+ * are written to the buffer. Otherwise the buffer isn't changed, and the next call gives the same
+ * output again: sip_ua_texts_len says how much room it needs. Fault: SIP_UA_NO_MEMORY. */
 static inline uint32_t sip_ua_next(sip_ua *agent, sip_ua_typed_output *output, uint8_t *buffer,
                                    size_t room)
 {
@@ -759,8 +760,7 @@ static inline size_t sip_ua_texts_len(const sip_ua_typed_output *output)
         + output->method_len + output->body_len;
 }
 
-/* Where the texts of an output stand in the buffer that sip_ua_next was given, as long as that is
- * not used again. */
+/* The texts of an output in the buffer that sip_ua_next wrote, until it is written again. */
 static inline sip_ua_texts sip_ua_texts_of(const sip_ua_typed_output *output, const uint8_t *buffer)
 {
     sip_ua_texts texts;
@@ -777,20 +777,20 @@ static inline sip_ua_texts sip_ua_texts_of(const sip_ua_typed_output *output, co
     return texts;
 }
 
-/* Whether the bytes are those of a string. */
+/* Whether the bytes are equal to those of a string. */
 static inline bool sip_ua_is(sip_ua_bytes bytes, const char *string)
 {
     return bytes.len == strlen(string)
         && (bytes.len == 0 || memcmp(bytes.at, string, bytes.len) == 0);
 }
 
-/* Whether two ids are the same. */
+/* Whether two ids are equal. */
 static inline bool sip_ua_is_id(sip_ua_id one, sip_ua_id other)
 {
     return one.is_given == other.is_given && one.round == other.round && one.place == other.place;
 }
 
-/* What is held, and what waits. */
+/* Counts what the agent holds, and what waits. */
 static inline uint32_t sip_ua_stats(sip_ua *agent, sip_ua_counts *counts)
 {
     if (agent == NULL || counts == NULL)
@@ -798,8 +798,8 @@ static inline uint32_t sip_ua_stats(sip_ua *agent, sip_ua_counts *counts)
     return sip_ua_raw_stats(agent, counts);
 }
 
-/* The first moment at which something is due, if there is one: a round without events that is run
- * earlier gives nothing. */
+/* The first moment at which something is due, if there is one. A round without events before that
+ * gives no output. */
 static inline uint32_t sip_ua_next_due(sip_ua *agent, sip_ua_due *due)
 {
     if (agent == NULL || due == NULL)
@@ -807,8 +807,8 @@ static inline uint32_t sip_ua_next_due(sip_ua *agent, sip_ua_due *due)
     return sip_ua_raw_next_due(agent, due);
 }
 
-/* The id of the event that was given last, if the next round has one. Notices name the request of a
- * command by it. */
+/* The id of the event that was added last, if the next round has one. The notices about a command
+ * have it. */
 static inline uint32_t sip_ua_last_id(sip_ua *agent, sip_ua_id *id)
 {
     if (agent == NULL || id == NULL)
@@ -816,10 +816,10 @@ static inline uint32_t sip_ua_last_id(sip_ua *agent, sip_ua_id *id)
     return sip_ua_raw_last_id(agent, id);
 }
 
-/* The datagram that came in at a place of the last round, if one did: what an output of that place
- * tells of. It is kept until the next round has run, also where it was dropped. Where its `len` is
- * at most `room`, its bytes were written to the buffer; else the buffer is as it was, and `len`
- * says how much room is needed. With a room of 0 any buffer but NULL serves. */
+/* The datagram with this place in the last round, if there is one: the cause of the outputs with
+ * this place. It is kept until the next round runs, even if it was dropped. If its `len` is at most
+ * `room`, its bytes are written to the buffer. Otherwise the buffer isn't changed, and `len` says
+ * how much room is needed. The buffer can't be NULL, even if `room` is 0. */
 static inline uint32_t sip_ua_datagram_at(sip_ua *agent, uint32_t place, sip_ua_arrival *arrival,
                                           uint8_t *buffer, size_t room)
 {
@@ -828,8 +828,8 @@ static inline uint32_t sip_ua_datagram_at(sip_ua *agent, uint32_t place, sip_ua_
     return sip_ua_raw_datagram_at(agent, place, arrival, buffer, room);
 }
 
-/* The start line of the same datagram. Where `method_len` and `len` together are at most `room`,
- * the text was written to the buffer; else that is as it was. SIP_UA_NO_MEMORY. */
+/* The start line of that datagram. If `method_len` and `len` together are at most `room`, the text
+ * is written to the buffer. Otherwise the buffer isn't changed. Fault: SIP_UA_NO_MEMORY. */
 static inline uint32_t sip_ua_start_line(sip_ua *agent, uint32_t place, sip_ua_start *start,
                                          uint8_t *buffer, size_t room)
 {
@@ -838,10 +838,10 @@ static inline uint32_t sip_ua_start_line(sip_ua *agent, uint32_t place, sip_ua_s
     return sip_ua_raw_start_line(agent, place, start, buffer, room);
 }
 
-/* The value of a header of the same datagram, by its number from 0: each header line of the name
- * counts. `is_there` is false where there is none of this number. The name may be the long or the
- * compact one, in any case. The value has no folds, and no blanks at its ends. Where its `len` is
- * at most `room`, it was written to the buffer; else that is as it was. SIP_UA_NO_MEMORY. */
+/* The value of the header line with this number, from 0, among the lines of that datagram with this
+ * name. `is_there` is false if there is none. The name may be long or compact, in any case. The
+ * value is unfolded, without white space around it. If its `len` is at most `room`, it is written
+ * to the buffer. Otherwise the buffer isn't changed. Fault: SIP_UA_NO_MEMORY. */
 static inline uint32_t sip_ua_header_value(sip_ua *agent, uint32_t place, const char *name,
                                            size_t name_len, size_t number, sip_ua_text *text,
                                            uint8_t *buffer, size_t room)
@@ -852,7 +852,7 @@ static inline uint32_t sip_ua_header_value(sip_ua *agent, uint32_t place, const 
                                    buffer, room);
 }
 
-/* Ends the agent, whose `sip_ua` holds none then. SIP_UA_NOT_HELD where it holds none. */
+/* Frees the agent; its `sip_ua` has none then. Fault: SIP_UA_NOT_HELD, if it has none. */
 static inline uint32_t sip_ua_free(sip_ua *agent)
 {
     if (agent == NULL)

@@ -1,6 +1,6 @@
-// Package sipua is a SIP user agent core over libsip_ua: give it datagrams, commands and moments,
-// and send and tell what a round gives. Commands and what is told are lines of docs/FORMATS.md.
-// An agent is used by one goroutine at a time.
+// Package sipua is a SIP user agent core over libsip_ua. Give an agent datagrams, commands and
+// times; a round returns datagrams to send, and notices. Commands and notices are lines of
+// docs/FORMATS.md. One goroutine at a time uses an agent.
 //
 //	agent, err := sipua.New(netip.MustParseAddrPort("192.0.2.1:5060"), seed, 0)
 //	id, err := agent.Command("request c1 f1 t1 BYE -")
@@ -18,19 +18,19 @@ import (
 	"unsafe"
 )
 
-// Error is what the library answered; after all but "broken" the agent is as it was before.
+// Error is a fault of a call. Only SIP_UA_BROKEN changes the agent.
 type Error uint32
 
 func (e Error) Error() string { return C.GoString(C.sip_ua_status_text(C.uint32_t(e))) }
 
-// ID names a command or a request: the number of its round, and its place there from 1.
+// ID names a command or a request: the number of its round, and its place there, from 1.
 type ID struct {
 	Round uint64
 	Place uint32
 }
 
-// Output is a datagram to be sent, where To is valid, otherwise a line that tells the user of a
-// notice or a drop. Place is that of the event that it comes of, or 0.
+// Output is a datagram to send, if To is valid, otherwise a line: a notice or a drop. Place is that
+// of the event that caused it, or 0.
 type Output struct {
 	To    netip.AddrPort
 	Text  []byte
@@ -67,8 +67,8 @@ func address(of netip.AddrPort) C.sip_ua_address {
 	return told
 }
 
-// New begins an agent. Via and Contact say the address local; seed is a secret, another one for
-// each agent; first is the number of the first round.
+// New creates an agent. Via and Contact say the address local. seed is a secret, different for each
+// agent. first is the number of the first round.
 func New(local netip.AddrPort, seed [32]byte, first uint64) (*Agent, error) {
 	start := C.sip_ua_configuration{local: address(local), first: C.uint64_t(first)}
 	for i, b := range seed {
@@ -78,15 +78,15 @@ func New(local netip.AddrPort, seed [32]byte, first uint64) (*Agent, error) {
 	return agent, done(C.sip_ua_raw_new(&agent.agent, &start, 1))
 }
 
-// Datagram hands over what came from an address.
+// Datagram adds a datagram that was received from an address.
 func (a *Agent) Datagram(from netip.AddrPort, data []byte) error {
 	source := address(from)
 	at, size := bytesOf(data)
 	return done(C.sip_ua_raw_datagram(&a.agent, &source, at, size))
 }
 
-// Command asks for a command, the line of an event file, with its header lines before it where it
-// has some. It gives the ID by which lines tell of it.
+// Command gives a command, as the line of an event file, with any header lines before it. The lines
+// about it have the ID that it returns.
 func (a *Agent) Command(lines string) (ID, error) {
 	at, size := bytesOf([]byte(lines))
 	if status := C.sip_ua_raw_event_lines(&a.agent, at, size); status != C.SIP_UA_OK {
@@ -97,12 +97,12 @@ func (a *Agent) Command(lines string) (ID, error) {
 	return ID{uint64(id.round), uint32(id.place)}, err
 }
 
-// Failed says that the output of this index of the last round could not be sent.
+// Failed says that the output with this index, of the last round, couldn't be sent.
 func (a *Agent) Failed(index uint64) error {
 	return done(C.sip_ua_raw_failed(&a.agent, C.size_t(index)))
 }
 
-// Run deals with all that was given since the last round, at a moment in ms.
+// Run handles all events since the last round, at a moment in ms.
 func (a *Agent) Run(moment uint64) ([]Output, error) {
 	if status := C.sip_ua_raw_run(&a.agent, C.uint64_t(moment)); status != C.SIP_UA_OK {
 		return nil, Error(status)
@@ -117,7 +117,7 @@ func (a *Agent) Run(moment uint64) ([]Output, error) {
 		if told.kind == C.SIP_UA_NOTHING {
 			return outputs, nil
 		}
-		if int(told.len) > len(a.buffer) { // it is told again, to a buffer with room
+		if int(told.len) > len(a.buffer) { // it comes again, into a larger buffer
 			a.buffer = make([]byte, told.len)
 			continue
 		}
@@ -138,8 +138,8 @@ func (a *Agent) NextDue() (uint64, bool, error) {
 	return uint64(due.moment), bool(due.is_due), err
 }
 
-// HeaderValue is the value of this number, from 0, of a header of the datagram at a place of the
-// last round.
+// HeaderValue is the value of the header line with this number, from 0, of the datagram with a
+// place in the last round.
 func (a *Agent) HeaderValue(place uint32, name string, number uint64) (string, bool, error) {
 	for {
 		var told C.sip_ua_text
@@ -158,5 +158,5 @@ func (a *Agent) HeaderValue(place uint32, name string, number uint64) (string, b
 	}
 }
 
-// Close ends the agent.
+// Close frees the agent.
 func (a *Agent) Close() error { return done(C.sip_ua_raw_free(&a.agent)) }

@@ -3,12 +3,12 @@
  *
  *     answer IP PORT [SECONDS [OUTSIDE-IP OUTSIDE-PORT]]
  *
- * Without SECONDS it goes on for ever. Behind a NAT the last two are the address by which peers
- * reach the socket.
+ * Without SECONDS it never ends. Behind a NAT, the last two are the address at which peers reach
+ * the socket.
  *
- * The loop of a host: wait for a datagram until the moment at which something is due, hand over all
- * that came, run a round, send what is to be sent, and answer what the user is told. Answers are
- * events of the next round, which is run at once. */
+ * The loop of a host: wait for a datagram, or until something is due. Hand over all that came, run
+ * a round, send the datagrams, and respond to the requests. Responses are events of the next round,
+ * which runs at once. */
 #define _POSIX_C_SOURCE 200809L
 #include "sip_ua.h"
 
@@ -24,8 +24,8 @@
 
 #define MOST_AT_ONCE 512
 
-/* The answer to an offer of audio, and the offer where an INVITE has none. Media is not shown here:
- * a phone reads the offer, and answers each of its media lines. */
+/* The answer to an offer of audio, and the offer if an INVITE has none. Media isn't shown here: a
+ * phone reads the offer, and answers each of its media lines. */
 #define SDP \
     "v=0\r\no=- 1 1 IN IP4 127.0.0.1\r\ns=-\r\nc=IN IP4 127.0.0.1\r\nt=0 0\r\n" \
     "m=audio 41000 RTP/AVP 0\r\n"
@@ -67,7 +67,7 @@ static void receive(void)
     }
 }
 
-/* Sends a datagram, and reports where that fails. */
+/* Sends a datagram, and reports a failure. */
 static void send_output(const sip_ua_typed_output *output)
 {
     struct sockaddr_in to = { .sin_family = AF_INET, .sin_port = htons(output->to.port) };
@@ -76,7 +76,7 @@ static void send_output(const sip_ua_typed_output *output)
         must(sip_ua_failed(&agent, output->index), "sip_ua_failed");
 }
 
-/* Answers a request, by what was told of it. */
+/* Responds to a request. */
 static void respond(const sip_ua_typed_output *request, uint16_t status, const char *reason,
                     const char *body)
 {
@@ -101,7 +101,7 @@ static void answer(const sip_ua_typed_output *request)
     }
 }
 
-/* A round, and all that it gives. */
+/* Runs a round and handles its outputs. */
 static void run(void)
 {
     sip_ua_typed_output output;
@@ -118,7 +118,7 @@ static void run(void)
     }
 }
 
-/* How long to wait, in ms: until something is due, and for ever where nothing is. */
+/* How long to wait, in ms: until something is due, or forever. */
 static int patience(uint64_t end)
 {
     sip_ua_due due;

@@ -1,11 +1,11 @@
 /* A call over UDP: `call IP PORT TO-IP TO-PORT URI SECONDS` calls the URI at an address with an
- * offer, says what comes of it, and hangs up SECONDS after the answer. Where none comes within 20 s
- * it cancels the call. It takes reliable provisional responses. Where several branches of a fork
- * answer it keeps the first. Status 0 where the call was answered and has ended, otherwise 1.
+ * offer, prints what happens, and hangs up SECONDS after the answer. If nobody answers within 20 s,
+ * it cancels the call. It takes reliable provisional responses. If several branches of a fork
+ * answer, it keeps the first. Its status is 0 if the call was answered and has ended, otherwise 1.
  *
- * Commands are functions with the fields of a request, and what is told is a struct: nothing is
- * spelled or taken apart. Beside these it shows a header of the program's own, the id of a command,
- * and what is read of the datagram that a notice tells of. */
+ * Commands are functions with the fields of a request, and notices are structs, so the program
+ * parses nothing. It also shows a header of its own, the id of a command, and how to read the
+ * datagram of a notice. */
 #define _POSIX_C_SOURCE 200809L
 #include "sip_ua.h"
 
@@ -52,7 +52,7 @@ static void must(uint32_t status, const char *call)
     }
 }
 
-/* A command was asked for, or the example is wrong. */
+/* Ends the example if a command failed. */
 static void asked(uint32_t status, const sip_ua_asked *told, const char *call)
 {
     if (status == SIP_UA_BAD_FIELD)
@@ -84,7 +84,7 @@ static void send_output(const sip_ua_typed_output *output)
         must(sip_ua_failed(&agent, output->index), "sip_ua_failed");
 }
 
-/* Says the reason of a response and who answers, as they stand in its datagram. */
+/* Prints the reason of a response and who answers, read from its datagram. */
 static void say(uint32_t place, unsigned status)
 {
     static uint8_t reason[65536], contact[65536];
@@ -97,7 +97,7 @@ static void say(uint32_t place, unsigned status)
            (const char *)contact);
 }
 
-/* Keeps a tag beyond the buffer that it stands in. */
+/* Copies a tag out of the buffer. */
 static void keep(sip_ua_bytes tag, char *room, size_t size)
 {
     if (tag.len >= size) {
@@ -108,7 +108,7 @@ static void keep(sip_ua_bytes tag, char *room, size_t size)
     room[tag.len] = '\0';
 }
 
-/* Ends the dialog of these tags; the id of its BYE. */
+/* Ends the dialog with these tags, and returns the id of its BYE. */
 static sip_ua_id hang_up(sip_ua_bytes local, sip_ua_bytes remote)
 {
     sip_ua_asked told;
@@ -160,7 +160,7 @@ static void answer(const sip_ua_typed_output *output)
     asked(sip_ua_respond(&agent, &fields, &told), &told, "sip_ua_respond");
 }
 
-/* What is told of the call. */
+/* Handles a notice. */
 static void tell(const sip_ua_typed_output *output)
 {
     sip_ua_texts said = sip_ua_texts_of(output, texts);
@@ -182,7 +182,7 @@ static void tell(const sip_ua_typed_output *output)
         is_over = is_over || sip_ua_is_id(output->id, invite) || sip_ua_is_id(output->id, bye);
         break;
     case SIP_UA_NOTICE_ENDED:
-        /* By the peer, unless our BYE is under way. */
+        /* Ended by the peer, unless our BYE is on its way. */
         is_over = is_over || (!bye.is_given && sip_ua_is(said.remote_tag, remote_tag));
         break;
     }
@@ -205,7 +205,7 @@ static void run(void)
     }
 }
 
-/* Calls: a first INVITE with an offer and a header of the program's own. */
+/* Calls: sends an INVITE with an offer and a header of the program's own. */
 static void call(const sip_ua_address *peer, const char *uri, const char *own)
 {
     sip_ua_asked told;
@@ -245,7 +245,7 @@ static void end_call(void)
     until = UINT64_MAX;
 }
 
-/* How long to wait, in ms: until something is due, and no longer than the call goes on. */
+/* How long to wait, in ms: until something is due, but no longer than the call lasts. */
 static int patience(void)
 {
     sip_ua_due due;

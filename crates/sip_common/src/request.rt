@@ -94,7 +94,7 @@ pub fn own_tag(alloc: Global, request: &Message) -> Result<Option<Token>, AllocE
     if own.is_empty() {
         return Ok(None);
     }
-    let _parameters = request.to.parameters.as_slice();
+    let _parameters = request.to.parameters.as_parameters();
     Ok(Some(Token::copy_of(alloc, own)?))
 }
 

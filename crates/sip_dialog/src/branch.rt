@@ -1,12 +1,11 @@
 //! The branch of a request that the agent makes (RFC 3261, section 8.1.1.7).
-ghost use Rattle.std.specs.Prelude.{◌≡◌, IfOk, IsTrue};
+ghost use Rattle.std.specs.Prelude.{◌≡◌, IsTrue};
 ghost use Rattle.std.specs.Option.{SomeIff};
 ghost use Rattle.sip_message.specs.Via as via;
 ghost use Rattle.sip_dialog.specs.Branch as rule;
 
-use sip_parts::{ParameterValue, Token};
+use sip_parts::Token;
 use sip_text::token_eq;
-use std::alloc::{AllocError, Global};
 use std::marker::Model;
 
 /// The length in bytes of the text with which each branch begins.
@@ -45,15 +44,6 @@ impl Branch {
         ensures rule { IsTrue (rule.is_branch self.now) }
     {
         self.token.as_slice()
-    }
-
-    /// The branch as the value of a parameter.
-    pub(crate) fn into_value(self, alloc: Global) -> Result<ParameterValue, AllocError>
-        ensures value { IfOk result (λ value. value ≡ self) }
-        ensures rule { IsTrue (rule.is_branch self) }
-    {
-        let Branch { token } = self;
-        Ok(ParameterValue::from_text(token.into_text(alloc)?))
     }
 }
 

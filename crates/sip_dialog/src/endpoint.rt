@@ -39,7 +39,7 @@ impl Endpoint {
 fn tag_of(alloc: Global, party: &Party) -> Result<Option<Token>, AllocError>
     ensures { IfOk result (λ tag. tag ≡ endpoint.tag_option party.now) }
 {
-    let _parameters = party.parameters.as_slice();
+    let _parameters = party.parameters.as_parameters();
     let tag = party.tag();
     if tag.is_empty() {
         return Ok(None);

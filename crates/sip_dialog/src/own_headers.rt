@@ -8,8 +8,8 @@ ghost use Rattle.sip_dialog.specs.Request as request;
 
 use crate::branch::Branch;
 use sip_message::{Addr, NameAddr, Via, Vias, ip_text};
-use sip_parts::{DisplayText, Host, Parameter, Token, Uri};
-use sip_text::{Series, Text, decimal};
+use sip_parts::{DisplayText, Host, Parameters, Token, Uri};
+use sip_text::{ParameterText, Series, Text, decimal};
 use std::alloc::{AllocError, Global};
 
 /// Whether the method is INVITE. Methods are compared byte by byte.
@@ -26,7 +26,7 @@ pub fn own_via(alloc: Global, local: Addr, branch: Branch) -> Result<Vias, Alloc
 {
     let transport = Token::copy_of(alloc, b"UDP")?;
     let host = own_host(alloc, local)?;
-    let parameters = via_parameters(alloc, branch)?;
+    let parameters = via_parameters(alloc, &branch)?;
     let mut vias = Vec::new(alloc);
     vias.push(Via {
         transport,
@@ -69,22 +69,19 @@ fn own_host(alloc: Global, local: Addr) -> Result<Host, AllocError>
 }
 
 #[tactic(auto, unfolding(sip_text::specs::Token::is_token, sip_text::specs::Token::is_token_byte))]
-fn via_parameters(alloc: Global, branch: Branch) -> Result<Series<Parameter>, AllocError>
-    ensures value { IfOk result (λ made. made ≡ request.via_parameters branch) }
-    ensures rule { OnOk result (IsTrue (is_branch branch)) }
+fn via_parameters(alloc: Global, branch: &Branch) -> Result<Parameters, AllocError>
+    ensures value { IfOk result (λ made. made ≡ request.via_parameters branch.now) }
+    ensures rule { OnOk result (IsTrue (is_branch branch.now)) }
 {
-    let rport = Parameter {
-        name: Token::copy_of(alloc, b"rport")?,
+    let rport = ParameterText {
+        name: b"rport",
         value: None,
     };
-    let branch = Parameter {
-        name: Token::copy_of(alloc, b"branch")?,
-        value: Some(branch.into_value(alloc)?),
+    let branch = ParameterText {
+        name: b"branch",
+        value: Some(branch.as_slice()),
     };
-    let mut parameters = Vec::new(alloc);
-    parameters.push(rport)?;
-    parameters.push(branch)?;
-    Ok(Series::from_vec(parameters))
+    Parameters::new(alloc).with(rport)?.with(branch)
 }
 
 /// `<sip:local>`, the Contact of the agent's own messages.
@@ -93,7 +90,7 @@ pub fn own_contact(alloc: Global, local: Addr) -> Result<NameAddr, AllocError>
 {
     let uri = own_uri(alloc, local)?;
     let display = DisplayText::nothing(alloc);
-    let parameters = Series::new(alloc);
+    let parameters = Parameters::new(alloc);
     Ok(NameAddr {
         display,
         uri,

@@ -20,13 +20,13 @@ use Rattle.sip_message.specs.Content.{Content}
 use Rattle.sip_message.specs.declared.header.Header.{Header}
 use Rattle.sip_message.specs.declared.name_addr.NameAddr.{NameAddr}
 use Rattle.sip_values.specs.Sequence.{tokens_from}
-use Rattle.sip_values.proofs.Passing.{cut_here, token_passes}
+use Rattle.sip_parts.proofs.Passing.{cut_here, token_passes}
 use Rattle.sip_values.proofs.Rows.{name_addrs_reads, tokens_reads}
-use Rattle.sip_values.proofs.WrittenBytes.{solid_end, token_solid, header_value_kept, header_value_plain}
+use Rattle.sip_parts.proofs.WrittenBytes.{solid_end, token_solid, header_value_kept, header_value_plain}
 use Rattle.sip_headers.specs.Draft.{long_name}
 use Rattle.sip_headers.specs.HeaderLine.{IsHeaderLine, line_from}
 use Rattle.sip_headers.proofs.NamedLines.{line_reads}
-use Rattle.sip_headers.proofs.TextEnds.{Good, Again, moved}
+use Rattle.sip_parts.proofs.TextEnds.{Good, Again, moved}
 use Rattle.sip_headers.proofs.WrittenAddresses.{name_addr_again}
 use Rattle.sip_headers.proofs.WrittenTokens.{tokens_again}
 use Rattle.sip_files.specs.declared.event_line.EventLine.TheVariants as line

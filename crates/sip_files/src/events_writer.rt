@@ -172,7 +172,7 @@ fn push_event_text(file: &mut Vec<u8>, event: &Event) -> Result<(), AllocError>
 {
     match event {
         Event::Datagram { from, bytes } => push_datagram(file, *from, bytes.as_slice()),
-        Event::Failed(key) => push_failed(file, key),
+        Event::Failed(key) => push_failed(file, key.get()),
         Event::Command(command) => push_command(file, command),
     }
 }

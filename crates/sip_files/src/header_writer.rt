@@ -6,7 +6,7 @@ ghost use Rattle.sip_files.specs.Written as written;
 ghost use Rattle.sip_message.specs.Written as message;
 
 use crate::field_writer::push_rest_field;
-use sip_message::{Content, Header, NameAddr, Parameter, Token};
+use sip_message::{Content, Header, NameAddr, Token};
 use sip_round::Event;
 use sip_served::UserCommand;
 use std::alloc::{AllocError, Global};
@@ -138,7 +138,7 @@ fn address_value(alloc: Global, address: &NameAddr) -> Result<Vec<u8>, AllocErro
     text.push(b'<')?;
     text.extend_from_slice(address.uri.as_slice())?;
     text.push(b'>')?;
-    push_parameters(&mut text, address.parameters.as_slice())?;
+    text.extend_from_slice(address.parameters.as_text())?;
     Ok(text)
 }
 
@@ -150,32 +150,6 @@ fn push_display(text: &mut Vec<u8>, display: &[u8]) -> Result<(), AllocError>
         [_, ..] => {
             text.extend_from_slice(display)?;
             text.extend_from_slice(b" ")
-        }
-    }
-}
-
-fn push_parameters(text: &mut Vec<u8>, parameters: &[Parameter]) -> Result<(), AllocError>
-    ensures { OnOk result (text.new.items ≡ text.old.items
-        ++ message.parameters_text parameters.now) }
-{
-    for parameter in parameters {
-        push_parameter(text, parameter)?;
-    }
-    Ok(())
-}
-
-#[tactic(auto, unfolding(sip_message::specs::Written::parameter_text))]
-fn push_parameter(text: &mut Vec<u8>, parameter: &Parameter) -> Result<(), AllocError>
-    ensures { OnOk result (text.new.items ≡ text.old.items
-        ++ message.parameter_text parameter.now) }
-{
-    text.push(b';')?;
-    text.extend_from_slice(parameter.name.as_slice())?;
-    match &parameter.value {
-        None => Ok(()),
-        Some(value) => {
-            text.push(b'=')?;
-            text.extend_from_slice(value.as_slice())
         }
     }
 }

@@ -16,8 +16,6 @@ pub mod HeaderNumbers
 pub mod FaultOrder
 pub mod UnfitValues
 pub mod HeaderFaults
-pub mod TextEnds
-pub mod WrittenParameters
 pub mod WrittenAddresses
 pub mod WrittenNumbers
 pub mod WrittenTokens

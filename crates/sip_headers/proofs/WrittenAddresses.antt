@@ -24,16 +24,16 @@ use Rattle.sip_message.specs.declared.name_addr.NameAddr.{NameAddr}
 use Rattle.sip_message.specs.declared.party.Party.{Party}
 use Rattle.sip_message.specs.Written.{parameters_text, display_part, address_text}
 use Rattle.sip_values.specs.Address as address
-use Rattle.sip_values.specs.ParameterValues.{all_parameters}
+use Rattle.sip_parts.specs.ParameterValues.{all_parameters}
 use Rattle.sip_message.specs.Rules.{IsParameter, IsParty, IsNameAddr}
-use Rattle.sip_values.proofs.Blanks.{End, starts_full}
-use Rattle.sip_values.proofs.Characters.{full_at}
-use Rattle.sip_values.proofs.Cuts.{all_imply, run_all}
-use Rattle.sip_values.proofs.Passing.{Passes, both_pass, place_append, cut_here, none_here, class_passes, comma_marks, quoted_begins, quoted_passes, quoted_plain}
-use Rattle.sip_values.proofs.Pieces.{by_bool}
-use Rattle.sip_values.proofs.WrittenBytes.{uri_solid, solid_line, solid_kept}
-use Rattle.sip_headers.proofs.TextEnds.{Good, full_cons, end_behind, kept_by, plain_both, end_after, passing_some, trimmed_some, Again, moved}
-use Rattle.sip_headers.proofs.WrittenParameters.{quoted_kept, quoted_trimmed, all_again, parameters_pass, parameters_plain, parameters_end}
+use Rattle.sip_parts.proofs.Blanks.{End, starts_full}
+use Rattle.sip_parts.proofs.Characters.{full_at}
+use Rattle.sip_parts.proofs.Cuts.{all_imply, run_all}
+use Rattle.sip_parts.proofs.Passing.{Passes, both_pass, place_append, cut_here, none_here, class_passes, comma_marks, quoted_begins, quoted_passes, quoted_plain}
+use Rattle.sip_parts.proofs.Pieces.{by_bool}
+use Rattle.sip_parts.proofs.WrittenBytes.{uri_solid, solid_line, solid_kept}
+use Rattle.sip_parts.proofs.TextEnds.{Good, full_cons, end_behind, kept_by, plain_both, end_after, passing_some, trimmed_some, Again, moved}
+use Rattle.sip_parts.proofs.WrittenParameters.{quoted_kept, quoted_trimmed, all_again, parameters_pass, parameters_plain, parameters_end}
 
 -- ---- addresses
 

@@ -19,11 +19,11 @@ use Rattle.sip_values.specs.Numeral.{numeral_from}
 use Rattle.sip_values.specs.Sequence as sequence
 use Rattle.sip_headers.specs.Numbers.{rack_draft}
 use Rattle.sip_message.specs.Rules.{IsRAck}
-use Rattle.sip_values.proofs.Blanks.{End}
-use Rattle.sip_values.proofs.Cuts.{run_all}
-use Rattle.sip_values.proofs.Passing.{Passes, cut_here, class_passes_blank}
-use Rattle.sip_values.proofs.WrittenBytes.{solid, token_solid, word_solid, digits_solid, solid_line, solid_end, decimal_digits, decimal_value, digits_word}
-use Rattle.sip_headers.proofs.TextEnds.{Good, Full, end_behind, kept_behind, solid_good, plain_both, token_is_full, digits_full, passing_some, trimmed_some, token_kept, Again, moved}
+use Rattle.sip_parts.proofs.Blanks.{End}
+use Rattle.sip_parts.proofs.Cuts.{run_all}
+use Rattle.sip_parts.proofs.Passing.{Passes, cut_here, class_passes_blank}
+use Rattle.sip_parts.proofs.WrittenBytes.{solid, token_solid, word_solid, digits_solid, solid_line, solid_end, decimal_digits, decimal_value, digits_word}
+use Rattle.sip_parts.proofs.TextEnds.{Good, Full, end_behind, kept_behind, solid_good, plain_both, token_is_full, digits_full, passing_some, trimmed_some, token_kept, Again, moved}
 
 pub decimal_read : (n : ℕ) → n < 2 ^ 32 → numeral_from (decimal n) ≡ Some (Number n)
 unfolding number_of

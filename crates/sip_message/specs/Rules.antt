@@ -2,7 +2,6 @@
 use Rattle.std.specs.Prelude.{◌≤◌, ◌<◌, ◌^◌, IsTrue, IfSome}
 use Rattle.std.specs.List.{AllByRecursion}
 use Rattle.sip_text.specs.Token.{is_token}
-use Rattle.sip_text.specs.Parameter.{is_parameter_value}
 use Rattle.sip_parts.specs.DisplayText.{is_display_text}
 use Rattle.sip_parts.specs.HeaderValue.{is_header_value}
 use Rattle.sip_parts.specs.Host.{is_host}
@@ -12,7 +11,7 @@ use Rattle.sip_parts.specs.Reason.{is_reason}
 use Rattle.sip_parts.specs.Tag.{has_good_tag}
 use Rattle.sip_parts.specs.Uri.{is_uri}
 use Rattle.sip_parts.specs.Word.{is_word}
-use Rattle.sip_parts.specs.declared.parameter.Parameter.{Parameter}
+pub use Rattle.sip_parts.specs.ParameterRules.{IsParameter}
 use Rattle.sip_message.specs.Via.{are_vias}
 use Rattle.sip_message.specs.declared.header.Header.{Header}
 use Rattle.sip_message.specs.declared.message.Message.{Message}
@@ -28,10 +27,6 @@ use Rattle.sip_message.specs.declared.via.Via.{Via}
 abbrev pub IsStartLine : StartLine → Type 0
 IsStartLine (Request uri) = IsTrue (is_word uri)
 IsStartLine (Response status reason) = (100 ≤ status) × (status ≤ 699) × IsTrue (is_reason reason)
-
-pub record IsParameter (p : Parameter) : Type 0 where
-  pub name : IsTrue (is_token p.name)
-  pub value : IfSome p.value (λ v. IsTrue (is_parameter_value v))
 
 pub record IsVia (via : Via) : Type 0 where
   pub transport : IsTrue (is_token via.transport)

@@ -1,23 +1,16 @@
 -- The source of a request (RFC 3261, section 18.2.1; RFC 3581, sections 3 and 4), and the address
 -- to which the answer goes.
-use Rattle.std.specs.Prelude.{ℕ, Bool, false, List, [], ◌∷◌, Option, Some, None, codes, decimal, is_none, if◌then◌else◌}
+use Rattle.std.specs.Prelude.{Bool, false, List, [], ◌∷◌, Option, Some, None, codes, decimal, is_none, if◌then◌else◌}
 use Rattle.std.specs.Option.{option_map_or}
-use Rattle.std.specs.Str.{bytes_eq, str_eq_ignore_ascii_case}
+use Rattle.std.specs.Str.{bytes_eq}
 use Rattle.sip_message.specs.declared.addr.Addr.{Addr}
 use Rattle.sip_parts.specs.Parameters.{parameter_named}
+pub use Rattle.sip_parts.specs.Parameters.{with_value}
 use Rattle.sip_parts.specs.declared.parameter.Parameter.{Parameter}
 use Rattle.sip_message.specs.declared.via.Via.{Via}
 use Rattle.sip_message.specs.declared.message.Message.{Message}
 use Rattle.sip_message.specs.Ip.{ip_text}
 use Rattle.sip_message.specs.TopVia.{top_via, port_of}
-
--- the first parameter of this name gets the value; if there is none, a new one is added at the end
-abbrev pub with_value : List ℕ → List ℕ → List Parameter → List Parameter
-with_value name value [] = (record { name = name; value = Some value }) ∷ []
-with_value name value (p ∷ ps) =
-    if str_eq_ignore_ascii_case p.name name
-    then (record { name = p.name; value = Some value }) ∷ ps
-    else p ∷ with_value name value ps
 
 -- the parameter has no value
 abbrev pub is_open : Option Parameter → Bool

@@ -2,6 +2,7 @@
 use Rattle.std.specs.Prelude.{ℕ, List, [], ◌∷◌, ◌++◌, Option, Some, None, codes, decimal, length}
 use Rattle.std.specs.List.{flat_map}
 use Rattle.sip_parts.specs.declared.parameter.Parameter.{Parameter}
+pub use Rattle.sip_parts.specs.WrittenParameters.{value_text, parameter_text, parameters_text}
 use Rattle.sip_message.specs.declared.via.Via.{Via}
 use Rattle.sip_message.specs.declared.name_addr.NameAddr.{NameAddr}
 use Rattle.sip_message.specs.declared.party.Party.{Party}
@@ -15,19 +16,6 @@ use Rattle.sip_message.specs.declared.message.Message.{Message}
 -- `Name: value` and a line end
 unfoldable pub header_line : List ℕ → List ℕ → List ℕ
 header_line name value = name ++ codes ": " ++ value ++ codes "\r\n"
-
--- `=` and the value of a parameter that has one
-abbrev pub value_text : Option (List ℕ) → List ℕ
-value_text None = []
-value_text (Some value) = codes "=" ++ value
-
--- `;name` or `;name=value`
-unfoldable pub parameter_text : Parameter → List ℕ
-parameter_text p = codes ";" ++ p.name ++ value_text p.value
-
--- parameters, one after the other
-abbrev pub parameters_text : List Parameter → List ℕ
-parameters_text parameters = flat_map parameter_text parameters
 
 -- `:` and the port, if there is one
 abbrev pub port_text : Option ℕ → List ℕ

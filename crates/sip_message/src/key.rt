@@ -8,7 +8,7 @@ ghost use Rattle.sip_message.specs.Key as keys;
 
 use crate::sent_by::SentBy;
 use sip_parts::{LowerText, Token};
-use sip_text::byte_order;
+use sip_text::{Shared, byte_order};
 use std::alloc::{AllocError, Global};
 use std::cmp::Ordering;
 
@@ -29,15 +29,16 @@ pub enum Key {
     },
 }
 
+/// A key that the parts of an agent share.
+pub type SharedKey = Shared<Key>;
+
 impl Key {
     /// The key of a client transaction, with the branch in lower case.
-    pub fn client(alloc: Global, branch: &[u8], method: Token) -> Result<Key, AllocError>
+    pub fn client(alloc: Global, branch: &[u8], method: Token) -> Result<SharedKey, AllocError>
         ensures { IfOk result (λ key. key ≡ keys.client_key branch.now method) }
     {
-        Ok(Key::Client {
-            branch: LowerText::of(alloc, branch)?,
-            method,
-        })
+        let branch = LowerText::of(alloc, branch)?;
+        Shared::new(alloc, Key::Client { branch, method })
     }
 
     /// The key of a server transaction, with the branch and the host in lower case.
@@ -47,17 +48,18 @@ impl Key {
         host: &[u8],
         port: u16,
         method: Token,
-    ) -> Result<Key, AllocError>
+    ) -> Result<SharedKey, AllocError>
         ensures { IfOk result (λ key. key ≡ keys.server_key branch.now host.now port method) }
     {
-        Ok(Key::Server {
+        let key = Key::Server {
             branch: LowerText::of(alloc, branch)?,
             sent_by: SentBy {
                 host: LowerText::of(alloc, host)?,
                 port,
             },
             method,
-        })
+        };
+        Shared::new(alloc, key)
     }
 
     /// The branch, by which transactions are cut into shards.

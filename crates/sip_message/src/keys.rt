@@ -4,7 +4,7 @@ ghost use Rattle.sip_message.specs.MessageKey.{key_of_message, transaction_metho
 ghost use Rattle.sip_message.specs.TopVia as top;
 
 use crate::addr::{Addr, ip_text};
-use crate::key::Key;
+use crate::key::{Key, SharedKey};
 use crate::message::Message;
 use crate::start_line::StartLine;
 use crate::via::Via;
@@ -16,7 +16,7 @@ pub(crate) const DEFAULT_PORT: u16 = 5060;
 
 /// The key of the transaction that the message belongs to.
 #[tactic(auto, unfolding(crate::specs::MessageKey::key_of_message))]
-pub fn key_of(alloc: Global, message: &Message) -> Result<Key, AllocError>
+pub fn key_of(alloc: Global, message: &Message) -> Result<SharedKey, AllocError>
     ensures { IfOk result (λ key. key ≡ key_of_message message.now) }
 {
     let via = message.vias.top();

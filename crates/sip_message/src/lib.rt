@@ -33,7 +33,7 @@ pub use fault::ReadFault;
 pub use header::Header;
 pub use hop_by_hop::{ack_for, cancel_for};
 pub use id::Id;
-pub use key::Key;
+pub use key::{Key, SharedKey};
 pub use keys::{is_sent_by, key_of};
 pub use laws::a_body_alone_brings_its_type;
 pub use message::{MAX_FORWARDS, Message};
@@ -44,7 +44,7 @@ pub use response::response_to;
 pub use sent_by::SentBy;
 pub use sip_parts::{
     CallId, DisplayText, HeaderName, HeaderValue, Host, OtherName, Parameter, ParameterValue,
-    PartyDisplay, PartyParameters, Reason, RequestUri, StatusCode, Token, Uri,
+    Parameters, PartyDisplay, PartyParameters, Reason, RequestUri, StatusCode, Token, Uri,
 };
 pub use source::stamp_source;
 pub use start_line::StartLine;

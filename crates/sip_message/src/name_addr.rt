@@ -1,15 +1,14 @@
 //! Addresses in lists: Contact, Record-Route and Route (RFC 3261, section 20.10).
 ghost use Rattle.std.specs.Prelude.{◌≡◌};
 
-use sip_parts::{DisplayText, Parameter, Uri};
-use sip_text::Series;
+use sip_parts::{DisplayText, Parameters, Uri};
 use std::alloc::AllocError;
 
 /// A display text, a URI and parameters.
 pub struct NameAddr {
     pub display: DisplayText,
     pub uri: Uri,
-    pub parameters: Series<Parameter>,
+    pub parameters: Parameters,
 }
 
 impl Drop for NameAddr {

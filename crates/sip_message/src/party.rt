@@ -2,9 +2,8 @@
 ghost use Rattle.std.specs.Prelude.{◌≡◌, IfOk};
 ghost use Rattle.sip_message.specs.Party as party;
 
-use crate::response::tag_parameter;
-use sip_parts::{PartyDisplay, PartyParameters, Token, Uri};
-use sip_text::Series;
+use crate::response::with_tag;
+use sip_parts::{Parameters, PartyDisplay, PartyParameters, Token, Uri};
 use std::alloc::{AllocError, Global};
 
 /// The value of a From or a To: a display text, a URI and parameters, among them the tag.
@@ -40,11 +39,11 @@ impl Party {
 fn tag_alone(alloc: Global, tag: Option<Token>) -> Result<PartyParameters, AllocError>
     ensures { IfOk result (λ parameters. parameters ≡ party.tag_alone tag) }
 {
-    let mut parameters = Series::new(alloc);
-    if let Some(tag) = tag {
-        parameters.push(tag_parameter(alloc, &tag)?)?;
+    let parameters = Parameters::new(alloc);
+    match tag {
+        None => Ok(PartyParameters::from_parameters(parameters)),
+        Some(tag) => with_tag(parameters, &tag),
     }
-    Ok(PartyParameters::from_series(parameters))
 }
 
 impl Drop for Party {

@@ -9,9 +9,8 @@ use crate::message::Message;
 use crate::party::Party;
 use crate::start_line::StartLine;
 use crate::vias::Vias;
-use sip_parts::{
-    CallId, Parameter, ParameterValue, PartyParameters, Reason, StatusCode, Token, parameter_named,
-};
+use sip_parts::{CallId, Parameters, PartyParameters, Reason, StatusCode, Token};
+use sip_text::ParameterText;
 use std::alloc::{AllocError, Global};
 
 /// The response to the request: its Via, From, To, Call-ID and CSeq, no other header and no body.
@@ -60,7 +59,7 @@ pub(crate) fn tagged(alloc: Global, party: &Party, tag: &Token) -> Result<Party,
     Ok(Party {
         display: party.display.clone()?,
         uri: party.uri.clone()?,
-        parameters: with_tag(alloc, &party.parameters, tag)?,
+        parameters: with_tag(party.parameters.clone()?.into_parameters(), tag)?,
     })
 }
 
@@ -68,38 +67,17 @@ pub(crate) fn tagged(alloc: Global, party: &Party, tag: &Token) -> Result<Party,
 fn is_tagged(party: &Party) -> bool
     ensures { result ≡ response.is_tagged party.now }
 {
-    parameter_named(party.parameters.as_slice(), b"tag").is_some()
+    party.parameters.as_parameters().named(b"tag").is_some()
 }
 
-fn with_tag(
-    alloc: Global,
-    parameters: &PartyParameters,
-    tag: &Token,
-) -> Result<PartyParameters, AllocError>
-    requires { parameter_named (codes "tag") parameters.now ≡ None }
-    ensures { IfOk result (λ made. made ≡ parameters.now ++ response.tag_parameter tag.now ∷ []) }
-{
-    let mut all = parameters.clone()?.into_series();
-    all.push(tag_parameter(alloc, tag)?)?;
-    Ok(PartyParameters::from_series(all))
-}
-
-/// The parameter `tag` with this value.
+/// The parameters, with a tag at the end.
 #[tactic(auto, unfolding(sip_text::specs::Token::is_token, sip_text::specs::Token::is_token_byte))]
-pub(crate) fn tag_parameter(alloc: Global, tag: &Token) -> Result<Parameter, AllocError>
-    ensures value { IfOk result (λ parameter. parameter ≡ response.tag_parameter tag.now) }
-    ensures rule { OnOk result (IsTrue (token_rule.is_token tag.now)) }
+pub(crate) fn with_tag(parameters: Parameters, tag: &Token) -> Result<PartyParameters, AllocError>
+    requires { parameter_named (codes "tag") parameters ≡ None }
+    ensures { IfOk result (λ made. made ≡ parameters ++ response.tag_parameter tag.now ∷ []) }
 {
-    Ok(Parameter {
-        name: Token::copy_of(alloc, b"tag")?,
-        value: Some(token_value(alloc, tag)?),
-    })
-}
-
-#[tactic(auto, using(sip_parts::proofs::Bytes::token_is_value))]
-fn token_value(alloc: Global, token: &Token) -> Result<ParameterValue, AllocError>
-    ensures value { IfOk result (λ value. value ≡ token.now) }
-    ensures rule { OnOk result (IsTrue (token_rule.is_token token.now)) }
-{
-    ParameterValue::copy_of(alloc, token.as_slice())
+    let name = b"tag";
+    let value = Some(tag.as_slice());
+    let all = parameters.with(ParameterText { name, value })?;
+    Ok(PartyParameters::from_parameters(all))
 }

@@ -1,8 +1,7 @@
 //! Via values (RFC 3261, section 20.42).
 ghost use Rattle.std.specs.Prelude.{◌≡◌};
 
-use sip_parts::{Host, Parameter, Token, value_named};
-use sip_text::Series;
+use sip_parts::{Host, Parameters, Token};
 use std::alloc::AllocError;
 
 /// One value of a Via: a hop of the request.
@@ -10,7 +9,7 @@ pub struct Via {
     pub transport: Token,
     pub host: Host,
     pub port: Option<u16>,
-    pub parameters: Series<Parameter>,
+    pub parameters: Parameters,
 }
 
 impl Via {
@@ -20,7 +19,7 @@ impl Via {
     pub fn branch(&self) -> &[u8]
         ensures { result.now ≡ branch_of self.now }
     {
-        value_named(self.parameters.as_slice(), b"branch")
+        self.parameters.value_named(b"branch")
     }
 }
 

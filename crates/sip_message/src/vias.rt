@@ -6,7 +6,7 @@ ghost use Rattle.std.specs.Option.{SomeIff, option_copied};
 ghost use Rattle.sip_message.specs.Via as via;
 
 use crate::via::Via;
-use sip_parts::Parameter;
+use sip_parts::Parameters;
 use sip_text::{Series, token_eq};
 use std::alloc::{AllocError, Global};
 use std::marker::Model;
@@ -60,7 +60,7 @@ impl Vias {
 
     /// Replaces the parameters of the top value by others with the same branch.
     #[tactic(auto, unfolding(crate::specs::Via::are_vias), using(crate::proofs::Stamps::kept_top))]
-    pub(crate) fn set_top_parameters(&mut self, alloc: Global, parameters: Series<Parameter>)
+    pub(crate) fn set_top_parameters(&mut self, alloc: Global, parameters: Parameters)
         requires { value_named (codes "branch") parameters ≡ via.first_branch self.old }
         ensures { self.new ≡ via.with_top_parameters self.old parameters }
     {

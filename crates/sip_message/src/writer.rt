@@ -11,7 +11,7 @@ use crate::party::Party;
 use crate::rack::RAck;
 use crate::start_line::StartLine;
 use crate::via::Via;
-use sip_parts::{Parameter, Token};
+use sip_parts::{Parameters, Token};
 use sip_text::decimal;
 use std::alloc::{AllocError, Global};
 
@@ -122,7 +122,7 @@ fn push_via(out: &mut Vec<u8>, via: &Via) -> Result<(), AllocError>
     out.push(b' ')?;
     out.extend_from_slice(via.host.as_slice())?;
     push_port(out, via.port)?;
-    push_parameters(out, via.parameters.as_slice())
+    out.extend_from_slice(via.parameters.as_text())
 }
 
 fn push_port(out: &mut Vec<u8>, port: Option<u16>) -> Result<(), AllocError>
@@ -133,31 +133,6 @@ fn push_port(out: &mut Vec<u8>, port: Option<u16>) -> Result<(), AllocError>
         Some(port) => {
             out.push(b':')?;
             push_number(out, u64::from(port))
-        }
-    }
-}
-
-fn push_parameters(out: &mut Vec<u8>, parameters: &[Parameter]) -> Result<(), AllocError>
-    ensures { OnOk result (out.new.items ≡ out.old.items
-        ++ written.parameters_text parameters.now) }
-{
-    for parameter in parameters {
-        push_parameter(out, parameter)?;
-    }
-    Ok(())
-}
-
-#[tactic(auto, unfolding(crate::specs::Written::parameter_text))]
-fn push_parameter(out: &mut Vec<u8>, parameter: &Parameter) -> Result<(), AllocError>
-    ensures { OnOk result (out.new.items ≡ out.old.items ++ written.parameter_text parameter.now) }
-{
-    out.push(b';')?;
-    out.extend_from_slice(parameter.name.as_slice())?;
-    match &parameter.value {
-        None => Ok(()),
-        Some(value) => {
-            out.push(b'=')?;
-            out.extend_from_slice(value.as_slice())
         }
     }
 }
@@ -178,7 +153,7 @@ fn push_party_line(out: &mut Vec<u8>, name: &[u8], party: &Party) -> Result<(), 
 {
     out.extend_from_slice(name)?;
     out.extend_from_slice(b": ")?;
-    let parameters = party.parameters.as_slice();
+    let parameters = party.parameters.as_parameters();
     push_address(
         out,
         party.display.as_slice(),
@@ -193,7 +168,7 @@ fn push_address(
     out: &mut Vec<u8>,
     display: &[u8],
     uri: &[u8],
-    parameters: &[Parameter],
+    parameters: &Parameters,
 ) -> Result<(), AllocError>
     ensures { OnOk result (out.new.items ≡ out.old.items
         ++ written.address_text display.now uri.now parameters.now) }
@@ -202,7 +177,7 @@ fn push_address(
     out.push(b'<')?;
     out.extend_from_slice(uri)?;
     out.push(b'>')?;
-    push_parameters(out, parameters)
+    out.extend_from_slice(parameters.as_text())
 }
 
 fn push_display(out: &mut Vec<u8>, display: &[u8]) -> Result<(), AllocError>
@@ -255,7 +230,7 @@ fn push_address_line(out: &mut Vec<u8>, name: &[u8], address: &NameAddr) -> Resu
 {
     out.extend_from_slice(name)?;
     out.extend_from_slice(b": ")?;
-    let parameters = address.parameters.as_slice();
+    let parameters = &address.parameters;
     push_address(
         out,
         address.display.as_slice(),

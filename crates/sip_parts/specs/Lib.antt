@@ -12,3 +12,9 @@ pub mod HeaderName
 pub mod LowerText
 pub mod OtherName
 pub mod TokenPlace
+pub mod UsualToken
+pub mod ParameterValues
+pub mod ParameterRules
+pub mod WrittenParameters
+pub mod ListedParameters
+pub mod Steps

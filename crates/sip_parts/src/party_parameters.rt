@@ -3,15 +3,14 @@ ghost use Rattle.std.specs.Prelude.{◌≡◌, IsTrue};
 ghost use Rattle.std.specs.Option.{SomeIff};
 ghost use Rattle.sip_parts.specs.Tag as tags;
 
-use crate::parameter::Parameter;
-use crate::parameters::{parameter_named, value_named};
-use sip_text::{Series, is_token};
+use crate::parameters::Parameters;
+use sip_text::{ParameterText, is_token};
 use std::alloc::AllocError;
 use std::marker::Model;
 
 /// Parameters whose `tag`, if there is one, is a token. A contract sees them as their list.
 pub struct PartyParameters {
-    parameters: Series<Parameter>,
+    parameters: Parameters,
 }
 
 impl Model for PartyParameters {
@@ -28,10 +27,10 @@ impl Model for PartyParameters {
 
 impl PartyParameters {
     /// These parameters, or None if the value of the first parameter `tag` isn't a token.
-    pub fn new(parameters: Series<Parameter>) -> Option<PartyParameters>
+    pub fn new(parameters: Parameters) -> Option<PartyParameters>
         ensures { SomeIff result (IsTrue (tags.has_good_tag parameters)) parameters }
     {
-        if has_good_tag(parameters.as_slice()) {
+        if has_good_tag(&parameters) {
             Some(PartyParameters { parameters })
         } else {
             None
@@ -39,22 +38,22 @@ impl PartyParameters {
     }
 
     /// These parameters.
-    pub fn from_series(parameters: Series<Parameter>) -> PartyParameters
+    pub fn from_parameters(parameters: Parameters) -> PartyParameters
         requires { IsTrue (tags.has_good_tag parameters) }
         ensures { result ≡ parameters }
     {
         PartyParameters { parameters }
     }
 
-    pub fn as_slice(&self) -> &[Parameter]
+    pub fn as_parameters(&self) -> &Parameters
         ensures value { result.now ≡ self.now }
         ensures rule { IsTrue (tags.has_good_tag self.now) }
     {
-        self.parameters.as_slice()
+        &self.parameters
     }
 
-    /// The parameters as a plain list. Takes no memory.
-    pub fn into_series(self) -> Series<Parameter>
+    /// The plain parameters. Takes no memory.
+    pub fn into_parameters(self) -> Parameters
         ensures { result ≡ self }
     {
         let PartyParameters { parameters } = self;
@@ -65,7 +64,7 @@ impl PartyParameters {
     pub fn tag(&self) -> &[u8]
         ensures { result.now ≡ tags.tag_in self.now }
     {
-        value_named(self.parameters.as_slice(), b"tag")
+        self.parameters.value_named(b"tag")
     }
 }
 
@@ -86,17 +85,17 @@ impl Clone for PartyParameters {
 }
 
 #[tactic(auto, unfolding(crate::specs::Tag::has_good_tag))]
-fn has_good_tag(parameters: &[Parameter]) -> bool
+fn has_good_tag(parameters: &Parameters) -> bool
     ensures { result ≡ tags.has_good_tag parameters.now }
 {
-    match parameter_named(parameters, b"tag") {
+    match parameters.named(b"tag") {
         None => true,
-        Some(Parameter { value: None, .. }) => false,
+        Some(ParameterText { value: None, .. }) => false,
         Some(
-            Parameter {
+            ParameterText {
                 value: Some(value),
                 ..
             },
-        ) => is_token(value.as_slice()),
+        ) => is_token(value),
     }
 }

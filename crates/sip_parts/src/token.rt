@@ -10,6 +10,7 @@ ghost use Rattle.std.specs.Ordering.{nat_cmp, as_partial_cmp};
 ghost use Rattle.std.proofs.Common.{rules};
 ghost use Rattle.sip_text.specs.Token as rule;
 
+use crate::usual_token::UsualToken;
 use sip_text::{Text, byte_order, is_token};
 use std::alloc::{AllocError, Global};
 use std::cmp::Ordering;
@@ -26,7 +27,7 @@ pub struct Token {
 // Where the bytes of a token are.
 #[derive(Drop)]
 enum TokenPlace {
-    Usual(&'static [u8]),
+    Usual(UsualToken),
     Own(Text),
 }
 
@@ -69,9 +70,9 @@ impl Token {
         requires { IsTrue (rule.is_token text.now) }
         ensures { IfOk result (λ made. made ≡ text.now) }
     {
-        match usual(text) {
-            Some(word) => Ok(Token {
-                place: TokenPlace::Usual(word),
+        match UsualToken::of(text) {
+            Some(usual) => Ok(Token {
+                place: TokenPlace::Usual(usual),
             }),
             None => Ok(Token::from_text(Text::copy_of(alloc, text)?)),
         }
@@ -82,7 +83,7 @@ impl Token {
         ensures rule { IsTrue (rule.is_token self.now) }
     {
         match &self.place {
-            TokenPlace::Usual(word) => word,
+            TokenPlace::Usual(usual) => usual.as_slice(),
             TokenPlace::Own(text) => text.as_slice(),
         }
     }
@@ -94,34 +95,9 @@ impl Token {
     {
         let Token { place } = self;
         match place {
-            TokenPlace::Usual(word) => Text::copy_of(alloc, word),
+            TokenPlace::Usual(usual) => Text::copy_of(alloc, usual.as_slice()),
             TokenPlace::Own(text) => Ok(text),
         }
-    }
-}
-
-/// The same text, if it is a usual token.
-fn usual(text: &[u8]) -> Option<&'static [u8]>
-    ensures { IfSome result (λ word. word.now ≡ text.now) }
-{
-    match text {
-        b"UDP" => Some(b"UDP"),
-        b"tag" => Some(b"tag"),
-        b"ACK" => Some(b"ACK"),
-        b"BYE" => Some(b"BYE"),
-        b"TCP" => Some(b"TCP"),
-        b"TLS" => Some(b"TLS"),
-        b"INFO" => Some(b"INFO"),
-        b"rport" => Some(b"rport"),
-        b"PRACK" => Some(b"PRACK"),
-        b"timer" => Some(b"timer"),
-        b"branch" => Some(b"branch"),
-        b"INVITE" => Some(b"INVITE"),
-        b"CANCEL" => Some(b"CANCEL"),
-        b"100rel" => Some(b"100rel"),
-        b"OPTIONS" => Some(b"OPTIONS"),
-        b"received" => Some(b"received"),
-        _ => None,
     }
 }
 
@@ -136,7 +112,7 @@ impl Clone for Token {
 
     fn clone(&self) -> Result<Token, AllocError> {
         let place = match &self.place {
-            TokenPlace::Usual(word) => TokenPlace::Usual(word),
+            TokenPlace::Usual(usual) => TokenPlace::Usual(*usual),
             TokenPlace::Own(text) => TokenPlace::Own(text.clone()?),
         };
         Ok(Token { place })

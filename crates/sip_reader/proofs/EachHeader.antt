@@ -27,7 +27,7 @@ use Rattle.sip_headers.specs.declared.slot.Slot.{Slot}
 use Rattle.sip_headers.specs.declared.slot.Slot.TheVariants.{Absent, Once}
 use Rattle.sip_message.specs.Rules.{IsParty, IsNameAddr, IsRAck, IsVia, IsOtherHeader, IsMessage}
 use Rattle.sip_reader.proofs.WrittenLines.{Ready, Goes, no_lines, goes_to, header_goes, other_goes, list_goes}
-use Rattle.sip_headers.proofs.TextEnds.{Again}
+use Rattle.sip_parts.proofs.TextEnds.{Again}
 use Rattle.sip_headers.proofs.WrittenAddresses.{party_again, name_addr_again}
 use Rattle.sip_headers.proofs.WrittenNumbers.{number_again, call_id_again, cseq_again, rack_again}
 use Rattle.sip_headers.proofs.WrittenTokens.{tokens_again}

@@ -26,7 +26,7 @@ use Rattle.sip_reader.specs.ReadMessage.{◌>>=◌, or_fault, good_vias, vias_of
 use Rattle.sip_reader.specs.ReadStart.{start_at}
 use Rattle.sip_reader.proofs.Making.{other_method, own_method, body_short, body_long}
 use Rattle.sip_reader.proofs.Outcomes.{no_such, step_decides, step_again}
-use Rattle.sip_values.proofs.Pieces.{by_bool}
+use Rattle.sip_parts.proofs.Pieces.{by_bool}
 use Rattle.sip_reader.proofs.Spelled.{then_body, then_start, then_branch}
 use Rattle.sip_reader.specs.Head.{SpellsFirst}
 use Rattle.sip_reader.proofs.StartLines.{start_reads}

@@ -32,11 +32,11 @@ use Rattle.sip_headers.specs.Slot.{listed}
 use Rattle.sip_headers.specs.declared.draft.Draft.{Draft}
 use Rattle.sip_headers.proofs.Folds.{section_ends, section_goes_on, ends_here}
 use Rattle.sip_message.specs.Rules.{IsOtherHeader}
-use Rattle.sip_values.proofs.Characters.{token_without, token_full}
+use Rattle.sip_parts.proofs.Characters.{token_without, token_full}
 use Rattle.sip_reader.proofs.Layouts.{line_again}
-use Rattle.sip_values.proofs.Passing.{cut_here, token_passes}
-use Rattle.sip_values.proofs.WrittenBytes.{solid_end, token_solid, no_lf, header_value_kept, header_value_plain}
-use Rattle.sip_headers.proofs.TextEnds.{Good}
+use Rattle.sip_parts.proofs.Passing.{cut_here, token_passes}
+use Rattle.sip_parts.proofs.WrittenBytes.{solid_end, token_solid, no_lf, header_value_kept, header_value_plain}
+use Rattle.sip_parts.proofs.TextEnds.{Good}
 
 -- ---- a line with its end
 

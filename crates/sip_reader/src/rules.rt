@@ -5,7 +5,7 @@ ghost use Rattle.sip_text.specs.Token.{is_token};
 ghost use Rattle.sip_message.specs.Rules as rules;
 
 use sip_message::{Header, Message, NameAddr, Party, RAck, StartLine, Via};
-use sip_parts::{Parameter, Token};
+use sip_parts::Token;
 
 /// A message satisfies the rules of its parts.
 pub fn keeps_rules(message: &Message)
@@ -57,7 +57,7 @@ fn via_keeps(via: &Via)
     let _transport = via.transport.as_slice();
     let _host = via.host.as_slice();
     port_keeps(via.port);
-    parameters_keep(via.parameters.as_slice());
+    let _parameters = via.parameters.as_text();
 }
 
 fn port_keeps(port: Option<u16>)
@@ -100,7 +100,8 @@ fn party_keeps(party: &Party)
 {
     let _display = party.display.as_slice();
     let _uri = party.uri.as_slice();
-    parameters_keep(party.parameters.as_slice());
+    let _tag = party.parameters.as_parameters();
+    let _parameters = party.parameters.as_parameters().as_text();
 }
 
 fn addresses_keep(addresses: &[NameAddr])
@@ -116,7 +117,7 @@ fn address_keeps(address: &NameAddr)
 {
     let _display = address.display.as_slice();
     let _uri = address.uri.as_slice();
-    parameters_keep(address.parameters.as_slice());
+    let _parameters = address.parameters.as_text();
 }
 
 fn tokens_keep(tokens: &[Token])
@@ -124,23 +125,6 @@ fn tokens_keep(tokens: &[Token])
 {
     for token in tokens {
         let _token = token.as_slice();
-    }
-}
-
-fn parameters_keep(parameters: &[Parameter])
-    ensures { AllByRecursion rules.IsParameter parameters.now }
-{
-    for parameter in parameters {
-        parameter_keeps(parameter);
-    }
-}
-
-fn parameter_keeps(parameter: &Parameter)
-    ensures { rules.IsParameter parameter.now }
-{
-    let _name = parameter.name.as_slice();
-    if let Some(value) = &parameter.value {
-        let _value = value.as_slice();
     }
 }
 

@@ -9,7 +9,7 @@ ghost use Rattle.sip_round.specs.Steps.Waiting.{waiting_of};
 
 use crate::round::Event;
 use crate::waiting::Waiting;
-use sip_message::{Addr, Id, Key, Message, ReadFault, stamp_source};
+use sip_message::{Addr, Id, Message, ReadFault, SharedKey, stamp_source};
 use sip_model::Item;
 use sip_reader::read;
 use sip_transactions::{DropReason, Input, received};
@@ -23,7 +23,7 @@ pub(crate) fn set_out_event(
     local: Addr,
     id: Id,
     event: &Event,
-    items: &mut Vec<Item<Key, Input>>,
+    items: &mut Vec<Item<SharedKey, Input>>,
 ) -> Result<Waiting, AllocError>
     ensures items { OnOk result (items.new.items ≡ items.old.items
         ++ transaction_item id (arrival_of local id event.now)) }
@@ -44,7 +44,7 @@ fn set_out_datagram(
     id: Id,
     from: Addr,
     bytes: &[u8],
-    items: &mut Vec<Item<Key, Input>>,
+    items: &mut Vec<Item<SharedKey, Input>>,
 ) -> Result<Waiting, AllocError>
     ensures items { OnOk result (items.new.items ≡ items.old.items
         ++ transaction_item id (datagram_arrival local id from (message_at bytes.now))) }
@@ -72,7 +72,7 @@ fn set_out_message(
     id: Id,
     from: Addr,
     mut message: Message,
-    items: &mut Vec<Item<Key, Input>>,
+    items: &mut Vec<Item<SharedKey, Input>>,
 ) -> Result<Waiting, AllocError>
     ensures items { OnOk result (items.new.items ≡ items.old.items
         ++ transaction_item id (message_arrival local id from message)) }
@@ -93,9 +93,9 @@ fn set_out_message(
 // Sets out an input for the transaction with its key, at the place of its event.
 fn set_out(
     id: Id,
-    key: Key,
+    key: SharedKey,
     input: Input,
-    items: &mut Vec<Item<Key, Input>>,
+    items: &mut Vec<Item<SharedKey, Input>>,
 ) -> Result<Waiting, AllocError>
     ensures items { OnOk result (items.new.items ≡ items.old.items
         ++ transaction_item id (arrival.Transaction key input)) }

@@ -1,6 +1,6 @@
 //! The outputs of a round.
 
-use sip_message::{Addr, Key};
+use sip_message::{Addr, SharedKey};
 use sip_served::Notice;
 use sip_text::Text;
 use sip_transactions::DropReason;
@@ -11,7 +11,7 @@ pub enum Output {
     /// A datagram to send. The key is that of its transaction; there is none if the send belongs to
     /// no transaction.
     Send {
-        key: Option<Key>,
+        key: Option<SharedKey>,
         to: Addr,
         bytes: Text,
     },

@@ -27,7 +27,7 @@ use crate::outs::{part_items, part_ticks, send_all};
 use crate::shards::Shards;
 use crate::waiting::{Waiting, first_outputs};
 use sip_calls::{CallOut, Calls};
-use sip_message::{CallId, Cut, Id, Key};
+use sip_message::{CallId, Cut, Id, SharedKey};
 use sip_model::{self as model, PhaseOutputs, laws_of_phases};
 use sip_served::Item;
 use sip_shards::{empty_parts, put};
@@ -43,7 +43,7 @@ pub(crate) struct Begun {
     pub(crate) calls: Calls,
     pub(crate) number: u64,
     pub(crate) shards: Shards,
-    pub(crate) parts: Vec<Vec<model::Item<Key, Input>>>,
+    pub(crate) parts: Vec<Vec<model::Item<SharedKey, Input>>>,
     pub(crate) waiting: Vec<(Id, Waiting)>,
 }
 
@@ -52,7 +52,7 @@ pub(crate) struct Begun {
 pub(crate) fn end_first<F: Form>(
     alloc: Global,
     number: u64,
-    replies: PhaseOutputs<Key, Out>,
+    replies: PhaseOutputs<SharedKey, Out>,
     waiting: Vec<(Id, Waiting)>,
 ) -> Result<(Vec<F>, Vec<(Id, Item)>), NoMemory>
     ensures { IfOk result (λ both. (outputs : List PlacedOutput)
@@ -127,7 +127,7 @@ pub(crate) fn begin_third<C: Cut>(
     cut: &C,
     commands: Vec<(Id, Command)>,
     shards: usize,
-) -> Result<Vec<Vec<model::Item<Key, Input>>>, AllocError>
+) -> Result<Vec<Vec<model::Item<SharedKey, Input>>>, AllocError>
     requires some { 0 < shards }
     requires most { shards ≤ 256 }
     ensures count { IfOk result (λ parts. vec_len parts ≡ shards) }
@@ -147,7 +147,7 @@ pub(crate) fn begin_third<C: Cut>(
 
 /// Ends the third phase: puts what the transactions send behind the outputs.
 pub(crate) fn end_third<F: Form>(
-    replies: PhaseOutputs<Key, Out>,
+    replies: PhaseOutputs<SharedKey, Out>,
     outputs: &mut Vec<F>,
 ) -> Result<(), NoMemory>
     ensures { OnOk result ((sent : List PlacedOutput)

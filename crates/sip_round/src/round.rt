@@ -4,7 +4,7 @@ ghost use Rattle.std.specs.Prelude.{◌≡◌};
 ghost use Rattle.std.specs.Option.{option_copied};
 ghost use Rattle.sip_round.specs.Places as spec;
 
-use sip_message::{Addr, Key};
+use sip_message::{Addr, SharedKey};
 use sip_served::UserCommand;
 use sip_text::{Series, Text};
 
@@ -14,7 +14,7 @@ pub enum Event {
     /// A datagram came in.
     Datagram { from: Addr, bytes: Text },
     /// A message of the transaction with this key couldn't be sent.
-    Failed(Key),
+    Failed(SharedKey),
     /// The user asks a call for something.
     Command(UserCommand),
 }

@@ -15,7 +15,7 @@ use crate::form::Form;
 use crate::output::Output;
 use crate::outs::{part, part_all};
 use crate::round::Event;
-use sip_message::{Addr, Id, Key};
+use sip_message::{Addr, Id, SharedKey};
 use sip_model::{self as model, PhaseOutputs};
 use sip_served::{Item, UserCommand};
 use sip_transactions::{DropReason, Input, Out};
@@ -37,7 +37,7 @@ pub(crate) enum Waiting {
 #[derive(Drop)]
 pub(crate) struct SetOut {
     /// The inputs of transactions, by place.
-    pub(crate) items: Vec<model::Item<Key, Input>>,
+    pub(crate) items: Vec<model::Item<SharedKey, Input>>,
     /// What is left of each event under its id, by place.
     pub(crate) waiting: Vec<(Id, Waiting)>,
 }
@@ -70,7 +70,7 @@ pub(crate) fn set_out(
 pub(crate) fn first_outputs<F: Form>(
     alloc: Global,
     round: u64,
-    replies: PhaseOutputs<Key, Out>,
+    replies: PhaseOutputs<SharedKey, Out>,
     waiting: Vec<(Id, Waiting)>,
 ) -> Result<(Vec<F>, Vec<(Id, Item)>), AllocError>
     ensures outputs { IfOk result (λ both. both.0.items

@@ -10,7 +10,7 @@ use crate::held_request::HeldRequest;
 use sip_common::dialogs::takes;
 use sip_common::request::{has_to_tag, is_bye, is_invite, is_prack, is_unknown_option};
 use sip_common::{DialogId, Dialogs, HeldDialog};
-use sip_message::{Addr, Id, Key, Message, RAck, Token};
+use sip_message::{Addr, Id, Message, RAck, SharedKey, Token};
 use sip_text::{Boxed, token_eq};
 
 /// A request that comes up.
@@ -18,7 +18,7 @@ use sip_text::{Boxed, token_eq};
 pub struct Arrival {
     pub id: Id,
     /// The key of its transaction.
-    pub key: Key,
+    pub key: SharedKey,
     pub request: Boxed<Message>,
     /// The address of its answers.
     pub reply_to: Addr,

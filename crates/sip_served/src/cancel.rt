@@ -30,7 +30,7 @@ pub(crate) fn cancelled_request<'a>(
     requests
         .iter()
         .rev()
-        .find(|held| is_same_branch(cancel, &held.key))
+        .find(|held| is_same_branch(cancel, held.key.get()))
 }
 
 // Whether the keys of two requests have the same branch and sent-by.

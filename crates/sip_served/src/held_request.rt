@@ -7,7 +7,7 @@ use crate::arrival::Arrival;
 use crate::provisionals::Provisionals;
 use sip_common::DialogReference;
 use sip_common::request::supports_100rel;
-use sip_message::{Addr, Id, Key, Message, Token};
+use sip_message::{Addr, Id, Message, SharedKey, Token};
 use sip_reliable::Outbound;
 use sip_text::Boxed;
 use std::alloc::Global;
@@ -19,7 +19,7 @@ const FIRST_RSEQ: u32 = 1;
 pub struct HeldRequest {
     pub id: Id,
     /// The key of its transaction.
-    pub key: Key,
+    pub key: SharedKey,
     pub request: Boxed<Message>,
     /// The address of its answers.
     pub reply_to: Addr,

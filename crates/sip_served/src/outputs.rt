@@ -12,7 +12,7 @@ use crate::arrival::Arrival;
 use crate::unsupported::unsupported;
 use sip_common::outputs::one;
 use sip_common::{CallOut, Notice};
-use sip_message::{CallId, Header, Id, Key, Message, Reason, StatusCode, Token, response_to};
+use sip_message::{CallId, Header, Id, Message, Reason, SharedKey, StatusCode, Token, response_to};
 use sip_text::{Boxed, Text};
 use sip_transactions::Command;
 use std::alloc::{AllocError, Global};
@@ -21,7 +21,7 @@ use std::alloc::{AllocError, Global};
 pub(crate) fn command_for(
     alloc: Global,
     id: Id,
-    key: &Key,
+    key: &SharedKey,
     response: Message,
 ) -> Result<CallOut, AllocError>
     ensures { IfOk result (λ out. out ≡ call_out.Command id (Answer key.now response)) }

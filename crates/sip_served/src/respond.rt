@@ -129,15 +129,23 @@ pub(crate) fn answer_to(
     requires high { respond.status ≤ 699 }
     ensures { IfOk result (λ response. response ≡ spec.answer_to local held.now respond) }
 {
-    let status = StatusCode::from_code(respond.status);
-    let mut response = response_to(alloc, held.request.get(), status, respond.reason, &held.tag)?;
-    if makes_or_confirms_dialog(held, respond.status) {
+    let Respond {
+        call_id: _,
+        id: _,
+        status,
+        reliability,
+        reason,
+        content,
+    } = respond;
+    let code = StatusCode::from_code(status);
+    let mut response = response_to(alloc, held.request.get(), code, reason, &held.tag)?;
+    if makes_or_confirms_dialog(held, status) {
         set_routes(alloc, local, held.request.get(), &mut response)?;
     }
-    if is_sent_reliably(held, respond.status, respond.reliability) {
+    if is_sent_reliably(held, status, reliability) {
         set_rseq(alloc, held.ledger.next_number().ok(), &mut response)?;
     }
-    response.with_content(alloc, respond.content)
+    response.with_content(alloc, content)
 }
 
 fn set_routes(

@@ -5,7 +5,7 @@ ghost use Rattle.sip_message.specs.Key.{branch_in};
 ghost use Rattle.sip_shards.specs.Parts.{cut_by, owner_of};
 ghost use Rattle.sip_shards.specs.Steps.Put.{with_item};
 
-use sip_message::{CallId, Cut, Key};
+use sip_message::{CallId, Cut, SharedKey};
 use sip_model::Item;
 use std::alloc::{AllocError, Global};
 
@@ -17,13 +17,11 @@ pub trait Named {
         ensures { result.now ≡ name self.now };
 }
 
-impl Named for Key {
+impl Named for SharedKey {
     ghost name = { branch_in };
 
     fn name(&self) -> &[u8] {
-        match self {
-            Key::Client { branch, .. } | Key::Server { branch, .. } => branch.as_slice(),
-        }
+        self.get().branch()
     }
 }
 

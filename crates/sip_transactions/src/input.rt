@@ -2,21 +2,21 @@
 
 ghost use Rattle.std.specs.Prelude.{◌≡◌, Some};
 
-use sip_message::{Addr, CallId, Id, Key, Message};
+use sip_message::{Addr, CallId, Id, Message, SharedKey};
 use sip_text::Boxed;
 
 /// What the user of the transactions asks.
 pub enum Command {
     /// Starts a client transaction, which sends the request to an address.
     Start {
-        key: Key,
+        key: SharedKey,
         call_id: CallId,
         message: Boxed<Message>,
         to: Addr,
     },
     /// Answers a server transaction's request with a response.
     Answer {
-        key: Key,
+        key: SharedKey,
         message: Boxed<Message>,
     },
 }
@@ -25,7 +25,7 @@ impl Command {
     ghost use Rattle.sip_transactions.specs.Shard.{command_key, asked_by};
 
     /// The key of the transaction that it is for, and the input that it is to it, with this id.
-    pub fn addressed(self, id: Id) -> (Key, Input)
+    pub fn addressed(self, id: Id) -> (SharedKey, Input)
         ensures { result ≡ (command_key self, asked_by id self) }
     {
         match self {

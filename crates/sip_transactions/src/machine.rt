@@ -17,7 +17,7 @@ use crate::said::{passed_on, said};
 use crate::state::Role;
 use crate::step::{Next, Sent, Step};
 use crate::trigger::trigger_of;
-use sip_message::{Addr, Id, Key, Message};
+use sip_message::{Addr, Id, Key, Message, SharedKey};
 use sip_model::StateMachine;
 use sip_text::{Boxed, Text};
 use std::alloc::{AllocError, Global};
@@ -40,20 +40,20 @@ fn role_of(key: &Key) -> Role
 
 // What the row for an input, or for a tick, does, if there is one.
 #[tactic(auto, unfolding(crate::specs::Steps::Life::step_for))]
-fn step_for(key: &Key, held: Option<&Life>, now: u64, input: Option<&Input>) -> Option<Step>
+fn step_for(key: &SharedKey, held: Option<&Life>, now: u64, input: Option<&Input>) -> Option<Step>
     ensures value { result ≡ step_for key.now (option_copied held.entry) now
         (option_copied input.entry) }
     ensures timely { IfSome result
         (λ step. RepeatsInTime step.due now (option_copied held.entry)) }
 {
     let trigger = trigger_of(held, now, input)?;
-    step_of(role_of(key), held.map(|life| life.state), trigger)
+    step_of(role_of(key.get()), held.map(|life| life.state), trigger)
 }
 
 // A row without a state. It made a message with these bytes.
 fn act(
     alloc: Global,
-    key: &Key,
+    key: &SharedKey,
     now: u64,
     context: Context,
     step: Step,
@@ -75,7 +75,7 @@ fn act(
 // The same for a life that is held. Returns whether it goes on, and what the row says.
 fn act_on(
     alloc: Global,
-    key: &Key,
+    key: &SharedKey,
     now: u64,
     life: &mut Life,
     step: Step,
@@ -97,7 +97,7 @@ fn act_on(
 // A row of the life that is held.
 fn go_on(
     alloc: Global,
-    key: &Key,
+    key: &SharedKey,
     now: u64,
     input: Input,
     life: &mut Life,
@@ -116,7 +116,13 @@ fn go_on(
 
 // A row if no life is held.
 #[tactic(auto, unfolding(crate::specs::Steps::Life::begun))]
-fn begin(alloc: Global, key: &Key, now: u64, input: Input, step: Step) -> Result<After, AllocError>
+fn begin(
+    alloc: Global,
+    key: &SharedKey,
+    now: u64,
+    input: Input,
+    step: Step,
+) -> Result<After, AllocError>
     requires bound { now ≤ 2 ^ 62 }
     requires timely { RepeatsInTime step.due now None }
     ensures next { let context = begun (role_of key.now) (Some input) in
@@ -138,7 +144,7 @@ fn begin(alloc: Global, key: &Key, now: u64, input: Input, step: Step) -> Result
             message,
             to,
         } => {
-            let keeps = keeps_request(role_of(key));
+            let keeps = keeps_request(role_of(key.get()));
             let request = if keeps { Some(message.get()) } else { None };
             let made = made_bytes(alloc, request, step.sent, Some(message.get()))?;
             let request = if keeps { Some(message) } else { None };
@@ -168,7 +174,7 @@ fn keeps_request(role: Role) -> bool
 // A message that comes while no life is held. If the row begins none, no context is made.
 fn arrive(
     alloc: Global,
-    key: &Key,
+    key: &SharedKey,
     now: u64,
     id: Id,
     message: Boxed<Message>,
@@ -192,7 +198,7 @@ fn arrive(
 #[tactic(auto, using(crate::proofs::Passing::passed_next, crate::proofs::Passing::passed_adds))]
 fn pass(
     alloc: Global,
-    key: &Key,
+    key: &SharedKey,
     id: Id,
     message: Boxed<Message>,
     reply_to: Addr,
@@ -211,7 +217,7 @@ fn pass(
 
 fn begin_by_message(
     alloc: Global,
-    key: &Key,
+    key: &SharedKey,
     now: u64,
     id: Id,
     message: Boxed<Message>,
@@ -249,7 +255,7 @@ impl StateMachine for Transactions {
     ghost use Rattle.sip_transactions.specs.Idle.{ticks_are_idle};
     ghost use Rattle.sip_transactions.specs.Rules.Step.{step_at};
 
-    type Key = Key;
+    type Key = SharedKey;
 
     type State = Life;
 
@@ -277,7 +283,7 @@ impl StateMachine for Transactions {
     fn begin(
         &self,
         alloc: Global,
-        key: &Key,
+        key: &SharedKey,
         moment: u64,
         input: Input,
     ) -> Result<(Option<Life>, Vec<Out>), AllocError>
@@ -297,7 +303,7 @@ impl StateMachine for Transactions {
     fn step(
         &self,
         alloc: Global,
-        key: &Key,
+        key: &SharedKey,
         state: &mut Life,
         moment: u64,
         input: Input,
@@ -318,7 +324,7 @@ impl StateMachine for Transactions {
     fn tick(
         &self,
         alloc: Global,
-        key: &Key,
+        key: &SharedKey,
         mut state: Life,
         moment: u64,
     ) -> Result<(Option<Life>, Vec<Out>), AllocError>

@@ -1,6 +1,6 @@
 //! What a transaction says.
 
-use sip_message::{Addr, CallId, Id, Key, Message, ReadFault};
+use sip_message::{Addr, CallId, Id, Message, ReadFault, SharedKey};
 use sip_text::{Boxed, Text};
 
 /// What is handed up to the call.
@@ -22,7 +22,7 @@ pub enum Kind {
 /// life.
 #[derive(Drop)]
 pub struct Up {
-    pub key: Key,
+    pub key: SharedKey,
     pub id: Id,
     pub call_id: CallId,
     pub kind: Kind,
@@ -45,7 +45,14 @@ pub enum Out {
     /// It hands something up.
     Up(Up),
     /// It sends bytes.
-    Send { key: Key, to: Addr, bytes: Text },
+    Send {
+        key: SharedKey,
+        to: Addr,
+        bytes: Text,
+    },
     /// It drops the message of the event at this place.
-    Dropped { place: u32, reason: DropReason },
+    Dropped {
+        place: u32,
+        reason: DropReason,
+    },
 }

@@ -9,7 +9,7 @@ use crate::life::Context;
 use crate::output::{DropReason, Kind, Out, Up};
 use crate::step::{Handed, Sent, Step};
 use crate::trigger::is_ack;
-use sip_message::{Addr, CallId, Id, Key, Message, StartLine};
+use sip_message::{Addr, CallId, Id, Message, SharedKey, StartLine};
 use sip_text::{Boxed, Text};
 use std::alloc::{AllocError, Global};
 
@@ -17,7 +17,7 @@ use std::alloc::{AllocError, Global};
 #[tactic(auto, unfolding(crate::specs::Steps::Output::outputs_of))]
 pub(crate) fn said(
     alloc: Global,
-    key: &Key,
+    key: &SharedKey,
     context: &Context,
     step: Step,
     made: Option<Text>,
@@ -42,7 +42,7 @@ pub(crate) fn said(
 /// neither.
 pub(crate) fn passed_on(
     alloc: Global,
-    key: &Key,
+    key: &SharedKey,
     id: Id,
     message: Boxed<Message>,
     reply_to: Addr,
@@ -62,7 +62,7 @@ pub(crate) fn passed_on(
 
 #[tactic(auto, unfolding(crate::specs::Steps::Output::handed_out))]
 fn pass_on(
-    key: &Key,
+    key: &SharedKey,
     id: Id,
     message: Boxed<Message>,
     reply_to: Addr,
@@ -91,7 +91,7 @@ fn pass_on(
 // What a row hands up, or that it drops what came.
 #[tactic(auto, unfolding(crate::specs::Steps::Output::handed_out))]
 fn hand_up(
-    key: &Key,
+    key: &SharedKey,
     context: &Context,
     handed: Handed,
     arrived: Option<(Boxed<Message>, Addr)>,
@@ -108,7 +108,7 @@ fn hand_up(
     Ok(Some(up_out(key, context.id, context.call_id.clone()?, kind)?))
 }
 
-fn up_out(key: &Key, id: Id, call_id: CallId, kind: Kind) -> Result<Out, AllocError>
+fn up_out(key: &SharedKey, id: Id, call_id: CallId, kind: Kind) -> Result<Out, AllocError>
     ensures { IfOk result (λ out. out
         ≡ Out.Up (record { key = key.now; id = id; call_id = call_id; kind = kind })) }
 {
@@ -153,7 +153,7 @@ fn bytes_sent(
     }
 }
 
-fn send_out(key: &Key, to: Addr, bytes: Text) -> Result<Out, AllocError>
+fn send_out(key: &SharedKey, to: Addr, bytes: Text) -> Result<Out, AllocError>
     ensures { IfOk result (λ out. out ≡ send_out key.now to bytes) }
 {
     Ok(Out::Send {

@@ -14,7 +14,7 @@ use crate::machine::Transactions;
 use crate::output::{DropReason, Out};
 use crate::state::State;
 use crate::stray::received;
-use sip_message::{Addr, Id, Key, Message};
+use sip_message::{Addr, Id, Message, SharedKey};
 use sip_model::{Item, KeyShard, PhaseOutputs, ShardFault, Table};
 use std::alloc::{AllocError, Global};
 use std::collections::BTreeMap;
@@ -64,7 +64,7 @@ impl Shard {
     }
 
     /// The state of a transaction, if it has one.
-    pub fn state_of(&self, key: &Key) -> Option<State>
+    pub fn state_of(&self, key: &SharedKey) -> Option<State>
         ensures { result ≡ state_of (life_at self.now key.now) }
     {
         self.table.state(key).map(|life| life.state)
@@ -141,7 +141,7 @@ impl Shard {
     }
 
     /// Tells a transaction that one of its sends failed.
-    pub fn failed(&mut self, id: Id, key: &Key, now: u64) -> Result<Vec<Out>, ShardFault>
+    pub fn failed(&mut self, id: Id, key: &SharedKey, now: u64) -> Result<Vec<Out>, ShardFault>
         requires { now ≤ 2 ^ 62 }
         ensures local { self.new.local ≡ self.old.local }
         ensures broken { self.old.held ≡ None → result ≡ Err ShardFault.Broken }
@@ -186,8 +186,8 @@ impl KeyShard for Shard {
         &mut self,
         now: u64,
         ticks: bool,
-        items: Vec<Item<Key, Input>>,
-    ) -> Result<PhaseOutputs<Key, Out>, ShardFault>
+        items: Vec<Item<SharedKey, Input>>,
+    ) -> Result<PhaseOutputs<SharedKey, Out>, ShardFault>
         requires { now ≤ 2 ^ 62 }
         ensures broken { self.old.held ≡ None → result ≡ Err ShardFault.Broken }
         ensures only_broken { result ≡ Err ShardFault.Broken → self.old.held ≡ None }
@@ -199,11 +199,11 @@ impl KeyShard for Shard {
         self.table.deal(&Transactions, now, ticks, items)
     }
 
-    fn put(&mut self, key: Key, state: Life) -> Result<(), ShardFault> {
+    fn put(&mut self, key: SharedKey, state: Life) -> Result<(), ShardFault> {
         self.table.put(&Transactions, key, state)
     }
 
-    fn into_states(self) -> Option<BTreeMap<Key, Life>> {
+    fn into_states(self) -> Option<BTreeMap<SharedKey, Life>> {
         let Shard {
             alloc: _,
             local: _,

@@ -4,7 +4,7 @@ ghost use Rattle.std.specs.Prelude.{◌≡◌, IfOk};
 ghost use Rattle.sip_transactions.specs.Shard as spec;
 
 use crate::input::Input;
-use sip_message::{Addr, Id, Key, Message, is_sent_by, key_of};
+use sip_message::{Addr, Id, Message, SharedKey, is_sent_by, key_of};
 use sip_text::Boxed;
 use std::alloc::{AllocError, Global};
 
@@ -25,7 +25,7 @@ pub fn received(
     id: Id,
     message: Message,
     reply_to: Addr,
-) -> Result<Option<(Key, Input)>, AllocError>
+) -> Result<Option<(SharedKey, Input)>, AllocError>
     ensures { IfOk result (λ input. input ≡ spec.received local id message reply_to) }
 {
     if is_stray(local, &message) {

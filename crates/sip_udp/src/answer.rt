@@ -1,7 +1,9 @@
 //! The responses that the users give to requests.
 
 use crate::hang_up::nothing;
-use sip_message::{CallId, Content, ContentHeaders, DisplayText, Id, NameAddr, Reason, Uri};
+use sip_message::{
+    CallId, Content, ContentHeaders, DisplayText, Id, NameAddr, Parameters, Reason, Uri,
+};
 use sip_round::Event;
 use sip_served::{Reliability, Respond, UserCommand};
 use sip_text::{Series, Text};
@@ -77,7 +79,7 @@ pub(crate) fn contact(alloc: Global, uri: Uri) -> Result<Content, AllocError> {
     contacts.push(NameAddr {
         display: DisplayText::nothing(alloc),
         uri,
-        parameters: Series::new(alloc),
+        parameters: Parameters::new(alloc),
     })?;
     let headers = ContentHeaders {
         contacts,

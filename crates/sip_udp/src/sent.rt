@@ -1,6 +1,6 @@
 //! Which datagrams were sent before.
 
-use sip_message::{Addr, Key};
+use sip_message::{Addr, SharedKey};
 use std::alloc::{AllocError, Global};
 use std::collections::BTreeSet;
 use std::mem;
@@ -43,7 +43,7 @@ impl Sent {
     pub(crate) fn add(
         &mut self,
         now: u64,
-        key: Option<&Key>,
+        key: Option<&SharedKey>,
         to: Addr,
         bytes: &[u8],
     ) -> Result<bool, AllocError> {
@@ -51,7 +51,7 @@ impl Sent {
             self.former = mem::replace(&mut self.recent, BTreeSet::new(self.alloc));
             self.until = now.saturating_add(MEMORY);
         }
-        let branch = key.map_or(b"".as_slice(), |key| key.branch());
+        let branch = key.map_or(b"".as_slice(), |key| key.get().branch());
         let address = hash_of(hash_of(OFFSET, &to.ip), &to.port.to_be_bytes());
         let hash = hash_of(hash_of(address, branch), bytes);
         let is_new = self.recent.insert(hash)?;

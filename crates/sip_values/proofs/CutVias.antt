@@ -13,11 +13,11 @@ use Rattle.sip_text.specs.Trimmed.{trimmed, trimmed_start, trimmed_end}
 use Rattle.sip_text.specs.declared.separator.Separator.TheVariants.{Byte}
 use Rattle.sip_values.specs.ViaValue.{IsMark, IsVia, is_like}
 use Rattle.sip_values.specs.declared.via.ViaDraft.{ViaDraft}
-use Rattle.sip_values.proofs.Blanks.{End, around, around_trimmed, end_behind_byte, end_is, full_starts, start_past, trimmed_starts, trimmed_stays}
-use Rattle.sip_values.proofs.Characters.{lower_not_blank, lower_without, no_slash, same_lower}
-use Rattle.sip_values.proofs.Cuts.{run_all}
+use Rattle.sip_parts.proofs.Blanks.{End, around, around_trimmed, end_behind_byte, end_is, full_starts, start_past, trimmed_starts, trimmed_stays}
+use Rattle.sip_parts.proofs.Characters.{lower_not_blank, lower_without, no_slash, same_lower}
+use Rattle.sip_parts.proofs.Cuts.{run_all}
 use Rattle.sip_values.proofs.Marks.{cut_parts, cut_at, slash_clear, comma_clear, blanks_pass, around_passes, mark_text, mark_is, mark_passes, mark_regroup}
-use Rattle.sip_values.proofs.Passing.{Passes, all_pass, clear, token_passes}
+use Rattle.sip_parts.proofs.Passing.{Passes, all_pass, clear, token_passes}
 use Rattle.sip_values.proofs.Quotes.{open_behind, open_trimmed}
 use Rattle.sip_values.proofs.Transports.{HopCut, hop_parts, HopText, hop_text, hop_cut}
 

@@ -8,10 +8,10 @@ use Rattle.sip_text.specs.Separator.{place_after}
 use Rattle.sip_text.specs.declared.separator.Separator.TheVariants.{Byte, Anywhere, Colon}
 use Rattle.sip_text.specs.declared.separator.Place.TheVariants.{Plain, Bracketed}
 use Rattle.sip_parts.specs.Host.{is_host_byte, is_bracket_byte, is_closed, is_host}
-use Rattle.sip_values.proofs.Characters.{full_at}
-use Rattle.sip_values.proofs.Cuts.{all_imply, at_takes}
-use Rattle.sip_values.proofs.Passing.{Passes, clear, all_pass, place_append, byte_clear, anywhere_clear}
-use Rattle.sip_values.proofs.WrittenBytes.{is_solid, solid, solid_byte}
+use Rattle.sip_parts.proofs.Characters.{full_at}
+use Rattle.sip_parts.proofs.Cuts.{all_imply, at_takes}
+use Rattle.sip_parts.proofs.Passing.{Passes, clear, all_pass, place_append, byte_clear, anywhere_clear}
+use Rattle.sip_parts.proofs.WrittenBytes.{is_solid, solid, solid_byte}
 
 closed_by : (bs : List ℕ) (o : Option (List ℕ × List ℕ)) → cut_at 93 bs ≡ o → is_closed o ≡ true
     → (inside : List ℕ) × (bs ≡ inside ++ (93 ∷ [])) × (list_all is_bracket_byte inside ≡ true)

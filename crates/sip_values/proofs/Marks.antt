@@ -12,11 +12,11 @@ use Rattle.sip_text.specs.declared.separator.Separator.TheVariants.{Byte, Anywhe
 use Rattle.sip_text.specs.declared.separator.Place.{Place}
 use Rattle.sip_text.specs.declared.separator.Place.TheVariants.{Plain, Quoted, Escaped, Bracketed}
 use Rattle.sip_values.specs.ViaValue.{IsMark}
-use Rattle.sip_values.proofs.Blanks.{Around, around, around_trimmed}
-use Rattle.sip_values.proofs.Characters.{full_at}
-use Rattle.sip_values.proofs.Cuts.{all_imply}
-use Rattle.sip_values.proofs.Passing.{Passes, all_pass, anywhere_clear, both_pass, byte_clear, clear}
-use Rattle.sip_values.proofs.Pieces.{by_bool}
+use Rattle.sip_parts.proofs.Blanks.{Around, around, around_trimmed}
+use Rattle.sip_parts.proofs.Characters.{full_at}
+use Rattle.sip_parts.proofs.Cuts.{all_imply}
+use Rattle.sip_parts.proofs.Passing.{Passes, all_pass, anywhere_clear, both_pass, byte_clear, clear}
+use Rattle.sip_parts.proofs.Pieces.{by_bool}
 
 -- ---- what cuts
 

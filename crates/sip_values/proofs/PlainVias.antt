@@ -12,16 +12,16 @@ use Rattle.sip_parts.specs.Uri.{is_uri, is_uri_byte}
 use Rattle.sip_parts.specs.Word.{is_word, is_word_byte}
 use Rattle.sip_parts.proofs.Bytes.{none_of}
 use Rattle.sip_values.specs.Address.{uri_before_bracket}
-use Rattle.sip_values.specs.Steps.First.{behind, first}
+use Rattle.sip_parts.specs.Steps.First.{behind, first}
 use Rattle.sip_values.specs.Numeral.{numeral}
 use Rattle.sip_values.specs.ViaValue.{SentBy, host_from, port_from, sent_by_from, transport_from}
-use Rattle.sip_values.proofs.Characters.{full_at, token_bytes}
-use Rattle.sip_values.proofs.Cuts.{all_imply, run_all}
-use Rattle.sip_values.proofs.Firsts.{first_ends, first_goes_on, follows}
+use Rattle.sip_parts.proofs.Characters.{full_at, token_bytes}
+use Rattle.sip_parts.proofs.Cuts.{all_imply, run_all}
+use Rattle.sip_parts.proofs.Firsts.{first_ends, first_goes_on, follows}
 use Rattle.sip_values.proofs.Hosts.{host_passes_colon, host_passes_semicolon, host_solid}
-use Rattle.sip_values.proofs.Passing.{Passes, all_pass, anywhere_clear, both_pass, class_passes, clear, cut_here, none_here, token_passes_blank}
-use Rattle.sip_values.proofs.PlainRuns.{token_is}
-use Rattle.sip_values.proofs.WrittenBytes.{solid_kept, token_solid, uri_solid}
+use Rattle.sip_parts.proofs.Passing.{Passes, all_pass, anywhere_clear, both_pass, class_passes, clear, cut_here, none_here, token_passes_blank}
+use Rattle.sip_parts.proofs.PlainRuns.{token_is}
+use Rattle.sip_parts.proofs.WrittenBytes.{solid_kept, token_solid, uri_solid}
 
 -- ---- hosts and ports
 

@@ -12,9 +12,9 @@ use Rattle.sip_text.specs.declared.separator.Separator.TheVariants.{Byte}
 use Rattle.sip_text.specs.declared.separator.Place.{Place}
 use Rattle.sip_text.specs.declared.separator.Place.TheVariants.{Plain, Quoted, Escaped, Bracketed}
 use Rattle.sip_text.proofs.Separators.{and_then_some}
-use Rattle.sip_values.proofs.Blanks.{start_gap, end_gap}
-use Rattle.sip_values.proofs.Characters.{full_at}
-use Rattle.sip_values.proofs.Passing.{Passes, class_passes}
+use Rattle.sip_parts.proofs.Blanks.{start_gap, end_gap}
+use Rattle.sip_parts.proofs.Characters.{full_at}
+use Rattle.sip_parts.proofs.Passing.{Passes, class_passes}
 
 -- a text without a separator outside quotes and brackets ends outside of these
 pub place_is : (c : ℕ) (place last : Place) (text : List ℕ)

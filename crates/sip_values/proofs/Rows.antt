@@ -22,7 +22,7 @@ use Rattle.sip_values.specs.declared.sequence.RAckDraft.{RAckDraft}
 use Rattle.sip_values.specs.declared.via.ViaDraft.{ViaDraft}
 use Rattle.sip_values.specs.Address as address
 use Rattle.sip_values.specs.Numeral.{numeral, numeral_from, IsNumeral}
-use Rattle.sip_values.specs.ParameterValues as parameters
+use Rattle.sip_parts.specs.ParameterValues as parameters
 use Rattle.sip_values.specs.Sequence as sequence
 use Rattle.sip_values.specs.ViaValue as via
 use Rattle.sip_values.proofs.SentBys.{HostCut, PortCut, SentByCut, EndCut}

@@ -12,14 +12,14 @@ use Rattle.sip_text.specs.declared.separator.Place.TheVariants.{Plain}
 use Rattle.sip_parts.specs.Host.{is_host}
 use Rattle.sip_parts.specs.declared.parameter.Parameter.{Parameter}
 use Rattle.sip_values.specs.Numeral.{IsNumeral}
-use Rattle.sip_values.specs.ParameterValues.{AllParameters, ManyParameters}
+use Rattle.sip_parts.specs.ParameterValues.{AllParameters, ManyParameters}
 use Rattle.sip_values.specs.ViaValue.{SentBy, IsPortPart, with_port, sent_by_alone, without_port}
 use Rattle.sip_values.specs.declared.numeral.Numeral.{Numeral}
-use Rattle.sip_values.proofs.Blanks.{around, around_trimmed, trimmed_past}
+use Rattle.sip_parts.proofs.Blanks.{around, around_trimmed, trimmed_past}
 use Rattle.sip_values.proofs.Hosts.{host_passes_colon, host_passes_semicolon, host_solid}
 use Rattle.sip_values.proofs.Marks.{cut_parts, cut_at, none_before, none_passes, parameter_clear, semicolon_clear, colon_clear, blanks_pass, mark_text, mark_is, mark_passes, mark_regroup}
-use Rattle.sip_values.proofs.Passing.{Passes, both_pass}
-use Rattle.sip_values.proofs.WrittenBytes.{solid_kept, word_solid}
+use Rattle.sip_parts.proofs.Passing.{Passes, both_pass}
+use Rattle.sip_parts.proofs.WrittenBytes.{solid_kept, word_solid}
 
 -- ---- the forms by cuts
 

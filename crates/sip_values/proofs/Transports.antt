@@ -11,18 +11,18 @@ use Rattle.sip_text.specs.Trimmed.{trimmed, trimmed_start, trimmed_end}
 use Rattle.sip_text.specs.declared.separator.Separator.TheVariants.{Byte, Blank}
 use Rattle.sip_parts.specs.Host.{is_host}
 use Rattle.sip_parts.specs.declared.parameter.Parameter.{Parameter}
-use Rattle.sip_values.specs.ParameterValues.{AllParameters}
+use Rattle.sip_parts.specs.ParameterValues.{AllParameters}
 use Rattle.sip_values.specs.ViaValue.{SentBy, IsPortPart, is_closed, via_of}
 use Rattle.sip_values.specs.declared.via.ViaDraft.{ViaDraft}
-use Rattle.sip_values.proofs.Blanks.{End, end_behind_byte, end_tail, full_starts, start_gap, start_past, start_stays}
-use Rattle.sip_values.proofs.Characters.{token_full, token_run}
-use Rattle.sip_values.proofs.Cuts.{all_imply}
+use Rattle.sip_parts.proofs.Blanks.{End, end_behind_byte, end_tail, full_starts, start_gap, start_past, start_stays}
+use Rattle.sip_parts.proofs.Characters.{token_full, token_run}
+use Rattle.sip_parts.proofs.Cuts.{all_imply}
 use Rattle.sip_values.proofs.Hosts.{host_solid}
 use Rattle.sip_values.proofs.Marks.{stops_here, cut_at, comma_clear, blanks_pass}
-use Rattle.sip_values.proofs.Passing.{token_passes_blank}
+use Rattle.sip_parts.proofs.Passing.{token_passes_blank}
 use Rattle.sip_values.proofs.Quotes.{open_behind}
 use Rattle.sip_values.proofs.SentBys.{EndCut, EndParts, end_parts, end_cut}
-use Rattle.sip_values.proofs.WrittenBytes.{is_solid, solid_full}
+use Rattle.sip_parts.proofs.WrittenBytes.{is_solid, solid_full}
 
 -- the transport, a blank, and what follows it
 abbrev pub HopCut : ViaDraft → List ℕ → Type 0

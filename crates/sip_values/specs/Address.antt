@@ -11,7 +11,7 @@ use Rattle.sip_parts.specs.Uri.{is_uri}
 use Rattle.sip_parts.specs.declared.parameter.Parameter.{Parameter}
 use Rattle.sip_message.specs.declared.name_addr.NameAddr.{NameAddr}
 use Rattle.sip_message.specs.declared.party.Party.{Party}
-use Rattle.sip_values.specs.ParameterValues.{ManyParameters, many_parameters, AllParameters, all_parameters}
+use Rattle.sip_parts.specs.ParameterValues.{ManyParameters, many_parameters, AllParameters, all_parameters}
 
 -- a URI and parameters
 abbrev pub Target : Type 0

@@ -14,7 +14,7 @@ use Rattle.sip_parts.specs.declared.parameter.Parameter.{Parameter}
 use Rattle.sip_values.specs.declared.numeral.Numeral.{Numeral}
 use Rattle.sip_values.specs.declared.via.ViaDraft.{ViaDraft}
 use Rattle.sip_values.specs.Numeral.{IsNumeral, numeral_from}
-use Rattle.sip_values.specs.ParameterValues.{AllParameters, many_parameters}
+use Rattle.sip_parts.specs.ParameterValues.{AllParameters, many_parameters}
 
 -- ---- the text of a Via value
 

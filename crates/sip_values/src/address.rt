@@ -7,7 +7,7 @@ ghost use Rattle.sip_values.specs.Address as values;
 use crate::parameter::{parameters_behind, parameters_between};
 use crate::row::{Row, checked_in, split_of};
 use sip_message::NameAddr;
-use sip_parts::{Checked, DisplayTextRule, Parameter, Rule, Uri, UriBytes, UriRule, is_uri};
+use sip_parts::{Checked, DisplayTextRule, Parameters, Rule, Uri, UriBytes, UriRule, is_uri};
 use sip_text::{Separator, Series, Text, run_before, trimmed};
 use std::alloc::{AllocError, Global};
 
@@ -50,7 +50,7 @@ impl Row for AddressListRow {
 }
 
 /// A URI and parameters.
-pub(crate) type Target = (Uri, Series<Parameter>);
+pub(crate) type Target = (Uri, Parameters);
 
 /// A display text and a part in brackets, or an address without brackets.
 pub(crate) fn address_in<R: Rule>(
@@ -117,7 +117,7 @@ pub(crate) fn bare_in(alloc: Global, text: &[u8]) -> Result<Option<Target>, Allo
         let Some(uri) = checked_in::<UriRule>(alloc, text)? else {
             return Ok(None);
         };
-        return Ok(Some((uri, Series::new(alloc))));
+        return Ok(Some((uri, Parameters::new(alloc))));
     };
     let Some(uri) = checked_in::<UriRule>(alloc, uri)? else {
         return Ok(None);

@@ -18,7 +18,6 @@ pub use laws::{
     one_rack,
 };
 pub use numeral::{NumberRow, Numeral};
-pub use parameter::ParameterRow;
 pub use party::PartyRow;
 pub use row::{Row, split_of};
 pub use sequence::{CSeqDraft, CSeqRow, RAckDraft, RAckRow};

@@ -5,13 +5,13 @@ ghost use Rattle.sip_text.specs.Cut.{both_now};
 ghost use Rattle.sip_text.specs.Token.{is_run, is_token};
 ghost use Rattle.sip_text.specs.declared.separator.Separator.TheVariants as separator;
 ghost use Rattle.sip_parts.specs.Host.{is_host, is_host_byte};
-ghost use Rattle.sip_values.specs.Steps.First.{first, first_now};
+ghost use Rattle.sip_parts.specs.Steps.First.{first, first_now};
 ghost use Rattle.sip_values.specs.ViaValue as values;
 
 use crate::numeral::{Numeral, numeral_in, numeral_of};
-use crate::parameter::{behind_semicolon, parameters_between};
+use crate::parameter::parameters_between;
 use crate::row::{Row, split_of};
-use sip_parts::{Host, HostBytes, Parameter, Token, is_host};
+use sip_parts::{Host, HostBytes, Parameters, Token, behind_semicolon, is_host};
 use sip_text::{
     Separator, Series, TokenBytes, has_open_quote, is_token, run_before, run_len, token_eq, trimmed,
 };
@@ -23,7 +23,7 @@ pub struct ViaDraft {
     pub transport: Token,
     pub host: Host,
     pub port: Option<Numeral>,
-    pub parameters: Series<Parameter>,
+    pub parameters: Parameters,
 }
 
 /// What comes before the transport, if it is written without white space.
@@ -130,10 +130,7 @@ fn cut_transport(text: &[u8]) -> Option<(&[u8], &[u8])>
 }
 
 /// The host, the port and the parameters, which begin at the first semicolon.
-fn end_in(
-    alloc: Global,
-    text: &[u8],
-) -> Result<Option<(SentByDraft, Series<Parameter>)>, AllocError>
+fn end_in(alloc: Global, text: &[u8]) -> Result<Option<(SentByDraft, Parameters)>, AllocError>
     ensures { IfOk result (λ made. made ≡ values.end_from text.now) }
 {
     if has_open_quote(text) {
@@ -143,7 +140,7 @@ fn end_in(
         return Ok(None);
     };
     let parameters = match rest {
-        None => Series::new(alloc),
+        None => Parameters::new(alloc),
         Some(rest) => match parameters_between(alloc, rest)? {
             Some(parameters) => parameters,
             None => return Ok(None),

@@ -122,7 +122,7 @@ fn sent(
 
 fn is_of_branch(failed: &[Event], branch: &[u8]) -> bool {
     match failed {
-        [Event::Failed(key)] => key.branch() == branch,
+        [Event::Failed(key)] => key.get().branch() == branch,
         _ => false,
     }
 }

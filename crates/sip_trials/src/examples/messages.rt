@@ -4,8 +4,8 @@ use crate::examples::worked::{OK, OPTIONS, key_in};
 use crate::messages::{TAG, message, success_to, token};
 use crate::stop::{Stop, check};
 use sip_message::{
-    Addr, Content, ContentHeaders, Cut, First, Header, Key, Message, Spread, Token, ack_for,
-    cancel_for, stamp_source, write,
+    Addr, Content, ContentHeaders, Cut, First, Header, Key, Message, SharedKey, Spread, Token,
+    ack_for, cancel_for, stamp_source, write,
 };
 use std::alloc::{AllocError, Global};
 
@@ -270,12 +270,12 @@ pub fn keys(alloc: Global) -> Result<(), Stop> {
     check(key_in(alloc, REJECTION)? == rejected_key(alloc)?)
 }
 
-fn asked_key(alloc: Global) -> Result<Key, Stop> {
+fn asked_key(alloc: Global) -> Result<SharedKey, Stop> {
     let method = token(alloc, b"OPTIONS")?;
     Ok(Key::server(alloc, b"Z9HG4BKA1", b"192.0.2.9", 5060, method)?)
 }
 
-fn rejected_key(alloc: Global) -> Result<Key, Stop> {
+fn rejected_key(alloc: Global) -> Result<SharedKey, Stop> {
     Ok(Key::client(alloc, b"z9hG4bKi", token(alloc, b"INVITE")?)?)
 }
 

@@ -5,7 +5,7 @@ ghost use Rattle.std.specs.Prelude.{◌≤◌, ◌^◌};
 use crate::examples::worked::{ID, OK, OPTIONS, PEER, key_in};
 use crate::messages::{message, token};
 use crate::stop::{Stop, broken_where, check};
-use sip_message::Key;
+use sip_message::{Key, SharedKey};
 use sip_text::Boxed;
 use sip_transactions::{Command, Kind, Out, Shard, ShardFault, State, Up};
 use std::alloc::Global;
@@ -105,7 +105,7 @@ fn is_completed(alloc: Global, shard: &mut Shard) -> Result<(), Stop> {
     is_quiet(shard, 32_010, 0)
 }
 
-fn started_key(alloc: Global) -> Result<Key, Stop> {
+fn started_key(alloc: Global) -> Result<SharedKey, Stop> {
     Ok(Key::client(alloc, b"z9hG4bKc1", token(alloc, b"OPTIONS")?)?)
 }
 
@@ -142,7 +142,7 @@ pub fn a_request_is_not_sent(alloc: Global, shard: &mut Shard) -> Result<(), Sto
     fails(shard, &started_key(alloc)?)
 }
 
-fn fails(shard: &mut Shard, key: &Key) -> Result<(), Stop> {
+fn fails(shard: &mut Shard, key: &SharedKey) -> Result<(), Stop> {
     let outs = shard.failed(ID, key, 20);
     check(matches!(told(&said(shard, outs)?), Some(Kind::Failed)))?;
     check(shard.live() == 0 && shard.state_of(key).is_none())

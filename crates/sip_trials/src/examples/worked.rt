@@ -3,7 +3,7 @@
 use crate::messages::message;
 use crate::stop::{Stop, check};
 use sip_files::{read_command_line, write_output};
-use sip_message::{Addr, Id, Key, Message, key_of};
+use sip_message::{Addr, Id, Message, SharedKey, key_of};
 use sip_round::{Config, Output};
 use sip_served::{CallOut, Item};
 use sip_text::Boxed;
@@ -82,7 +82,7 @@ Call-ID: c1\\r\\nCSeq: 7 OPTIONS\\r\\nContent-Length: 0\\r\\n\\r\\n
 ";
 
 /// The key of the message that a text spells.
-pub fn key_in(alloc: Global, text: &[u8]) -> Result<Key, Stop> {
+pub fn key_in(alloc: Global, text: &[u8]) -> Result<SharedKey, Stop> {
     Ok(key_of(alloc, &message(alloc, text)?)?)
 }
 

@@ -67,8 +67,8 @@ fn output(alloc: Global, branch: &[u8], bytes: &[u8]) -> Result<PlacedOutput, Fa
 fn branches(alloc: Global, failed: &[Event]) -> Result<Vec<u8>, Fail> {
     let mut branches = Vec::new(alloc);
     for event in failed {
-        if let Event::Failed(Key::Client { branch, .. }) = event {
-            branches.extend_from_slice(branch.as_slice())?;
+        if let Event::Failed(key) = event {
+            branches.extend_from_slice(key.get().branch())?;
             branches.push(b' ')?;
         }
     }

@@ -9,4 +9,4 @@ copy_of-requires c =
     let some = ap (λ bytes. length bytes == 0) (sym c.tag-tag.ensures) ∙ sym c.is_empty.ensures
     ∙ c.if-is_empty.false in
     rw c.tag-tag.ensures
-    (tag_is_token c.args.party.now.parameters some c.as_slice-parameters.ensures.rule)
+    (tag_is_token c.args.party.now.parameters some c.as_parameters-parameters.ensures.rule)

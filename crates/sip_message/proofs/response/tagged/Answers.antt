@@ -9,4 +9,6 @@ is_none (Some x) h = absurd cc
 
 pub with_tag-requires : goal.with_tag-requires
 unfolding is_tagged
-with_tag-requires c = is_none _ (sym c.is_tagged.ensures ∙ c.if-is_tagged.false)
+with_tag-requires c =
+    rw (c.into_parameters.ensures, c.in_ok-clone-3.ensures.cases)
+    (is_none _ (sym c.is_tagged.ensures ∙ c.if-is_tagged.false))

@@ -3,7 +3,7 @@ use Rattle.std.proofs.Common.{◌≡◌, Ok, sym, ◌∙◌, refl}
 use Rattle.std.proofs.lemmas.Bool.{and_parts}
 use Rattle.sip_text.specs.Number.{is_digits, number_of}
 use Rattle.sip_values.proofs.Digits.{number_is}
-use Rattle.sip_values.proofs.WrittenBytes.{digits_word}
+use Rattle.sip_parts.proofs.WrittenBytes.{digits_word}
 use Rattle.sip_values.proofs.numeral.numeral_in.Goals as goal
 
 pub returns-in-Ok : goal.returns-in-Ok

@@ -4,7 +4,7 @@ use Rattle.std.proofs.Common.{◌≡◌, length}
 use Rattle.sip_text.specs.Forms.{split}
 use Rattle.sip_text.specs.declared.separator.Separator.TheVariants.{Byte}
 use Rattle.sip_text.proofs.Loops.{onto}
-use Rattle.sip_values.specs.ParameterValues.{one_parameter}
+use Rattle.sip_parts.specs.ParameterValues.{one_parameter}
 use Rattle.sip_values.proofs.parameter.parameters_between.Given as goal
 
 abbrev pub invariant-loop-parameter : goal.invariant-loop-parameter

@@ -4,7 +4,7 @@ use Rattle.std.specs.Option.{option_copied}
 use Rattle.sip_text.specs.Character.{is_token_byte}
 use Rattle.sip_values.specs.Numeral.{numeral}
 use Rattle.sip_values.specs.declared.numeral.Numeral.{Numeral}
-use Rattle.sip_values.proofs.PlainRuns.{front_is, token_is}
+use Rattle.sip_parts.proofs.PlainRuns.{front_is, token_is}
 use Rattle.sip_values.proofs.PlainVias.{host_is, port_first}
 use Rattle.sip_values.proofs.via.plain_port.Goals as goal
 

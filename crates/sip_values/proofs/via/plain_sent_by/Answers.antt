@@ -2,7 +2,7 @@
 use Rattle.std.proofs.Common.{sym, ◌∙◌}
 use Rattle.std.specs.Option.{option_copied}
 use Rattle.sip_parts.specs.Host.{is_host_byte}
-use Rattle.sip_values.proofs.PlainRuns.{front_is}
+use Rattle.sip_parts.proofs.PlainRuns.{front_is}
 use Rattle.sip_values.proofs.PlainVias.{host_first, host_is}
 use Rattle.sip_values.proofs.via.plain_sent_by.Goals as goal
 
