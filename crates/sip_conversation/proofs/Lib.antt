@@ -33,7 +33,9 @@ pub mod PracksServed
 pub mod PracksOfCalls
 pub mod PracksSaid
 pub mod CommandAsks
-pub mod RequestUps
+pub mod GivenTold
+pub mod HeardUps
 pub mod RequestsAsked
 pub mod RequestsSaid
 pub mod RequestsTold
+pub mod UpMethods

@@ -17,7 +17,7 @@ use Rattle.sip_common.specs.declared.command.UserCommand.{UserCommand}
 use Rattle.sip_common.specs.declared.item.CallOut.{CallOut}
 use Rattle.sip_common.specs.declared.item.CallOut.TheVariants as call_out
 use Rattle.sip_common.specs.declared.item.Item.TheVariants.{Up, User}
-use Rattle.sip_clients.specs.Commands.{is_own_kind}
+use Rattle.sip_clients.specs.Rules.Requests.{has_command}
 use Rattle.sip_calls.specs.Call.{CallItem, call_machine}
 use Rattle.sip_calls.specs.CallShard.{call_cmp}
 use Rattle.sip_round.specs.declared.config.Config.{Config}
@@ -81,7 +81,7 @@ module _ (config : Config) (rounds : List Round)
 
   started_asked : (id : Id) (key : Key) (of : List ℕ) (request : Message) (to : Addr)
       → CallSays config rounds (call_out.Command id (order.Start key of request to))
-      → is_own_kind request.cseq.method ≡ false → UserAsked config rounds request
+      → has_command request.cseq.method ≡ false → UserAsked config rounds request
   started_asked id key of request to says other =
       let out = call_out.Command id (order.Start key of request to) in
       let own = out_own out says in
@@ -103,17 +103,17 @@ module _ (config : Config) (rounds : List Round)
       → is_request_message message ≡ false → ⊥
   no_request message is isnt = false≢true (sym isnt ∙ is)
 
-  no_ack : (message : Message) → is_own_kind message.cseq.method ≡ false
+  no_ack : (message : Message) → has_command message.cseq.method ≡ false
       → message.cseq.method ≡ codes "ACK" → ⊥
-  no_ack message other is = false≢true (sym other ∙ ap is_own_kind is)
+  no_ack message other is = false≢true (sym other ∙ ap has_command is)
 
   pub user_asked : (message : Message) → IsSaid config rounds message → IsMessage message
-      → is_request_message message ≡ true → is_own_kind message.cseq.method ≡ false
+      → is_request_message message ≡ true → has_command message.cseq.method ≡ false
       → UserAsked config rounds message
   user_asked message (Asked id (order.Start key of request to) says same) rules is other =
       subst (UserAsked config rounds) same
       (started_asked id key of request to says
-      (ap (λ (m : Message). is_own_kind m.cseq.method) same ∙ other))
+      (ap (λ (m : Message). has_command m.cseq.method) same ∙ other))
   user_asked message (Asked id (order.Answer key response) says same) rules is other =
       absurd (no_request message is (ap is_request_message (sym same)
       ∙ out_replies config alone rounds (call_out.Command id (order.Answer key response)) says))

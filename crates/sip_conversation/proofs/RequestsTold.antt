@@ -48,6 +48,7 @@ use Rattle.sip_calls.specs.declared.call.Call.{Call}
 use Rattle.sip_calls.specs.declared.calls.Calls.{Calls}
 use Rattle.sip_calls.proofs.SameSteps.{same_step}
 use Rattle.sip_conversation.proofs.Branches.{either, found_or}
+use Rattle.sip_conversation.proofs.GivenTold.{OutTells}
 
 -- ---- what is told
 
@@ -67,13 +68,11 @@ module _ (Tells : List ℕ → List ℕ → List ℕ → List ℕ → List ℕ �
       Tells call_id method local_tag remote_tag body
   NoticeTells _ = Unit {0}
 
-  abbrev pub OutTells : CallOut → Type 0
-  OutTells (out.Notice told) = NoticeTells told
-  OutTells (out.Command id command) = Unit {0}
-  OutTells (out.Direct to bytes) = Unit {0}
+  abbrev Tell : CallOut → Type 0
+  Tell = OutTells NoticeTells
 
   abbrev Fit : List CallOut → Type 0
-  Fit outs = AllByRecursion OutTells outs
+  Fit outs = AllByRecursion Tell outs
 
   no_request : (told : Notice) → request_told_by (out.Notice told) ≡ None → NoticeTells told
   no_request (notice.Request call_id id method local_tag remote_tag body) none = absurd cc
@@ -88,7 +87,7 @@ module _ (Tells : List ℕ → List ℕ → List ℕ → List ℕ → List ℕ �
   no_request (notice.Ended call_id local_tag remote_tag) none = tt
   no_request (notice.Refused call_id place why) none = tt
 
-  out_tells : (o : CallOut) → request_told_by o ≡ None → OutTells o
+  out_tells : (o : CallOut) → request_told_by o ≡ None → Tell o
   out_tells (out.Notice told) none = no_request told none
   out_tells (out.Command id command) none = tt
   out_tells (out.Direct to bytes) none = tt
@@ -282,7 +281,7 @@ module _ (Tells : List ℕ → List ℕ → List ℕ → List ℕ → List ℕ �
   ticked_tells call now =
       let first = by_server call (tick_taken call.served now) in
       let second = (clients_ticked (side_of first.0) now).1 in
-      both OutTells first.1 second
+      both Tell first.1 second
       (none_told first.1 (event_shows call.served (Ticks now)))
       (none_told second (tick_asks (side_of first.0) now))
 
@@ -310,10 +309,10 @@ module _ (Tells : List ℕ → List ℕ → List ℕ → List ℕ → List ℕ �
   pub all_tell : (calls : Calls) (call_id : List ℕ) (state : Option Call)
       (inputs : List (Timed CallItem))
       → AllByRecursion (λ timed. InputTells timed.input) inputs
-      → AllByRecursion OutTells (outputs_from (call_machine calls) call_id state inputs)
+      → AllByRecursion Tell (outputs_from (call_machine calls) call_id state inputs)
   all_tell calls call_id state [] tell = tt
   all_tell calls call_id state (timed ∷ inputs) tell =
       let step = call_step calls state timed.input timed.moment in
-      both OutTells step.1 (outputs_from (call_machine calls) call_id step.0 inputs)
+      both Tell step.1 (outputs_from (call_machine calls) call_id step.0 inputs)
       (step_tells calls state timed.input timed.moment tell.0)
       (all_tell calls call_id step.0 inputs tell.1)

@@ -1,7 +1,8 @@
--- A request that a transaction hands up is no ACK.
+-- A transaction hands up an ACK as one, and any other request as a request.
 use Rattle.std.proofs.Common.{◌≡◌, ℕ, Bool, true, false, cond, List, [], ◌∷◌, refl, sym, ap, ◌∙◌, subst}
 use Rattle.std.specs.Prelude.{Option, None, Some, codes, option_map, option_to_list}
 use Rattle.std.specs.List.{AllByRecursion}
+use Rattle.std.specs.Cmp.Lexicographic.{bytes_decides}
 use Rattle.std.proofs.lemmas.Bool.{false≢true}
 use Rattle.sip_message.specs.declared.addr.Addr.{Addr}
 use Rattle.sip_message.specs.declared.key.Key.{Key}
@@ -37,90 +38,90 @@ use Rattle.sip_round.specs.Laws.{inputs_of, said_of}
 use Rattle.sip_round.proofs.Said.{transaction_alone}
 use Rattle.sip_conversation.proofs.Ups.{OutCame}
 
--- a request is of another method
-abbrev pub NoAck : Kind → Type 0
-NoAck (kind.Request message reply_to) = message.cseq.method ≡ codes "ACK" → ⊥
-NoAck (kind.Ack message) = Unit {0}
-NoAck (kind.Response message) = Unit {0}
-NoAck kind.Timeout = Unit {0}
-NoAck kind.Failed = Unit {0}
+-- its method is ACK, or another one
+abbrev pub HasMethod : Kind → Type 0
+HasMethod (kind.Request message reply_to) = message.cseq.method ≡ codes "ACK" → ⊥
+HasMethod (kind.Ack message) = message.cseq.method ≡ codes "ACK"
+HasMethod (kind.Response message) = Unit {0}
+HasMethod kind.Timeout = Unit {0}
+HasMethod kind.Failed = Unit {0}
 
-abbrev pub UpNoAck : AnUp → Type 0
-UpNoAck up = NoAck up.kind
+abbrev pub UpHasMethod : AnUp → Type 0
+UpHasMethod up = HasMethod up.kind
 
-abbrev OutNoAck : Out → Type 0
-OutNoAck = OutCame UpNoAck
+abbrev OutHasMethod : Out → Type 0
+OutHasMethod = OutCame UpHasMethod
 
-abbrev AreNoAcks : List Out → Type 0
-AreNoAcks outs = AllByRecursion OutNoAck outs
+abbrev HaveMethods : List Out → Type 0
+HaveMethods outs = AllByRecursion OutHasMethod outs
 
 by_method : (message : Message) (reply_to : Addr) (ack : Bool)
     → is_same_method message.cseq.method (codes "ACK") ≡ ack
-    → NoAck (cond ack (kind.Ack message) (kind.Request message reply_to))
-by_method message reply_to true is = tt
+    → HasMethod (cond ack (kind.Ack message) (kind.Request message reply_to))
+by_method message reply_to true is = (bytes_decides message.cseq.method (codes "ACK")).0 is
 by_method message reply_to false other =
     λ ack. false≢true (sym other ∙ ap (λ method. is_same_method method (codes "ACK")) ack)
 
-kind_no_ack : (line : StartLine) (message : Message) (reply_to : Addr)
-    → NoAck (kind_of line message reply_to)
-kind_no_ack (start.Request uri) message reply_to =
+kind_method : (line : StartLine) (message : Message) (reply_to : Addr)
+    → HasMethod (kind_of line message reply_to)
+kind_method (start.Request uri) message reply_to =
     by_method message reply_to (is_same_method message.cseq.method (codes "ACK")) refl
-kind_no_ack (start.Response status reason) message reply_to = tt
+kind_method (start.Response status reason) message reply_to = tt
 
-handed_no_acks : (key : Key) (context : Context) (handed : Handed)
+handed_methods : (key : Key) (context : Context) (handed : Handed)
     (arrived : Option (Message × Addr))
-    → AreNoAcks (option_to_list (handed_out key context handed arrived))
+    → HaveMethods (option_to_list (handed_out key context handed arrived))
 unfolding handed_out
-handed_no_acks key context up.Nothing arrived = tt
-handed_no_acks key context up.Message None = tt
-handed_no_acks key context up.Message (Some arrived) =
-    (kind_no_ack arrived.0.start arrived.0 arrived.1, tt)
-handed_no_acks key context up.Timeout arrived = (tt, tt)
-handed_no_acks key context up.Failed arrived = (tt, tt)
-handed_no_acks key context up.NoTransaction arrived = (tt, tt)
+handed_methods key context up.Nothing arrived = tt
+handed_methods key context up.Message None = tt
+handed_methods key context up.Message (Some arrived) =
+    (kind_method arrived.0.start arrived.0 arrived.1, tt)
+handed_methods key context up.Timeout arrived = (tt, tt)
+handed_methods key context up.Failed arrived = (tt, tt)
+handed_methods key context up.NoTransaction arrived = (tt, tt)
 
-sends_no_acks : (key : Key) (to : Addr) (bytes : Option (List ℕ))
-    → AreNoAcks (option_to_list (option_map (send_out key to) bytes))
-sends_no_acks key to None = tt
-sends_no_acks key to (Some bytes) = (tt, tt)
+sends_methods : (key : Key) (to : Addr) (bytes : Option (List ℕ))
+    → HaveMethods (option_to_list (option_map (send_out key to) bytes))
+sends_methods key to None = tt
+sends_methods key to (Some bytes) = (tt, tt)
 
-acted_no_acks : (key : Key) (now : ℕ) (input : Option Input) (state : Option State)
+acted_methods : (key : Key) (now : ℕ) (input : Option Input) (state : Option State)
     (context : Option Context) (step : Step)
-    → AreNoAcks (acted_if key now input state context step).1
+    → HaveMethods (acted_if key now input state context step).1
 unfolding outputs_of
-acted_no_acks key now input state None step = tt
-acted_no_acks key now input state (Some context) step =
+acted_methods key now input state None step = tt
+acted_methods key now input state (Some context) step =
     let sent = sent_bytes context.last step.sent
     (made_bytes context.request step.sent (message_in input)) in
-    both OutNoAck (option_to_list (handed_out key context step.handed (arrived_in input)))
+    both OutHasMethod (option_to_list (handed_out key context step.handed (arrived_in input)))
     (option_to_list (option_map (send_out key context.to) sent))
-    (handed_no_acks key context step.handed (arrived_in input))
-    (sends_no_acks key context.to sent)
+    (handed_methods key context step.handed (arrived_in input))
+    (sends_methods key context.to sent)
 
 abbrev After : Option Life × List Out → Type 0
-After after = AreNoAcks after.1
+After after = HaveMethods after.1
 
 one_input : (key : Key) (held : Option Life) (timed : Timed Input)
     → After (stepped key held timed)
 one_input key held timed =
     by_step After key held timed tt
-    (λ step row. acted_no_acks key timed.moment timed.input (state_of held)
+    (λ step row. acted_methods key timed.moment timed.input (state_of held)
     (context_of (role_of key) held timed.input) step)
 
-no_acks_from : (key : Key) (held : Option Life) (inputs : List (Timed Input))
-    → AreNoAcks (outputs_from transaction_machine key held inputs)
-no_acks_from key held [] = tt
-no_acks_from key held (timed ∷ inputs) =
+methods_from : (key : Key) (held : Option Life) (inputs : List (Timed Input))
+    → HaveMethods (outputs_from transaction_machine key held inputs)
+methods_from key held [] = tt
+methods_from key held (timed ∷ inputs) =
     let step = step_at key held timed.moment timed.input in
-    both OutNoAck step.1 (outputs_from transaction_machine key step.0 inputs)
+    both OutHasMethod step.1 (outputs_from transaction_machine key step.0 inputs)
     (subst After (sym (step_is key held timed.moment timed.input)) (one_input key held timed))
-    (no_acks_from key step.0 inputs)
+    (methods_from key step.0 inputs)
 
 -- so is each that rounds hand up
-pub no_acks : (config : Config) (rounds : List Round)
+pub all_methods : (config : Config) (rounds : List Round)
     → EachKeyAlone key_cmp transaction_machine tick_at → (key : Key)
-    → AllByRecursion (OutCame UpNoAck) (said_of config rounds key)
-no_acks config rounds alone key =
-    subst AreNoAcks
+    → AllByRecursion (OutCame UpHasMethod) (said_of config rounds key)
+all_methods config rounds alone key =
+    subst HaveMethods
     (sym (transaction_alone alone [] (past_of config rounds).transactions key))
-    (no_acks_from key None (inputs_of config rounds key))
+    (methods_from key None (inputs_of config rounds key))
