@@ -1,0 +1,334 @@
+-- A call tells its user of an ACK only if one comes up, with its body.
+use Rattle.std.proofs.Common.{◌≡◌, ℕ, Bool, true, false, ◌||◌, ◌&&◌, List, [], ◌∷◌, ◌++◌, map, sym, subst}
+use Rattle.std.specs.Prelude.{Option, None, Some, codes, filter, find, is_none, nat_le, not, if◌then◌else◌}
+use Rattle.std.specs.List.{AllByRecursion, list_any}
+use Rattle.std.specs.Map.{values_of}
+use Rattle.std.specs.Option.{option_map_or}
+use Rattle.sip_message.specs.declared.id.Id.{Id}
+use Rattle.sip_message.specs.declared.message.Message.{Message}
+use Rattle.sip_message.specs.declared.rack.RAck.{RAck}
+use Rattle.sip_message.specs.Response.{response_of}
+use Rattle.sip_model.specs.Machine.{Timed, outputs_from}
+use Rattle.sip_reliable.specs.Ledger.{Ledger}
+use Rattle.sip_reliable.specs.Provisional.{is_late}
+use Rattle.sip_transactions.specs.declared.input.Command.TheVariants.{Answer}
+use Rattle.sip_transactions.specs.declared.output.Kind.{Kind}
+use Rattle.sip_transactions.specs.declared.output.Kind.TheVariants as kind
+use Rattle.sip_transactions.specs.declared.output.Up.{Up as AnUp}
+use Rattle.sip_common.specs.Dialogs.{Dialogs, dialog_at, dialog_changed, early_ended, ended_at, ended_notice, is_early_of}
+use Rattle.sip_common.specs.Requests.{dialog_id_of, has_to_tag, is_bye, is_cancel, is_invite, is_prack, is_success, is_unknown_option}
+use Rattle.sip_common.specs.declared.command.Respond.{Respond}
+use Rattle.sip_common.specs.declared.command.UserCommand.{UserCommand}
+use Rattle.sip_common.specs.declared.command.UserCommand.TheVariants as user
+use Rattle.sip_common.specs.declared.held_dialog.DialogId.{DialogId}
+use Rattle.sip_common.specs.declared.held_dialog.HeldDialog.{HeldDialog}
+use Rattle.sip_common.specs.declared.item.CallOut.{CallOut}
+use Rattle.sip_common.specs.declared.item.CallOut.TheVariants as out
+use Rattle.sip_common.specs.declared.item.Item.TheVariants.{Up, User}
+use Rattle.sip_common.specs.declared.notice.Notice.{Notice}
+use Rattle.sip_common.specs.declared.notice.Notice.TheVariants as notice
+use Rattle.sip_common.proofs.Each.{all_of_each, both}
+use Rattle.sip_served.specs.Acknowledgment.{ack_noted, acknowledged_invite}
+use Rattle.sip_served.specs.Arrival.{arrival_of}
+use Rattle.sip_served.specs.Rules.Arrivals.{after_request, bad_extension, cancel_for, cancel_received, is_above, is_merged, is_named_by, is_same_branch, no_such_call, own_response, prack_for, prack_received, request_for_user, request_in_dialog, request_received}
+use Rattle.sip_served.specs.Rules.Responses.{dialogs_after, makes_dialog, respond_command, respond_to, response_refusal, response_sent}
+use Rattle.sip_served.specs.Rules.Ticks.{provisionals_tick, server_tick, success_at, success_tick}
+use Rattle.sip_served.specs.State.{ServedTaken, State, has_id}
+use Rattle.sip_served.specs.Tick.{tick_taken}
+use Rattle.sip_served.specs.declared.arrival.Arrival.{Arrival}
+use Rattle.sip_served.specs.declared.held_request.HeldRequest.{HeldRequest}
+use Rattle.sip_served.specs.declared.held_request.Success.{Success}
+use Rattle.sip_served.specs.declared.provisionals.ReliableResponse.{ReliableResponse}
+use Rattle.sip_served.proofs.ArrivalRules.{kind_same}
+use Rattle.sip_served.proofs.ResponseRules.{respond_same}
+use Rattle.sip_served.proofs.TickRules.{tick_same}
+use Rattle.sip_clients.specs.Outputs.{start_command}
+use Rattle.sip_clients.specs.Tick.{clients_ticked}
+use Rattle.sip_clients.specs.declared.client.Client.{Client}
+use Rattle.sip_clients.specs.declared.event.Event.{Event}
+use Rattle.sip_clients.proofs.ClientOuts.{Allows, ack_command_told, cancel_told, clients_tick, command_told, invite_told, lost_told, plain_told, prack_command_told, response_told}
+use Rattle.sip_calls.specs.Call.{CallItem, Taken as CallTaken, call_machine, call_step, event_of, made_tag, new_call}
+use Rattle.sip_calls.specs.Sides.{by_server, side_of}
+use Rattle.sip_calls.specs.Steps.Call.{command_taken, first_command_taken, step_taken, ticked, up_taken}
+use Rattle.sip_calls.specs.declared.call.Call.{Call}
+use Rattle.sip_calls.specs.declared.calls.Calls.{Calls}
+use Rattle.sip_calls.proofs.SameSteps.{same_step}
+use Rattle.sip_conversation.proofs.Branches.{either, found_or}
+use Rattle.sip_conversation.proofs.GivenTold.{OutTells}
+
+module _ (Tells : List ℕ → Type 0) where
+  -- this is true of the body of each ACK that the user is told of
+  abbrev pub NoticeTells : Notice → Type 0
+  NoticeTells (notice.Ack call_id id body) = Tells body
+  NoticeTells _ = Unit {0}
+
+  abbrev Tell : CallOut → Type 0
+  Tell = OutTells NoticeTells
+
+  abbrev Fit : List CallOut → Type 0
+  Fit outs = AllByRecursion Tell outs
+
+  abbrev Taken : ServedTaken → Type 0
+  Taken taken = Fit taken.1
+
+  -- ---- the ends of dialogs
+
+  ends_tell : (dialogs : List HeldDialog) → Fit (map ended_notice dialogs)
+  ends_tell [] = tt
+  ends_tell (held ∷ dialogs) = (tt, ends_tell dialogs)
+
+  early_tell : (invite : Id) (dialogs : Dialogs) → Fit (early_ended invite dialogs).1
+  early_tell invite dialogs = ends_tell (filter (is_early_of invite) (values_of dialogs))
+
+  end_tells : (name : DialogId) (dialogs : Dialogs) → Fit (ended_at name dialogs).1
+  end_tells name dialogs =
+      found_or Fit (λ held. ended_notice held ∷ []) (dialog_at name dialogs) []
+      (λ held is. (tt, tt)) (λ none. tt)
+
+  -- ---- a request that comes up
+
+  for_user_tells : (state : State) (call_id : List ℕ) (name : DialogId) (arrival : Arrival)
+      → Taken (request_for_user state call_id name arrival)
+  for_user_tells state call_id name arrival = (
+    tt,
+    either (λ (after : Dialogs × List CallOut). Fit after.1)
+        (has_to_tag arrival.request && is_bye arrival.request) (ended_at name state.dialogs)
+        (state.dialogs, []) (λ ends. end_tells name state.dialogs) (λ stays. tt),
+  )
+
+  prack_tells : (state : State) (call_id : List ℕ) (name : DialogId) (created_by : Id)
+      (arrival : Arrival) (rack : Option RAck)
+      → Taken (prack_received state call_id name created_by arrival rack)
+  prack_tells state call_id name created_by arrival None = (tt, tt)
+  prack_tells state call_id name created_by arrival (Some rack) =
+      found_or Taken (prack_for state call_id arrival rack)
+      (find (is_named_by rack name created_by) state.requests) (no_such_call state arrival)
+      (λ invite is. (tt, (tt, tt))) (λ none. (tt, tt))
+
+  inside_tells : (state : State) (call_id : List ℕ) (name : DialogId) (arrival : Arrival)
+      (held : HeldDialog) → Taken (request_in_dialog state call_id name arrival held)
+  inside_tells state call_id name arrival held =
+      let request = arrival.request in
+      let seen : State =
+      record state { dialogs = dialog_changed name (after_request request) state.dialogs } in
+      let by_prack =
+      prack_received seen call_id name held.created_by arrival request.rack in
+      let by_user = request_for_user seen call_id name arrival in
+      either Taken (not (is_above held request.cseq.number)) _
+      (if is_prack request then by_prack else by_user) (λ low. (tt, tt))
+      (λ above. either Taken (is_prack request) by_prack by_user
+      (λ is. prack_tells seen call_id name held.created_by arrival request.rack)
+      (λ other. for_user_tells seen call_id name arrival))
+
+  cancel_tells : (state : State) (call_id : List ℕ) (arrival : Arrival) (now : ℕ)
+      → Taken (cancel_received state call_id arrival now)
+  cancel_tells state call_id arrival now =
+      found_or Taken (cancel_for state call_id arrival now) _ (no_such_call state arrival)
+      (λ held is. either Taken (not (is_invite held.request && is_none held.removal)) _ _
+      (λ over. (tt, tt)) (λ open. (tt, (tt, (tt, early_tell held.id state.dialogs)))))
+      (λ none. (tt, tt))
+
+  arrival_tells : (state : State) (call_id : List ℕ) (arrival : Arrival) (now : ℕ)
+      → Taken (request_received state call_id arrival now)
+  unfolding request_received
+  arrival_tells state call_id arrival now =
+      let request = arrival.request in
+      let name = dialog_id_of request arrival.tag in
+      let outside = if is_bye request || is_prack request then no_such_call state arrival
+      else request_for_user state call_id name arrival in
+      let inside = option_map_or (request_in_dialog state call_id name arrival)
+      (dialog_at name state.dialogs) (no_such_call state arrival) in
+      let known = if has_to_tag request then inside else outside in
+      let new = if list_any is_unknown_option request.require then bad_extension state arrival
+      else known in
+      let other : ServedTaken =
+      if not (has_to_tag request) && list_any (is_merged request) state.requests
+      then (state, own_response arrival 482 (codes "Loop Detected")) else new in
+      either Taken (is_cancel request) (cancel_received state call_id arrival now) other
+      (λ is. cancel_tells state call_id arrival now)
+      (λ none. either Taken
+      (not (has_to_tag request) && list_any (is_merged request) state.requests) _ new
+      (λ merged. (tt, tt))
+      (λ first. either Taken (list_any is_unknown_option request.require)
+      (bad_extension state arrival) known (λ unknown. (tt, tt))
+      (λ all_known. either Taken (has_to_tag request) inside outside
+      (λ tagged. found_or Taken (request_in_dialog state call_id name arrival)
+      (dialog_at name state.dialogs) (no_such_call state arrival)
+      (λ held is. inside_tells state call_id name arrival held) (λ gone. (tt, tt)))
+      (λ bare. either Taken (is_bye request || is_prack request) (no_such_call state arrival)
+      (request_for_user state call_id name arrival) (λ is. (tt, tt))
+      (λ other. for_user_tells state call_id name arrival)))))
+
+  -- ---- an answer of the user, and a tick
+
+  respond_to_tells : (state : State) (event : Id) (respond : Respond) (now : ℕ)
+      (held : HeldRequest) → Taken (respond_to state event respond now held)
+  respond_to_tells state event respond now held =
+      let response = response_sent state.local held respond in
+      let rejects = is_invite held.request && nat_le 300 respond.status in
+      let confirms = is_invite held.request && is_success respond.status
+      && not (has_to_tag held.request) in
+      let Ends : Dialogs × List CallOut → Type 0 = λ after. Fit after.1 in
+      found_or Taken _ (response_refusal state.dialogs held respond) _
+      (λ refusal is. (tt, tt))
+      (λ none. (
+        tt,
+        either Ends (makes_dialog held respond.status) _ _ (λ makes. tt)
+            (λ old. either Ends confirms _ _ (λ so. tt)
+            (λ other. either Ends rejects (early_ended held.id state.dialogs)
+            (state.dialogs, []) (λ is. early_tell held.id state.dialogs) (λ stays. tt))),
+      ))
+
+  respond_tells : (state : State) (event : Id) (respond : Respond) (now : ℕ)
+      → Taken (respond_command state event respond now)
+  unfolding respond_command
+  respond_tells state event respond now =
+      found_or Taken (respond_to state event respond now)
+      (find (has_id respond.id) state.requests) _
+      (λ held is. respond_to_tells state event respond now held) (λ none. (tt, tt))
+
+  success_tells : (now : ℕ) (held : HeldRequest) → Fit (success_tick now held).1
+  success_tells now held =
+      let Given : Option Success × List CallOut → Type 0 = λ after. Fit after.1 in
+      found_or Given (success_at now held) held.success (None, [])
+      (λ success is. either Given (is_none success.over && nat_le success.end now) _ _
+      (λ over. (tt, tt))
+      (λ open. either Given
+      (is_none success.over && nat_le success.retransmission.due now) _ _ (λ due. (tt, tt))
+      (λ early. tt))) (λ none. tt)
+
+  repeats_tell : (held : HeldRequest) (responses : List ReliableResponse)
+      → Fit (map (λ one. out.Command held.id (Answer held.key one.response)) responses)
+  repeats_tell held [] = tt
+  repeats_tell held (one ∷ responses) = (tt, repeats_tell held responses)
+
+  provisionals_tell : (now : ℕ) (held : HeldRequest) → Fit (provisionals_tick now held).1
+  provisionals_tell now held =
+      let Given : Ledger × List CallOut → Type 0 = λ after. Fit after.1 in
+      either Given held.ledger.closed _ _ (λ closed. tt)
+      (λ open. either Given (list_any (is_late now) held.ledger.waiting) _ _
+      (λ late. (tt, tt)) (λ early. repeats_tell held _))
+
+  tick_tells : (state : State) (now : ℕ) → Taken (server_tick state now)
+  unfolding server_tick
+  tick_tells state now =
+      all_of_each Tell (λ held. (success_tick now held).1 ++ (provisionals_tick now held).1)
+      (λ held. both Tell (success_tick now held).1 (provisionals_tick now held).1
+      (success_tells now held) (provisionals_tell now held)) state.requests
+
+  -- ---- the client side
+
+  started_tells : (id : Id) (client : Client) → Tell (start_command id client)
+  unfolding start_command
+  started_tells id client = tt
+
+  allows : Allows Tell
+  allows = record {
+    ended = λ held. tt;
+    refusal = λ call_id place why. tt;
+    sent = λ ack. tt;
+    started = started_tells;
+  }
+
+  -- ---- a call
+
+  abbrev pub KindTells : Kind → Type 0
+  KindTells (kind.Request request reply_to) = Unit {0}
+  KindTells (kind.Ack ack) = Tells ack.body
+  KindTells (kind.Response response) = Unit {0}
+  KindTells kind.Timeout = Unit {0}
+  KindTells kind.Failed = Unit {0}
+
+  abbrev pub InputTells : Option CallItem → Type 0
+  InputTells None = Unit {0}
+  InputTells (Some (event, Up up)) = KindTells up.kind
+  InputTells (Some (event, User command)) = Unit {0}
+
+  noted_tells : (state : State) (call_id : List ℕ) (ack : Message) (invite : Option Id)
+      → Tells ack.body → Taken (ack_noted state call_id ack invite)
+  noted_tells state call_id ack None tells = tt
+  noted_tells state call_id ack (Some invite) tells = (tells, tt)
+
+  up_tells : (call : Call) (event : Event) (up : AnUp) (k : Kind) → KindTells k
+      → Fit (up_taken call event up k).1
+  up_tells call event up (kind.Request request reply_to) tells =
+      subst Taken
+      (kind_same call.served (made_tag event) up (kind.Request request reply_to) event.moment)
+      (arrival_tells call.served up.call_id (arrival_of up request reply_to (made_tag event))
+      event.moment)
+  up_tells call event up (kind.Ack ack) tells =
+      noted_tells call.served up.call_id ack (acknowledged_invite ack call.served.requests) tells
+  up_tells call event up (kind.Response response) tells =
+      response_told Tell allows event up.id up.call_id response (side_of call)
+      (λ name status is. tt)
+  up_tells call event up kind.Timeout tells =
+      (tt, lost_told Tell allows up.id true (side_of call))
+  up_tells call event up kind.Failed tells =
+      (tt, lost_told Tell allows up.id false (side_of call))
+
+  first_tells : (call : Call) (event : Event) (command : UserCommand)
+      → Fit (first_command_taken call event command).1
+  first_tells call event (user.Invite invite) =
+      invite_told Tell allows event invite call.clients
+  first_tells call event (user.Plain plain) = plain_told Tell allows event plain call.clients
+  first_tells call event (user.Request request) = (tt, tt)
+  first_tells call event (user.Respond respond) = (tt, tt)
+  first_tells call event (user.Ack ack) = (tt, tt)
+  first_tells call event (user.Prack prack) = (tt, tt)
+  first_tells call event (user.Cancel cancel) = (tt, tt)
+
+  command_tells : (call : Call) (event : Event) (command : UserCommand)
+      → Fit (command_taken call event command).1
+  command_tells call event (user.Invite invite) = (tt, tt)
+  command_tells call event (user.Plain plain) = (tt, tt)
+  command_tells call event (user.Request request) =
+      command_told Tell allows event request (side_of call)
+  command_tells call event (user.Respond respond) =
+      subst Taken (respond_same call.served event.id respond event.moment)
+      (respond_tells call.served event.id respond event.moment)
+  command_tells call event (user.Ack ack) =
+      ack_command_told Tell allows event ack (side_of call)
+  command_tells call event (user.Prack prack) =
+      prack_command_told Tell allows event prack (side_of call)
+  command_tells call event (user.Cancel cancel) =
+      cancel_told Tell allows event cancel (side_of call)
+
+  ticked_tells : (call : Call) (now : ℕ) → Fit (ticked call now).1
+  ticked_tells call now =
+      let first = by_server call (tick_taken call.served now) in
+      both Tell first.1 (clients_ticked (side_of first.0) now).1
+      (subst Taken (tick_same call.served now) (tick_tells call.served now))
+      (clients_tick Tell allows (side_of first.0) now)
+
+  taken_tells : (calls : Calls) (state : Option Call) (input : Option CallItem) (now : ℕ)
+      → InputTells input → Fit (step_taken calls state input now).1
+  taken_tells calls None None now tells = tt
+  taken_tells calls (Some call) None now tells = ticked_tells call now
+  taken_tells calls None (Some (event, Up up)) now tells =
+      up_tells (new_call calls.local) (event_of calls event now) up up.kind tells
+  taken_tells calls (Some call) (Some (event, Up up)) now tells =
+      up_tells call (event_of calls event now) up up.kind tells
+  taken_tells calls None (Some (event, User command)) now tells =
+      first_tells (new_call calls.local) (event_of calls event now) command
+  taken_tells calls (Some call) (Some (event, User command)) now tells =
+      command_tells call (event_of calls event now) command
+
+  step_tells : (calls : Calls) (state : Option Call) (input : Option CallItem) (now : ℕ)
+      → InputTells input → Fit (call_step calls state input now).1
+  step_tells calls state input now tells =
+      subst (λ (taken : CallTaken). Fit taken.1) (sym (same_step calls state input now))
+      (taken_tells calls state input now tells)
+
+  -- ---- all inputs
+
+  pub all_tell : (calls : Calls) (call_id : List ℕ) (state : Option Call)
+      (inputs : List (Timed CallItem))
+      → AllByRecursion (λ timed. InputTells timed.input) inputs
+      → AllByRecursion (OutTells NoticeTells)
+      (outputs_from (call_machine calls) call_id state inputs)
+  all_tell calls call_id state [] tell = tt
+  all_tell calls call_id state (timed ∷ inputs) tell =
+      let step = call_step calls state timed.input timed.moment in
+      both Tell step.1 (outputs_from (call_machine calls) call_id step.0 inputs)
+      (step_tells calls state timed.input timed.moment tell.0)
+      (all_tell calls call_id step.0 inputs tell.1)
