@@ -39,3 +39,5 @@ pub mod RequestsAsked
 pub mod RequestsSaid
 pub mod RequestsTold
 pub mod UpMethods
+pub mod AcksSaid
+pub mod AcksTold

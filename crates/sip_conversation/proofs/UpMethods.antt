@@ -10,6 +10,7 @@ use Rattle.sip_message.specs.declared.message.Message.{Message}
 use Rattle.sip_message.specs.declared.start_line.StartLine.{StartLine}
 use Rattle.sip_message.specs.declared.start_line.StartLine.TheVariants as start
 use Rattle.sip_message.specs.Key.{key_cmp}
+use Rattle.sip_message.specs.Message.{is_request_line, is_request_message}
 use Rattle.sip_model.specs.Laws.{EachKeyAlone}
 use Rattle.sip_model.specs.Machine.{Timed, outputs_from, tick_at}
 use Rattle.sip_transactions.specs.declared.input.Input.{Input}
@@ -38,10 +39,11 @@ use Rattle.sip_round.specs.Laws.{inputs_of, said_of}
 use Rattle.sip_round.proofs.Said.{transaction_alone}
 use Rattle.sip_conversation.proofs.Ups.{OutCame}
 
--- its method is ACK, or another one
+-- an ACK has this method, and a request another one
 abbrev pub HasMethod : Kind → Type 0
 HasMethod (kind.Request message reply_to) = message.cseq.method ≡ codes "ACK" → ⊥
-HasMethod (kind.Ack message) = message.cseq.method ≡ codes "ACK"
+HasMethod (kind.Ack message) = (message.cseq.method ≡ codes "ACK")
+    × (is_request_message message ≡ true)
 HasMethod (kind.Response message) = Unit {0}
 HasMethod kind.Timeout = Unit {0}
 HasMethod kind.Failed = Unit {0}
@@ -56,17 +58,20 @@ abbrev HaveMethods : List Out → Type 0
 HaveMethods outs = AllByRecursion OutHasMethod outs
 
 by_method : (message : Message) (reply_to : Addr) (ack : Bool)
+    → is_request_message message ≡ true
     → is_same_method message.cseq.method (codes "ACK") ≡ ack
     → HasMethod (cond ack (kind.Ack message) (kind.Request message reply_to))
-by_method message reply_to true is = (bytes_decides message.cseq.method (codes "ACK")).0 is
-by_method message reply_to false other =
+by_method message reply_to true asks is =
+    ((bytes_decides message.cseq.method (codes "ACK")).0 is, asks)
+by_method message reply_to false asks other =
     λ ack. false≢true (sym other ∙ ap (λ method. is_same_method method (codes "ACK")) ack)
 
 kind_method : (line : StartLine) (message : Message) (reply_to : Addr)
+    → is_request_line line ≡ is_request_message message
     → HasMethod (kind_of line message reply_to)
-kind_method (start.Request uri) message reply_to =
-    by_method message reply_to (is_same_method message.cseq.method (codes "ACK")) refl
-kind_method (start.Response status reason) message reply_to = tt
+kind_method (start.Request uri) message reply_to same =
+    by_method message reply_to (is_same_method message.cseq.method (codes "ACK")) (sym same) refl
+kind_method (start.Response status reason) message reply_to same = tt
 
 handed_methods : (key : Key) (context : Context) (handed : Handed)
     (arrived : Option (Message × Addr))
@@ -75,7 +80,7 @@ unfolding handed_out
 handed_methods key context up.Nothing arrived = tt
 handed_methods key context up.Message None = tt
 handed_methods key context up.Message (Some arrived) =
-    (kind_method arrived.0.start arrived.0 arrived.1, tt)
+    (kind_method arrived.0.start arrived.0 arrived.1 refl, tt)
 handed_methods key context up.Timeout arrived = (tt, tt)
 handed_methods key context up.Failed arrived = (tt, tt)
 handed_methods key context up.NoTransaction arrived = (tt, tt)

@@ -5,3 +5,4 @@ pub mod Messages
 pub mod Provisionals
 pub mod Replies
 pub mod Requests
+pub mod Acknowledgments
