@@ -38,7 +38,7 @@ use Rattle.sip_conversation.proofs.Origins.{IsOrigin, inputs_come}
 module _ (config : Config) (rounds : List Round)
     (alone : EachKeyAlone call_cmp (call_machine (calls_of config)) tick_at) where
   -- the user asked for such a request, by the command of this event
-  record IsGiven (call_id : List ℕ) (event : Id) (method body : List ℕ) : Type 0 where
+  record IsCommanded (call_id : List ℕ) (event : Id) (method body : List ℕ) : Type 0 where
     pub now : ℕ
     pub command : UserCommand
     pub gave : Contains (call_inputs_of config rounds call_id)
@@ -47,23 +47,23 @@ module _ (config : Config) (rounds : List Round)
 
   input_asks : (call_id : List ℕ) (now : ℕ) (i : Option CallItem)
       → Contains (call_inputs_of config rounds call_id) (record { moment = now; input = i })
-      → InputAsks (IsGiven call_id) i
+      → InputAsks (IsCommanded call_id) i
   input_asks call_id now None among = tt
   input_asks call_id now (Some (event, Up up)) among = tt
   input_asks call_id now (Some (event, User command)) among = λ method body asks.
       record { now = now; command = command; gave = among; asks = asks }
 
   out_asks : (out : CallOut) → (says : CallSays config rounds out)
-      → OutAsks (IsGiven says.0) out
+      → OutAsks (IsCommanded says.0) out
   out_asks out says =
       let call_id = says.0 in
-      let Fits = OutAsks (IsGiven call_id) in
+      let Fits = OutAsks (IsCommanded call_id) in
       let inputs = call_inputs_of config rounds call_id in
       each_of Fits (said_of_call config rounds call_id) out
       (subst (AllByRecursion Fits)
       (sym (call_alone (calls_of config) alone [] (past_of config rounds).calls call_id))
-      (all_say (IsGiven call_id) (calls_of config) call_id None inputs
-      (all_of (λ (timed : Timed CallItem). InputAsks (IsGiven call_id) timed.input) inputs
+      (all_say (IsCommanded call_id) (calls_of config) call_id None inputs
+      (all_of (λ (timed : Timed CallItem). InputAsks (IsCommanded call_id) timed.input) inputs
       (λ timed among. input_asks call_id timed.moment timed.input among)))) says.1
 
   out_own : (out : CallOut) → (says : CallSays config rounds out)

@@ -148,7 +148,7 @@ requests_said configs fair turns carried keep before after turn same call_id id 
     remote_tag body among =
     let s = turn.side in
     let front = before ++ turn ∷ [] in
-    let Told = Said configs before turn in
+    let Told = Said configs fair before turn in
     let inputs = call_inputs_of (configs s) (rounds_of s front) call_id in
     notice_given (NoticeTells Told) (configs s) (rounds_of s front) (fair.calls s)
     (Request call_id id method local_tag remote_tag body)

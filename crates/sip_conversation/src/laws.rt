@@ -2,6 +2,7 @@
 
 ghost use Rattle.std.specs.Prelude.{List};
 ghost use Rattle.sip_message.specs.Addr.{IsAddr};
+ghost use Rattle.sip_conversation.specs.Acknowledgments.{AcksToldWereSaid};
 ghost use Rattle.sip_conversation.specs.Conversation.{Carried, Turn, of_sides};
 ghost use Rattle.sip_conversation.specs.Datagrams.{DatagramsAreTextsSaid};
 ghost use Rattle.sip_conversation.specs.Messages.{CallsHearUnchanged, CallsKeepRules, MessagesComeUnchanged};
@@ -114,6 +115,24 @@ pub fn requests_told_were_asked_for(one: Config, other: Config)
     ensures { (turns : List Turn) → Carried (of_sides one other) turns
         → CallsKeepRules (of_sides one other) turns
         → RequestsToldWereAskedFor (of_sides one other) turns }
+{
+    numbers_fit(one.local);
+    numbers_fit(other.local);
+    let (local, seed) = (one.local, one.seed);
+    let calls_of_one = Calls { local, seed };
+    let (local, seed) = (other.local, other.seed);
+    let calls_of_other = Calls { local, seed };
+    laws_of_phases(&Transactions);
+    laws_of_phases(&calls_of_one);
+    laws_of_phases(&calls_of_other);
+}
+
+/// In such a conversation, for each ACK that a user is told of in a turn, the other side said an
+/// ACK with that body in the turns before (RFC 3261, section 13.2.2.4).
+pub fn acks_told_were_said(one: Config, other: Config)
+    ensures { (turns : List Turn) → Carried (of_sides one other) turns
+        → CallsKeepRules (of_sides one other) turns
+        → AcksToldWereSaid (of_sides one other) turns }
 {
     numbers_fit(one.local);
     numbers_fit(other.local);
