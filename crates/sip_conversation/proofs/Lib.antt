@@ -37,7 +37,5 @@ pub mod GivenTold
 pub mod HeardUps
 pub mod RequestsAsked
 pub mod RequestsSaid
-pub mod RequestsTold
 pub mod UpMethods
-pub mod AcksSaid
-pub mod AcksTold
+pub mod NoticesTold

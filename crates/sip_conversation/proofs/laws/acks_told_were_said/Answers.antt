@@ -6,7 +6,7 @@ use Rattle.sip_calls.specs.CallShard.{call_cmp}
 use Rattle.sip_round.specs.Answers.{calls_of}
 use Rattle.sip_message.specs.Addr.{IsAddr}
 use Rattle.sip_conversation.specs.Conversation.{of_sides}
-use Rattle.sip_conversation.proofs.AcksSaid.{acks_said}
+use Rattle.sip_conversation.proofs.RequestsSaid.{acks_said}
 use Rattle.sip_conversation.proofs.Sides.{each_side}
 use Rattle.sip_conversation.proofs.laws.acks_told_were_said.Goals as goal
 

@@ -1,14 +1,18 @@
--- A call tells its user of an ACK only if one comes up, with its body.
-use Rattle.std.proofs.Common.{◌≡◌, ℕ, Bool, true, false, ◌||◌, ◌&&◌, List, [], ◌∷◌, ◌++◌, map, sym, subst}
+-- A call tells its user of a request or an ACK only if it comes up, with its method, its tags and its
+-- body.
+use Rattle.std.proofs.Common.{◌≡◌, ℕ, Bool, true, false, ◌||◌, ◌&&◌, List, [], ◌∷◌, ◌++◌, map, refl, sym, ◌∙◌, subst}
 use Rattle.std.specs.Prelude.{Option, None, Some, codes, filter, find, is_none, nat_le, not, if◌then◌else◌}
 use Rattle.std.specs.List.{AllByRecursion, list_any}
 use Rattle.std.specs.Map.{values_of}
 use Rattle.std.specs.Option.{option_map_or}
+use Rattle.std.proofs.lemmas.Bool.{false≢true}
+use Rattle.sip_message.specs.Party.{tag_of}
+use Rattle.sip_message.specs.declared.addr.Addr.{Addr}
 use Rattle.sip_message.specs.declared.id.Id.{Id}
 use Rattle.sip_message.specs.declared.message.Message.{Message}
 use Rattle.sip_message.specs.declared.rack.RAck.{RAck}
-use Rattle.sip_message.specs.Response.{response_of}
 use Rattle.sip_model.specs.Machine.{Timed, outputs_from}
+use Rattle.sip_model.proofs.Ordered.{by_bool}
 use Rattle.sip_reliable.specs.Ledger.{Ledger}
 use Rattle.sip_reliable.specs.Provisional.{is_late}
 use Rattle.sip_transactions.specs.declared.input.Command.TheVariants.{Answer}
@@ -16,7 +20,7 @@ use Rattle.sip_transactions.specs.declared.output.Kind.{Kind}
 use Rattle.sip_transactions.specs.declared.output.Kind.TheVariants as kind
 use Rattle.sip_transactions.specs.declared.output.Up.{Up as AnUp}
 use Rattle.sip_common.specs.Dialogs.{Dialogs, dialog_at, dialog_changed, early_ended, ended_at, ended_notice, is_early_of}
-use Rattle.sip_common.specs.Requests.{dialog_id_of, has_to_tag, is_bye, is_cancel, is_invite, is_prack, is_success, is_unknown_option}
+use Rattle.sip_common.specs.Requests.{dialog_id_of, has_to_tag, is_bye, is_cancel, is_invite, is_prack, is_success, is_unknown_option, local_tag_of}
 use Rattle.sip_common.specs.declared.command.Respond.{Respond}
 use Rattle.sip_common.specs.declared.command.UserCommand.{UserCommand}
 use Rattle.sip_common.specs.declared.command.UserCommand.TheVariants as user
@@ -30,7 +34,7 @@ use Rattle.sip_common.specs.declared.notice.Notice.TheVariants as notice
 use Rattle.sip_common.proofs.Each.{all_of_each, both}
 use Rattle.sip_served.specs.Acknowledgment.{ack_noted, acknowledged_invite}
 use Rattle.sip_served.specs.Arrival.{arrival_of}
-use Rattle.sip_served.specs.Rules.Arrivals.{after_request, bad_extension, cancel_for, cancel_received, is_above, is_merged, is_named_by, is_same_branch, no_such_call, own_response, prack_for, prack_received, request_for_user, request_in_dialog, request_received}
+use Rattle.sip_served.specs.Rules.Arrivals.{after_request, bad_extension, cancel_for, cancel_received, is_above, is_merged, is_named_by, no_such_call, own_response, prack_for, prack_received, request_for_user, request_in_dialog, request_received}
 use Rattle.sip_served.specs.Rules.Responses.{dialogs_after, makes_dialog, respond_command, respond_to, response_refusal, response_sent}
 use Rattle.sip_served.specs.Rules.Ticks.{provisionals_tick, server_tick, success_at, success_tick}
 use Rattle.sip_served.specs.State.{ServedTaken, State, has_id}
@@ -56,14 +60,19 @@ use Rattle.sip_calls.proofs.SameSteps.{same_step}
 use Rattle.sip_conversation.proofs.Branches.{either, found_or}
 use Rattle.sip_conversation.proofs.GivenTold.{OutTells}
 
-module _ (Tells : List ℕ → Type 0) where
-  -- this is true of the body of each ACK that the user is told of
-  abbrev pub NoticeTells : Notice → Type 0
-  NoticeTells (notice.Ack call_id id body) = Tells body
-  NoticeTells _ = Unit {0}
+-- a notice of something else
+abbrev pub IsOther : Notice → Type 0
+IsOther (notice.Request call_id id method local_tag remote_tag body) = ⊥
+IsOther (notice.Ack call_id id body) = ⊥
+IsOther _ = Unit {0}
 
+second_false : (one two : Bool) → (one || two) ≡ false → two ≡ false
+second_false true two none = absurd cc
+second_false false two none = none
+
+module _ (Tells : Notice → Type 0) (others : (told : Notice) → IsOther told → Tells told) where
   abbrev Tell : CallOut → Type 0
-  Tell = OutTells NoticeTells
+  Tell = OutTells Tells
 
   abbrev Fit : List CallOut → Type 0
   Fit outs = AllByRecursion Tell outs
@@ -73,9 +82,12 @@ module _ (Tells : List ℕ → Type 0) where
 
   -- ---- the ends of dialogs
 
+  end_told : (held : HeldDialog) → Tell (ended_notice held)
+  end_told held = others _ tt
+
   ends_tell : (dialogs : List HeldDialog) → Fit (map ended_notice dialogs)
   ends_tell [] = tt
-  ends_tell (held ∷ dialogs) = (tt, ends_tell dialogs)
+  ends_tell (held ∷ dialogs) = (end_told held, ends_tell dialogs)
 
   early_tell : (invite : Id) (dialogs : Dialogs) → Fit (early_ended invite dialogs).1
   early_tell invite dialogs = ends_tell (filter (is_early_of invite) (values_of dialogs))
@@ -83,14 +95,24 @@ module _ (Tells : List ℕ → Type 0) where
   end_tells : (name : DialogId) (dialogs : Dialogs) → Fit (ended_at name dialogs).1
   end_tells name dialogs =
       found_or Fit (λ held. ended_notice held ∷ []) (dialog_at name dialogs) []
-      (λ held is. (tt, tt)) (λ none. tt)
+      (λ held is. (end_told held, tt)) (λ none. tt)
 
   -- ---- a request that comes up
 
+  -- this is true of a request that comes up under a Call-ID and an id, if it is neither a CANCEL nor
+  -- a PRACK; a tag may be made for one without a tag in To
+  abbrev pub RequestTells : List ℕ → Id → Message → Type 0
+  RequestTells call_id id request = (made : List ℕ) → is_cancel request ≡ false
+      → is_prack request ≡ false
+      → Tells (notice.Request call_id id request.cseq.method (local_tag_of request made)
+      (tag_of request.from) request.body)
+
   for_user_tells : (state : State) (call_id : List ℕ) (name : DialogId) (arrival : Arrival)
+      → Tells (notice.Request call_id arrival.id arrival.request.cseq.method arrival.tag
+      (tag_of arrival.request.from) arrival.request.body)
       → Taken (request_for_user state call_id name arrival)
-  for_user_tells state call_id name arrival = (
-    tt,
+  for_user_tells state call_id name arrival tells = (
+    tells,
     either (λ (after : Dialogs × List CallOut). Fit after.1)
         (has_to_tag arrival.request && is_bye arrival.request) (ended_at name state.dialogs)
         (state.dialogs, []) (λ ends. end_tells name state.dialogs) (λ stays. tt),
@@ -103,61 +125,85 @@ module _ (Tells : List ℕ → Type 0) where
   prack_tells state call_id name created_by arrival (Some rack) =
       found_or Taken (prack_for state call_id arrival rack)
       (find (is_named_by rack name created_by) state.requests) (no_such_call state arrival)
-      (λ invite is. (tt, (tt, tt))) (λ none. (tt, tt))
+      (λ invite is. (tt, (others _ tt, tt))) (λ none. (tt, tt))
 
-  inside_tells : (state : State) (call_id : List ℕ) (name : DialogId) (arrival : Arrival)
-      (held : HeldDialog) → Taken (request_in_dialog state call_id name arrival held)
-  inside_tells state call_id name arrival held =
-      let request = arrival.request in
-      let seen : State =
-      record state { dialogs = dialog_changed name (after_request request) state.dialogs } in
-      let by_prack =
-      prack_received seen call_id name held.created_by arrival request.rack in
-      let by_user = request_for_user seen call_id name arrival in
-      either Taken (not (is_above held request.cseq.number)) _
-      (if is_prack request then by_prack else by_user) (λ low. (tt, tt))
-      (λ above. either Taken (is_prack request) by_prack by_user
-      (λ is. prack_tells seen call_id name held.created_by arrival request.rack)
-      (λ other. for_user_tells seen call_id name arrival))
+  module _ (call_id made : List ℕ) (arrival : Arrival)
+      (no_cancel : is_cancel arrival.request ≡ false)
+      (tag_is : arrival.tag ≡ local_tag_of arrival.request made)
+      (tells : RequestTells call_id arrival.id arrival.request) where
+    user_told : is_prack arrival.request ≡ false
+        → Tells (notice.Request call_id arrival.id arrival.request.cseq.method arrival.tag
+        (tag_of arrival.request.from) arrival.request.body)
+    user_told no_prack =
+        subst (λ tag. Tells (notice.Request call_id arrival.id arrival.request.cseq.method tag
+        (tag_of arrival.request.from) arrival.request.body)) (sym tag_is)
+        (tells made no_cancel no_prack)
+
+    inside_tells : (state : State) (name : DialogId) (held : HeldDialog)
+        → Taken (request_in_dialog state call_id name arrival held)
+    inside_tells state name held =
+        let request = arrival.request in
+        let seen : State =
+        record state { dialogs = dialog_changed name (after_request request) state.dialogs } in
+        let by_prack =
+        prack_received seen call_id name held.created_by arrival request.rack in
+        let by_user = request_for_user seen call_id name arrival in
+        either Taken (not (is_above held request.cseq.number)) _
+        (if is_prack request then by_prack else by_user) (λ low. (tt, tt))
+        (λ above. either Taken (is_prack request) by_prack by_user
+        (λ is. prack_tells seen call_id name held.created_by arrival request.rack)
+        (λ other. for_user_tells seen call_id name arrival (user_told other)))
+
+    arrival_tells : (state : State) (now : ℕ) → Taken (request_received state call_id arrival now)
+    unfolding request_received
+    arrival_tells state now =
+        let request = arrival.request in
+        let name = dialog_id_of request arrival.tag in
+        let outside = if is_bye request || is_prack request then no_such_call state arrival
+        else request_for_user state call_id name arrival in
+        let inside = option_map_or (request_in_dialog state call_id name arrival)
+        (dialog_at name state.dialogs) (no_such_call state arrival) in
+        let known = if has_to_tag request then inside else outside in
+        let new = if list_any is_unknown_option request.require then bad_extension state arrival
+        else known in
+        let other : ServedTaken =
+        if not (has_to_tag request) && list_any (is_merged request) state.requests
+        then (state, own_response arrival 482 (codes "Loop Detected")) else new in
+        either Taken (is_cancel request) (cancel_received state call_id arrival now) other
+        (λ is. absurd (false≢true (sym no_cancel ∙ is)))
+        (λ none. either Taken
+        (not (has_to_tag request) && list_any (is_merged request) state.requests) _ new
+        (λ merged. (tt, tt))
+        (λ first. either Taken (list_any is_unknown_option request.require)
+        (bad_extension state arrival) known (λ unknown. (tt, tt))
+        (λ all_known. either Taken (has_to_tag request) inside outside
+        (λ tagged. found_or Taken (request_in_dialog state call_id name arrival)
+        (dialog_at name state.dialogs) (no_such_call state arrival)
+        (λ held is. inside_tells state name held) (λ gone. (tt, tt)))
+        (λ bare. either Taken (is_bye request || is_prack request) (no_such_call state arrival)
+        (request_for_user state call_id name arrival) (λ is. (tt, tt))
+        (λ other. for_user_tells state call_id name arrival
+        (user_told (second_false (is_bye request) (is_prack request) other)))))))
 
   cancel_tells : (state : State) (call_id : List ℕ) (arrival : Arrival) (now : ℕ)
       → Taken (cancel_received state call_id arrival now)
   cancel_tells state call_id arrival now =
       found_or Taken (cancel_for state call_id arrival now) _ (no_such_call state arrival)
       (λ held is. either Taken (not (is_invite held.request && is_none held.removal)) _ _
-      (λ over. (tt, tt)) (λ open. (tt, (tt, (tt, early_tell held.id state.dialogs)))))
+      (λ over. (tt, tt))
+      (λ open. (tt, (tt, (others _ tt, early_tell held.id state.dialogs)))))
       (λ none. (tt, tt))
 
-  arrival_tells : (state : State) (call_id : List ℕ) (arrival : Arrival) (now : ℕ)
-      → Taken (request_received state call_id arrival now)
+  received_tells : (state : State) (call_id made : List ℕ) (up : AnUp) (request : Message)
+      (reply_to : Addr) (now : ℕ) → RequestTells call_id up.id request
+      → Taken (request_received state call_id (arrival_of up request reply_to made) now)
   unfolding request_received
-  arrival_tells state call_id arrival now =
-      let request = arrival.request in
-      let name = dialog_id_of request arrival.tag in
-      let outside = if is_bye request || is_prack request then no_such_call state arrival
-      else request_for_user state call_id name arrival in
-      let inside = option_map_or (request_in_dialog state call_id name arrival)
-      (dialog_at name state.dialogs) (no_such_call state arrival) in
-      let known = if has_to_tag request then inside else outside in
-      let new = if list_any is_unknown_option request.require then bad_extension state arrival
-      else known in
-      let other : ServedTaken =
-      if not (has_to_tag request) && list_any (is_merged request) state.requests
-      then (state, own_response arrival 482 (codes "Loop Detected")) else new in
-      either Taken (is_cancel request) (cancel_received state call_id arrival now) other
-      (λ is. cancel_tells state call_id arrival now)
-      (λ none. either Taken
-      (not (has_to_tag request) && list_any (is_merged request) state.requests) _ new
-      (λ merged. (tt, tt))
-      (λ first. either Taken (list_any is_unknown_option request.require)
-      (bad_extension state arrival) known (λ unknown. (tt, tt))
-      (λ all_known. either Taken (has_to_tag request) inside outside
-      (λ tagged. found_or Taken (request_in_dialog state call_id name arrival)
-      (dialog_at name state.dialogs) (no_such_call state arrival)
-      (λ held is. inside_tells state call_id name arrival held) (λ gone. (tt, tt)))
-      (λ bare. either Taken (is_bye request || is_prack request) (no_such_call state arrival)
-      (request_for_user state call_id name arrival) (λ is. (tt, tt))
-      (λ other. for_user_tells state call_id name arrival)))))
+  received_tells state call_id made up request reply_to now tells =
+      let arrival = arrival_of up request reply_to made in
+      by_bool (is_cancel request)
+      (λ is. either Taken (is_cancel request) (cancel_received state call_id arrival now) _
+      (λ so. cancel_tells state call_id arrival now) (λ none. absurd (false≢true (sym none ∙ is))))
+      (λ none. arrival_tells call_id made arrival none refl tells state now)
 
   -- ---- an answer of the user, and a tick
 
@@ -170,7 +216,7 @@ module _ (Tells : List ℕ → Type 0) where
       && not (has_to_tag held.request) in
       let Ends : Dialogs × List CallOut → Type 0 = λ after. Fit after.1 in
       found_or Taken _ (response_refusal state.dialogs held respond) _
-      (λ refusal is. (tt, tt))
+      (λ refusal is. (others _ tt, tt))
       (λ none. (
         tt,
         either Ends (makes_dialog held respond.status) _ _ (λ makes. tt)
@@ -185,14 +231,15 @@ module _ (Tells : List ℕ → Type 0) where
   respond_tells state event respond now =
       found_or Taken (respond_to state event respond now)
       (find (has_id respond.id) state.requests) _
-      (λ held is. respond_to_tells state event respond now held) (λ none. (tt, tt))
+      (λ held is. respond_to_tells state event respond now held)
+      (λ none. (others _ tt, tt))
 
   success_tells : (now : ℕ) (held : HeldRequest) → Fit (success_tick now held).1
   success_tells now held =
       let Given : Option Success × List CallOut → Type 0 = λ after. Fit after.1 in
       found_or Given (success_at now held) held.success (None, [])
       (λ success is. either Given (is_none success.over && nat_le success.end now) _ _
-      (λ over. (tt, tt))
+      (λ over. (others _ tt, tt))
       (λ open. either Given
       (is_none success.over && nat_le success.retransmission.due now) _ _ (λ due. (tt, tt))
       (λ early. tt))) (λ none. tt)
@@ -207,7 +254,7 @@ module _ (Tells : List ℕ → Type 0) where
       let Given : Ledger × List CallOut → Type 0 = λ after. Fit after.1 in
       either Given held.ledger.closed _ _ (λ closed. tt)
       (λ open. either Given (list_any (is_late now) held.ledger.waiting) _ _
-      (λ late. (tt, tt)) (λ early. repeats_tell held _))
+      (λ late. (others _ tt, tt)) (λ early. repeats_tell held _))
 
   tick_tells : (state : State) (now : ℕ) → Taken (server_tick state now)
   unfolding server_tick
@@ -224,63 +271,63 @@ module _ (Tells : List ℕ → Type 0) where
 
   allows : Allows Tell
   allows = record {
-    ended = λ held. tt;
-    refusal = λ call_id place why. tt;
+    ended = end_told;
+    refusal = λ call_id place why. others _ tt;
     sent = λ ack. tt;
     started = started_tells;
   }
 
   -- ---- a call
 
-  abbrev pub KindTells : Kind → Type 0
-  KindTells (kind.Request request reply_to) = Unit {0}
-  KindTells (kind.Ack ack) = Tells ack.body
-  KindTells (kind.Response response) = Unit {0}
-  KindTells kind.Timeout = Unit {0}
-  KindTells kind.Failed = Unit {0}
+  abbrev pub UpTells : AnUp → Kind → Type 0
+  UpTells up (kind.Request request reply_to) = RequestTells up.call_id up.id request
+  UpTells up (kind.Ack ack) = (invite : Id) → Tells (notice.Ack up.call_id invite ack.body)
+  UpTells up (kind.Response response) = Unit {0}
+  UpTells up kind.Timeout = Unit {0}
+  UpTells up kind.Failed = Unit {0}
 
   abbrev pub InputTells : Option CallItem → Type 0
   InputTells None = Unit {0}
-  InputTells (Some (event, Up up)) = KindTells up.kind
+  InputTells (Some (event, Up up)) = UpTells up up.kind
   InputTells (Some (event, User command)) = Unit {0}
 
-  noted_tells : (state : State) (call_id : List ℕ) (ack : Message) (invite : Option Id)
-      → Tells ack.body → Taken (ack_noted state call_id ack invite)
+  noted_tells : (state : State) (call_id : List ℕ) (ack : Message) (found : Option Id)
+      → ((invite : Id) → Tells (notice.Ack call_id invite ack.body))
+      → Taken (ack_noted state call_id ack found)
   noted_tells state call_id ack None tells = tt
-  noted_tells state call_id ack (Some invite) tells = (tells, tt)
+  noted_tells state call_id ack (Some invite) tells = (tells invite, tt)
 
-  up_tells : (call : Call) (event : Event) (up : AnUp) (k : Kind) → KindTells k
+  up_tells : (call : Call) (event : Event) (up : AnUp) (k : Kind) → UpTells up k
       → Fit (up_taken call event up k).1
   up_tells call event up (kind.Request request reply_to) tells =
-      subst Taken
-      (kind_same call.served (made_tag event) up (kind.Request request reply_to) event.moment)
-      (arrival_tells call.served up.call_id (arrival_of up request reply_to (made_tag event))
-      event.moment)
+      let made = made_tag event in
+      subst Taken (kind_same call.served made up (kind.Request request reply_to) event.moment)
+      (received_tells call.served up.call_id made up request reply_to event.moment tells)
   up_tells call event up (kind.Ack ack) tells =
       noted_tells call.served up.call_id ack (acknowledged_invite ack call.served.requests) tells
   up_tells call event up (kind.Response response) tells =
       response_told Tell allows event up.id up.call_id response (side_of call)
-      (λ name status is. tt)
+      (λ name status is. others _ tt)
   up_tells call event up kind.Timeout tells =
-      (tt, lost_told Tell allows up.id true (side_of call))
+      (others _ tt, lost_told Tell allows up.id true (side_of call))
   up_tells call event up kind.Failed tells =
-      (tt, lost_told Tell allows up.id false (side_of call))
+      (others _ tt, lost_told Tell allows up.id false (side_of call))
 
   first_tells : (call : Call) (event : Event) (command : UserCommand)
       → Fit (first_command_taken call event command).1
   first_tells call event (user.Invite invite) =
       invite_told Tell allows event invite call.clients
   first_tells call event (user.Plain plain) = plain_told Tell allows event plain call.clients
-  first_tells call event (user.Request request) = (tt, tt)
-  first_tells call event (user.Respond respond) = (tt, tt)
-  first_tells call event (user.Ack ack) = (tt, tt)
-  first_tells call event (user.Prack prack) = (tt, tt)
-  first_tells call event (user.Cancel cancel) = (tt, tt)
+  first_tells call event (user.Request request) = (others _ tt, tt)
+  first_tells call event (user.Respond respond) = (others _ tt, tt)
+  first_tells call event (user.Ack ack) = (others _ tt, tt)
+  first_tells call event (user.Prack prack) = (others _ tt, tt)
+  first_tells call event (user.Cancel cancel) = (others _ tt, tt)
 
   command_tells : (call : Call) (event : Event) (command : UserCommand)
       → Fit (command_taken call event command).1
-  command_tells call event (user.Invite invite) = (tt, tt)
-  command_tells call event (user.Plain plain) = (tt, tt)
+  command_tells call event (user.Invite invite) = (others _ tt, tt)
+  command_tells call event (user.Plain plain) = (others _ tt, tt)
   command_tells call event (user.Request request) =
       command_told Tell allows event request (side_of call)
   command_tells call event (user.Respond respond) =
@@ -324,7 +371,7 @@ module _ (Tells : List ℕ → Type 0) where
   pub all_tell : (calls : Calls) (call_id : List ℕ) (state : Option Call)
       (inputs : List (Timed CallItem))
       → AllByRecursion (λ timed. InputTells timed.input) inputs
-      → AllByRecursion (OutTells NoticeTells)
+      → AllByRecursion (OutTells Tells)
       (outputs_from (call_machine calls) call_id state inputs)
   all_tell calls call_id state [] tell = tt
   all_tell calls call_id state (timed ∷ inputs) tell =
