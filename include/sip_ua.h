@@ -25,13 +25,13 @@
  * blocks. Make no call from a signal handler, or in the forked child of a process with threads.
  *
  * Moments are times in ms from any starting point, up to 2^62. They never go back. Ports and
- * numbers are in host byte order. Addresses are four bytes, the first one first.
+ * numbers are in host byte order. Addresses are four bytes: 192.0.2.1 is { 192, 0, 2, 1 }.
  *
  * Link libsip_ua.a or libsip_ua.so, as installed, and no other library. From the build, link
  * libsip_c.a and the toolchain's liblibc_c.a.
  *
  * What the program must ensure, since the library can't check it:
- * - It doesn't copy or write to a `sip_ua`, or move one in a union. The bytes of a `sip_ua` are 0
+ * - It doesn't copy a `sip_ua`, write to it, or put it into a union. The bytes of a `sip_ua` are 0
  *   before sip_ua_new.
  * - Each pointer is NULL, or points to as much memory as the call says.
  * - It makes one call at a time on one agent.
@@ -98,7 +98,8 @@ typedef struct sip_ua_bytes {
 /* An output.
  * - `to` is the address to send to, only of a send.
  * - `place` is that of the event that caused the output, from 1 in the order in which the events
- *   were given. It is 0 if a timer caused it, or if a command sends it.
+ *   were given. It is 0 if a timer caused it, or if it is a new request (not ACK) or response (not
+ *   100).
  * - `index` counts the outputs of a round from 0.
  * - `len` is the length of its text in bytes. */
 typedef struct sip_ua_output {
@@ -116,8 +117,8 @@ enum {
 };
 
 /* An output by its fields. The fields that `sip_ua_output` also has are the same here. A field that
- * the output doesn't have is 0. The texts follow each other in the buffer, in the order of their
- * lengths here; `sip_ua_texts_of` finds them. */
+ * the output doesn't have is 0. The texts follow each other in the buffer, in the order of the
+ * fields `.._len` here; `sip_ua_texts_of` finds them. */
 typedef struct sip_ua_typed_output {
     uint32_t kind;
     sip_ua_address to;
@@ -126,7 +127,7 @@ typedef struct sip_ua_typed_output {
     sip_ua_id id;     /* of a notice: the request that it is about */
     uint32_t status;  /* of a response */
     uint32_t rseq;    /* of a PRACK: the provisional response that it acknowledges */
-    uint32_t command; /* of a refusal: the place of the command in its round */
+    uint32_t command; /* of a refusal: the place of the command or response */
     uint32_t refusal; /* of a refusal: SIP_UA_REFUSAL_.. */
     uint32_t reason;  /* of a drop: SIP_UA_DROP_.. */
     uint32_t header;  /* of a drop: the missing or repeated header, for sip_ua_header_text */
@@ -154,7 +155,8 @@ enum {
     SIP_UA_NOTICE_RESPONSE = 5,   /* status, local tag, remote tag, body */
     SIP_UA_NOTICE_ACK = 6,        /* the ACK of a 2xx: body */
     SIP_UA_NOTICE_PRACK = 7,      /* rseq, body */
-    SIP_UA_NOTICE_TIMEOUT = 8,    /* no response, or no ACK of a rejection, came in time */
+    SIP_UA_NOTICE_TIMEOUT = 8,    /* no response to INVITE, no final one to others, or no ACK of
+                                     a rejection, came in time */
     SIP_UA_NOTICE_FAILED = 9,     /* a send failed */
     SIP_UA_NOTICE_NO_ACK = 10,    /* no ACK of a 2xx came in time */
     SIP_UA_NOTICE_NO_PRACK = 11,  /* no PRACK came in time */
@@ -242,7 +244,7 @@ enum {
 };
 
 /* An initial INVITE. It is sent to `address`. `request_uri`, `from` and `to` are URIs, without
- * tags. If 100rel is required, it is also supported. For all commands: a body has the type
+ * tags. `requires_100rel` overrides `supports_100rel`. For all commands: a body has the type
  * application/sdp, unless a header Content-Type says another one. */
 typedef struct sip_ua_invite_fields {
     sip_ua_bytes call_id;
@@ -338,7 +340,7 @@ enum {
     SIP_UA_RESPONSE = 2  /* the text is the reason phrase */
 };
 
-/* The statuses that calls return. Only SIP_UA_OK and SIP_UA_BROKEN change the agent. */
+/* The statuses that calls return. The agent changes only with SIP_UA_OK or SIP_UA_BROKEN. */
 enum {
     SIP_UA_OK = 0,
     SIP_UA_NOT_HELD = 1,          /* there is no agent: before sip_ua_new, or after sip_ua_free */
@@ -531,10 +533,10 @@ static inline uint32_t sip_ua_event_lines(sip_ua *agent, const char *lines, size
 
 /* ---- commands of the user by their fields, each an event of the next round
  *
- * A command means what the line of the same name means in docs/FORMATS.md. `asked` may be NULL.
- * Otherwise its `id` is the one that the notices about the command have, and `bad_field` is 0,
- * except after SIP_UA_BAD_FIELD. After SIP_UA_BAD_FIELD, SIP_UA_TOO_MANY_EVENTS, SIP_UA_NO_MEMORY
- * and SIP_UA_NULL there is no command. If the core refuses a command later, a notice says so. */
+ * A command means what the line of the same name means in docs/FORMATS.md. `asked` may be NULL. If
+ * not, notices about the command have its `id` (a refusal only its place). `bad_field` is 0, except
+ * after SIP_UA_BAD_FIELD. After SIP_UA_BAD_FIELD, SIP_UA_TOO_MANY_EVENTS, SIP_UA_NO_MEMORY and
+ * SIP_UA_NULL there is no command. If the core refuses a command later, a notice says so. */
 
 /* The bytes of a string, without the zero byte at its end. */
 static inline sip_ua_bytes sip_ua_string(const char *string)
@@ -710,9 +712,9 @@ static inline uint32_t sip_ua_cancel(sip_ua *agent, const sip_ua_cancel_fields *
 
 /* ---- the rest of a host's loop */
 
-/* Says that the socket refused the send with this index, of the last round: an event of the next
- * round. Call it before that round. Faults: SIP_UA_NO_SEND, SIP_UA_TOO_MANY_EVENTS,
- * SIP_UA_NO_MEMORY. */
+/* Says that the send with this index, of the last round, failed. Except for the ACK of a 2xx, that
+ * is an event of the next round. Call it before that round. Faults: SIP_UA_NO_SEND,
+ * SIP_UA_TOO_MANY_EVENTS, SIP_UA_NO_MEMORY. */
 static inline uint32_t sip_ua_failed(sip_ua *agent, size_t output)
 {
     if (agent == NULL)
@@ -798,7 +800,7 @@ static inline uint32_t sip_ua_stats(sip_ua *agent, sip_ua_counts *counts)
     return sip_ua_raw_stats(agent, counts);
 }
 
-/* The first moment at which something is due, if there is one. A round without events before that
+/* The first moment at which something is due, if there is one. Before that, a round without events
  * gives no output. */
 static inline uint32_t sip_ua_next_due(sip_ua *agent, sip_ua_due *due)
 {
@@ -807,8 +809,8 @@ static inline uint32_t sip_ua_next_due(sip_ua *agent, sip_ua_due *due)
     return sip_ua_raw_next_due(agent, due);
 }
 
-/* The id of the event that was added last, if the next round has one. The notices about a command
- * have it. */
+/* The id of the event that was added last, if the next round has one. Notices about a command have
+ * it; a refusal only its place. */
 static inline uint32_t sip_ua_last_id(sip_ua *agent, sip_ua_id *id)
 {
     if (agent == NULL || id == NULL)

@@ -7,8 +7,9 @@ ghost use Rattle.std.proofs.Common.{rules, refl};
 ghost use Rattle.sip_message.specs.Key as keys;
 
 use crate::sent_by::SentBy;
+use crate::shared_key::SharedKey;
 use sip_parts::{LowerText, Token};
-use sip_text::{Shared, byte_order};
+use sip_text::byte_order;
 use std::alloc::{AllocError, Global};
 use std::cmp::Ordering;
 
@@ -29,16 +30,13 @@ pub enum Key {
     },
 }
 
-/// A key that the parts of an agent share.
-pub type SharedKey = Shared<Key>;
-
 impl Key {
     /// The key of a client transaction, with the branch in lower case.
     pub fn client(alloc: Global, branch: &[u8], method: Token) -> Result<SharedKey, AllocError>
         ensures { IfOk result (λ key. key ≡ keys.client_key branch.now method) }
     {
         let branch = LowerText::of(alloc, branch)?;
-        Shared::new(alloc, Key::Client { branch, method })
+        SharedKey::new(alloc, Key::Client { branch, method })
     }
 
     /// The key of a server transaction, with the branch and the host in lower case.
@@ -59,7 +57,7 @@ impl Key {
             },
             method,
         };
-        Shared::new(alloc, key)
+        SharedKey::new(alloc, key)
     }
 
     /// The branch, by which transactions are cut into shards.

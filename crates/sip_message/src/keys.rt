@@ -4,8 +4,9 @@ ghost use Rattle.sip_message.specs.MessageKey.{key_of_message, transaction_metho
 ghost use Rattle.sip_message.specs.TopVia as top;
 
 use crate::addr::{Addr, ip_text};
-use crate::key::{Key, SharedKey};
+use crate::key::Key;
 use crate::message::Message;
+use crate::shared_key::SharedKey;
 use crate::start_line::StartLine;
 use crate::via::Via;
 use sip_parts::Token;

@@ -19,6 +19,7 @@ mod party;
 mod rack;
 mod response;
 mod sent_by;
+mod shared_key;
 mod source;
 mod start_line;
 mod via;
@@ -33,7 +34,7 @@ pub use fault::ReadFault;
 pub use header::Header;
 pub use hop_by_hop::{ack_for, cancel_for};
 pub use id::Id;
-pub use key::{Key, SharedKey};
+pub use key::Key;
 pub use keys::{is_sent_by, key_of};
 pub use laws::a_body_alone_brings_its_type;
 pub use message::{MAX_FORWARDS, Message};
@@ -42,6 +43,7 @@ pub use party::Party;
 pub use rack::RAck;
 pub use response::response_to;
 pub use sent_by::SentBy;
+pub use shared_key::SharedKey;
 pub use sip_parts::{
     CallId, DisplayText, HeaderName, HeaderValue, Host, OtherName, Parameter, ParameterValue,
     Parameters, PartyDisplay, PartyParameters, Reason, RequestUri, StatusCode, Token, Uri,

@@ -61,6 +61,7 @@ const CALL_EXAMPLE: &str = "\
 Example, and what it prints of a call that is answered:
   ua call --local 127.0.0.1:5080 --to 127.0.0.1:5070 --uri sip:b@127.0.0.1 --seconds 2
 
+  notice ua-call response 0.1 100 LOCAL-TAG - -
   notice ua-call response 0.1 200 LOCAL-TAG REMOTE-TAG SDP
   notice ua-call ended LOCAL-TAG REMOTE-TAG
   notice ua-call response 3.2 200 LOCAL-TAG REMOTE-TAG -";
@@ -424,7 +425,7 @@ fn listen_command<'a>(alloc: Global) -> Result<Command<'a>, AllocError> {
             "Answers calls over UDP: 200 (or --answer) to INVITE, 200 to BYE and OPTIONS, 501 to \
             anything else. Prints a line for each notice. When standard input ends, it ends all \
             calls and exits within a second. A terminal, or an input that is empty from the \
-            start, is ignored. Through bin/ua, Ctrl-C does this instead",
+            start, is ignored. Through bin/ua, Ctrl-C ends the input",
         )
         .after_help(LISTEN_EXAMPLE)
         .arg(local_argument(alloc))?
@@ -466,8 +467,8 @@ fn call_command<'a>(alloc: Global) -> Result<Command<'a>, AllocError> {
         .action(ArgAction::SetTrue)
         .help(
             "In the last second of --turns or --seconds, send CANCEL for a call that isn't \
-            answered, or BYE for one that is up. Then exit as soon as nothing is held. The end \
-            of standard input always does so",
+            answered, or BYE for one that is up. Exit as soon as no call and no transaction is \
+            left. The end of standard input does the same, also without --leave",
         );
     let hold = Arg::new(alloc, "hold")
         .long("hold")
@@ -487,11 +488,11 @@ fn call_command<'a>(alloc: Global) -> Result<Command<'a>, AllocError> {
         .help("Exit with status 6 if the call isn't answered");
     Command::new(alloc, "call")
         .about(
-            "Calls a URI over UDP, hangs up after the answer, and exits when nothing is held any \
-            more: 32 seconds later, unless --turns or --seconds ends it sooner. Prints a line \
-            for each notice. When standard input ends, it ends its call and exits within a \
-            second. A terminal, or an input that is empty from the start, is ignored. Through \
-            bin/ua, Ctrl-C does this instead",
+            "Calls a URI over UDP, hangs up after the answer, and exits after --turns or \
+            --seconds; without these, 32 seconds after the final response. Prints a line for \
+            each notice. When standard input ends, it ends its call and exits within a second. \
+            A terminal, or an input that is empty from the start, is ignored. Through bin/ua, \
+            Ctrl-C ends the input",
         )
         .after_help(CALL_EXAMPLE)
         .arg(local_argument(alloc))?
@@ -547,7 +548,7 @@ fn session_argument<'a>(alloc: Global) -> Arg<'a> {
     Arg::new(alloc, "session")
         .long("session")
         .action(ArgAction::SetTrue)
-        .help("Take a session file too, in which commands may have header lines")
+        .help("Also accept a session file, in which commands may have header lines")
 }
 
 fn body_argument<'a>(alloc: Global, help: &'a str) -> Arg<'a> {
@@ -643,8 +644,8 @@ fn replay_command<'a>(alloc: Global) -> Result<Command<'a>, AllocError> {
         .long("repair")
         .action(ArgAction::SetTrue)
         .help(
-            "Run a file that was cut off up to its last whole line, and say on standard error how \
-            many bytes were left out",
+            "If the file was cut off, run it up to its last whole line, and say on standard error \
+            how many bytes were left out",
         );
     Command::new(alloc, "replay")
         .about(

@@ -4,6 +4,7 @@ ghost use Rattle.std.specs.Prelude.{◌≡◌, ◌≤◌, ◌^◌, [], ◌∷◌
 ghost use Rattle.sip_model.specs.Table.{state_at, entries_of, Covers, StepsKey, StepsAll};
 ghost use Rattle.sip_model.specs.History.{AddsInput, AddsInputs};
 ghost use Rattle.sip_message.specs.Key.{key_cmp};
+ghost use Rattle.sip_message.specs.declared.key.Key.{Key};
 ghost use Rattle.sip_message.specs.MessageKey.{key_of_message};
 ghost use Rattle.sip_transactions.specs.Machine.{transaction_machine};
 ghost use Rattle.sip_model.specs.Machine.{tick_at};

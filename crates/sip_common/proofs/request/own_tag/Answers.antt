@@ -9,4 +9,4 @@ copy_of-requires c =
     let text = c.tag-own.ensures in
     let some = ap (λ bytes. length bytes == 0) (sym text) ∙ sym c.is_empty.ensures
     ∙ c.if-is_empty.false in
-    rw text (tag_is_token _ some c.as_slice-parameters.ensures.rule)
+    rw text (tag_is_token _ some c.as_parameters-parameters.ensures.rule)
