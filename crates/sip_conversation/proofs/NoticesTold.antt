@@ -1,7 +1,7 @@
 -- A call tells its user of a request or an ACK only if it comes up, with its method, its tags and its
 -- body.
 use Rattle.std.proofs.Common.{◌≡◌, ℕ, Bool, true, false, ◌||◌, ◌&&◌, List, [], ◌∷◌, ◌++◌, map, refl, sym, ◌∙◌, subst}
-use Rattle.std.specs.Prelude.{Option, None, Some, codes, filter, find, is_none, nat_le, not, if◌then◌else◌}
+use Rattle.std.specs.Prelude.{Option, None, Some, codes, filter, find, is_none, nat_le, not, reverse, if◌then◌else◌}
 use Rattle.std.specs.List.{AllByRecursion, list_any}
 use Rattle.std.specs.Map.{values_of}
 use Rattle.std.specs.Option.{option_map_or}
@@ -34,7 +34,7 @@ use Rattle.sip_common.specs.declared.notice.Notice.TheVariants as notice
 use Rattle.sip_common.proofs.Each.{all_of_each, both}
 use Rattle.sip_served.specs.Acknowledgment.{ack_noted, acknowledged_invite}
 use Rattle.sip_served.specs.Arrival.{arrival_of}
-use Rattle.sip_served.specs.Rules.Arrivals.{after_request, bad_extension, cancel_for, cancel_received, is_above, is_merged, is_named_by, no_such_call, own_response, prack_for, prack_received, request_for_user, request_in_dialog, request_received}
+use Rattle.sip_served.specs.Rules.Arrivals.{after_request, bad_extension, cancel_for, cancel_received, is_above, is_merged, is_named_by, is_same_branch, no_such_call, own_response, prack_for, prack_received, request_for_user, request_in_dialog, request_received}
 use Rattle.sip_served.specs.Rules.Responses.{dialogs_after, makes_dialog, respond_command, respond_to, response_refusal, response_sent}
 use Rattle.sip_served.specs.Rules.Ticks.{provisionals_tick, server_tick, success_at, success_tick}
 use Rattle.sip_served.specs.State.{ServedTaken, State, has_id}
@@ -188,10 +188,12 @@ module _ (Tells : Notice → Type 0) (others : (told : Notice) → IsOther told 
   cancel_tells : (state : State) (call_id : List ℕ) (arrival : Arrival) (now : ℕ)
       → Taken (cancel_received state call_id arrival now)
   cancel_tells state call_id arrival now =
-      found_or Taken (cancel_for state call_id arrival now) _ (no_such_call state arrival)
+      found_or Taken (cancel_for state call_id arrival now)
+      (find (λ held. is_same_branch arrival.key held.key) (reverse state.requests))
+      (no_such_call state arrival)
       (λ held is. either Taken (not (is_invite held.request && is_none held.removal)) _ _
       (λ over. (tt, tt))
-      (λ open. (tt, (tt, (others _ tt, early_tell held.id state.dialogs)))))
+      (λ unanswered. (tt, (tt, (others _ tt, early_tell held.id state.dialogs)))))
       (λ none. (tt, tt))
 
   received_tells : (state : State) (call_id made : List ℕ) (up : AnUp) (request : Message)
@@ -240,9 +242,9 @@ module _ (Tells : Notice → Type 0) (others : (told : Notice) → IsOther told 
       found_or Given (success_at now held) held.success (None, [])
       (λ success is. either Given (is_none success.over && nat_le success.end now) _ _
       (λ over. (others _ tt, tt))
-      (λ open. either Given
+      (λ waits. either Given
       (is_none success.over && nat_le success.retransmission.due now) _ _ (λ due. (tt, tt))
-      (λ early. tt))) (λ none. tt)
+      (λ quiet. tt))) (λ none. tt)
 
   repeats_tell : (held : HeldRequest) (responses : List ReliableResponse)
       → Fit (map (λ one. out.Command held.id (Answer held.key one.response)) responses)
@@ -253,8 +255,8 @@ module _ (Tells : Notice → Type 0) (others : (told : Notice) → IsOther told 
   provisionals_tell now held =
       let Given : Ledger × List CallOut → Type 0 = λ after. Fit after.1 in
       either Given held.ledger.closed _ _ (λ closed. tt)
-      (λ open. either Given (list_any (is_late now) held.ledger.waiting) _ _
-      (λ late. (others _ tt, tt)) (λ early. repeats_tell held _))
+      (λ waits. either Given (list_any (is_late now) held.ledger.waiting) _ _
+      (λ late. (others _ tt, tt)) (λ due. repeats_tell held _))
 
   tick_tells : (state : State) (now : ℕ) → Taken (server_tick state now)
   unfolding server_tick

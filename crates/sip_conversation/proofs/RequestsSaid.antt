@@ -1,8 +1,9 @@
 -- The other side's user asked for each request that a user is told of, and that side said each ACK.
-use Rattle.std.proofs.Common.{◌≡◌, ◌⊎◌, inl, inr, ℕ, Bool, true, false, ◌||◌, List, [], ◌∷◌, ◌++◌, length, refl, sym, ap, ◌∙◌, subst}
+use Rattle.std.proofs.Common.{◌≡◌, ◌⊎◌, inl, inr, ℕ, Bool, true, false, ◌||◌, List, [], ◌∷◌, ◌++◌, length, refl, sym, ap, ◌∙◌, subst, arith}
 use Rattle.std.specs.Prelude.{◌==◌, Contains, Option, None, Some, codes, if◌then◌else◌}
 use Rattle.std.specs.Str.{bytes_eq}
 use Rattle.std.proofs.lemmas.Bool.{false≢true}
+use Rattle.std.proofs.lemmas.Grind.{common_steps}
 use Rattle.std.proofs.lemmas.Slice.Eq.{bytes_eq-Decides}
 use Rattle.sip_message.specs.declared.addr.Addr.{Addr}
 use Rattle.sip_message.specs.declared.id.Id.{Id}
@@ -71,6 +72,9 @@ came_same source came said same is =
     (λ other. absurd (false≢true (sym other
     ∙ (ap is_request_message (sym (same ∙ ap comes other)) ∙ is))))
 
+has_bytes : (byte : ℕ) (tag : List ℕ) → (length (byte ∷ tag) == 0) ≡ false
+has_bytes byte tag = grind (arith, common_steps)
+
 -- the local tag is that of To, if it has one
 local_or_none : (request : Message) (made : List ℕ)
     → (tag_of request.to ≡ local_tag_of request made) ⊎ (tag_of request.to ≡ [])
@@ -78,7 +82,8 @@ local_or_none request made = by_tag (tag_of request.to)
   where
     by_tag : (tag : List ℕ) → (tag ≡ (if length tag == 0 then made else tag)) ⊎ (tag ≡ [])
     by_tag [] = inr refl
-    by_tag (byte ∷ tag) = inl refl
+    by_tag (byte ∷ tag) =
+        inl (sym (ap (λ b. if b then made else byte ∷ tag) (has_bytes byte tag)))
 
 -- a request that is no ACK, CANCEL or PRACK
 other_kind : (request : Message) → (request.cseq.method ≡ codes "ACK" → ⊥)
