@@ -1,18 +1,17 @@
 -- What a call starts is an ACK, a PRACK, a CANCEL, or the request for which a command of its user
 -- asks, under the id of that command.
 use Rattle.std.proofs.Common.{◌≡◌, ℕ, ◌+◌, Bool, true, false, ◌&&◌, ◌||◌, List, [], ◌∷◌, ◌++◌, refl, sym, ap, ◌∙◌, subst}
-use Rattle.std.specs.Prelude.{Option, None, Some, codes, ◌==◌, filter, find, fold, is_some, length, not, unwrap_or, if◌then◌else◌}
+use Rattle.std.specs.Prelude.{Option, None, Some, codes, ◌==◌, filter, find, fold, is_some, not, unwrap_or, if◌then◌else◌}
 use Rattle.std.specs.List.{AllByRecursion}
 use Rattle.std.specs.Map.{lookup, remove_entry, set_value}
 use Rattle.std.specs.Option.{option_map_or}
 use Rattle.std.specs.Str.{bytes_eq}
 use Rattle.std.proofs.lemmas.Bool.{false≢true}
-use Rattle.sip_message.specs.Content.{Content, content_of_body, with_content_of}
+use Rattle.sip_message.specs.Content.{Content, with_content_of}
 use Rattle.sip_message.specs.Party.{tag_of}
 use Rattle.sip_message.specs.declared.id.Id.{Id}
 use Rattle.sip_message.specs.declared.key.Key.{Key}
 use Rattle.sip_message.specs.declared.message.Message.{Message}
-use Rattle.sip_message.specs.declared.rack.RAck.{RAck}
 use Rattle.sip_model.specs.Machine.{Timed, outputs_from}
 use Rattle.sip_dialog.specs.Request.{bare_request_in, contact_of}
 use Rattle.sip_transactions.specs.declared.input.Command.TheVariants as order
@@ -57,7 +56,7 @@ use Rattle.sip_clients.specs.declared.client.Cancelling.{Cancelling}
 use Rattle.sip_clients.specs.declared.client.Cancelling.TheVariants.{NotAsked, Sent, Waits}
 use Rattle.sip_clients.specs.declared.client.Client.{Client}
 use Rattle.sip_clients.specs.declared.event.Event.{Event}
-use Rattle.sip_calls.specs.Call.{CallItem, Taken, call_machine, call_step, event_of, item_of_call, made_tag, new_call, received, side_of}
+use Rattle.sip_calls.specs.Call.{CallItem, call_machine, call_step, event_of, item_of_call, made_tag, new_call, received, side_of}
 use Rattle.sip_calls.specs.declared.call.Call.{Call}
 use Rattle.sip_calls.specs.declared.calls.Calls.{Calls}
 use Rattle.sip_calls.proofs.CallStarts.{tick_silent}

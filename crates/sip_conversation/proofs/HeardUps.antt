@@ -1,10 +1,9 @@
 -- What comes up to a call in a turn is a message that the other side said before, except for the
 -- stamp. A request has the Call-ID of the call.
-use Rattle.std.proofs.Common.{ℕ, List, [], ◌∷◌, ◌++◌}
+use Rattle.std.proofs.Common.{ℕ, List}
 use Rattle.std.specs.Prelude.{IfSome, Option, None, Some}
 use Rattle.std.specs.List.{AllByRecursion}
 use Rattle.sip_message.specs.declared.message.Message.{Message}
-use Rattle.sip_model.specs.Machine.{Timed}
 use Rattle.sip_transactions.specs.declared.output.Out.{Out}
 use Rattle.sip_transactions.specs.declared.output.Out.TheVariants as out
 use Rattle.sip_transactions.specs.declared.output.Up.{Up as AnUp}

@@ -35,7 +35,7 @@ use Rattle.sip_common.proofs.Each.{all_of_each, both}
 use Rattle.sip_served.specs.Acknowledgment.{ack_noted, acknowledged_invite}
 use Rattle.sip_served.specs.Arrival.{arrival_of}
 use Rattle.sip_served.specs.Rules.Arrivals.{after_request, bad_extension, cancel_for, cancel_received, is_above, is_merged, is_named_by, is_same_branch, no_such_call, own_response, prack_for, prack_received, request_for_user, request_in_dialog, request_received}
-use Rattle.sip_served.specs.Rules.Responses.{dialogs_after, makes_dialog, respond_command, respond_to, response_refusal, response_sent}
+use Rattle.sip_served.specs.Rules.Responses.{makes_dialog, respond_command, respond_to, response_refusal, response_sent}
 use Rattle.sip_served.specs.Rules.Ticks.{provisionals_tick, server_tick, success_at, success_tick}
 use Rattle.sip_served.specs.State.{ServedTaken, State, has_id}
 use Rattle.sip_served.specs.Tick.{tick_taken}
