@@ -60,7 +60,7 @@ use Rattle.sip_calls.specs.Call.{CallItem, call_machine, call_step, event_of, it
 use Rattle.sip_calls.specs.declared.call.Call.{Call}
 use Rattle.sip_calls.specs.declared.calls.Calls.{Calls}
 use Rattle.sip_calls.proofs.CallStarts.{tick_silent}
-use Rattle.sip_conversation.specs.Requests.{asked_by}
+use Rattle.sip_conversation.specs.Requests.{request_asked_by}
 use Rattle.sip_conversation.proofs.Branches.{either, found_or}
 
 -- the type of what a response is with all that comes up with it
@@ -476,7 +476,7 @@ module _ (Asks : Id → List ℕ → List ℕ → Type 0) where
 
   -- this is said of the request for which a command asks
   abbrev CommandAsks : Id → UserCommand → Type 0
-  CommandAsks id command = (method body : List ℕ) → asked_by command ≡ Some (method, body)
+  CommandAsks id command = (method body : List ℕ) → request_asked_by command ≡ Some (method, body)
       → Asks id method body
 
   first_says : (call : Call) (event : Event) (command : UserCommand)

@@ -1,5 +1,5 @@
--- A call tells its user of a request or an ACK only if it comes up, with its method, its tags and its
--- body.
+-- A call tells its user of a request, an ACK or a PRACK only if it comes up, with its method, its
+-- tags, its RSeq and its body.
 use Rattle.std.proofs.Common.{◌≡◌, ℕ, Bool, true, false, ◌||◌, ◌&&◌, List, [], ◌∷◌, ◌++◌, map, refl, sym, ◌∙◌, subst}
 use Rattle.std.specs.Prelude.{Option, None, Some, codes, filter, find, is_none, nat_le, not, reverse, if◌then◌else◌}
 use Rattle.std.specs.List.{AllByRecursion, list_any}
@@ -64,6 +64,7 @@ use Rattle.sip_conversation.proofs.GivenTold.{OutTells}
 abbrev pub IsOther : Notice → Type 0
 IsOther (notice.Request call_id id method local_tag remote_tag body) = ⊥
 IsOther (notice.Ack call_id id body) = ⊥
+IsOther (notice.Prack call_id id rseq body) = ⊥
 IsOther _ = Unit {0}
 
 second_false : (one two : Bool) → (one || two) ≡ false → two ≡ false
@@ -99,13 +100,14 @@ module _ (Tells : Notice → Type 0) (others : (told : Notice) → IsOther told 
 
   -- ---- a request that comes up
 
-  -- this is true of a request that comes up under a Call-ID and an id, if it is neither a CANCEL nor
-  -- a PRACK; a tag may be made for one without a tag in To
-  abbrev pub RequestTells : List ℕ → Id → Message → Type 0
-  RequestTells call_id id request = (made : List ℕ) → is_cancel request ≡ false
-      → is_prack request ≡ false
-      → Tells (notice.Request call_id id request.cseq.method (local_tag_of request made)
-      (tag_of request.from) request.body)
+  -- this is true of a request that comes up under a Call-ID and an id, for the user or as a PRACK; a
+  -- tag may be made for one without a tag in To
+  pub record RequestTells (call_id : List ℕ) (id : Id) (request : Message) : Type 0 where
+    pub for_user : (made : List ℕ) → is_cancel request ≡ false → is_prack request ≡ false
+        → Tells (notice.Request call_id id request.cseq.method (local_tag_of request made)
+        (tag_of request.from) request.body)
+    pub prack : is_prack request ≡ true → (rack : RAck) → request.rack ≡ Some rack
+        → (invite : Id) → Tells (notice.Prack call_id invite rack.rseq request.body)
 
   for_user_tells : (state : State) (call_id : List ℕ) (name : DialogId) (arrival : Arrival)
       → Tells (notice.Request call_id arrival.id arrival.request.cseq.method arrival.tag
@@ -120,12 +122,14 @@ module _ (Tells : Notice → Type 0) (others : (told : Notice) → IsOther told 
 
   prack_tells : (state : State) (call_id : List ℕ) (name : DialogId) (created_by : Id)
       (arrival : Arrival) (rack : Option RAck)
+      → ((named : RAck) → rack ≡ Some named → (invite : Id)
+      → Tells (notice.Prack call_id invite named.rseq arrival.request.body))
       → Taken (prack_received state call_id name created_by arrival rack)
-  prack_tells state call_id name created_by arrival None = (tt, tt)
-  prack_tells state call_id name created_by arrival (Some rack) =
+  prack_tells state call_id name created_by arrival None tells = (tt, tt)
+  prack_tells state call_id name created_by arrival (Some rack) tells =
       found_or Taken (prack_for state call_id arrival rack)
       (find (is_named_by rack name created_by) state.requests) (no_such_call state arrival)
-      (λ invite is. (tt, (others _ tt, tt))) (λ none. (tt, tt))
+      (λ invite is. (tt, (tells rack refl invite.id, tt))) (λ none. (tt, tt))
 
   module _ (call_id made : List ℕ) (arrival : Arrival)
       (no_cancel : is_cancel arrival.request ≡ false)
@@ -137,7 +141,7 @@ module _ (Tells : Notice → Type 0) (others : (told : Notice) → IsOther told 
     user_told no_prack =
         subst (λ tag. Tells (notice.Request call_id arrival.id arrival.request.cseq.method tag
         (tag_of arrival.request.from) arrival.request.body)) (sym tag_is)
-        (tells made no_cancel no_prack)
+        (tells.for_user made no_cancel no_prack)
 
     inside_tells : (state : State) (name : DialogId) (held : HeldDialog)
         → Taken (request_in_dialog state call_id name arrival held)
@@ -151,7 +155,8 @@ module _ (Tells : Notice → Type 0) (others : (told : Notice) → IsOther told 
         either Taken (not (is_above held request.cseq.number)) _
         (if is_prack request then by_prack else by_user) (λ low. (tt, tt))
         (λ above. either Taken (is_prack request) by_prack by_user
-        (λ is. prack_tells seen call_id name held.created_by arrival request.rack)
+        (λ is. prack_tells seen call_id name held.created_by arrival request.rack
+        (tells.prack is))
         (λ other. for_user_tells seen call_id name arrival (user_told other)))
 
     arrival_tells : (state : State) (now : ℕ) → Taken (request_received state call_id arrival now)

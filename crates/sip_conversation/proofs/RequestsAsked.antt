@@ -27,7 +27,7 @@ use Rattle.sip_round.specs.Laws.{call_inputs_of, said_of_call}
 use Rattle.sip_round.proofs.Said.{call_alone}
 use Rattle.sip_conversation.specs.Messages.{CallSays, IsSaid}
 use Rattle.sip_conversation.specs.Messages.IsSaid.{Acknowledges, Asked, Direct, Trying}
-use Rattle.sip_conversation.specs.Requests.{UserAsked, asked_by}
+use Rattle.sip_conversation.specs.Requests.{UserAsked, request_asked_by}
 use Rattle.sip_conversation.proofs.AckTexts.{is_ack}
 use Rattle.sip_conversation.proofs.Among.{all_of, each_of}
 use Rattle.sip_conversation.proofs.CallBranches.{OutIsOwn, all_own}
@@ -43,7 +43,7 @@ module _ (config : Config) (rounds : List Round)
     pub command : UserCommand
     pub gave : Contains (call_inputs_of config rounds call_id)
         (given_at now (event, User command))
-    pub asks : asked_by command ≡ Some (method, body)
+    pub asks : request_asked_by command ≡ Some (method, body)
 
   input_asks : (call_id : List ℕ) (now : ℕ) (i : Option CallItem)
       → Contains (call_inputs_of config rounds call_id) (record { moment = now; input = i })

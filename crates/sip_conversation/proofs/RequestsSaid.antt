@@ -1,4 +1,5 @@
--- The other side's user asked for each request that a user is told of, and that side said each ACK.
+-- The other side's user asked for each request that a user is told of, and that side said each ACK
+-- and each PRACK.
 use Rattle.std.proofs.Common.{◌≡◌, ◌⊎◌, inl, inr, ℕ, Bool, true, false, ◌||◌, List, [], ◌∷◌, ◌++◌, length, refl, sym, ap, ◌∙◌, subst, arith}
 use Rattle.std.specs.Prelude.{◌==◌, Contains, Option, None, Some, codes, if◌then◌else◌}
 use Rattle.std.specs.Str.{bytes_eq}
@@ -26,10 +27,11 @@ use Rattle.sip_round.specs.declared.config.Config.{Config}
 use Rattle.sip_round.specs.declared.output.Output.TheVariants as output
 use Rattle.sip_round.specs.Answers.{calls_of}
 use Rattle.sip_round.specs.Laws.{call_inputs_of}
-use Rattle.sip_conversation.specs.Acknowledgments.{AcksToldWereSaid, SaidAck}
+use Rattle.sip_conversation.specs.Acks.{AcksToldWereSaid, SaidAck}
 use Rattle.sip_conversation.specs.Conversation.{Carried, Side, Turn, given_by, peer, rounds_of}
 use Rattle.sip_conversation.specs.Messages.{CallsKeepRules, IsSaid, come_from}
 use Rattle.sip_conversation.specs.Requests.{RequestsToldWereAskedFor, SaidRequest}
+use Rattle.sip_conversation.specs.ToldPracks.{PracksToldWereSaid, SaidPrackOf}
 use Rattle.sip_conversation.proofs.Among.{all_go}
 use Rattle.sip_conversation.proofs.Fronts.{carried_to, keeps_to, peer_rounds}
 use Rattle.sip_conversation.proofs.GivenTold.{notice_given}
@@ -48,6 +50,7 @@ record IsSame (came said : Message) : Type 0 where
   pub method : said.cseq.method ≡ came.cseq.method
   pub from : tag_of said.from ≡ tag_of came.from
   pub to : tag_of said.to ≡ tag_of came.to
+  pub rack : said.rack ≡ came.rack
   pub body : said.body ≡ came.body
 
 stamped_same : (source : Addr) (said : Message) → is_request_message said ≡ true
@@ -59,6 +62,7 @@ stamped_same source said is = record {
   method = refl;
   from = refl;
   to = refl;
+  rack = refl;
   body = refl;
 }
 
@@ -110,13 +114,15 @@ module _ (configs : Side → Config) (fair : IsFair configs) (before : List Turn
   Told (notice.Request call_id id method local_tag remote_tag body) =
       SaidRequest configs before turn.side call_id method local_tag remote_tag body
   Told (notice.Ack call_id id body) = SaidAck configs before turn.side body
+  Told (notice.Prack call_id id rseq body) =
+      SaidPrackOf configs before turn.side call_id rseq body
   Told _ = Unit {0}
 
   others : (told : Notice) → IsOther told → Told told
   others (notice.Request call_id id method local_tag remote_tag body) is = absurd is
   others (notice.Response call_id id status local_tag remote_tag body) is = tt
   others (notice.Ack call_id id body) is = absurd is
-  others (notice.Prack call_id id rseq body) is = tt
+  others (notice.Prack call_id id rseq body) is = absurd is
   others (notice.Timeout call_id id) is = tt
   others (notice.Failed call_id id) is = tt
   others (notice.NoAck call_id id) is = tt
@@ -136,20 +142,37 @@ module _ (configs : Side → Config) (fair : IsFair configs) (before : List Turn
       → Came configs front turn.side request → is_request_message request ≡ true
       → (request.cseq.method ≡ codes "ACK" → ⊥) → request.call_id ≡ call_id
       → RequestTells Told others call_id id request
-  request_said call_id id request comes is no_ack its made no_cancel no_prack =
-      let same = came_same (configs other).local request comes.original comes.same is in
+  request_said call_id id request comes is no_ack its =
+      let original = comes.original in
+      let said = said_before request comes in
+      let same = came_same (configs other).local request original comes.same is in
       record {
-        original = comes.original;
-        asked = user_asked (configs other) (rounds_of other before) (fair.calls other)
-            comes.original (said_before request comes) comes.rules same.is_request
-            (ap has_command same.method ∙ other_kind request no_ack no_cancel no_prack);
-        rules = comes.rules;
-        call_id_is = same.call_id ∙ its;
-        method_is = same.method;
-        from = same.from;
-        to = subst (λ tag. (tag ≡ local_tag_of request made) ⊎ (tag ≡ [])) (sym same.to)
-            (local_or_none request made);
-        body_is = same.body;
+        for_user = λ made no_cancel no_prack. record {
+          original = original;
+          asked = user_asked (configs other) (rounds_of other before) (fair.calls other) original
+              said comes.rules same.is_request
+              (ap has_command same.method ∙ other_kind request no_ack no_cancel no_prack);
+          rules = comes.rules;
+          call_id_is = same.call_id ∙ its;
+          method_is = same.method;
+          from = same.from;
+          to = subst (λ tag. (tag ≡ local_tag_of request made) ⊎ (tag ≡ [])) (sym same.to)
+              (local_or_none request made);
+          body_is = same.body;
+        };
+        prack = λ prack rack has invite. record {
+          original = original;
+          said = said;
+          rules = comes.rules;
+          is_request = same.is_request;
+          call_id_is = same.call_id ∙ its;
+          method_is = same.method
+              ∙ (bytes_eq-Decides request.cseq.method (codes "PRACK")).0 prack;
+          rack = rack;
+          has_rack = same.rack ∙ has;
+          rseq_is = refl;
+          body_is = same.body;
+        };
       }
 
   ack_said : (ack : Message) → Came configs front turn.side ack → ack.cseq.method ≡ codes "ACK"
@@ -211,3 +234,10 @@ module _ (configs : Side → Config) (fair : IsFair configs) (turns : List Turn)
       notice_said configs fair before turn
       (carried_to configs turns before after turn same carried)
       (keeps_to configs turns before after turn same keep) (notice.Ack call_id id body) among
+
+  pub pracks_said : PracksToldWereSaid configs turns
+  pracks_said before after turn same call_id id rseq body among =
+      notice_said configs fair before turn
+      (carried_to configs turns before after turn same carried)
+      (keeps_to configs turns before after turn same keep) (notice.Prack call_id id rseq body)
+      among

@@ -5,4 +5,5 @@ pub mod Messages
 pub mod Provisionals
 pub mod Replies
 pub mod Requests
-pub mod Acknowledgments
+pub mod Acks
+pub mod ToldPracks

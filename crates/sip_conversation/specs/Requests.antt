@@ -22,11 +22,11 @@ use Rattle.sip_conversation.specs.Messages.{CallSays}
 
 -- The method and the body of the request for which a command asks (RFC 3261, sections 8.1.1,
 -- 12.2.1.1 and 13.2.1). ACK, PRACK and CANCEL have commands of their own.
-abbrev pub asked_by : UserCommand → Option (List ℕ × List ℕ)
-asked_by (user.Invite invite) = Some (codes "INVITE", invite.content.body)
-asked_by (user.Plain plain) = Some (plain.method, plain.content.body)
-asked_by (user.Request request) = Some (request.method, request.content.body)
-asked_by _ = None
+abbrev pub request_asked_by : UserCommand → Option (List ℕ × List ℕ)
+request_asked_by (user.Invite invite) = Some (codes "INVITE", invite.content.body)
+request_asked_by (user.Plain plain) = Some (plain.method, plain.content.body)
+request_asked_by (user.Request request) = Some (request.method, request.content.body)
+request_asked_by _ = None
 
 -- In these rounds the user asked for this request: an event was the user's command under its
 -- Call-ID, with its method and its body. Under the id of that event a transaction was to start with
@@ -37,7 +37,7 @@ pub record UserAsked (config : Config) (rounds : List Round) (request : Message)
   pub command : UserCommand
   pub gave : Contains (call_inputs_of config rounds request.call_id)
       (given_at now (event, User command))
-  pub asks : asked_by command ≡ Some (request.cseq.method, request.body)
+  pub asks : request_asked_by command ≡ Some (request.cseq.method, request.body)
   pub key : Key
   pub to : Addr
   pub starts : CallSays config rounds (Command event (Start key request.call_id request to))

@@ -6,5 +6,6 @@ mod laws;
 
 pub use laws::{
     acks_told_were_said, calls_hear_unchanged, datagrams_are_texts_said, messages_come_unchanged,
-    provisionals_told_were_said, requests_told_were_asked_for, responses_told_were_said,
+    pracks_told_were_said, provisionals_told_were_said, requests_told_were_asked_for,
+    responses_told_were_said,
 };
