@@ -110,7 +110,7 @@ pub fn responses_told_were_said(one: Config, other: Config)
 /// In such a conversation, for each request that a user is told of in a turn, the other side's user
 /// gave the command Invite, Plain or Request in the turns before, under the Call-ID that is told,
 /// with the method and the body that are told (INVITE for the command Invite). Under the id of that
-/// command a call started a transaction with a request of that Call-ID, method and body. The
+/// command its call started a transaction with a request of that Call-ID, method and body. The
 /// request has the remote tag in From, and in To the local tag or none.
 pub fn requests_told_were_asked_for(one: Config, other: Config)
     ensures { (turns : List Turn) → Carried (of_sides one other) turns
