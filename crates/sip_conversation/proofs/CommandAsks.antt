@@ -1,13 +1,13 @@
 -- What a call starts is an ACK, a PRACK, a CANCEL, or the request for which a command of its user
 -- asks, under the id of that command.
 use Rattle.std.proofs.Common.{◌≡◌, ℕ, ◌+◌, Bool, true, false, ◌&&◌, ◌||◌, List, [], ◌∷◌, ◌++◌, refl, sym, ap, ◌∙◌, subst}
-use Rattle.std.specs.Prelude.{Option, None, Some, codes, ◌==◌, filter, find, fold, is_some, not, unwrap_or, if◌then◌else◌}
+use Rattle.std.specs.Prelude.{IfSome, Option, None, Some, codes, ◌==◌, filter, find, fold, is_some, length, not, unwrap_or, if◌then◌else◌}
 use Rattle.std.specs.List.{AllByRecursion}
 use Rattle.std.specs.Map.{lookup, remove_entry, set_value}
 use Rattle.std.specs.Option.{option_map_or}
 use Rattle.std.specs.Str.{bytes_eq}
 use Rattle.std.proofs.lemmas.Bool.{false≢true}
-use Rattle.sip_message.specs.Content.{Content, with_content_of}
+use Rattle.sip_message.specs.Content.{Content, content_of_body, with_content_of}
 use Rattle.sip_message.specs.Party.{tag_of}
 use Rattle.sip_message.specs.declared.id.Id.{Id}
 use Rattle.sip_message.specs.declared.key.Key.{Key}
@@ -56,12 +56,13 @@ use Rattle.sip_clients.specs.declared.client.Cancelling.{Cancelling}
 use Rattle.sip_clients.specs.declared.client.Cancelling.TheVariants.{NotAsked, Sent, Waits}
 use Rattle.sip_clients.specs.declared.client.Client.{Client}
 use Rattle.sip_clients.specs.declared.event.Event.{Event}
+use Rattle.sip_clients.proofs.Served.{found_passes}
 use Rattle.sip_calls.specs.Call.{CallItem, call_machine, call_step, event_of, item_of_call, made_tag, new_call, received, side_of}
 use Rattle.sip_calls.specs.declared.call.Call.{Call}
 use Rattle.sip_calls.specs.declared.calls.Calls.{Calls}
 use Rattle.sip_calls.proofs.CallStarts.{tick_silent}
 use Rattle.sip_conversation.specs.Requests.{request_asked_by}
-use Rattle.sip_conversation.proofs.Branches.{either, found_or}
+use Rattle.sip_conversation.proofs.Branches.{either, first_false, first_holds, found_or}
 
 -- the type of what a response is with all that comes up with it
 abbrev Domain : {A B : Type 0} → (A → B) → Type 0
@@ -86,82 +87,6 @@ support_method support.None message = refl
 support_method support.Supported message = refl
 support_method support.Required message = refl
 
--- ---- ACK, PRACK and CANCEL have commands of their own
-
-abbrev IsOwnKind : Client → Type 0
-IsOwnKind client = has_command client.request.cseq.method ≡ true
-
--- only such requests go out by what is pending in a dialog, or by a response
-record IsPaid (done : PendingOutcome) : Type 0 where
-  pub prack : AllByRecursion IsOwnKind done.prack
-  pub outs : starts done.outs ≡ []
-
-sent_paid : (event : Event) (name : DialogId) (pending : PendingRequest) (content : Content)
-    (held : HeldDialog) → IsPaid (pending_sent event name pending content held)
-sent_paid event name (Ack invite cseq) content held = record { prack = tt; outs = refl }
-sent_paid event name (Prack rseq cseq) content held = record {
-  prack = (
-    ap has_command (content_method (bare_request_in held.dialog (codes "PRACK")
-        (held.dialog.local_cseq + 1) (branch_of event) event.local) content),
-    tt,
-  );
-  outs = refl;
-}
-
-outcome_paid : (event : Event) (of : List ℕ) (name : DialogId) (pending : PendingRequest)
-    (content : Option Content) (without_it with_it : HeldDialog)
-    → IsPaid (pending_outcome event of name pending content without_it with_it)
-outcome_paid event of name pending content without_it with_it =
-    found_or IsPaid (pending_with event of name pending without_it with_it) content _
-    (λ content is. found_or IsPaid _
-    (first_refusal (refusals_in without_it.dialog (method_of pending)) None) _
-    (λ refusal refused. record { prack = tt; outs = refl })
-    (λ none. sent_paid event name pending content without_it))
-    (λ none. record { prack = tt; outs = refl })
-
-record IsReplied (done : Outcome) : Type 0 where
-  pub prack : AllByRecursion IsOwnKind done.prack
-  pub outs : starts done.outs ≡ []
-
-asks_replied : (pending : PendingRequest) (reply : Reply) (client : Client)
-    (after : Option SentAck → Client) (held : HeldDialog) (dialogs : Dialogs)
-    → IsReplied (asks_for pending reply client after held dialogs)
-asks_replied pending reply client after held dialogs =
-    let so = outcome_paid reply.event reply.call_id reply.name pending _ held _ in
-    record { prack = so.prack; outs = so.outs }
-
-reliable_replied : (reply : Reply) (client : Client) (dialogs : Dialogs) (held : HeldDialog)
-    (rseq : ℕ) → IsReplied (reliable_response reply client dialogs held rseq)
-reliable_replied reply client dialogs held rseq =
-    let initial = is_initial client in
-    let last = if initial then held.last_rseq else client.last_rseq in
-    let heard : Client = record client { last_rseq = Some rseq } in
-    let hears : HeldDialog = record held { last_rseq = Some rseq } in
-    let after : Option SentAck → Client = λ ack. if initial then client else heard in
-    let dialog : HeldDialog = if initial then hears else held in
-    let prack = Prack rseq client.request.cseq.number in
-    either IsReplied (not (option_map_or (λ last. rseq == last + 1) last true))
-    (kept_outcome client dialogs []) (asks_for prack reply client after dialog dialogs)
-    (λ passed. record { prack = tt; outs = refl })
-    (λ taken. asks_replied prack reply client after dialog dialogs)
-
-dialog_replied : (reply : Reply) (client : Client) (dialogs : Dialogs)
-    → IsReplied (dialog_response reply client dialogs)
-dialog_replied reply client dialogs =
-    let response = reply.response in
-    let held = unwrap_or (lookup (is_dialog_id reply.name) dialogs)
-    (dialog_made_by reply client) in
-    found_or IsReplied (reliable_response reply client dialogs held)
-    (if requires_100rel response then response.rseq else None) _
-    (λ rseq is. reliable_replied reply client dialogs held rseq)
-    (λ none. record { prack = tt; outs = refl })
-
-again_replied : (answer : Option (Option SentAck)) (client : Client) (dialogs : Dialogs)
-    → IsReplied (success_again answer client dialogs)
-again_replied None client dialogs = record { prack = tt; outs = refl }
-again_replied (Some None) client dialogs = record { prack = tt; outs = refl }
-again_replied (Some (Some ack)) client dialogs = record { prack = tt; outs = refl }
-
 over_silent : (client : Client) (ends : Bool) (dialogs : Dialogs)
     → starts (request_over client ends dialogs).1 ≡ []
 over_silent client ends dialogs =
@@ -174,46 +99,154 @@ over_silent client ends dialogs =
     (λ over. ended_starts reference.name early.0) (λ lives. refl))
     (λ none. refl))
 
-outcome_replied : (reply : Reply) (client : Client) (dialogs : Dialogs)
-    → IsReplied (outcome_of reply client dialogs)
-outcome_replied reply client dialogs =
-    let final = is_final reply.status in
-    let answer = lookup (is_dialog_id reply.name) client.answers in
-    let told : Outcome = kept_outcome client dialogs (notice_of reply ∷ []) in
-    let late : Outcome = kept_outcome (accepted reply client None) dialogs (notice_of reply ∷ []) in
-    let is_told = not (has_dialog client dialogs && not (reply.status == 100)
-    && has_to_tag reply.response) in
-    let fifth : Outcome = if is_told then told else dialog_response reply client dialogs in
-    let fourth : Outcome = if final then late else fifth in
-    let third : Outcome = if final && has_dialog client dialogs
-    then first_success reply client dialogs else fourth in
-    let second : Outcome = if final && is_some answer
-    then success_again answer client dialogs else third in
-    either IsReplied (final && not (is_invite_kind client.kind && is_success reply.status))
-    (last_response reply client dialogs) second
-    (λ last. record {
-      prack = tt;
-      outs = over_silent client ((reply.status == 481) || (reply.status == 408)) dialogs;
-    })
-    (λ more. either IsReplied (final && is_some answer) (success_again answer client dialogs)
-    third (λ again. again_replied answer client dialogs)
-    (λ new. either IsReplied (final && has_dialog client dialogs)
-    (first_success reply client dialogs) fourth
-    (λ success. asks_replied (Ack client.id client.request.cseq.number) reply client
-    (accepted reply client)
-    (option_map_or (success_in (is_initial client) reply.response)
-    (lookup (is_dialog_id reply.name) dialogs) (dialog_made_by reply client)) dialogs)
-    (λ none. either IsReplied final late fifth
-    (λ over. record { prack = tt; outs = refl })
-    (λ provisional. either IsReplied is_told told (dialog_response reply client dialogs)
-    (λ other. record { prack = tt; outs = refl })
-    (λ early. dialog_replied reply client dialogs)))))
+no_prack : codes "CANCEL" ≡ codes "PRACK" → ⊥
+no_prack same = absurd cc
 
-module _ (Asks : Id → List ℕ → List ℕ → Type 0) where
-  -- of a request of another kind this is said, of its method and its body, under this id
-  abbrev IsAsked : Id → Message → Type 0
-  IsAsked id request = has_command request.cseq.method ≡ false
-      → Asks id request.cseq.method request.body
+-- ---- ACK, PRACK and CANCEL have commands of their own
+
+-- what is said of the body of each PRACK is true of that without one
+module _ (Pracks : List ℕ → Type 0) (empty : Pracks []) where
+  record IsOwnKind (client : Client) : Type 0 where
+    pub own : has_command client.request.cseq.method ≡ true
+    pub prack : client.request.cseq.method ≡ codes "PRACK" → Pracks client.request.body
+
+  -- of the content with which a pending PRACK goes out
+  abbrev Pays : PendingRequest → Option Content → Type 0
+  Pays (Ack invite cseq) content = Unit {0}
+  Pays (Prack rseq cseq) content = IfSome content (λ c. Pracks c.body)
+
+  -- only such requests go out by what is pending in a dialog, or by a response
+  record IsPaid (done : PendingOutcome) : Type 0 where
+    pub prack : AllByRecursion IsOwnKind done.prack
+    pub outs : starts done.outs ≡ []
+
+  sent_paid : (event : Event) (name : DialogId) (pending : PendingRequest) (content : Content)
+      (held : HeldDialog) → Pays pending (Some content)
+      → IsPaid (pending_sent event name pending content held)
+  sent_paid event name (Ack invite cseq) content held pays = record { prack = tt; outs = refl }
+  sent_paid event name (Prack rseq cseq) content held pays =
+      let bare = bare_request_in held.dialog (codes "PRACK") (held.dialog.local_cseq + 1)
+      (branch_of event) event.local in
+      record {
+        prack = (
+          record {
+            own = ap has_command (content_method bare content);
+            prack = λ is. subst Pracks (sym (content_body bare content)) pays;
+          },
+          tt,
+        );
+        outs = refl;
+      }
+
+  outcome_paid : (event : Event) (of : List ℕ) (name : DialogId) (pending : PendingRequest)
+      (content : Option Content) (without_it with_it : HeldDialog) → Pays pending content
+      → IsPaid (pending_outcome event of name pending content without_it with_it)
+  outcome_paid event of name pending content without_it with_it pays =
+      found_or IsPaid (pending_with event of name pending without_it with_it) content _
+      (λ one is. found_or IsPaid _
+      (first_refusal (refusals_in without_it.dialog (method_of pending)) None) _
+      (λ refusal refused. record { prack = tt; outs = refl })
+      (λ none. sent_paid event name pending one without_it (subst (Pays pending) is pays)))
+      (λ none. record { prack = tt; outs = refl })
+
+  record IsReplied (done : Outcome) : Type 0 where
+    pub prack : AllByRecursion IsOwnKind done.prack
+    pub outs : starts done.outs ≡ []
+
+  agent_pays : (pending : PendingRequest) → Pays pending (Some (content_of_body []))
+  agent_pays (Ack invite cseq) = tt
+  agent_pays (Prack rseq cseq) = empty
+
+  nothing_pays : (pending : PendingRequest) → Pays pending None
+  nothing_pays (Ack invite cseq) = tt
+  nothing_pays (Prack rseq cseq) = tt
+
+  asks_replied : (pending : PendingRequest) (reply : Reply) (client : Client)
+      (after : Option SentAck → Client) (held : HeldDialog) (dialogs : Dialogs)
+      → IsReplied (asks_for pending reply client after held dialogs)
+  asks_replied pending reply client after held dialogs =
+      let at_once = not (length client.request.body == 0) || (length reply.response.body == 0) in
+      let content : Option Content = if at_once then Some (content_of_body []) else None in
+      let so = outcome_paid reply.event reply.call_id reply.name pending content held _
+      (either (Pays pending) at_once (Some (content_of_body [])) None (λ is. agent_pays pending)
+      (λ waits. nothing_pays pending)) in
+      record { prack = so.prack; outs = so.outs }
+
+  reliable_replied : (reply : Reply) (client : Client) (dialogs : Dialogs) (held : HeldDialog)
+      (rseq : ℕ) → IsReplied (reliable_response reply client dialogs held rseq)
+  reliable_replied reply client dialogs held rseq =
+      let initial = is_initial client in
+      let last = if initial then held.last_rseq else client.last_rseq in
+      let heard : Client = record client { last_rseq = Some rseq } in
+      let hears : HeldDialog = record held { last_rseq = Some rseq } in
+      let after : Option SentAck → Client = λ ack. if initial then client else heard in
+      let dialog : HeldDialog = if initial then hears else held in
+      let prack = Prack rseq client.request.cseq.number in
+      either IsReplied (not (option_map_or (λ last. rseq == last + 1) last true))
+      (kept_outcome client dialogs []) (asks_for prack reply client after dialog dialogs)
+      (λ passed. record { prack = tt; outs = refl })
+      (λ taken. asks_replied prack reply client after dialog dialogs)
+
+  dialog_replied : (reply : Reply) (client : Client) (dialogs : Dialogs)
+      → IsReplied (dialog_response reply client dialogs)
+  dialog_replied reply client dialogs =
+      let response = reply.response in
+      let held = unwrap_or (lookup (is_dialog_id reply.name) dialogs)
+      (dialog_made_by reply client) in
+      found_or IsReplied (reliable_response reply client dialogs held)
+      (if requires_100rel response then response.rseq else None) _
+      (λ rseq is. reliable_replied reply client dialogs held rseq)
+      (λ none. record { prack = tt; outs = refl })
+
+  again_replied : (answer : Option (Option SentAck)) (client : Client) (dialogs : Dialogs)
+      → IsReplied (success_again answer client dialogs)
+  again_replied None client dialogs = record { prack = tt; outs = refl }
+  again_replied (Some None) client dialogs = record { prack = tt; outs = refl }
+  again_replied (Some (Some ack)) client dialogs = record { prack = tt; outs = refl }
+
+  outcome_replied : (reply : Reply) (client : Client) (dialogs : Dialogs)
+      → IsReplied (outcome_of reply client dialogs)
+  outcome_replied reply client dialogs =
+      let final = is_final reply.status in
+      let answer = lookup (is_dialog_id reply.name) client.answers in
+      let told : Outcome = kept_outcome client dialogs (notice_of reply ∷ []) in
+      let late : Outcome = kept_outcome (accepted reply client None) dialogs (notice_of reply ∷ []) in
+      let is_told = not (has_dialog client dialogs && not (reply.status == 100)
+      && has_to_tag reply.response) in
+      let fifth : Outcome = if is_told then told else dialog_response reply client dialogs in
+      let fourth : Outcome = if final then late else fifth in
+      let third : Outcome = if final && has_dialog client dialogs
+      then first_success reply client dialogs else fourth in
+      let second : Outcome = if final && is_some answer
+      then success_again answer client dialogs else third in
+      either IsReplied (final && not (is_invite_kind client.kind && is_success reply.status))
+      (last_response reply client dialogs) second
+      (λ last. record {
+        prack = tt;
+        outs = over_silent client ((reply.status == 481) || (reply.status == 408)) dialogs;
+      })
+      (λ more. either IsReplied (final && is_some answer) (success_again answer client dialogs)
+      third (λ again. again_replied answer client dialogs)
+      (λ new. either IsReplied (final && has_dialog client dialogs)
+      (first_success reply client dialogs) fourth
+      (λ success. asks_replied (Ack client.id client.request.cseq.number) reply client
+      (accepted reply client)
+      (option_map_or (success_in (is_initial client) reply.response)
+      (lookup (is_dialog_id reply.name) dialogs) (dialog_made_by reply client)) dialogs)
+      (λ none. either IsReplied final late fifth
+      (λ over. record { prack = tt; outs = refl })
+      (λ provisional. either IsReplied is_told told (dialog_response reply client dialogs)
+      (λ other. record { prack = tt; outs = refl })
+      (λ early. dialog_replied reply client dialogs)))))
+
+module _ (Asks : Id → List ℕ → List ℕ → Type 0) (Pracks : List ℕ → Type 0)
+    (empty : Pracks []) where
+  -- of a request of another kind this is said, of its method and its body, under this id; and that
+  -- of the body of a PRACK
+  pub record IsAsked (id : Id) (request : Message) : Type 0 where
+    pub asks : has_command request.cseq.method ≡ false
+        → Asks id request.cseq.method request.body
+    pub pracks : request.cseq.method ≡ codes "PRACK" → Pracks request.body
 
   abbrev pub OutAsks : CallOut → Type 0
   OutAsks (out.Notice notice) = Unit {0}
@@ -240,20 +273,31 @@ module _ (Asks : Id → List ℕ → List ℕ → Type 0) where
   abbrev Asked : Client → Type 0
   Asked client = IsAsked client.id client.request
 
-  own_asked : (client : Client) → IsOwnKind client → Asked client
-  own_asked client own other = absurd (false≢true (sym other ∙ own))
+  own_asked : (client : Client) → IsOwnKind Pracks empty client → Asked client
+  own_asked client its = record {
+    asks = λ other. absurd (false≢true (sym other ∙ its.own));
+    pracks = its.prack;
+  }
 
-  all_asked : (clients : List Client) → AllByRecursion IsOwnKind clients
+  cancel_asked : (id : Id) (invite : Client) → Asked (cancel_request id invite)
+  cancel_asked id invite = record {
+    asks = λ other. absurd (false≢true (sym other));
+    pracks = λ is. absurd (no_prack is);
+  }
+
+  all_asked : (clients : List Client) → AllByRecursion (IsOwnKind Pracks empty) clients
       → AllByRecursion Asked clients
   all_asked [] all = tt
   all_asked (client ∷ clients) all = (own_asked client all.0, all_asked clients all.1)
 
   asked_so : (id : Id) (method body : List ℕ) (request : Message)
-      → request.cseq.method ≡ method → request.body ≡ body → Asks id method body
-      → IsAsked id request
-  asked_so id method body request method_is body_is asks other =
-      subst (λ m. Asks id m request.body) (sym method_is)
-      (subst (Asks id method) (sym body_is) asks)
+      → request.cseq.method ≡ method → request.body ≡ body → has_command method ≡ false
+      → Asks id method body → IsAsked id request
+  asked_so id method body request method_is body_is plain asks = record {
+    asks = λ other. subst (λ m. Asks id m request.body) (sym method_is)
+        (subst (Asks id method) (sym body_is) asks);
+    pracks = λ is. absurd (false≢true (sym plain ∙ ap has_command (sym method_is ∙ is)));
+  }
 
   starts_say : (clients : List Client) (done : Clients × List CallOut) → Say done.1
       → AllByRecursion Asked clients → Say (fold start done clients).1
@@ -275,7 +319,7 @@ module _ (Asks : Id → List ℕ → List ℕ → Type 0) where
         asked_so event.id (codes "INVITE") invite.content.body
             (with_content_of supporting invite.content)
             (content_method supporting invite.content ∙ support_method invite.support contact)
-            (content_body supporting invite.content) asks,
+            (content_body supporting invite.content) refl asks,
         tt,
       )
 
@@ -286,13 +330,16 @@ module _ (Asks : Id → List ℕ → List ℕ → Type 0) where
   plain_says event plain clients asks =
       let outside = request_outside event plain.call_id plain.method plain.request_uri plain.from
       plain.to plain.routes in
-      either (λ (done : Clients × List CallOut). Say done.1)
-      (has_command plain.method || bytes_eq plain.method (codes "INVITE")
-      || bytes_eq plain.method (codes "BYE")) _ _ (λ bad. (tt, tt))
+      let first = has_command plain.method in
+      let second = bytes_eq plain.method (codes "INVITE") in
+      let third = bytes_eq plain.method (codes "BYE") in
+      either (λ (done : Clients × List CallOut). Say done.1) (first || second || third) _ _
+      (λ bad. (tt, tt))
       (λ good. (
         asked_so event.id plain.method plain.content.body
             (with_content_of outside plain.content) (content_method outside plain.content)
-            (content_body outside plain.content) asks,
+            (content_body outside plain.content)
+            (first_false first second (first_false (first || second) third good)) asks,
         tt,
       ))
 
@@ -311,20 +358,23 @@ module _ (Asks : Id → List ℕ → List ℕ → Type 0) where
       let dialogs = set_value (is_dialog_id name) side.dialogs (with_number held) in
       let bare = bare_request_in held.dialog method (held.dialog.local_cseq + 1)
       (branch_of event) event.local in
-      let says : Say sent.1 = (
+      let says : has_command method ≡ false → Say sent.1 = λ plain. (
         asked_so event.id method command.content.body
             (request_with_next_number event name method None command.content held).request
-            (content_method bare command.content) (content_body bare command.content) asks,
+            (content_method bare command.content) (content_body bare command.content) plain asks,
         tt,
       ) in
       found_or SideSays _
       (first_refusal ((has_command method, BadMethod) ∷ refusals_in held.dialog method) None) _
       (λ refusal refused. (tt, tt))
-      (λ none. either (λ (ended : Dialogs × List CallOut). Say (sent.1 ++ ended.1))
+      (λ none.
+      let plain =
+      first_holds (has_command method) BadMethod (refusals_in held.dialog method) none in
+      either (λ (ended : Dialogs × List CallOut). Say (sent.1 ++ ended.1))
       (bytes_eq method (codes "BYE")) (ended_at name dialogs) (dialogs, [])
-      (λ bye. both OutAsks sent.1 (ended_at name dialogs).1 says
+      (λ bye. both OutAsks sent.1 (ended_at name dialogs).1 (says plain)
       (silent (ended_at name dialogs).1 (ended_starts name dialogs)))
-      (λ other. both OutAsks sent.1 [] says tt))
+      (λ other. both OutAsks sent.1 [] (says plain) tt))
 
   request_says : (event : Event) (command : DialogRequest) (side : Side)
       → Asks event.id command.method command.content.body
@@ -338,36 +388,56 @@ module _ (Asks : Id → List ℕ → List ℕ → Type 0) where
 
   by_user_says : (event : Event) (command : DialogBody) (side : Side) (name : DialogId)
       (held : HeldDialog) (pending : PendingRequest)
+      → Pays Pracks empty pending (Some command.content)
       → SideSays (pending_by_user event command side name held pending)
-  by_user_says event command side name held pending =
+  by_user_says event command side name held pending pays =
       let others = filter (λ other. not (is_same_pending pending other)) held.pending_requests in
       let without_it : HeldDialog = record held { pending_requests = others } in
       let content = Some command.content in
       let done = pending_outcome event command.call_id name pending content without_it held in
-      let so = outcome_paid event command.call_id name pending content without_it held in
+      let so = outcome_paid Pracks empty event command.call_id name pending content without_it
+      held pays in
       starts_say done.prack (ack_kept pending name done.ack side.clients, done.outs)
       (silent done.outs so.outs) (all_asked done.prack so.prack)
 
   pending_says : (method : List ℕ) (nothing : Refusal) (event : Event) (command : DialogBody)
-      (side : Side) → SideSays (pending_command method nothing event command side)
-  pending_says method nothing event command side =
+      (side : Side)
+      → ((pending : PendingRequest) → bytes_eq (method_of pending) method ≡ true
+      → Pays Pracks empty pending (Some command.content))
+      → SideSays (pending_command method nothing event command side)
+  pending_says method nothing event command side pays =
       let name = dialog_id_of_tags (tag_text command.local_tag) (tag_text command.remote_tag) in
+      let fits : PendingRequest → Bool = λ pending. bytes_eq (method_of pending) method in
       found_or SideSays (oldest_pending method nothing event command side name)
       (lookup (is_dialog_id name) side.dialogs) _
       (λ held is. found_or SideSays (pending_by_user event command side name held)
-      (find (λ pending. bytes_eq (method_of pending) method) held.pending_requests) _
-      (λ pending found. by_user_says event command side name held pending) (λ none. (tt, tt)))
+      (find fits held.pending_requests) _
+      (λ pending found. by_user_says event command side name held pending
+      (pays pending (found_passes fits held.pending_requests pending found)))
+      (λ none. (tt, tt)))
       (λ none. (tt, tt))
 
   ack_says : (event : Event) (command : DialogBody) (side : Side)
       → SideSays (ack_command event command side)
   unfolding ack_command
-  ack_says event command side = pending_says (codes "ACK") NothingToAck event command side
+  ack_says event command side =
+      pending_says (codes "ACK") NothingToAck event command side pays
+    where
+      pays : (pending : PendingRequest) → bytes_eq (method_of pending) (codes "ACK") ≡ true
+          → Pays Pracks empty pending (Some command.content)
+      pays (Ack invite cseq) is = tt
+      pays (Prack rseq cseq) is = absurd (false≢true is)
 
   prack_says : (event : Event) (command : DialogBody) (side : Side)
-      → SideSays (prack_command event command side)
+      → Pracks command.content.body → SideSays (prack_command event command side)
   unfolding prack_command
-  prack_says event command side = pending_says (codes "PRACK") NothingToPrack event command side
+  prack_says event command side asks =
+      pending_says (codes "PRACK") NothingToPrack event command side pays
+    where
+      pays : (pending : PendingRequest) → bytes_eq (method_of pending) (codes "PRACK") ≡ true
+          → Pays Pracks empty pending (Some command.content)
+      pays (Ack invite cseq) is = tt
+      pays (Prack rseq cseq) is = asks
 
   -- ---- CANCEL
 
@@ -390,7 +460,7 @@ module _ (Asks : Id → List ℕ → List ℕ → Type 0) where
       (refuse event command.call_id side AlreadyFinal) asked (λ final. (tt, tt))
       (λ still. either SideSays (is_asked invite.cancel) (side, []) first (λ again. tt)
       (λ none. either (λ (done : Clients × List CallOut). Say done.1) invite.provisional started
-      waits (λ came. (own_asked cancels refl, tt)) (λ none. tt))))
+      waits (λ came. (cancel_asked event.id invite, tt)) (λ none. tt))))
 
   cancel_says : (event : Event) (command : Cancel) (side : Side)
       → SideSays (cancel_command event command side)
@@ -427,7 +497,7 @@ module _ (Asks : Id → List ℕ → List ℕ → Type 0) where
       let done = outcome_of reply after side.dialogs in
       let clients : Clients = option_map_or (set_value (is_id id) side.clients) done.request
       (remove_entry (is_id id) side.clients) in
-      let so = outcome_replied reply after side.dialogs in
+      let so = outcome_replied Pracks empty reply after side.dialogs in
       starts_say (done.prack ++ cancels) (clients, done.outs) (silent done.outs so.outs)
       (both Asked done.prack cancels (all_asked done.prack so.prack)
       (either (AllByRecursion Asked) final []
@@ -435,7 +505,7 @@ module _ (Asks : Id → List ℕ → List ℕ → Type 0) where
       (λ final. tt)
       (λ provisional. found_or (AllByRecursion Asked)
       (λ asked_by. cancel_request asked_by client ∷ []) waiting []
-      (λ asked_by is. (own_asked (cancel_request asked_by client) refl, tt)) (λ none. tt))))
+      (λ asked_by is. (cancel_asked asked_by client, tt)) (λ none. tt))))
 
   received_says : (event : Event) (id : Id) (of : List ℕ) (response : Message) (side : Side)
       → SideSays (response_received event id of response side)
@@ -476,6 +546,7 @@ module _ (Asks : Id → List ℕ → List ℕ → Type 0) where
 
   -- this is said of the request for which a command asks
   abbrev CommandAsks : Id → UserCommand → Type 0
+  CommandAsks id (user.Prack prack) = Pracks prack.content.body
   CommandAsks id command = (method body : List ℕ) → request_asked_by command ≡ Some (method, body)
       → Asks id method body
 
@@ -505,7 +576,7 @@ module _ (Asks : Id → List ℕ → List ℕ → Type 0) where
       (respond_same call.served event.id respond event.moment)
       ∙ respond_starts call.served event.id respond event.moment)
   command_says call event (user.Ack ack) asks = ack_says event ack (side_of call)
-  command_says call event (user.Prack prack) asks = prack_says event prack (side_of call)
+  command_says call event (user.Prack prack) asks = prack_says event prack (side_of call) asks
   command_says call event (user.Cancel cancel) asks = cancel_says event cancel (side_of call)
 
   abbrev pub InputAsks : Option CallItem → Type 0

@@ -31,7 +31,7 @@ use Rattle.sip_conversation.specs.Acks.{AcksToldWereSaid, SaidAck}
 use Rattle.sip_conversation.specs.Conversation.{Carried, Side, Turn, given_by, peer, rounds_of}
 use Rattle.sip_conversation.specs.Messages.{CallsKeepRules, IsSaid, come_from}
 use Rattle.sip_conversation.specs.Requests.{RequestsToldWereAskedFor, SaidRequest}
-use Rattle.sip_conversation.specs.ToldPracks.{PracksToldWereSaid, SaidPrackOf}
+use Rattle.sip_conversation.specs.ToldPracks.{IsPracked, PracksToldWereSaid, SaidPrackOf}
 use Rattle.sip_conversation.proofs.Among.{all_go}
 use Rattle.sip_conversation.proofs.Fronts.{carried_to, keeps_to, peer_rounds}
 use Rattle.sip_conversation.proofs.GivenTold.{notice_given}
@@ -39,7 +39,7 @@ use Rattle.sip_conversation.proofs.HeardUps.{Came, InputHeard, all_heard}
 use Rattle.sip_conversation.proofs.NoticesTold.{InputTells, IsOther, RequestTells, UpTells, all_tell}
 use Rattle.sip_conversation.proofs.OneTransaction.{KindCame}
 use Rattle.sip_conversation.proofs.RepliesSaid.{IsFair}
-use Rattle.sip_conversation.proofs.RequestsAsked.{user_asked}
+use Rattle.sip_conversation.proofs.RequestsAsked.{user_asked, user_pracked}
 use Rattle.sip_conversation.proofs.UpMethods.{HasMethod}
 
 -- ---- a request as it came, and as it was said
@@ -160,19 +160,26 @@ module _ (configs : Side → Config) (fair : IsFair configs) (before : List Turn
               (local_or_none request made);
           body_is = same.body;
         };
-        prack = λ prack rack has invite. record {
-          original = original;
-          said = said;
-          rules = comes.rules;
-          is_request = same.is_request;
-          call_id_is = same.call_id ∙ its;
-          method_is = same.method
-              ∙ (bytes_eq-Decides request.cseq.method (codes "PRACK")).0 prack;
-          rack = rack;
-          has_rack = same.rack ∙ has;
-          rseq_is = refl;
-          body_is = same.body;
-        };
+        prack = λ prack rack has invite.
+            let method = same.method
+            ∙ (bytes_eq-Decides request.cseq.method (codes "PRACK")).0 prack in
+            let call = same.call_id ∙ its in
+            record {
+              original = original;
+              said = said;
+              rules = comes.rules;
+              is_request = same.is_request;
+              call_id_is = call;
+              method_is = method;
+              rack = rack;
+              has_rack = same.rack ∙ has;
+              rseq_is = refl;
+              body_is = same.body;
+              by = subst (λ of. IsPracked (configs other) (rounds_of other before) of request.body)
+                  call (subst (IsPracked (configs other) (rounds_of other before) original.call_id)
+                  same.body (user_pracked (configs other) (rounds_of other before)
+                  (fair.calls other) original said comes.rules same.is_request method));
+            };
       }
 
   ack_said : (ack : Message) → Came configs front turn.side ack → ack.cseq.method ≡ codes "ACK"
