@@ -39,3 +39,10 @@ pub mod RackedCalls
 pub mod ClientsSent
 pub mod PracksFollow
 pub mod FirstTold
+pub mod CommandAsks
+pub mod GivenTold
+pub mod HeardUps
+pub mod RequestsAsked
+pub mod RequestsSaid
+pub mod UpMethods
+pub mod NoticesTold

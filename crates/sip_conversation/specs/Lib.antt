@@ -5,3 +5,6 @@ pub mod Messages
 pub mod Pracks
 pub mod Provisionals
 pub mod Replies
+pub mod Requests
+pub mod Acks
+pub mod ToldPracks

@@ -2,12 +2,15 @@
 
 ghost use Rattle.std.specs.Prelude.{List};
 ghost use Rattle.sip_message.specs.Addr.{IsAddr};
+ghost use Rattle.sip_conversation.specs.Acks.{AcksToldWereSaid};
 ghost use Rattle.sip_conversation.specs.Conversation.{Carried, Turn, of_sides};
 ghost use Rattle.sip_conversation.specs.Datagrams.{DatagramsAreTextsSaid};
 ghost use Rattle.sip_conversation.specs.Messages.{CallsHearUnchanged, CallsKeepRules, MessagesComeUnchanged};
 ghost use Rattle.sip_conversation.specs.Pracks.{PracksFollowResponses, TheFirstIsToldFirst};
 ghost use Rattle.sip_conversation.specs.Provisionals.{ProvisionalsToldAsSaid};
 ghost use Rattle.sip_conversation.specs.Replies.{ResponsesToldWereSaid};
+ghost use Rattle.sip_conversation.specs.Requests.{RequestsToldWereAskedFor};
+ghost use Rattle.sip_conversation.specs.ToldPracks.{PracksToldWereSaid};
 
 use sip_calls::Calls;
 use sip_message::Addr;
@@ -152,6 +155,65 @@ pub fn the_first_is_told_first(one: Config, other: Config)
     laws_of_phases(&calls_of_other);
     provisionals_in_each_life(&one);
     provisionals_in_each_life(&other);
+}
+
+/// In such a conversation, for each request that a user is told of in a turn, the other side's user
+/// gave the command Invite, Plain or Request in the turns before, under the Call-ID that is told,
+/// with the method and the body that are told (INVITE for the command Invite). Under the id of that
+/// command its call started a transaction with a request of that Call-ID, method and body. The
+/// request has the remote tag in From, and in To the local tag or none.
+pub fn requests_told_were_asked_for(one: Config, other: Config)
+    ensures { (turns : List Turn) → Carried (of_sides one other) turns
+        → CallsKeepRules (of_sides one other) turns
+        → RequestsToldWereAskedFor (of_sides one other) turns }
+{
+    numbers_fit(one.local);
+    numbers_fit(other.local);
+    let (local, seed) = (one.local, one.seed);
+    let calls_of_one = Calls { local, seed };
+    let (local, seed) = (other.local, other.seed);
+    let calls_of_other = Calls { local, seed };
+    laws_of_phases(&Transactions);
+    laws_of_phases(&calls_of_one);
+    laws_of_phases(&calls_of_other);
+}
+
+/// In such a conversation, for each ACK that a user is told of in a turn, the other side said an
+/// ACK with that body in the turns before (RFC 3261, section 13.2.2.4).
+pub fn acks_told_were_said(one: Config, other: Config)
+    ensures { (turns : List Turn) → Carried (of_sides one other) turns
+        → CallsKeepRules (of_sides one other) turns
+        → AcksToldWereSaid (of_sides one other) turns }
+{
+    numbers_fit(one.local);
+    numbers_fit(other.local);
+    let (local, seed) = (one.local, one.seed);
+    let calls_of_one = Calls { local, seed };
+    let (local, seed) = (other.local, other.seed);
+    let calls_of_other = Calls { local, seed };
+    laws_of_phases(&Transactions);
+    laws_of_phases(&calls_of_one);
+    laws_of_phases(&calls_of_other);
+}
+
+/// In such a conversation, for each PRACK that a user is told of in a turn, the other side said a
+/// PRACK of that Call-ID in the turns before, with that body, and with the RSeq that is told in RAck
+/// (RFC 3262, section 7.2). Its user gave the command Prack under that Call-ID with that body, or
+/// there is no body: such a PRACK may be the agent's own.
+pub fn pracks_told_were_said(one: Config, other: Config)
+    ensures { (turns : List Turn) → Carried (of_sides one other) turns
+        → CallsKeepRules (of_sides one other) turns
+        → PracksToldWereSaid (of_sides one other) turns }
+{
+    numbers_fit(one.local);
+    numbers_fit(other.local);
+    let (local, seed) = (one.local, one.seed);
+    let calls_of_one = Calls { local, seed };
+    let (local, seed) = (other.local, other.seed);
+    let calls_of_other = Calls { local, seed };
+    laws_of_phases(&Transactions);
+    laws_of_phases(&calls_of_one);
+    laws_of_phases(&calls_of_other);
 }
 
 fn numbers_fit(address: Addr)

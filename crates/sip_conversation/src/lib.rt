@@ -5,7 +5,7 @@
 mod laws;
 
 pub use laws::{
-    calls_hear_unchanged, datagrams_are_texts_said, messages_come_unchanged,
-    pracks_follow_responses, provisionals_told_were_said, responses_told_were_said,
-    the_first_is_told_first,
+    acks_told_were_said, calls_hear_unchanged, datagrams_are_texts_said, messages_come_unchanged,
+    pracks_follow_responses, pracks_told_were_said, provisionals_told_were_said,
+    requests_told_were_asked_for, responses_told_were_said, the_first_is_told_first,
 };

@@ -1,0 +1,58 @@
+-- A PRACK that a user is told of is one that the other side said before.
+use Rattle.std.specs.Prelude.{◌≡◌, ℕ, true, List, [], ◌∷◌, ◌++◌, Contains, Some, codes}
+use Rattle.sip_message.specs.declared.id.Id.{Id}
+use Rattle.sip_message.specs.declared.message.Message.{Message}
+use Rattle.sip_message.specs.declared.rack.RAck.{RAck}
+use Rattle.sip_message.specs.Message.{is_request_message}
+use Rattle.sip_message.specs.Rules.{IsMessage}
+use Rattle.sip_model.specs.Machine.{given_at}
+use Rattle.sip_common.specs.declared.command.DialogBody.{DialogBody}
+use Rattle.sip_common.specs.declared.command.UserCommand.TheVariants as user
+use Rattle.sip_common.specs.declared.item.Item.TheVariants.{User}
+use Rattle.sip_common.specs.declared.notice.Notice.TheVariants.{Prack}
+use Rattle.sip_round.specs.declared.config.Config.{Config}
+use Rattle.sip_round.specs.declared.output.Output.TheVariants.{Notice}
+use Rattle.sip_round.specs.declared.round.Round.{Round}
+use Rattle.sip_round.specs.Laws.{call_inputs_of}
+use Rattle.sip_conversation.specs.Conversation.{Side, Turn, given_by, peer, rounds_of}
+use Rattle.sip_conversation.specs.Messages.{IsSaid}
+
+-- in these rounds the user gave the command Prack under this Call-ID, with this body
+pub record UserPracked (config : Config) (rounds : List Round) (call_id body : List ℕ) : Type 0
+  where
+    pub event : Id
+    pub now : ℕ
+    pub command : DialogBody
+    pub gave : Contains (call_inputs_of config rounds call_id)
+        (given_at now (event, User (user.Prack command)))
+    pub body_is : command.content.body ≡ body
+
+-- a PRACK with this body is the user's, or the agent's own, without a body
+pub data IsPracked (config : Config) (rounds : List Round) (call_id body : List ℕ) : Type 0 where
+  ByUser : UserPracked config rounds call_id body → IsPracked config rounds call_id body
+  ByAgent : body ≡ [] → IsPracked config rounds call_id body
+
+-- In these turns the other side said a PRACK with this Call-ID and this body, and with this RSeq in
+-- RAck (RFC 3262, section 7.2): its user's or its own.
+pub record SaidPrackOf (configs : Side → Config) (turns : List Turn) (side : Side)
+    (call_id : List ℕ) (rseq : ℕ) (body : List ℕ) : Type 0 where
+  pub original : Message
+  pub said : IsSaid (configs (peer side)) (rounds_of (peer side) turns) original
+  pub rules : IsMessage original
+  pub is_request : is_request_message original ≡ true
+  pub call_id_is : original.call_id ≡ call_id
+  pub method_is : original.cseq.method ≡ codes "PRACK"
+  pub rack : RAck
+  pub has_rack : original.rack ≡ Some rack
+  pub rseq_is : rack.rseq ≡ rseq
+  pub body_is : original.body ≡ body
+  pub by : IsPracked (configs (peer side)) (rounds_of (peer side) turns) call_id body
+
+-- so is each PRACK that the user of a turn's side is told of, up to the turn's end
+abbrev pub PracksToldWereSaid : (Side → Config) → List Turn → Type 0
+PracksToldWereSaid configs turns =
+    (before after : List Turn) (turn : Turn) → turns ≡ before ++ turn ∷ after
+    → (call_id : List ℕ) (id : Id) (rseq : ℕ) (body : List ℕ)
+    → Contains (given_by configs (before ++ turn ∷ []) turn.side)
+    (Notice (Prack call_id id rseq body))
+    → SaidPrackOf configs before turn.side call_id rseq body
