@@ -1,5 +1,5 @@
--- What a call starts is an ACK, a PRACK, a CANCEL, or the request for which a command of its user
--- asks, under the id of that command.
+-- What a call starts is a CANCEL, a PRACK without a body, or the request for which a command of its
+-- user asks, under the id of that command; a PRACK may have the body of its command.
 use Rattle.std.proofs.Common.{◌≡◌, ℕ, ◌+◌, Bool, true, false, ◌&&◌, ◌||◌, List, [], ◌∷◌, ◌++◌, refl, sym, ap, ◌∙◌, subst}
 use Rattle.std.specs.Prelude.{IfSome, Option, None, Some, codes, ◌==◌, filter, find, fold, is_some, length, not, unwrap_or, if◌then◌else◌}
 use Rattle.std.specs.List.{AllByRecursion}
