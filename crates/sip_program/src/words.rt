@@ -489,10 +489,10 @@ fn call_command<'a>(alloc: Global) -> Result<Command<'a>, AllocError> {
     Command::new(alloc, "call")
         .about(
             "Calls a URI over UDP, hangs up after the answer, and exits after --turns or \
-            --seconds; without these, 32 seconds after the final response. Prints a line for \
-            each notice. When standard input ends, it ends its call and exits within a second. \
-            A terminal, or an input that is empty from the start, is ignored. Through bin/ua, \
-            Ctrl-C ends the input",
+            --seconds; without these, 32 seconds after the final response, or later with a long \
+            --hold. Prints a line for each notice. When standard input ends, it ends its call and \
+            exits within a second. A terminal, or an input that is empty from the start, is \
+            ignored. Through bin/ua, Ctrl-C ends the input",
         )
         .after_help(CALL_EXAMPLE)
         .arg(local_argument(alloc))?
