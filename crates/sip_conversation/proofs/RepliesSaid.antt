@@ -5,7 +5,6 @@ use Rattle.std.specs.List.{AllByRecursion, flat_map}
 use Rattle.std.proofs.lemmas.Cmp.{nat_list_cmp_total}
 use Rattle.sip_message.specs.declared.id.Id.{Id}
 use Rattle.sip_message.specs.declared.message.Message.{Message}
-use Rattle.sip_message.specs.Key.{key_cmp}
 use Rattle.sip_message.specs.Party.{tag_of}
 use Rattle.sip_model.specs.Laws.{EachKeyAlone}
 use Rattle.sip_model.specs.Machine.{Timed, tick_at}
@@ -15,7 +14,6 @@ use Rattle.sip_transactions.specs.declared.output.Kind.TheVariants as kind
 use Rattle.sip_transactions.specs.declared.output.Out.{Out}
 use Rattle.sip_transactions.specs.declared.output.Out.TheVariants as out
 use Rattle.sip_transactions.specs.declared.output.Up.{Up as AnUp}
-use Rattle.sip_transactions.specs.Machine.{transaction_machine}
 use Rattle.sip_common.specs.declared.item.CallOut.{CallOut}
 use Rattle.sip_common.specs.declared.item.CallOut.TheVariants as call_out
 use Rattle.sip_common.specs.declared.item.Item.TheVariants.{Up, User}
@@ -32,10 +30,10 @@ use Rattle.sip_round.specs.Given.{all_given, is_notice_of, notice_in}
 use Rattle.sip_round.specs.Laws.{call_inputs_of, said_of, said_of_call}
 use Rattle.sip_round.proofs.GivenNotices.{notices_given}
 use Rattle.sip_round.proofs.Said.{call_alone}
-use Rattle.sip_message.specs.Addr.{IsAddr}
 use Rattle.sip_conversation.specs.Conversation.{Carried, Side, Turn, peer, rounds_of}
 use Rattle.sip_conversation.specs.Messages.{CallsKeepRules, ComesUnchanged, IsSaid}
 use Rattle.sip_conversation.specs.Answers.{IsAnswered}
+pub use Rattle.sip_conversation.specs.Fair.{IsFair}
 use Rattle.sip_conversation.specs.Replies.{IsStartedFor, ResponsesToldWereSaid, SaidResponse, ToldResponse}
 use Rattle.sip_conversation.proofs.Among.{all_both, all_go, among_kept, each_of}
 use Rattle.sip_conversation.proofs.Answered.{AllCame, IsAnswer, answered}
@@ -91,12 +89,6 @@ module _ (Tells : List ℕ → Id → ℕ → List ℕ → List ℕ → List ℕ
       (is_at_itself nat_list_cmp_total call_id)))
 
 -- ---- what comes from the other side
-
--- both sides of a conversation, up to a turn
-pub record IsFair (configs : Side → Config) : Type 0 where
-  pub addresses : (s : Side) → IsAddr (configs s).local
-  pub transactions : EachKeyAlone key_cmp transaction_machine tick_at
-  pub calls : (s : Side) → EachKeyAlone call_cmp (call_machine (calls_of (configs s))) tick_at
 
 module _ (configs : Side → Config) (fair : IsFair configs) (before : List Turn) (turn : Turn)
     (carried : Carried configs before) (keep : CallsKeepRules configs before) where

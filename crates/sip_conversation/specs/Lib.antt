@@ -1,6 +1,7 @@
 pub mod Answers
 pub mod Conversation
 pub mod Datagrams
+pub mod Fair
 pub mod Messages
 pub mod Pracks
 pub mod Provisionals

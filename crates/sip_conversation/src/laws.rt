@@ -5,6 +5,7 @@ ghost use Rattle.sip_message.specs.Addr.{IsAddr};
 ghost use Rattle.sip_conversation.specs.Acks.{AcksToldWereSaid};
 ghost use Rattle.sip_conversation.specs.Conversation.{Carried, Turn, of_sides};
 ghost use Rattle.sip_conversation.specs.Datagrams.{DatagramsAreTextsSaid};
+ghost use Rattle.sip_conversation.specs.Fair.{IsFair};
 ghost use Rattle.sip_conversation.specs.Messages.{CallsHearUnchanged, CallsKeepRules, MessagesComeUnchanged};
 ghost use Rattle.sip_conversation.specs.Pracks.{PracksFollowResponses, TheFirstIsToldFirst};
 ghost use Rattle.sip_conversation.specs.Provisionals.{ProvisionalsToldAsSaid};
@@ -71,15 +72,7 @@ pub fn provisionals_told_were_said(one: Config, other: Config)
         → CallsKeepRules (of_sides one other) turns
         → ProvisionalsToldAsSaid (of_sides one other) turns }
 {
-    numbers_fit(one.local);
-    numbers_fit(other.local);
-    let (local, seed) = (one.local, one.seed);
-    let calls_of_one = Calls { local, seed };
-    let (local, seed) = (other.local, other.seed);
-    let calls_of_other = Calls { local, seed };
-    laws_of_phases(&Transactions);
-    laws_of_phases(&calls_of_one);
-    laws_of_phases(&calls_of_other);
+    sides_are_fair(&one, &other);
     provisionals_in_each_life(&one);
     provisionals_in_each_life(&other);
 }
@@ -101,15 +94,7 @@ pub fn responses_told_were_said(one: Config, other: Config)
         → CallsKeepRules (of_sides one other) turns
         → ResponsesToldWereSaid (of_sides one other) turns }
 {
-    numbers_fit(one.local);
-    numbers_fit(other.local);
-    let (local, seed) = (one.local, one.seed);
-    let calls_of_one = Calls { local, seed };
-    let (local, seed) = (other.local, other.seed);
-    let calls_of_other = Calls { local, seed };
-    laws_of_phases(&Transactions);
-    laws_of_phases(&calls_of_one);
-    laws_of_phases(&calls_of_other);
+    sides_are_fair(&one, &other);
 }
 
 /// In such a conversation, a PRACK with a RAck that a side says follows the response that it
@@ -123,15 +108,7 @@ pub fn pracks_follow_responses(one: Config, other: Config)
         → CallsKeepRules (of_sides one other) turns
         → PracksFollowResponses (of_sides one other) turns }
 {
-    numbers_fit(one.local);
-    numbers_fit(other.local);
-    let (local, seed) = (one.local, one.seed);
-    let calls_of_one = Calls { local, seed };
-    let (local, seed) = (other.local, other.seed);
-    let calls_of_other = Calls { local, seed };
-    laws_of_phases(&Transactions);
-    laws_of_phases(&calls_of_one);
-    laws_of_phases(&calls_of_other);
+    sides_are_fair(&one, &other);
 }
 
 /// In such a conversation, if the user is told of a reliable provisional response with an RSeq
@@ -144,15 +121,7 @@ pub fn the_first_is_told_first(one: Config, other: Config)
         → CallsKeepRules (of_sides one other) turns
         → TheFirstIsToldFirst (of_sides one other) turns }
 {
-    numbers_fit(one.local);
-    numbers_fit(other.local);
-    let (local, seed) = (one.local, one.seed);
-    let calls_of_one = Calls { local, seed };
-    let (local, seed) = (other.local, other.seed);
-    let calls_of_other = Calls { local, seed };
-    laws_of_phases(&Transactions);
-    laws_of_phases(&calls_of_one);
-    laws_of_phases(&calls_of_other);
+    sides_are_fair(&one, &other);
     provisionals_in_each_life(&one);
     provisionals_in_each_life(&other);
 }
@@ -167,15 +136,7 @@ pub fn requests_told_were_asked_for(one: Config, other: Config)
         → CallsKeepRules (of_sides one other) turns
         → RequestsToldWereAskedFor (of_sides one other) turns }
 {
-    numbers_fit(one.local);
-    numbers_fit(other.local);
-    let (local, seed) = (one.local, one.seed);
-    let calls_of_one = Calls { local, seed };
-    let (local, seed) = (other.local, other.seed);
-    let calls_of_other = Calls { local, seed };
-    laws_of_phases(&Transactions);
-    laws_of_phases(&calls_of_one);
-    laws_of_phases(&calls_of_other);
+    sides_are_fair(&one, &other);
 }
 
 /// In such a conversation, for each ACK that a user is told of in a turn, the other side said an
@@ -185,15 +146,7 @@ pub fn acks_told_were_said(one: Config, other: Config)
         → CallsKeepRules (of_sides one other) turns
         → AcksToldWereSaid (of_sides one other) turns }
 {
-    numbers_fit(one.local);
-    numbers_fit(other.local);
-    let (local, seed) = (one.local, one.seed);
-    let calls_of_one = Calls { local, seed };
-    let (local, seed) = (other.local, other.seed);
-    let calls_of_other = Calls { local, seed };
-    laws_of_phases(&Transactions);
-    laws_of_phases(&calls_of_one);
-    laws_of_phases(&calls_of_other);
+    sides_are_fair(&one, &other);
 }
 
 /// In such a conversation, for each PRACK that a user is told of in a turn, the other side said a
@@ -204,6 +157,13 @@ pub fn pracks_told_were_said(one: Config, other: Config)
     ensures { (turns : List Turn) → Carried (of_sides one other) turns
         → CallsKeepRules (of_sides one other) turns
         → PracksToldWereSaid (of_sides one other) turns }
+{
+    sides_are_fair(&one, &other);
+}
+
+// What the laws rest on, of both sides.
+fn sides_are_fair(one: &Config, other: &Config)
+    ensures { IsFair (of_sides one.now other.now) }
 {
     numbers_fit(one.local);
     numbers_fit(other.local);

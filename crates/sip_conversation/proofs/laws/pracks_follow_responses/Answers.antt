@@ -1,23 +1,8 @@
 -- The law `pracks_follow_responses`: a PRACK follows the response that it acknowledges.
-use Rattle.sip_model.specs.Laws.{EachKeyAlone}
-use Rattle.sip_model.specs.Machine.{tick_at}
-use Rattle.sip_calls.specs.Call.{call_machine}
-use Rattle.sip_calls.specs.CallShard.{call_cmp}
-use Rattle.sip_round.specs.Answers.{calls_of}
-use Rattle.sip_message.specs.Addr.{IsAddr}
 use Rattle.sip_conversation.specs.Conversation.{of_sides}
 use Rattle.sip_conversation.proofs.PracksFollow.{pracks_follow}
-use Rattle.sip_conversation.proofs.Sides.{each_side}
 use Rattle.sip_conversation.proofs.laws.pracks_follow_responses.Goals as goal
 
 pub returns : goal.returns
 returns c =
-    pracks_follow (of_sides c.args.one c.args.other) record {
-      addresses = each_side (λ config. IsAddr config.local) c.args.one c.args.other
-          c.numbers_fit.ensures c.numbers_fit-2.ensures;
-      transactions = c.laws_of_phases.ensures.each_key_alone;
-      calls = each_side
-          (λ config. EachKeyAlone call_cmp (call_machine (calls_of config)) tick_at)
-          c.args.one c.args.other c.laws_of_phases-2.ensures.each_key_alone
-          c.laws_of_phases-3.ensures.each_key_alone;
-    }
+    pracks_follow (of_sides c.args.one c.args.other) c.sides_are_fair.ensures
