@@ -1,4 +1,5 @@
 pub mod Answers
+pub mod ComeWhole
 pub mod Conversation
 pub mod Datagrams
 pub mod Fair

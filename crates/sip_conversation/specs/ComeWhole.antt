@@ -1,0 +1,108 @@
+-- The reliable provisional responses to the INVITE of a call that a user is told of are consecutive
+-- ones of those that the other user gave, in order; if nothing else comes between, they are the
+-- first ones (RFC 3262, sections 3 and 4).
+use Rattle.std.specs.Prelude.{◌≡◌, ◌≢◌, ℕ, List, [], ◌∷◌, ◌++◌, Option, None, Some, filter_map, if◌then◌else◌}
+use Rattle.std.specs.Option.{option_map}
+use Rattle.sip_message.specs.declared.id.Id.{Id}
+use Rattle.sip_message.specs.declared.message.Message.{Message}
+use Rattle.sip_message.specs.Party.{tag_of}
+use Rattle.sip_model.specs.Machine.{Timed}
+use Rattle.sip_transactions.specs.declared.input.Command.TheVariants.{Answer}
+use Rattle.sip_common.specs.declared.command.UserCommand.TheVariants.{Respond}
+use Rattle.sip_common.specs.declared.held_dialog.DialogReference.{DialogReference}
+use Rattle.sip_common.specs.declared.item.CallOut.{CallOut}
+use Rattle.sip_common.specs.declared.item.CallOut.TheVariants.{Command, Notice}
+use Rattle.sip_common.specs.declared.item.Item.TheVariants.{User}
+use Rattle.sip_common.specs.declared.notice.Notice.TheVariants.{Response}
+use Rattle.sip_common.specs.Ids.{is_id}
+use Rattle.sip_clients.specs.Clients.{status_of}
+use Rattle.sip_clients.specs.Provisionals.{AnInvite, OfTheCall}
+use Rattle.sip_calls.specs.declared.call.Call.{Call}
+use Rattle.sip_calls.specs.declared.calls.Calls.{Calls}
+use Rattle.sip_calls.specs.Call.{CallItem, call_step}
+use Rattle.sip_round.specs.declared.config.Config.{Config}
+use Rattle.sip_round.specs.Answers.{calls_of}
+use Rattle.sip_round.specs.Laws.{call_inputs_of}
+use Rattle.sip_conversation.specs.Conversation.{Side, Turn, peer, rounds_of}
+use Rattle.sip_conversation.specs.Provisionals.{rseqs_told, told_reliably}
+use Rattle.sip_conversation.specs.Replies.{AreCounted}
+
+-- ---- what a user gives
+
+module _ (calls : Calls) (request : Id) where
+  -- a reliable response to the request of this id that goes out, with its RSeq
+  abbrev pub sent_reliably : CallOut → Option (ℕ × Message)
+  sent_reliably (Command id (Answer key response)) =
+      if is_id id request then option_map (λ rseq. (rseq, response)) response.rseq else None
+  sent_reliably _ = None
+
+  -- those that an input sends, if it is the user's command to respond
+  abbrev pub given_in : Option CallItem → List CallOut → List (ℕ × Message)
+  given_in (Some (event, User (Respond respond))) outs = filter_map sent_reliably outs
+  given_in _ outs = []
+
+  -- those that the user gave by these inputs, in order
+  abbrev pub given_from : Option Call → List (Timed CallItem) → List (ℕ × Message)
+  given_from call [] = []
+  given_from call (timed ∷ inputs) =
+      let step = call_step calls call timed.input timed.moment in
+      given_in timed.input step.1 ++ given_from step.0 inputs
+
+-- ---- what the other user is told
+
+-- the notice tells of this response
+pub record TellsOf (status : ℕ) (local_tag remote_tag body : List ℕ) (response : Message)
+    : Type 0 where
+  pub status_is : status_of response.start ≡ Some status
+  pub from : tag_of response.from ≡ local_tag
+  pub to : tag_of response.to ≡ remote_tag
+  pub body_is : response.body ≡ body
+
+-- it is the notice of the response with this RSeq
+abbrev pub IsToldOf : ℕ × CallOut → ℕ × Message → Type 0
+IsToldOf (rseq, Notice (Response call_id id status local_tag remote_tag body)) (number, response) =
+    (rseq ≡ number) × TellsOf status local_tag remote_tag body response
+IsToldOf _ _ = ⊥
+
+-- each of the notices is that of the response at its place
+abbrev pub AreToldOf : List (ℕ × CallOut) → List (ℕ × Message) → Type 0
+AreToldOf [] [] = Unit {0}
+AreToldOf (told ∷ rest) (given ∷ others) = IsToldOf told given × AreToldOf rest others
+AreToldOf _ _ = ⊥
+
+-- the notices tell of consecutive ones of these responses
+pub record TellRun (told : List (ℕ × CallOut)) (given : List (ℕ × Message)) : Type 0 where
+  pub earlier : List (ℕ × Message)
+  pub run : List (ℕ × Message)
+  pub later : List (ℕ × Message)
+  pub given_is : given ≡ earlier ++ (run ++ later)
+  pub tell : AreToldOf told run
+
+module _ (configs : Side → Config) (before : List Turn) (turn : Turn) (call_id : List ℕ) where
+  -- up to the turn's end its user was told of such responses in no other life of this dialog, and
+  -- to no other INVITE in it
+  abbrev pub NoOthersTold : AnInvite → DialogReference → Type 0
+  NoOthersTold invite life = (other : AnInvite) (later : DialogReference)
+      → later.name ≡ life.name
+      → rseqs_told configs before turn call_id other later ≢ []
+      → (other ≡ invite) × (later ≡ life)
+
+  -- those that the other user gave to the request of this id in the turns before
+  abbrev pub given_reliably : Id → List (ℕ × Message)
+  given_reliably request = given_from (calls_of (configs (peer turn.side))) request None
+      (call_inputs_of (configs (peer turn.side)) (rounds_of (peer turn.side) before) call_id)
+
+  -- What the user is told in one life of a dialog are consecutive ones of those that the other user
+  -- gave to one request. If he was told of no others in that dialog, they are the first ones.
+  pub record ToldWhole (life : DialogReference) : Type 0 where
+    pub request : Id
+    pub told : TellRun (told_reliably configs before turn call_id OfTheCall life)
+        (given_reliably request)
+    pub front : NoOthersTold OfTheCall life → told.earlier ≡ []
+
+-- for every turn, call and life of a dialog, if the rounds of both sides are counted
+abbrev pub ProvisionalsComeWhole : (Side → Config) → List Turn → Type 0
+ProvisionalsComeWhole configs turns =
+    (before after : List Turn) (turn : Turn) → turns ≡ before ++ turn ∷ after
+    → ((side : Side) → AreCounted (configs side) (rounds_of side turns))
+    → (call_id : List ℕ) (life : DialogReference) → ToldWhole configs before turn call_id life
