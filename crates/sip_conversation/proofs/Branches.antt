@@ -1,7 +1,7 @@
 -- What the client side starts has the Call-ID of its call and a branch that an event of the call
 -- made, and is no ACK.
-use Rattle.std.proofs.Common.{◌≡◌, ℕ, Bool, true, false, ◌||◌, List, [], ◌∷◌, ◌++◌, refl, sym, ap, ◌∙◌}
-use Rattle.std.specs.Prelude.{Option, None, Some, codes, fold, take, if◌then◌else◌}
+use Rattle.std.proofs.Common.{◌≡◌, ℕ, Bool, true, false, ◌||◌, ◌==◌, not, List, [], ◌∷◌, ◌++◌, refl, sym, ap, ◌∙◌}
+use Rattle.std.specs.Prelude.{Option, None, Some, codes, fold, length, take, if◌then◌else◌}
 use Rattle.std.specs.List.{AllByRecursion, slice_get}
 use Rattle.std.specs.Option.{option_map_or}
 use Rattle.std.specs.Str.{bytes_eq}
@@ -9,6 +9,7 @@ use Rattle.std.proofs.lemmas.Bool.{false≢true}
 use Rattle.std.proofs.lemmas.Slice.Eq.{bytes_eq-Decides}
 use Rattle.sip_message.specs.Content.{Content, with_content_of}
 use Rattle.sip_message.specs.Key.{client_key}
+use Rattle.sip_message.specs.Party.{tag_of}
 use Rattle.sip_message.specs.TopVia.{top_branch}
 use Rattle.sip_message.specs.Via.{branch_of as branch_in}
 use Rattle.sip_message.specs.declared.addr.Addr.{Addr}
@@ -25,6 +26,7 @@ use Rattle.sip_transactions.specs.declared.input.Command.TheVariants as order
 use Rattle.sip_common.specs.Ids.{is_id}
 use Rattle.sip_common.specs.OwnCall.{IsDialogOf}
 use Rattle.sip_common.specs.Refusal.{first_refusal}
+use Rattle.sip_common.specs.Requests.{has_to_tag}
 use Rattle.sip_common.specs.declared.command.Invite.{Invite}
 use Rattle.sip_common.specs.declared.command.Plain.{Plain}
 use Rattle.sip_common.specs.declared.command.ProvisionalSupport.{ProvisionalSupport}
@@ -47,6 +49,7 @@ use Rattle.sip_clients.specs.declared.client.Client.{Client}
 use Rattle.sip_clients.specs.declared.client.RequestKind.{RequestKind}
 use Rattle.sip_clients.specs.declared.client.RequestKind.TheVariants.{InDialog, ReInvite}
 use Rattle.sip_clients.specs.declared.event.Event.{Event}
+use Rattle.sip_calls.specs.HeldDialogs.{opens_dialogs}
 
 -- ---- choices
 
@@ -93,9 +96,10 @@ no_prack same = absurd cc
 no_cancel : codes "CANCEL" ≡ codes "ACK" → ⊥
 no_cancel same = absurd cc
 
--- ---- messages with the same top branch, Call-ID and method
+-- ---- messages with the same To, top branch, Call-ID and method
 
 record IsLike (one other : Message) : Type 0 where
+  pub to : one.to ≡ other.to
   pub branch : top_branch one ≡ top_branch other
   pub call : one.call_id ≡ other.call_id
   pub method : one.cseq.method ≡ other.cseq.method
@@ -103,13 +107,13 @@ record IsLike (one other : Message) : Type 0 where
 like_content : (message : Message) (content : Content)
     → IsLike (with_content_of message content) message
 unfolding with_content_of
-like_content message content = record { branch = refl; call = refl; method = refl }
+like_content message content = record { to = refl; branch = refl; call = refl; method = refl }
 
 like_support : (asked_for : ProvisionalSupport) (message : Message)
     → IsLike (with_100rel asked_for message) message
-like_support support.None message = record { branch = refl; call = refl; method = refl }
-like_support support.Supported message = record { branch = refl; call = refl; method = refl }
-like_support support.Required message = record { branch = refl; call = refl; method = refl }
+like_support support.None message = record { to = refl; branch = refl; call = refl; method = refl }
+like_support support.Supported message = record { to = refl; branch = refl; call = refl; method = refl }
+like_support support.Required message = record { to = refl; branch = refl; call = refl; method = refl }
 
 top_alone : (vias : List Via)
     → option_map_or branch_in (slice_get (take 1 vias) 0) []
@@ -144,9 +148,11 @@ module _ (seed call_id : List ℕ) (Came : Id → Type 0) where
 
   -- ---- what is held and said
 
+  -- the INVITE that opens dialogs has no To tag
   pub record IsOwnOf (id : Id) (kind : RequestKind) (request : Message) : Type 0 where
     pub own : IsOwn id request
     pub invites : is_invite_kind kind ≡ true → request.cseq.method ≡ codes "INVITE"
+    pub untagged : opens_dialogs kind ≡ true → has_to_tag request ≡ false
 
   abbrev pub Own : Client → Type 0
   Own client = IsOwnOf client.id client.kind client.request
@@ -250,6 +256,7 @@ module _ (seed call_id : List ℕ) (Came : Id → Type 0) where
               (λ is. other (content.method ∙ (support.method ∙ is)));
         };
         invites = λ is. content.method ∙ support.method;
+        untagged = λ opens. ap (λ to. not (length (tag_of to) == 0)) (content.to ∙ support.to);
       })
 
   pub plain_own : (event : Event) (plain : Plain) (clients : Clients) → Comes event
@@ -267,6 +274,7 @@ module _ (seed call_id : List ℕ) (Came : Id → Type 0) where
             (no_command plain.method (first_false first second
             (first_false (first || second) (bytes_eq plain.method (codes "BYE")) good))));
         invites = λ is. absurd (false≢true is);
+        untagged = λ opens. absurd (false≢true opens);
       }))
 
   pub cancel_own : (id : Id) (invite : Client) → Own invite → Own (cancel_request id invite)
@@ -279,6 +287,7 @@ module _ (seed call_id : List ℕ) (Came : Id → Type 0) where
           event_is = λ other. absurd (other refl);
         };
         invites = λ is. absurd (false≢true is);
+        untagged = λ opens. absurd (false≢true opens);
       }
 
   -- ---- in a dialog
@@ -287,6 +296,11 @@ module _ (seed call_id : List ℕ) (Came : Id → Type 0) where
       → is_invite_kind (if b then ReInvite reference else InDialog reference) ≡ true → b ≡ true
   re_invites true reference is = refl
   re_invites false reference is = is
+
+  in_a_dialog : (b : Bool) (reference : DialogReference)
+      → opens_dialogs (if b then ReInvite reference else InDialog reference) ≡ true → ⊥
+  in_a_dialog true reference opens = false≢true opens
+  in_a_dialog false reference opens = false≢true opens
 
   pub next_own : (event : Event) (name : DialogId) (method : List ℕ) (rack : Option RAck)
       (content : Content) (held : HeldDialog) → Comes event → IsDialogOf call_id held
@@ -308,6 +322,8 @@ module _ (seed call_id : List ℕ) (Came : Id → Type 0) where
         invites = λ is. like.method ∙ (bytes_eq-Decides method (codes "INVITE")).0
             (re_invites (bytes_eq method (codes "INVITE"))
             (record { name = name; created_by = held.created_by }) is);
+        untagged = λ opens. absurd (in_a_dialog (bytes_eq method (codes "INVITE"))
+            (record { name = name; created_by = held.created_by }) opens);
       }
 
   pub record IsPaid (done : PendingOutcome) : Type 0 where

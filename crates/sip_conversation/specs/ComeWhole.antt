@@ -2,6 +2,7 @@
 -- ones of those that the other user gave, in order; if nothing else comes between, they are the
 -- first ones (RFC 3262, sections 3 and 4).
 use Rattle.std.specs.Prelude.{◌≡◌, ◌≢◌, ℕ, List, [], ◌∷◌, ◌++◌, Option, None, Some, filter_map, if◌then◌else◌}
+use Rattle.std.specs.List.{AllZip}
 use Rattle.std.specs.Option.{option_map}
 use Rattle.sip_message.specs.declared.id.Id.{Id}
 use Rattle.sip_message.specs.declared.message.Message.{Message}
@@ -64,19 +65,13 @@ IsToldOf (rseq, Notice (Response call_id id status local_tag remote_tag body)) (
     (rseq ≡ number) × TellsOf status local_tag remote_tag body response
 IsToldOf _ _ = ⊥
 
--- each of the notices is that of the response at its place
-abbrev pub AreToldOf : List (ℕ × CallOut) → List (ℕ × Message) → Type 0
-AreToldOf [] [] = Unit {0}
-AreToldOf (told ∷ rest) (given ∷ others) = IsToldOf told given × AreToldOf rest others
-AreToldOf _ _ = ⊥
-
 -- the notices tell of consecutive ones of these responses
 pub record TellRun (told : List (ℕ × CallOut)) (given : List (ℕ × Message)) : Type 0 where
   pub earlier : List (ℕ × Message)
   pub run : List (ℕ × Message)
   pub later : List (ℕ × Message)
   pub given_is : given ≡ earlier ++ (run ++ later)
-  pub tell : AreToldOf told run
+  pub tell : AllZip IsToldOf told run
 
 module _ (configs : Side → Config) (before : List Turn) (turn : Turn) (call_id : List ℕ) where
   -- up to the turn's end its user was told of such responses in no other life of this dialog, and
