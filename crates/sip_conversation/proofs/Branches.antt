@@ -17,10 +17,11 @@ use Rattle.sip_message.specs.declared.id.Id.{Id}
 use Rattle.sip_message.specs.declared.key.Key.{Key}
 use Rattle.sip_message.specs.declared.message.Message.{Message}
 use Rattle.sip_message.specs.declared.name_addr.NameAddr.{NameAddr}
+use Rattle.sip_message.specs.declared.party.Party.{Party}
 use Rattle.sip_message.specs.declared.rack.RAck.{RAck}
 use Rattle.sip_message.specs.declared.via.Via.{Via}
 use Rattle.sip_parts.specs.Parameters.{value_named}
-use Rattle.sip_dialog.specs.Request.{agent_via}
+use Rattle.sip_dialog.specs.Request.{agent_via, contact_of}
 use Rattle.sip_transactions.specs.declared.input.Command.{Command}
 use Rattle.sip_transactions.specs.declared.input.Command.TheVariants as order
 use Rattle.sip_common.specs.Ids.{is_id}
@@ -114,6 +115,11 @@ like_support : (asked_for : ProvisionalSupport) (message : Message)
 like_support support.None message = record { to = refl; branch = refl; call = refl; method = refl }
 like_support support.Supported message = record { to = refl; branch = refl; call = refl; method = refl }
 like_support support.Required message = record { to = refl; branch = refl; call = refl; method = refl }
+
+like_untagged : {one other : Message} → IsLike one other → has_to_tag other ≡ false
+    → has_to_tag one ≡ false
+like_untagged like untagged =
+    ap (λ (to : Party). not (length (tag_of to) == 0)) like.to ∙ untagged
 
 top_alone : (vias : List Via)
     → option_map_or branch_in (slice_get (take 1 vias) 0) []
@@ -237,12 +243,15 @@ module _ (seed call_id : List ℕ) (Came : Id → Type 0) where
 
   pub invite_own : (event : Event) (invite : Invite) (clients : Clients) → Comes event
       → invite.call_id ≡ call_id → AreOwn clients → Done (invite_command event invite clients)
-  unfolding invite_command
+  unfolding invite_command value_named
   invite_own event invite clients comes is own =
       let outside = outside_own event invite.call_id (codes "INVITE") invite.request_uri
       invite.from invite.to invite.routes comes is no_invite in
-      let support = like_support invite.support _ in
-      let content = like_content (with_100rel invite.support _) invite.content in
+      let request : Message =
+      record (request_outside event invite.call_id (codes "INVITE") invite.request_uri invite.from
+      invite.to invite.routes) { contacts = contact_of event.local ∷ [] } in
+      let support = like_support invite.support request in
+      let content = like_content (with_100rel invite.support request) invite.content in
       start_own (clients, []) _ (own, tt) (record {
         own = record {
           call = content.call ∙ (support.call ∙ outside.call);
@@ -256,7 +265,7 @@ module _ (seed call_id : List ℕ) (Came : Id → Type 0) where
               (λ is. other (content.method ∙ (support.method ∙ is)));
         };
         invites = λ is. content.method ∙ support.method;
-        untagged = λ opens. ap (λ to. not (length (tag_of to) == 0)) (content.to ∙ support.to);
+        untagged = λ opens. like_untagged content (like_untagged support refl);
       })
 
   pub plain_own : (event : Event) (plain : Plain) (clients : Clients) → Comes event

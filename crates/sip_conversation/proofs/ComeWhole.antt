@@ -1,13 +1,15 @@
 -- The reliable provisional responses to the INVITE of a call that a user is told of are consecutive
 -- ones of those that the other user gave, or the first ones.
-use Rattle.std.proofs.Common.{◌≡◌, ◌≤◌, ◌<◌, ◌^◌, ℕ, suc, ◌+◌, ◌==◌, Bool, true, false, List, [], ◌∷◌, ◌++◌, refl, sym, ap, ◌∙◌, subst, ⊎_elim, length-append, arith}
+use Rattle.std.proofs.Common.{◌≡◌, ◌≤◌, ◌<◌, ◌^◌, ℕ, suc, ◌+◌, ◌==◌, Bool, true, false, List, [], ◌∷◌, ◌++◌, refl, sym, ap, ◌∙◌, subst, ⊎_elim, length-append, arith, append_assoc}
 use Rattle.std.specs.Prelude.{Contains, length, map}
-use Rattle.std.specs.List.{AllByRecursion}
+use Rattle.std.specs.List.{AllByRecursion, AllZip}
 use Rattle.std.proofs.lemmas.Grind.{common_steps}
 use Rattle.sip_message.specs.declared.id.Id.{Id}
 use Rattle.sip_message.specs.declared.message.Message.{Message}
 use Rattle.sip_common.specs.declared.held_dialog.DialogReference.{DialogReference}
 use Rattle.sip_common.specs.declared.item.CallOut.{CallOut}
+use Rattle.sip_common.specs.declared.item.CallOut.TheVariants as out
+use Rattle.sip_common.specs.declared.notice.Notice.TheVariants as notice
 use Rattle.sip_clients.specs.Provisionals.{OfTheCall}
 use Rattle.sip_round.specs.declared.config.Config.{Config}
 use Rattle.sip_round.specs.declared.round.Round.{Round}
@@ -18,7 +20,7 @@ use Rattle.sip_conversation.specs.Conversation.{Carried, Side, Turn, peer, round
 use Rattle.sip_conversation.specs.Messages.{CallsKeepRules}
 use Rattle.sip_conversation.specs.Provisionals.{rseqs_told, told_reliably}
 use Rattle.sip_conversation.specs.Replies.{AreCounted}
-use Rattle.sip_conversation.proofs.Among.{all_go, among_mapped, first_or_later, none_among}
+use Rattle.sip_conversation.proofs.Among.{all_go, among_mapped, first_or_later, none_among, among_first}
 use Rattle.sip_conversation.proofs.Fronts.{carried_before, carried_to, keeps_before, keeps_to}
 use Rattle.sip_conversation.proofs.InOrder.{Follow, TellsOfOne, next_follow, run_of}
 use Rattle.sip_conversation.proofs.Longer.{rounds_of-append}
@@ -27,6 +29,10 @@ use Rattle.sip_conversation.proofs.RepliesSaid.{IsFair}
 use Rattle.sip_conversation.proofs.Rounds.{all_of_parts}
 use Rattle.sip_conversation.proofs.ToldAt.{told_at}
 use Rattle.sip_conversation.proofs.ToldGiven.{IsGivenThere, is_given, same_request}
+use Rattle.sip_reliable.specs.Inbound.{IsConsecutive}
+use Rattle.sip_model.proofs.Ordered.{by_bool}
+use Rattle.sip_round.proofs.RequestsDiffer.{requests_differ}
+use Rattle.sip_conversation.proofs.GivenInOrder.{given_in_order}
 
 -- ---- numbers
 
@@ -159,7 +165,7 @@ module _ (configs : Side → Config) (fair : IsFair configs)
   given_follow : (request : Id) → Follow 1 (given request)
   given_follow request =
       next_follow 0 (given request)
-      (given_numbers (calls_of there) request
+      (given_in_order (calls_of there) request
       (call_inputs_of there (rounds_of (peer turn.side) before) call_id)
       (requests_differ there call_id (rounds_of (peer turn.side) before)))
 

@@ -46,3 +46,10 @@ pub mod RequestsAsked
 pub mod RequestsSaid
 pub mod UpMethods
 pub mod NoticesTold
+pub mod InOrder
+pub mod ToldAt
+pub mod ToldGiven
+pub mod ComeWhole
+pub mod NextRseqs
+pub mod GivenInOrder
+pub mod UserInputs

@@ -81,7 +81,7 @@ hex_low (suc count) number =
 both_low : (xs ys : List ℕ) → lower xs ≡ xs → lower ys ≡ ys → lower (xs ++ ys) ≡ xs ++ ys
 both_low xs ys one other = map-append to_ascii_lowercase xs ys ∙ (λ i. one i ++ other i)
 
-name_low : (seed : List ℕ) (id : Id) (index : ℕ)
+pub name_low : (seed : List ℕ) (id : Id) (index : ℕ)
     → lower (name_of seed id index) ≡ name_of seed id index
 name_low seed id index =
     let round = hex 16 id.round in

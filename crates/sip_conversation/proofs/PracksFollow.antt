@@ -108,7 +108,7 @@ module _ (calls : Calls) (key : List ℕ) where
       (of_one_input step.0 before timed after out among)
 
   -- so is what the first inputs give
-  of_first_inputs : (state : Option Call) (before after : List (Timed CallItem)) (out : CallOut)
+  pub of_first_inputs : (state : Option Call) (before after : List (Timed CallItem)) (out : CallOut)
       → Contains (outputs_from (call_machine calls) key state before) out
       → Contains (outputs_from (call_machine calls) key state (before ++ after)) out
   of_first_inputs state [] after out among = absurd (none_among out among)

@@ -58,7 +58,7 @@ use Rattle.sip_conversation.proofs.Ups.{ItemCame, TimedCame, UpCame}
 
 -- ---- its RSeq
 
-number_is : (status rseq : ℕ) (response : Message)
+pub number_is : (status rseq : ℕ) (response : Message)
     → provisional_number (Some status) response ≡ Some rseq → response.rseq ≡ Some rseq
 number_is status rseq response is =
     by_case (is_final status) (not (status == 100) && has_to_tag response)
@@ -74,7 +74,7 @@ number_is status rseq response is =
 
 -- ---- a PRACK as it came, and as it was said
 
-record IsAlike (came said : Message) : Type 0 where
+pub record IsAlike (came said : Message) : Type 0 where
   pub method : came.cseq.method ≡ said.cseq.method
   pub is_request : is_request_message came ≡ is_request_message said
   pub rack : came.rack ≡ said.rack
@@ -94,7 +94,7 @@ stamped_alike source said =
       to = refl;
     }
 
-came_alike : (source : Addr) (said : Message) → IsAlike (come_from source said) said
+pub came_alike : (source : Addr) (said : Message) → IsAlike (come_from source said) said
 came_alike source said = by_request (is_request_message said)
   where
     by_request : (b : Bool) → IsAlike (if b then stamped said source else said) said
@@ -130,7 +130,7 @@ no_empty_token [] token = absurd (false≢true token)
 no_empty_token (byte ∷ bytes) token = grind (arith, nat_tests)
 
 -- it is that of its request, or else the made one
-to_tag : (party : Party) (made : List ℕ) → IsTrue (has_good_tag party.parameters)
+pub to_tag : (party : Party) (made : List ℕ) → IsTrue (has_good_tag party.parameters)
     → tag_of (tagged party made)
     ≡ (if length (tag_of party) == 0 then made else tag_of party)
 unfolding tagged is_tagged value_named has_good_tag
@@ -180,7 +180,7 @@ module _ (Came : Message → Type 0) where
   kind_brought call_id kind.Timeout came own = tt
   kind_brought call_id kind.Failed came own = tt
 
-  input_brought : (call_id : List ℕ) (input : Option CallItem)
+  pub input_brought : (call_id : List ℕ) (input : Option CallItem)
       → IfSome input (λ i. ItemCame (UpCame Came) i.1) → IsInputOf call_id input
       → InputBrought (OfCall call_id) input
   input_brought call_id None came own = tt

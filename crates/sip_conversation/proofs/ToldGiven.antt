@@ -3,8 +3,9 @@
 use Rattle.std.proofs.Common.{◌≡◌, ℕ, Bool, true, false, not, ◌&&◌, ◌==◌, List, [], ◌∷◌, ◌++◌, refl, sym, ap, ◌∙◌, subst, arith}
 use Rattle.std.specs.Prelude.{Contains, IfSome, IsTrue, Option, None, Some, codes, length, if◌then◌else◌}
 use Rattle.std.specs.List.{AllByRecursion}
-use Rattle.std.specs.Str.{str_to_ascii_lowercase}
+use Rattle.std.specs.Str.{bytes_eq, str_to_ascii_lowercase}
 use Rattle.std.proofs.lemmas.Bool.{false≢true}
+use Rattle.std.proofs.lemmas.Option.{same_Some}
 use Rattle.sip_parts.specs.Tag.{has_good_tag}
 use Rattle.sip_message.specs.Party.{tag_of}
 use Rattle.sip_message.specs.TopVia.{top_branch}
@@ -28,7 +29,7 @@ use Rattle.sip_common.specs.declared.item.Item.TheVariants.{Up}
 use Rattle.sip_common.specs.declared.notice.Notice.TheVariants as notice
 use Rattle.sip_common.proofs.Each.{found_one}
 use Rattle.sip_clients.specs.Client.{client_at}
-use Rattle.sip_clients.specs.Clients.{status_of}
+use Rattle.sip_clients.specs.Clients.{status_of, reply_name}
 use Rattle.sip_clients.specs.Name.{name_of}
 use Rattle.sip_clients.specs.Provisionals.{OfTheCall, is_response, provisional_number}
 use Rattle.sip_clients.specs.declared.client.Client.{Client}
@@ -37,7 +38,7 @@ use Rattle.sip_calls.specs.Call.{CallItem, call_machine, call_step}
 use Rattle.sip_calls.specs.CallShard.{call_cmp}
 use Rattle.sip_calls.specs.Histories.{call_from}
 use Rattle.sip_calls.specs.OwnCall.{IsInputOf}
-use Rattle.sip_calls.specs.Provisionals.{event_in, side_held}
+use Rattle.sip_calls.specs.Provisionals.{event_in, side_held, event_of_kind}
 use Rattle.sip_calls.specs.declared.call.Call.{Call}
 use Rattle.sip_calls.specs.declared.calls.Calls.{Calls}
 use Rattle.sip_round.specs.declared.config.Config.{Config}
@@ -47,7 +48,7 @@ use Rattle.sip_round.specs.Laws.{call_inputs_of, said_of_call}
 use Rattle.sip_round.proofs.CallEvents.{events_differ}
 use Rattle.sip_round.proofs.Said.{call_alone}
 use Rattle.sip_conversation.specs.Answers.{AnswersARequest, IsResponseTo}
-use Rattle.sip_conversation.specs.ComeWhole.{IsToldOf, given_from, given_reliably}
+use Rattle.sip_conversation.specs.ComeWhole.{IsToldOf, given_from, given_reliably, TellsOf}
 use Rattle.sip_conversation.specs.Conversation.{Carried, Side, Turn, peer, rounds_of}
 use Rattle.sip_conversation.specs.Messages.{CallSays, CallsKeepRules, ComesUnchanged, IsGiven, IsSaid, come_from}
 use Rattle.sip_conversation.specs.Messages.IsSaid.{Acknowledges, Asked, Direct, Trying}
@@ -55,27 +56,36 @@ use Rattle.sip_conversation.specs.Replies.{AreCounted, IsStartedFor, SaidRespons
 use Rattle.sip_conversation.proofs.AckTexts.{no_ack}
 use Rattle.sip_conversation.proofs.Among.{among_first, each_of}
 use Rattle.sip_conversation.proofs.Branches.{Own}
-use Rattle.sip_conversation.proofs.CallBranches.{InputComes, held_own}
-use Rattle.sip_conversation.proofs.CallOuts.{InputFits, KindTells, OutFits, step_fits}
+use Rattle.sip_conversation.proofs.CallBranches.{InputComes, held_own, HeldOwn}
+use Rattle.sip_conversation.proofs.CallOuts.{InputFits, KindTells, OutFits, step_fits, ResponseTells}
 use Rattle.sip_conversation.proofs.ClientsSent.{WentOut, held_went}
 use Rattle.sip_conversation.proofs.Longer.{rounds_of-append}
 use Rattle.sip_conversation.proofs.OnceOnly.{once_only}
 use Rattle.sip_conversation.proofs.OneCallId.{IsOfStart, name_low, out_replies, started_request}
 use Rattle.sip_conversation.proofs.OneTransaction.{KindCame}
-use Rattle.sip_conversation.proofs.Origins.{IsOrigin, TimedComes, counted, inputs_come}
+use Rattle.sip_conversation.proofs.Origins.{IsOrigin, TimedComes, counted, inputs_come, IsCounted}
 use Rattle.sip_conversation.proofs.PracksCame.{no_rseq}
 use Rattle.sip_conversation.proofs.PracksFollow.{of_first_inputs}
-use Rattle.sip_conversation.proofs.PracksSaid.{number_is}
+use Rattle.sip_conversation.proofs.PracksSaid.{number_is, OfCall, IsAlike, came_alike}
 use Rattle.sip_conversation.proofs.PracksServed.{same_name}
-use Rattle.sip_conversation.proofs.Provisionals.{said_reliably}
+use Rattle.sip_conversation.proofs.Provisionals.{said_reliably, IsReliablySo}
 use Rattle.sip_conversation.proofs.RepliesSaid.{Came, Comes, IsFair, inputs_come as ups_come}
 use Rattle.sip_conversation.proofs.Rounds.{all_of_parts}
 use Rattle.sip_conversation.proofs.StartedFor.{KindStarted, response_key}
 use Rattle.sip_conversation.proofs.ToldAt.{IsToldAt, RepliesToInvite, replies_to_invite}
-use Rattle.sip_conversation.proofs.ToldCallId.{own_reply}
+use Rattle.sip_conversation.proofs.ToldCallId.{own_reply, IsOwnReply}
 use Rattle.sip_conversation.proofs.Unchanged.{inputs_unchanged}
 use Rattle.sip_conversation.proofs.Unstamped.{no_status}
-use Rattle.sip_conversation.proofs.Ups.{ItemCame, TimedCame}
+use Rattle.sip_conversation.proofs.Ups.{ItemCame, TimedCame, UpCame}
+use Rattle.sip_message.specs.declared.addr.Addr.{Addr}
+use Rattle.std.proofs.lemmas.List.Elements.{Contains-append_right}
+use Rattle.sip_common.specs.declared.held_dialog.DialogId.{DialogId}
+use Rattle.sip_model.specs.Laws.{EachKeyAlone}
+use Rattle.sip_clients.specs.declared.client.RequestKind.TheVariants.{InitialInvite}
+use Rattle.sip_message.specs.declared.key.Key.{Key}
+use Rattle.sip_message.specs.declared.party.Party.{Party}
+use Rattle.sip_clients.specs.Rules.Requests.{is_invite_kind}
+use Rattle.sip_calls.specs.HeldDialogs.{opens_dialogs}
 
 -- ---- what an answer is
 
@@ -156,15 +166,22 @@ module _ (Came : Message → Type 0) (config : Config) (rounds : List Round)
 -- ---- a turn
 
 up_of : (event other : Id) (up up_there : AnUp)
-    → Some {X = CallItem} (event, Up up) ≡ Some (other, Up up_there) → up ≡ up_there
-up_of event other up up_there same = cc
+    → ◌≡◌ {A = Option CallItem} (Some (event, Up up)) (Some (other, Up up_there))
+    → up ≡ up_there
+up_of event other up up_there same =
+    let one : CallItem = (event, Up up) in
+    let two : CallItem = (other, Up up_there) in
+    same_up (ap (λ (item : CallItem). item.1) (same_Some one two same))
+  where
+    same_up : Up up ≡ Up up_there → up ≡ up_there
+    same_up same = cc
 
 event_brought : (event : Id) (up : AnUp) (request : Message) (reply_to : Addr)
     → up.kind ≡ kind.Request request reply_to → event_in (Some (event, Up up)) ≡ Some event
 event_brought event up request reply_to is = ap (event_of_kind event) is
 
 no_cancel : codes "CANCEL" ≡ codes "INVITE" → ⊥
-no_cancel same = absurd cc
+no_cancel same = false≢true (ap (λ m. bytes_eq m (codes "INVITE")) same)
 
 module _ (configs : Side → Config) (fair : IsFair configs) (before : List Turn) (turn : Turn)
     (carried : Carried configs before) (keep : CallsKeepRules configs before)
@@ -264,18 +281,18 @@ module _ (configs : Side → Config) (fair : IsFair configs) (before : List Turn
           (each_of (TimedComes here rounds_here call_id) inputs at.timed
           (inputs_come here rounds_here call_id) among_inputs).0).0
 
-      status : (status : ℕ) × (status_of reply.response.start ≡ Some status)
-      status = has_status reply.response rseq (status_of reply.response.start) reply.rseq_is
+      answer_status : (status : ℕ) × (status_of reply.response.start ≡ Some status)
+      answer_status = has_status reply.response rseq (status_of reply.response.start) reply.rseq_is
 
       -- what the other side said
       abbrev SaidSo : Type 0
-      SaidSo = IsReliablySo configs fair before turn carried keep reply.response rseq status.0
+      SaidSo = IsReliablySo configs fair before turn carried keep reply.response rseq answer_status.0
 
       so : SaidSo
       so =
           said_reliably configs fair before turn carried keep reply.response
           (subst (KindCame (Came configs fair before turn carried keep)) reply.kind_is comes.0) rseq
-          reply.rseq_is status.0 status.1
+          reply.rseq_is answer_status.0 answer_status.1
 
       abbrev original : Message
       original = ((so.said).response).original
@@ -285,7 +302,7 @@ module _ (configs : Side → Config) (fair : IsFair configs) (before : List Turn
           subst (IsStartedFor here rounds_here call_id reply.up.id) (sym so.whole)
           (subst (λ c. IsStartedFor here rounds_here c reply.up.id reply.response) of_call
           (subst (KindStarted here rounds_here reply.up.id reply.up.call_id) reply.kind_is comes.1
-          status.0 status.1))
+          answer_status.0 answer_status.1))
 
       -- the INVITE went out under its id
       went : WentOut (outputs_from (call_machine (calls_of here)) call_id None inputs) reply.up.id
@@ -349,7 +366,7 @@ module _ (configs : Side → Config) (fair : IsFair configs) (before : List Turn
       invites : original.cseq.method ≡ codes "INVITE"
       invites =
           start.method (top_branch original) original.cseq.method
-          (response_key original status.0 ((so.said).response).status_is)
+          (response_key original answer_status.0 ((so.said).response).status_is)
           ∙ (ap (λ (m : Message). m.cseq.method) same_invite
           ∙ its.invites (ap is_invite_kind reply.initial))
 
@@ -362,14 +379,14 @@ module _ (configs : Side → Config) (fair : IsFair configs) (before : List Turn
       found =
           given_in_call CameThere there rounds_there (fair.calls (peer turn.side))
           (inputs_unchanged fair.transactions configs fair.addresses before carried keep
-          (peer turn.side)) original ((so.said).response).said status.0 rseq
+          (peer turn.side)) original ((so.said).response).said answer_status.0 rseq
           ((so.said).response).status_is (so.said).number
 
       own : IsOwnReply configs fair.calls before turn call_id original (found.answer).request
           begun.request
       own =
           let answer = found.answer in
-          own_reply configs fair.calls before turn call_id reply.up.id status.0
+          own_reply configs fair.calls before turn call_id reply.up.id answer_status.0
           (tag_of reply.response.from) (tag_of reply.response.to) reply.response.body
           (record (so.said).response {
             request = record {
