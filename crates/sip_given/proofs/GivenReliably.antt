@@ -41,23 +41,25 @@ use Rattle.sip_given.proofs.PracksOfCalls.{CommandFits, InputFits, all_given}
 use Rattle.sip_given.proofs.PracksServed.{KindBrought}
 use Rattle.sip_given.proofs.ToTags.{to_tag}
 
-among_chosen : {X Y : Type 0} (f : X → Option Y) (xs : List X) (x : X) (y : Y) → Contains xs x
-    → f x ≡ Some y → Contains (filter_map f xs) y
-among_chosen f [] x y among is = absurd (none_among x among)
-among_chosen f (z ∷ zs) x y among is =
-    ⊎_elim (λ same. at_first (f z) (ap f same ∙ is))
-    (λ later. after_it (f z) (among_chosen f zs x y later is)) (first_or_later z zs x among)
-  where
-    at_first : (o : Option Y) → o ≡ Some y → Contains (cons_option o (filter_map f zs)) y
-    at_first None is = absurd cc
-    at_first (Some w) is =
-        subst (Contains (w ∷ filter_map f zs)) (same_Some w y is)
-        (among_first w (filter_map f zs))
+-- what is chosen from an element
+module _ {X Y : Type 0} where
+  among_chosen : (f : X → Option Y) (xs : List X) (x : X) (y : Y) → Contains xs x
+      → f x ≡ Some y → Contains (filter_map f xs) y
+  among_chosen f [] x y among is = absurd (none_among x among)
+  among_chosen f (z ∷ zs) x y among is =
+      ⊎_elim (λ same. at_first (f z) (ap f same ∙ is))
+      (λ later. after_it (f z) (among_chosen f zs x y later is)) (first_or_later z zs x among)
+    where
+      at_first : (o : Option Y) → o ≡ Some y → Contains (cons_option o (filter_map f zs)) y
+      at_first None is = absurd cc
+      at_first (Some w) is =
+          subst (Contains (w ∷ filter_map f zs)) (same_Some w y is)
+          (among_first w (filter_map f zs))
 
-    after_it : (o : Option Y) → Contains (filter_map f zs) y
-        → Contains (cons_option o (filter_map f zs)) y
-    after_it None later = later
-    after_it (Some w) later = among_later w (filter_map f zs) y later
+      after_it : (o : Option Y) → Contains (filter_map f zs) y
+          → Contains (cons_option o (filter_map f zs)) y
+      after_it None later = later
+      after_it (Some w) later = among_later w (filter_map f zs) y later
 
 id_itself : (id : Id) → is_id id id ≡ true
 id_itself id = grind (arith, common_steps)
@@ -131,7 +133,7 @@ module _ (Brought : Message → Type 0) (calls : Calls) (inputs : List (Timed Ca
     out_gave now event respond same (out.Direct to bytes) among = tt
     out_gave now event respond same (out.Command id (order.Start key call_id message to)) among =
         tt
-    out_gave now event respond same (out.Command id (order.Answer key response)) among rseq is =
+    out_gave now event respond same (out.Command id (order.Answer key response)) among = λ rseq is.
         let timed : Timed CallItem = given_at now (event, User (user.Respond respond)) in
         subst (λ xs. Contains (given_from calls id None xs) (rseq, response)) (sym same)
         (given_by_input calls id None before after timed (rseq, response)

@@ -194,7 +194,6 @@ module _ (Brought : Arrival → Type 0) (Gave : Id → ℕ → Message → Type 
         );
       }
 
-  -- what the RAck of a PRACK names
   -- the name of the dialog of an INVITE
   invite_named : (o : Option DialogReference) (name its : DialogId) (created_by : Id)
       → IfSome o (λ (reference : DialogReference). reference.name ≡ its)
@@ -205,6 +204,7 @@ module _ (Brought : Arrival → Type 0) (Gave : Id → ℕ → Message → Type 
       sym named ∙ same_name reference.name name
       (and-left (is_dialog_id reference.name name) (is_id reference.created_by created_by) is)
 
+  -- what the RAck of a PRACK names
   named_so : (rack : RAck) (created_by : Id) (invite : HeldRequest) (prack : Arrival)
       → Holds Brought Gave invite → Brought prack → is_prack prack.request ≡ true
       → has_to_tag prack.request ≡ true → prack.request.rack ≡ Some rack
