@@ -32,6 +32,8 @@ pub mod ToldCallId
 pub mod PracksCame
 pub mod PracksServed
 pub mod PracksOfCalls
+pub mod ToTags
+pub mod GivenReliably
 pub mod PracksSaid
 pub mod OwedTold
 pub mod RackedSteps

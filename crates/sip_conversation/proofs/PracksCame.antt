@@ -1,5 +1,6 @@
--- What a held request keeps: where responses above RSeq 1 may go out to it, a PRACK came in its
--- dialog whose RAck has RSeq 1 and the CSeq of that request.
+-- What a held request keeps: the user gave the reliable responses that go out to it. Where some
+-- above RSeq 1 may go out, a PRACK came in its dialog whose RAck has RSeq 1 and the CSeq of that
+-- request.
 use Rattle.std.proofs.Common.{◌≡◌, ℕ, ◌+◌, ◌<◌, Bool, true, false, ◌||◌, ◌&&◌, not, ◌==◌, cond, List, [], ◌∷◌, ◌++◌, map, refl, sym, ap, ◌∙◌, arith}
 use Rattle.std.specs.Prelude.{IfSome, Option, None, Some, codes, filter, is_none, is_some, length, nat_le, nat_lt, if◌then◌else◌}
 use Rattle.std.specs.List.{AllByRecursion, flat_map, list_any}
@@ -9,7 +10,7 @@ use Rattle.std.proofs.lemmas.Grind.{common_steps}
 use Rattle.std.proofs.lemmas.List.Folds.{list_any-append}
 use Rattle.sip_message.specs.Content.{with_content_of}
 use Rattle.sip_message.specs.Party.{tag_of}
-use Rattle.sip_message.specs.Response.{answering_to, response_of}
+use Rattle.sip_message.specs.Response.{answering_to, response_of, tagged}
 use Rattle.sip_message.specs.declared.key.Key.{Key}
 use Rattle.sip_dialog.specs.Request.{contact_of}
 use Rattle.sip_transactions.specs.declared.input.Command.TheVariants as order
@@ -29,6 +30,7 @@ use Rattle.sip_common.specs.declared.held_dialog.DialogReference.{DialogReferenc
 use Rattle.sip_common.specs.declared.command.Respond.{Respond}
 use Rattle.sip_common.specs.declared.refusal.Refusal.TheVariants as why
 use Rattle.sip_common.proofs.Each.{both, filtered}
+use Rattle.sip_served.specs.declared.arrival.Arrival.{Arrival}
 use Rattle.sip_served.specs.declared.held_request.HeldRequest.{HeldRequest}
 use Rattle.sip_served.specs.declared.held_request.Success.{Success}
 use Rattle.sip_served.specs.declared.provisionals.ReliableResponse.{ReliableResponse}
@@ -37,7 +39,7 @@ use Rattle.sip_served.specs.Rules.Responses.{held_after, is_dialog_response, is_
 use Rattle.sip_served.specs.Rules.Ticks.{provisionals_tick, server_tick, success_at, success_tick}
 use Rattle.sip_served.specs.State.{ServedTaken, State}
 use Rattle.sip_served.proofs.Rseqs.{given_up_numbers, repeated_numbers}
-use Rattle.sip_clients.specs.Clients.{status_of}
+use Rattle.sip_conversation.specs.Answers.{IsResponseTo}
 use Rattle.sip_conversation.proofs.Branches.{either}
 
 -- ---- numbers among which one is, or isn't
@@ -94,38 +96,44 @@ but_other number other isnt (p ∷ waiting) =
 pub no_rseq : (rseq : ℕ) → None ≡ Some rseq → ⊥
 no_rseq rseq is = absurd cc
 
-module _ (Brought : Message → Type 0) where
-  -- a PRACK came of the response of RSeq 1 to this INVITE, in the dialog that the tag makes
-  pub record Pracked (invite : Message) (tag : List ℕ) : Type 0 where
-    pub prack : Message
-    pub brought : Brought prack
-    pub method : prack.cseq.method ≡ codes "PRACK"
-    pub rack : prack.rack
-        ≡ Some record { rseq = 1; cseq = invite.cseq.number; method = codes "INVITE" }
-    pub name : dialog_id_of_tags (tag_of prack.to) (tag_of prack.from) ≡ dialog_id_of invite tag
+-- a held request, as it came up
+abbrev pub arrived : HeldRequest → Arrival
+arrived held = record {
+  id = held.id;
+  key = held.key;
+  request = held.request;
+  reply_to = held.reply_to;
+  tag = held.tag;
+}
 
-  -- one came of the response of RSeq 1 to the INVITE that this response answers
-  pub record PrackedFor (response : Message) : Type 0 where
-    pub invite : Message
+-- a PRACK came of the response of RSeq 1 to this INVITE, in the dialog that its tag makes
+pub record Pracked (Brought : Arrival → Type 0) (invite : Arrival) : Type 0 where
+  pub prack : Arrival
+  pub brought : Brought prack
+  pub method : prack.request.cseq.method ≡ codes "PRACK"
+  pub rack : prack.request.rack
+      ≡ Some record { rseq = 1; cseq = invite.request.cseq.number; method = codes "INVITE" }
+  pub name : dialog_id_of_tags (tag_of prack.request.to) (tag_of prack.request.from)
+      ≡ dialog_id_of invite.request invite.tag
+
+module _ (Brought : Arrival → Type 0) (Gave : Id → ℕ → Message → Type 0) where
+  -- The user gave this response with this RSeq to a request of this id, and that request came. If
+  -- the RSeq is above 1, a PRACK came of the response of RSeq 1 to it.
+  pub record GivenTo (id : Id) (rseq : ℕ) (response : Message) : Type 0 where
+    pub gave : Gave id rseq response
+    pub invite : Arrival
     pub came : Brought invite
-    pub tag : List ℕ
-    pub pracked : Pracked invite tag
-    pub status : ℕ
-    pub status_is : status_of response.start ≡ Some status
-    pub from : response.from ≡ invite.from
-    pub to : response.to ≡ answering_to invite.to status tag
-    pub call_id : response.call_id ≡ invite.call_id
-    pub cseq : response.cseq ≡ invite.cseq
+    pub id_is : invite.id ≡ id
+    pub copies : IsResponseTo invite.request response
+    pub to : response.to ≡ tagged invite.request.to invite.tag
+    pub pracked : 1 < rseq → Pracked Brought invite
 
-  abbrev pub Given : Message → Type 0
-  Given response = (rseq : ℕ) → response.rseq ≡ Some rseq → 1 < rseq → PrackedFor response
+  -- so it is, if the response has an RSeq
+  abbrev pub Given : Id → Message → Type 0
+  Given id response = (rseq : ℕ) → response.rseq ≡ Some rseq → GivenTo id rseq response
 
-  pub none_given : (response : Message) → response.rseq ≡ None → Given response
-  none_given response none rseq is more = absurd (no_rseq (response.rseq) none is)
-    where
-      no_rseq : (o : Option ℕ) → o ≡ None → o ≡ Some rseq → ⊥
-      no_rseq None none is = absurd cc
-      no_rseq (Some other) none is = absurd cc
+  pub none_given : (id : Id) (response : Message) → response.rseq ≡ None → Given id response
+  none_given id response none rseq is = absurd (no_rseq rseq (sym none ∙ is))
 
   -- the name of a dialog is that of this request's answers
   abbrev pub IsNamed : HeldRequest → Type 0
@@ -133,19 +141,19 @@ module _ (Brought : Message → Type 0) where
       (λ reference. reference.name ≡ dialog_id_of held.request held.tag)
 
   pub record Holds (held : HeldRequest) : Type 0 where
-    pub came : Brought held.request
+    pub came : Brought (arrived held)
     pub named : IsNamed held
     pub first : held.ledger.first ≡ 1
     pub acked : 1 < held.ledger.next
         → has_number 1 (numbers_of held.ledger.waiting) ≡ false
-        → Pracked held.request held.tag
-    pub kept : AllByRecursion (λ one. Given one.response) held.provisionals
-    pub success : IfSome held.success (λ success. Given success.response)
+        → Pracked Brought (arrived held)
+    pub kept : AllByRecursion (λ one. Given held.id one.response) held.provisionals
+    pub success : IfSome held.success (λ success. Given held.id success.response)
 
   -- ---- a PRACK, an ACK and a CANCEL
 
   pub prack_holds : (rseq : ℕ) (held : HeldRequest) → Holds held
-      → (rseq ≡ 1 → Pracked held.request held.tag) → Holds (after_prack rseq held)
+      → (rseq ≡ 1 → Pracked Brought (arrived held)) → Holds (after_prack rseq held)
   prack_holds rseq held holds pracked = record {
     came = holds.came;
     named = holds.named;
@@ -153,7 +161,7 @@ module _ (Brought : Message → Type 0) where
     acked = λ more none. by_bool (rseq == 1)
         (λ is. pracked (equal rseq 1 is))
         (λ isnt. holds.acked more (sym (but_other 1 rseq isnt held.ledger.waiting) ∙ none));
-    kept = filtered (λ one. Given one.response) (λ one. not (one.number == rseq))
+    kept = filtered (λ one. Given held.id one.response) (λ one. not (one.number == rseq))
         held.provisionals holds.kept;
     success = holds.success;
   }
@@ -168,9 +176,9 @@ module _ (Brought : Message → Type 0) where
     success = by_success held.success holds.success;
   }
     where
-      by_success : (o : Option Success) → IfSome o (λ success. Given success.response)
+      by_success : (o : Option Success) → IfSome o (λ success. Given held.id success.response)
           → IfSome ((after_ack (record held { success = o })).success)
-          (λ success. Given success.response)
+          (λ success. Given held.id success.response)
       by_success None given = tt
       by_success (Some success) given = given
 
@@ -189,7 +197,8 @@ module _ (Brought : Message → Type 0) where
   none_refuses : (a b c d e f g h i : Bool) → first_refusal ((a, why.BadStatus)
       ∷ (b, why.AlreadyFinal) ∷ (c, why.NotSupported) ∷ (d, why.DialogEnded)
       ∷ (e, why.AlreadyFinal) ∷ (f, why.NotSupported) ∷ (g, why.ReliablePending)
-      ∷ (h, why.ReliablePending) ∷ (i, why.SequenceUsedUp) ∷ []) None ≡ None → g ≡ false
+      ∷ (h, why.ReliablePending) ∷ (i, why.SequenceUsedUp) ∷ []) None ≡ None
+      → (a ≡ false) × (g ≡ false)
   none_refuses true b c d e f g h i none = absurd cc
   none_refuses false true c d e f g h i none = absurd cc
   none_refuses false false true d e f g h i none = absurd cc
@@ -197,23 +206,37 @@ module _ (Brought : Message → Type 0) where
   none_refuses false false false false true f g h i none = absurd cc
   none_refuses false false false false false true g h i none = absurd cc
   none_refuses false false false false false false true h i none = absurd cc
-  none_refuses false false false false false false false h i none = refl
+  none_refuses false false false false false false false h i none = (refl, refl)
+
+  not_100 : (status : ℕ) → not (nat_le 101 status && nat_le status 699) ≡ false
+      → (status == 100) ≡ false
+  not_100 status good =
+      by_bool (status == 100)
+      (λ is. absurd (false≢true (sym good
+      ∙ ap (λ n. not (nat_le 101 n && nat_le n 699)) (equal status 100 is))))
+      (λ isnt. isnt)
+
+  -- a response that isn't refused
+  pub record Sends (held : HeldRequest) (respond : Respond) : Type 0 where
+    pub above_100 : (respond.status == 100) ≡ false
+    pub none_wait : (is_sent_reliably held respond && must_wait held.ledger) ≡ false
 
   pub may_send : (dialogs : Dialogs) (held : HeldRequest) (respond : Respond)
-      → response_refusal dialogs held respond ≡ None
-      → (is_sent_reliably held respond && must_wait held.ledger) ≡ false
+      → response_refusal dialogs held respond ≡ None → Sends held respond
   may_send dialogs held respond none =
       let status = respond.status in
       let reliable = is_sent_reliably held respond in
       let ledger = held.ledger in
-      none_refuses (not (nat_le 101 status && nat_le status 699)) (is_some held.removal)
+      let parts = none_refuses (not (nat_le 101 status && nat_le status 699))
+      (is_some held.removal)
       (is_reliable respond.reliability && not (may_be_reliable held status))
       (is_dialog_response held status
       && option_map_or (λ reference. not (lives dialogs reference)) held.dialog false)
       (reliable && ledger.closed) (reliable && not ledger.supported)
       (reliable && must_wait ledger)
       (is_success status && list_any (λ (p : Provisional). p.has_body) ledger.waiting)
-      (reliable && nat_lt 4294967295 ledger.next) none
+      (reliable && nat_lt 4294967295 ledger.next) none in
+      record { above_100 = not_100 status parts.0; none_wait = parts.1 }
 
   -- the first awaits its PRACK no more
   none_waits : (ledger : Ledger) → ledger.first ≡ 1 → must_wait ledger ≡ false
@@ -238,64 +261,60 @@ module _ (Brought : Message → Type 0) where
         then record plain { require = codes "100rel" ∷ []; rseq = Some held.ledger.next }
         else plain) respond.content
 
-    -- what it copies
-    record CopiesSo (response : Message) : Type 0 where
-      pub status_is : status_of response.start ≡ Some respond.status
-      pub from : response.from ≡ held.request.from
+    -- what it copies, and its RSeq
+    record SentSo (reliable : Bool) (response : Message) : Type 0 where
+      pub copies : IsResponseTo held.request response
       pub to : response.to ≡ answering_to held.request.to respond.status held.tag
-      pub call_id : response.call_id ≡ held.request.call_id
-      pub cseq : response.cseq ≡ held.request.cseq
+      pub rseq : response.rseq ≡ (if reliable then Some held.ledger.next else None)
 
-    so_copied : (reliable routed : Bool) → CopiesSo (sent_so reliable routed)
+    so_sent : (reliable routed : Bool) → SentSo reliable (sent_so reliable routed)
     unfolding with_content_of
-    so_copied true true =
-        record { status_is = refl; from = refl; to = refl; call_id = refl; cseq = refl }
-    so_copied true false =
-        record { status_is = refl; from = refl; to = refl; call_id = refl; cseq = refl }
-    so_copied false true =
-        record { status_is = refl; from = refl; to = refl; call_id = refl; cseq = refl }
-    so_copied false false =
-        record { status_is = refl; from = refl; to = refl; call_id = refl; cseq = refl }
+    so_sent true true = record {
+      copies = record { vias = refl; from = refl; call_id = refl; cseq = refl };
+      to = refl;
+      rseq = refl;
+    }
+    so_sent true false = record {
+      copies = record { vias = refl; from = refl; call_id = refl; cseq = refl };
+      to = refl;
+      rseq = refl;
+    }
+    so_sent false true = record {
+      copies = record { vias = refl; from = refl; call_id = refl; cseq = refl };
+      to = refl;
+      rseq = refl;
+    }
+    so_sent false false = record {
+      copies = record { vias = refl; from = refl; call_id = refl; cseq = refl };
+      to = refl;
+      rseq = refl;
+    }
 
-    so_sent : (reliable routed : Bool)
-        → (sent_so reliable routed).rseq ≡ (if reliable then Some held.ledger.next else None)
-    unfolding with_content_of
-    so_sent true true = refl
-    so_sent true false = refl
-    so_sent false true = refl
-    so_sent false false = refl
-
-    module _ (holds : Holds held)
-        (sends : (is_sent_reliably held respond && must_wait held.ledger) ≡ false) where
-      pub answer_given : Given (response_sent local held respond)
-      answer_given rseq is more =
+    module _ (holds : Holds held) (sends : Sends held respond)
+        (gave : (rseq : ℕ) → (response_sent local held respond).rseq ≡ Some rseq
+        → Gave held.id rseq (response_sent local held respond)) where
+      pub answer_given : Given held.id (response_sent local held respond)
+      answer_given rseq is =
           let number : Bool → Option ℕ = λ b. if b then Some held.ledger.next else None in
           by_bool (is_sent_reliably held respond)
           (λ reliable. let next : held.ledger.next ≡ rseq =
-          same_number held.ledger.next rseq (sym (ap number reliable) ∙ (sym sent ∙ is)) in
+          same_number held.ledger.next rseq (sym (ap number reliable) ∙ (sym sent.rseq ∙ is)) in
           let none : must_wait held.ledger ≡ false =
-          sym (ap (λ b. b && must_wait held.ledger) reliable) ∙ sends in
+          sym (ap (λ b. b && must_wait held.ledger) reliable) ∙ sends.none_wait in
           record {
-            invite = held.request;
+            gave = gave rseq is;
+            invite = arrived held;
             came = holds.came;
-            tag = held.tag;
-            pracked = holds.acked (omega (arith, next, more))
+            id_is = refl;
+            copies = sent.copies;
+            to = sent.to ∙ ap (λ b. if b then held.request.to
+                else tagged held.request.to held.tag) sends.above_100;
+            pracked = λ more. holds.acked (omega (arith, next, more))
                 (none_waits held.ledger holds.first none);
-            status = respond.status;
-            status_is = copied.status_is;
-            from = copied.from;
-            to = copied.to;
-            call_id = copied.call_id;
-            cseq = copied.cseq;
           })
-          (λ plain. absurd (no_rseq rseq (sym (ap number plain) ∙ (sym sent ∙ is))))
+          (λ plain. absurd (no_rseq rseq (sym (ap number plain) ∙ (sym sent.rseq ∙ is))))
         where
-          copied : CopiesSo (response_sent local held respond)
-          copied =
-              so_copied (is_sent_reliably held respond) (is_dialog_response held respond.status)
-
-          sent : (response_sent local held respond).rseq
-              ≡ (if is_sent_reliably held respond then Some held.ledger.next else None)
+          sent : SentSo (is_sent_reliably held respond) (response_sent local held respond)
           sent = so_sent (is_sent_reliably held respond) (is_dialog_response held respond.status)
 
           same_number : (one two : ℕ) → Some one ≡ Some two → one ≡ two
@@ -304,7 +323,7 @@ module _ (Brought : Message → Type 0) where
       more_wait : (sent : Provisional) → sent.number ≡ held.ledger.next
           → 1 < held.ledger.next + 1
           → has_number 1 (numbers_of (held.ledger.waiting ++ sent ∷ [])) ≡ false
-          → Pracked held.request held.tag
+          → Pracked Brought (arrived held)
       more_wait sent is more none =
           let waiting = held.ledger.waiting in
           let parts : (has_number 1 (numbers_of waiting) || ((sent.number == 1) || false)) ≡ false =
@@ -343,7 +362,7 @@ module _ (Brought : Message → Type 0) where
             first = holds.first;
             acked = λ more none. more_wait (provisional_sent held.ledger.next
                 (response_sent local held respond) now) refl more none;
-            kept = both (λ one. Given one.response) held.provisionals _ holds.kept
+            kept = both (λ one. Given held.id one.response) held.provisionals _ holds.kept
                 (answer_given, tt);
             success = holds.success;
           })
@@ -354,7 +373,7 @@ module _ (Brought : Message → Type 0) where
             first = holds.first;
             acked = holds.acked;
             kept = holds.kept;
-            success = either (λ o. IfSome o (λ success. Given success.response))
+            success = either (λ o. IfSome o (λ success. Given held.id success.response))
                 (is_invite held.request && is_success respond.status)
                 (Some (success_sent (response_sent local held respond) now)) held.success
                 (λ accepted. answer_given) (λ other. holds.success);
@@ -373,11 +392,22 @@ module _ (Brought : Message → Type 0) where
   abbrev pub OutGiven : CallOut → Type 0
   OutGiven (out.Notice notice) = Unit {0}
   OutGiven (out.Command id (order.Start key call_id request to)) = Unit {0}
-  OutGiven (out.Command id (order.Answer key response)) = Given response
+  OutGiven (out.Command id (order.Answer key response)) = Given id response
   OutGiven (out.Direct to bytes) = Unit {0}
 
   abbrev pub OutsGiven : List CallOut → Type 0
   OutsGiven outs = AllByRecursion OutGiven outs
+
+  -- the user gives each reliable response among them
+  abbrev pub OutGave : CallOut → Type 0
+  OutGave (out.Notice notice) = Unit {0}
+  OutGave (out.Command id (order.Start key call_id request to)) = Unit {0}
+  OutGave (out.Command id (order.Answer key response)) =
+      (rseq : ℕ) → response.rseq ≡ Some rseq → Gave id rseq response
+  OutGave (out.Direct to bytes) = Unit {0}
+
+  abbrev pub OutsGave : List CallOut → Type 0
+  OutsGave outs = AllByRecursion OutGave outs
 
   record StaysSame (before : Ledger) (done : Ledger × List CallOut) : Type 0 where
     pub first : (done.0).first ≡ before.first
@@ -386,7 +416,7 @@ module _ (Brought : Message → Type 0) where
     pub outs : OutsGiven done.1
 
   again_given : (id : Id) (key : Key) (responses : List ReliableResponse)
-      → AllByRecursion (λ one. Given one.response) responses
+      → AllByRecursion (λ one. Given id one.response) responses
       → OutsGiven (map (λ one. out.Command id (order.Answer key one.response)) responses)
   again_given id key [] all = tt
   again_given id key (one ∷ responses) all = (all.0, again_given id key responses all.1)
@@ -409,21 +439,21 @@ module _ (Brought : Message → Type 0) where
         first = refl;
         next = refl;
         numbers = repeated_numbers now ledger.waiting;
-        outs = again_given held.id held.key _ (filtered (λ one. Given one.response)
+        outs = again_given held.id held.key _ (filtered (λ one. Given held.id one.response)
             (λ one. list_any (λ number. one.number == number) due) held.provisionals holds.kept);
       }))
 
-  abbrev SuccessSo : Option Success × List CallOut → Type 0
-  SuccessSo done = IfSome done.0 (λ success. Given success.response) × OutsGiven done.1
+  abbrev SuccessSo : Id → Option Success × List CallOut → Type 0
+  SuccessSo id done = IfSome done.0 (λ success. Given id success.response) × OutsGiven done.1
 
   success_so : (now : ℕ) (held : HeldRequest) (o : Option Success)
-      → IfSome o (λ success. Given success.response)
-      → SuccessSo (option_map_or (success_at now held) o (None, []))
+      → IfSome o (λ success. Given held.id success.response)
+      → SuccessSo held.id (option_map_or (success_at now held) o (None, []))
   success_so now held None given = (tt, tt)
   success_so now held (Some success) given =
-      either SuccessSo (is_none success.over && nat_le success.end now) _ _
+      either (SuccessSo held.id) (is_none success.over && nat_le success.end now) _ _
       (λ over. (given, (tt, tt)))
-      (λ still. either SuccessSo
+      (λ still. either (SuccessSo held.id)
       (is_none success.over && nat_le success.retransmission.due now) _ _
       (λ again. (given, (given, tt))) (λ early. (given, tt)))
 

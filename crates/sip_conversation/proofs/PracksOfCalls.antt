@@ -1,5 +1,5 @@
--- A call answers with an RSeq above 1 only after a PRACK came to it whose RAck has RSeq 1 and the
--- CSeq of that answer.
+-- A call gives only reliable responses that its user gave, and one with an RSeq above 1 only after a
+-- PRACK came to it whose RAck has RSeq 1 and the CSeq of that answer.
 use Rattle.std.proofs.Common.{◌≡◌, ⊎_elim, ℕ, Bool, true, false, cond, List, [], ◌∷◌, ◌++◌, map, refl, sym, ap, ◌∙◌, subst, append_assoc, arith}
 use Rattle.std.specs.Prelude.{Contains, Option, None, Some, filter_map}
 use Rattle.std.specs.List.{AllByRecursion}
@@ -21,6 +21,7 @@ use Rattle.sip_common.specs.declared.command.UserCommand.TheVariants as user
 use Rattle.sip_common.specs.declared.item.CallOut.{CallOut}
 use Rattle.sip_common.specs.declared.item.Item.TheVariants.{Up, User}
 use Rattle.sip_common.proofs.Each.{both}
+use Rattle.sip_served.specs.declared.arrival.Arrival.{Arrival}
 use Rattle.sip_served.specs.declared.held_request.HeldRequest.{HeldRequest}
 use Rattle.sip_served.specs.Rules.Ticks.{server_tick}
 use Rattle.sip_clients.specs.Client.{ClientTaken, Clients}
@@ -29,6 +30,7 @@ use Rattle.sip_clients.specs.Rules.Requests.{ack_command, cancel_command, prack_
 use Rattle.sip_clients.specs.Rules.Responses.{response_received}
 use Rattle.sip_clients.specs.Outputs.{start_command}
 use Rattle.sip_clients.specs.declared.client.Client.{Client}
+use Rattle.sip_clients.specs.Name.{name_of}
 use Rattle.sip_clients.specs.declared.event.Event.{Event}
 use Rattle.sip_clients.proofs.ClientOuts.{Allows, ack_command_told, cancel_told, clients_tick, command_told, invite_told, lost_told, plain_told, prack_command_told, response_told}
 use Rattle.sip_clients.proofs.RuleEnds.{lost_same, tick_same}
@@ -43,7 +45,7 @@ use Rattle.sip_calls.specs.Histories.{call_from}
 use Rattle.sip_calls.specs.Sides.{by_server, holds_any}
 use Rattle.sip_calls.proofs.HeldById.{held_by_id}
 use Rattle.sip_conversation.proofs.Among.{first_or_later, none_among}
-use Rattle.sip_conversation.proofs.PracksCame.{Holds, OutGiven, OutsGiven, served_tick}
+use Rattle.sip_conversation.proofs.PracksCame.{Holds, OutGiven, OutsGave, OutsGiven, served_tick}
 use Rattle.sip_conversation.proofs.PracksServed.{Apart, KindBrought, kind_done, respond_done}
 
 -- ---- ids that rise
@@ -112,24 +114,24 @@ from_more calls call (first ∷ front) timed =
 
 -- ---- one input
 
-module _ (Brought : Message → Type 0) where
+module _ (Brought : Arrival → Type 0) (Gave : Id → ℕ → Message → Type 0) where
   abbrev Outs : List CallOut → Type 0
-  Outs outs = OutsGiven Brought outs
+  Outs outs = OutsGiven Brought Gave outs
 
   abbrev HoldsCall : Call → Type 0
-  HoldsCall call = AllByRecursion (Holds Brought) (call.served).requests
+  HoldsCall call = AllByRecursion (Holds Brought Gave) (call.served).requests
 
   abbrev HoldsHeld : Option Call → Type 0
-  HoldsHeld held = AllByRecursion (Holds Brought) (requests_held held)
+  HoldsHeld held = AllByRecursion (Holds Brought Gave) (requests_held held)
 
   abbrev Done : CallTaken → Type 0
   Done taken = HoldsCall taken.0 × Outs taken.1
 
-  started_given : (id : Id) (client : Client) → OutGiven Brought (start_command id client)
+  started_given : (id : Id) (client : Client) → OutGiven Brought Gave (start_command id client)
   unfolding start_command
   started_given id client = tt
 
-  allows : Allows (OutGiven Brought)
+  allows : Allows (OutGiven Brought Gave)
   allows = record {
     ended = λ held. tt;
     refusal = λ call_id place why. tt;
@@ -137,10 +139,16 @@ module _ (Brought : Message → Type 0) where
     started = started_given;
   }
 
-  abbrev pub InputBrought : Option CallItem → Type 0
-  InputBrought None = Unit {0}
-  InputBrought (Some (event, Up up)) = KindBrought Brought up.kind
-  InputBrought (Some (event, User command)) = Unit {0}
+  -- a request that comes up is one of those, and the user gives what a command to respond sends
+  abbrev pub CommandFits : UserCommand → List CallOut → Type 0
+  CommandFits (user.Respond respond) outs = OutsGave Brought Gave outs
+  CommandFits _ outs = Unit {0}
+
+  abbrev pub InputFits : Calls → Option CallItem → List CallOut → Type 0
+  InputFits calls None outs = Unit {0}
+  InputFits calls (Some (event, Up up)) outs =
+      KindBrought Brought Gave (name_of calls.seed event 0) up up.kind
+  InputFits calls (Some (event, User command)) outs = CommandFits command outs
 
   by_clients_so : (before after : ClientTaken) → before ≡ after → Outs after.1 → Outs before.1
   by_clients_so before after same given =
@@ -151,23 +159,23 @@ module _ (Brought : Message → Type 0) where
   lost_given call id timed_out =
       by_clients_so (request_is_lost id timed_out (side_of call)) _
       (lost_same id timed_out (side_of call))
-      (lost_told (OutGiven Brought) allows id timed_out (side_of call))
+      (lost_told (OutGiven Brought Gave) allows id timed_out (side_of call))
 
-  up_given : (call : Call) (event : Event) (up : AnUp) (k : Kind) → KindBrought Brought k
+  up_given : (call : Call) (event : Event) (up : AnUp) (k : Kind) → KindBrought Brought Gave (made_tag event) up k
       → Apart (call.served).requests → HoldsCall call → Done (received call event up k)
   up_given call event up (kind.Request request reply_to) brought apart holds =
-      let so = kind_done Brought call.served (made_tag event) up (kind.Request request reply_to)
+      let so = kind_done Brought Gave call.served (made_tag event) up (kind.Request request reply_to)
       event.moment brought apart holds in
       (so.requests, so.outs)
   up_given call event up (kind.Ack ack) brought apart holds =
-      let so = kind_done Brought call.served (made_tag event) up (kind.Ack ack) event.moment
+      let so = kind_done Brought Gave call.served (made_tag event) up (kind.Ack ack) event.moment
       brought apart holds in
       (so.requests, so.outs)
   up_given call event up (kind.Response response) brought apart holds = (
     holds,
     by_clients_so (response_received event up.id up.call_id response (side_of call)) _
         (response_same event up.id up.call_id response (side_of call))
-        (response_told (OutGiven Brought) allows event up.id up.call_id response (side_of call)
+        (response_told (OutGiven Brought Gave) allows event up.id up.call_id response (side_of call)
         (λ name status is. tt)),
   )
   up_given call event up kind.Timeout brought apart holds =
@@ -181,13 +189,13 @@ module _ (Brought : Message → Type 0) where
     holds,
     subst (λ (taken : Clients × List CallOut). Outs taken.1)
         (sym (invite_same event invite call.clients))
-        (invite_told (OutGiven Brought) allows event invite call.clients),
+        (invite_told (OutGiven Brought Gave) allows event invite call.clients),
   )
   first_given call event (user.Plain plain) holds = (
     holds,
     subst (λ (taken : Clients × List CallOut). Outs taken.1)
         (sym (plain_same event plain call.clients))
-        (plain_told (OutGiven Brought) allows event plain call.clients),
+        (plain_told (OutGiven Brought Gave) allows event plain call.clients),
   )
   first_given call event (user.Request request) holds = (holds, (tt, tt))
   first_given call event (user.Respond respond) holds = (holds, (tt, tt))
@@ -195,46 +203,47 @@ module _ (Brought : Message → Type 0) where
   first_given call event (user.Prack prack) holds = (holds, (tt, tt))
   first_given call event (user.Cancel cancel) holds = (holds, (tt, tt))
 
-  command_given : (call : Call) (event : Event) (command : UserCommand) → HoldsCall call
+  command_given : (call : Call) (event : Event) (command : UserCommand)
+      → CommandFits command (item_of_call true call event (User command)).1 → HoldsCall call
       → Done (item_of_call true call event (User command))
-  command_given call event (user.Invite invite) holds = (holds, (tt, tt))
-  command_given call event (user.Plain plain) holds = (holds, (tt, tt))
-  command_given call event (user.Request request) holds = (
+  command_given call event (user.Invite invite) fits holds = (holds, (tt, tt))
+  command_given call event (user.Plain plain) fits holds = (holds, (tt, tt))
+  command_given call event (user.Request request) fits holds = (
     holds,
     by_clients_so (request_command event request (side_of call)) _
         (request_same event request (side_of call))
-        (command_told (OutGiven Brought) allows event request (side_of call)),
+        (command_told (OutGiven Brought Gave) allows event request (side_of call)),
   )
-  command_given call event (user.Respond respond) holds =
-      let so = respond_done Brought call.served event.id respond event.moment holds in
+  command_given call event (user.Respond respond) fits holds =
+      let so = respond_done Brought Gave call.served event.id respond event.moment holds fits in
       (so.requests, so.outs)
-  command_given call event (user.Ack ack) holds = (
+  command_given call event (user.Ack ack) fits holds = (
     holds,
     by_clients_so (ack_command event ack (side_of call)) _ (ack_same event ack (side_of call))
-        (ack_command_told (OutGiven Brought) allows event ack (side_of call)),
+        (ack_command_told (OutGiven Brought Gave) allows event ack (side_of call)),
   )
-  command_given call event (user.Prack prack) holds = (
+  command_given call event (user.Prack prack) fits holds = (
     holds,
     by_clients_so (prack_command event prack (side_of call)) _
         (prack_same event prack (side_of call))
-        (prack_command_told (OutGiven Brought) allows event prack (side_of call)),
+        (prack_command_told (OutGiven Brought Gave) allows event prack (side_of call)),
   )
-  command_given call event (user.Cancel cancel) holds = (
+  command_given call event (user.Cancel cancel) fits holds = (
     holds,
     by_clients_so (cancel_command event cancel (side_of call)) _
         (cancel_same event cancel (side_of call))
-        (cancel_told (OutGiven Brought) allows event cancel (side_of call)),
+        (cancel_told (OutGiven Brought Gave) allows event cancel (side_of call)),
   )
 
   tick_given : (call : Call) (now : ℕ) → HoldsCall call → Done (call_tick call now)
   tick_given call now holds =
-      let so = served_tick Brought call.served now holds in
+      let so = served_tick Brought Gave call.served now holds in
       let first = by_server call (server_tick call.served now) in
       let second = client_tick (side_of first.0) now in (
         so.requests,
-        both (OutGiven Brought) first.1 second.1 so.outs
+        both (OutGiven Brought Gave) first.1 second.1 so.outs
             (by_clients_so second _ (tick_same (side_of first.0) now)
-            (clients_tick (OutGiven Brought) allows (side_of first.0) now)),
+            (clients_tick (OutGiven Brought Gave) allows (side_of first.0) now)),
       )
 
   kept_by : (b : Bool) (call : Call) → HoldsCall call → HoldsHeld (cond b (Some call) None)
@@ -246,51 +255,64 @@ module _ (Brought : Message → Type 0) where
   kept_given taken done = (kept_by (holds_any taken.0) taken.0 done.0, done.1)
 
   step_given : (calls : Calls) (state : Option Call) (input : Option CallItem) (now : ℕ)
-      → InputBrought input → Apart (requests_held state) → HoldsHeld state
+      → InputFits calls input (call_step calls state input now).1 → Apart (requests_held state)
+      → HoldsHeld state
       → HoldsHeld (call_step calls state input now).0 × Outs (call_step calls state input now).1
-  step_given calls None None now brought apart holds = (tt, tt)
-  step_given calls (Some call) None now brought apart holds =
+  step_given calls None None now fits apart holds = (tt, tt)
+  step_given calls (Some call) None now fits apart holds =
       kept_given (call_tick call now) (tick_given call now holds)
-  step_given calls None (Some (id, Up up)) now brought apart holds =
+  step_given calls None (Some (id, Up up)) now fits apart holds =
       kept_given
       (item_of_call false (new_call calls.local) (event_of calls id now) (Up up))
-      (up_given (new_call calls.local) (event_of calls id now) up up.kind brought apart tt)
-  step_given calls None (Some (id, User command)) now brought apart holds =
+      (up_given (new_call calls.local) (event_of calls id now) up up.kind fits apart tt)
+  step_given calls None (Some (id, User command)) now fits apart holds =
       kept_given
       (item_of_call false (new_call calls.local) (event_of calls id now) (User command))
       (first_given (new_call calls.local) (event_of calls id now) command tt)
-  step_given calls (Some call) (Some (id, Up up)) now brought apart holds =
+  step_given calls (Some call) (Some (id, Up up)) now fits apart holds =
       kept_given (item_of_call true call (event_of calls id now) (Up up))
-      (up_given call (event_of calls id now) up up.kind brought apart holds)
-  step_given calls (Some call) (Some (id, User command)) now brought apart holds =
+      (up_given call (event_of calls id now) up up.kind fits apart holds)
+  step_given calls (Some call) (Some (id, User command)) now fits apart holds =
       kept_given (item_of_call true call (event_of calls id now) (User command))
-      (command_given call (event_of calls id now) command holds)
+      (command_given call (event_of calls id now) command fits holds)
 
   -- ---- all inputs
 
+  -- what comes after some inputs fits, and no two requests that are held then have an id
+  abbrev FitsAfter : Calls → List (Timed CallItem) → Timed CallItem → Type 0
+  FitsAfter calls before timed =
+      let call = call_from calls None before in
+      Apart (requests_held call)
+      × InputFits calls timed.input (call_step calls call timed.input timed.moment).1
+
   from_given : (calls : Calls) (key : List ℕ) (front rest : List (Timed CallItem))
-      → AllByRecursion (λ timed. InputBrought timed.input) rest
-      → ((before after : List (Timed CallItem)) → front ++ rest ≡ before ++ after
-      → Apart (requests_held (call_from calls None before)))
+      → ((before after : List (Timed CallItem)) (timed : Timed CallItem)
+      → front ++ rest ≡ before ++ timed ∷ after → FitsAfter calls before timed)
       → HoldsHeld (call_from calls None front)
       → Outs (outputs_from (call_machine calls) key (call_from calls None front) rest)
-  from_given calls key front [] brought apart holds = tt
-  from_given calls key front (timed ∷ rest) brought apart holds =
+  from_given calls key front [] fit holds = tt
+  from_given calls key front (timed ∷ rest) fit holds =
       let state = call_from calls None front in
       let step = call_step calls state timed.input timed.moment in
       let more = from_more calls None front timed in
-      let so = step_given calls state timed.input timed.moment brought.0
-      (apart front (timed ∷ rest) refl) holds in
-      both (OutGiven Brought) step.1 (outputs_from (call_machine calls) key step.0 rest) so.1
+      let its = fit front rest timed refl in
+      let so = step_given calls state timed.input timed.moment its.1 its.0 holds in
+      both (OutGiven Brought Gave) step.1 (outputs_from (call_machine calls) key step.0 rest) so.1
       (subst (λ s. Outs (outputs_from (call_machine calls) key s rest)) more
-      (from_given calls key (front ++ timed ∷ []) rest brought.1
-      (λ before after same. apart before after
+      (from_given calls key (front ++ timed ∷ []) rest
+      (λ before after one same. fit before after one
       (sym (append_assoc front (timed ∷ []) rest) ∙ same))
       (subst HoldsHeld (sym more) so.0)))
 
   pub all_given : (calls : Calls) (key : List ℕ) (inputs : List (Timed CallItem))
-      → RequestsRise inputs → AllByRecursion (λ timed. InputBrought timed.input) inputs
+      → RequestsRise inputs
+      → ((before after : List (Timed CallItem)) (timed : Timed CallItem)
+      → inputs ≡ before ++ timed ∷ after → InputFits calls timed.input
+      (call_step calls (call_from calls None before) timed.input timed.moment).1)
       → Outs (outputs_from (call_machine calls) key None inputs)
-  all_given calls key inputs rise brought =
-      from_given calls key [] inputs brought
-      (λ before after same. fronts_apart calls before after (subst RequestsRise same rise)) tt
+  all_given calls key inputs rise fit =
+      from_given calls key [] inputs
+      (λ before after timed same. (
+        fronts_apart calls before (timed ∷ after) (subst RequestsRise same rise),
+        fit before after timed same,
+      )) tt

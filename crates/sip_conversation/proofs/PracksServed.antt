@@ -1,5 +1,5 @@
--- Each step of the server side keeps what a held request keeps of its PRACKs, and gives such
--- responses alone.
+-- Each step of the server side keeps what a held request keeps of its PRACKs and its reliable
+-- responses, and gives such responses alone.
 use Rattle.std.proofs.Common.{◌≡◌, ℕ, Bool, true, false, ◌||◌, ◌&&◌, not, ◌==◌, cond, List, [], ◌∷◌, ◌++◌, map, refl, sym, ap, ◌∙◌, subst, arith}
 use Rattle.std.specs.Prelude.{Contains, IfSome, Option, None, Some, codes, filter, find, is_none, length, nat_eq, nat_le, reverse, if◌then◌else◌}
 use Rattle.std.specs.List.{AllByRecursion, list_any}
@@ -34,11 +34,12 @@ use Rattle.sip_common.proofs.Each.{both}
 use Rattle.sip_served.specs.declared.arrival.Arrival.{Arrival}
 use Rattle.sip_served.specs.declared.held_request.HeldRequest.{HeldRequest}
 use Rattle.sip_served.specs.Rules.Arrivals.{ack_for, ack_received, after_487, after_ack, after_prack, after_request, awaits, bad_extension, cancel_for, cancel_received, is_above, is_merged, is_named_by, is_same_branch, no_such_call, own_response, prack_for, prack_received, request_for_user, request_in_dialog, request_received, server_received}
+use Rattle.sip_served.specs.Arrival.{arrival_of}
 use Rattle.sip_served.specs.Rules.Responses.{dialogs_after, held_after, makes_dialog, respond_command, respond_to, response_refusal, response_sent}
 use Rattle.sip_served.specs.State.{ServedTaken, State, changed_at, changed_first, has_id}
 use Rattle.sip_conversation.proofs.Among.{among_first, among_later, each_of}
 use Rattle.sip_conversation.proofs.Branches.{either, found_or}
-use Rattle.sip_conversation.proofs.PracksCame.{Holds, OutGiven, OutsGiven, Pracked, ServedHolds, ack_holds, answer_given, answer_holds, cancel_holds, equal, may_send, no_rseq, none_given, prack_holds}
+use Rattle.sip_conversation.proofs.PracksCame.{Holds, OutGiven, OutsGave, OutsGiven, Pracked, ServedHolds, ack_holds, answer_given, answer_holds, arrived, cancel_holds, equal, may_send, no_rseq, none_given, prack_holds}
 
 -- ---- lists
 
@@ -109,18 +110,18 @@ abbrev pub Apart : List HeldRequest → Type 0
 Apart requests = (one two : HeldRequest) → Contains requests one → Contains requests two
     → is_id one.id two.id ≡ true → one ≡ two
 
-module _ (Brought : Message → Type 0) where
+module _ (Brought : Arrival → Type 0) (Gave : Id → ℕ → Message → Type 0) where
   abbrev HoldsAll : List HeldRequest → Type 0
-  HoldsAll requests = AllByRecursion (Holds Brought) requests
+  HoldsAll requests = AllByRecursion (Holds Brought Gave) requests
 
   abbrev Outs : List CallOut → Type 0
-  Outs outs = OutsGiven Brought outs
+  Outs outs = OutsGiven Brought Gave outs
 
   abbrev Done : ServedTaken → Type 0
-  Done taken = ServedHolds Brought taken
+  Done taken = ServedHolds Brought Gave taken
 
   outs_both : (xs ys : List CallOut) → Outs xs → Outs ys → Outs (xs ++ ys)
-  outs_both xs ys one other = both (OutGiven Brought) xs ys one other
+  outs_both xs ys one other = both (OutGiven Brought Gave) xs ys one other
 
   -- ---- the ends of dialogs
 
@@ -137,8 +138,11 @@ module _ (Brought : Message → Type 0) where
 
   own_given : (arrival : Arrival) (status : ℕ) (reason : List ℕ)
       → Outs (own_response arrival status reason)
-  own_given arrival status reason =
-      (none_given Brought (response_of arrival.request status reason arrival.tag) refl, tt)
+  own_given arrival status reason = (
+    none_given Brought Gave arrival.id
+        (response_of arrival.request status reason arrival.tag) refl,
+    tt,
+  )
 
   no_call_done : (state : State) (arrival : Arrival) → HoldsAll state.requests
       → Done (no_such_call state arrival)
@@ -163,13 +167,13 @@ module _ (Brought : Message → Type 0) where
       by_dialog None = tt
       by_dialog (Some held) = refl
 
-  user_done : (state : State) (call_id : List ℕ) (arrival : Arrival) → Brought arrival.request
+  user_done : (state : State) (call_id : List ℕ) (arrival : Arrival) → Brought arrival
       → HoldsAll state.requests
       → Done (request_for_user state call_id (dialog_id_of arrival.request arrival.tag) arrival)
   user_done state call_id arrival brought all =
       let request = arrival.request in
       let name = dialog_id_of request arrival.tag in record {
-        requests = both (Holds Brought) state.requests _ all (
+        requests = both (Holds Brought Gave) state.requests _ all (
           record {
             came = brought;
             named = either (λ o. IfSome o (λ (reference : DialogReference).
@@ -190,7 +194,6 @@ module _ (Brought : Message → Type 0) where
         );
       }
 
-  -- what the RAck of a PRACK names
   -- the name of the dialog of an INVITE
   invite_named : (o : Option DialogReference) (name its : DialogId) (created_by : Id)
       → IfSome o (λ (reference : DialogReference). reference.name ≡ its)
@@ -201,13 +204,14 @@ module _ (Brought : Message → Type 0) where
       sym named ∙ same_name reference.name name
       (and-left (is_dialog_id reference.name name) (is_id reference.created_by created_by) is)
 
-  named_so : (rack : RAck) (created_by : Id) (invite : HeldRequest) (prack : Message)
-      (made : List ℕ) → Holds Brought invite → Brought prack → is_prack prack ≡ true
-      → has_to_tag prack ≡ true → prack.rack ≡ Some rack
-      → is_named_by rack (dialog_id_of prack made) created_by invite ≡ true → rack.rseq ≡ 1
-      → Pracked Brought invite.request invite.tag
-  named_so rack created_by invite prack made holds brought is tagged has named first =
-      let name = dialog_id_of prack made in
+  -- what the RAck of a PRACK names
+  named_so : (rack : RAck) (created_by : Id) (invite : HeldRequest) (prack : Arrival)
+      → Holds Brought Gave invite → Brought prack → is_prack prack.request ≡ true
+      → has_to_tag prack.request ≡ true → prack.request.rack ≡ Some rack
+      → is_named_by rack (dialog_id_of prack.request prack.tag) created_by invite ≡ true
+      → rack.rseq ≡ 1 → Pracked Brought (arrived invite)
+  named_so rack created_by invite prack holds brought is tagged has named first =
+      let name = dialog_id_of prack.request prack.tag in
       let parts = four_of
       (option_map_or (λ reference. is_dialog_id reference.name name
       && is_id reference.created_by created_by) invite.dialog false)
@@ -222,19 +226,19 @@ module _ (Brought : Message → Type 0) where
       method ∙ same_bytes invite.request.cseq.method (codes "INVITE") inviting in record {
         prack = prack;
         brought = brought;
-        method = same_bytes prack.cseq.method (codes "PRACK") is;
+        method = same_bytes prack.request.cseq.method (codes "PRACK") is;
         rack = has ∙ (λ i. Some record {
           rseq = first i;
           cseq = sym number i;
           method = of_invite i;
         });
-        name = own_name prack made tagged
+        name = own_name prack.request prack.tag tagged
             ∙ sym (invite_named invite.dialog name (dialog_id_of invite.request invite.tag)
             created_by holds.named parts.0);
       }
 
   prack_done : (state : State) (call_id : List ℕ) (created_by : Id) (arrival : Arrival)
-      (rack : Option RAck) → arrival.request.rack ≡ rack → Brought arrival.request
+      (rack : Option RAck) → arrival.request.rack ≡ rack → Brought arrival
       → is_prack arrival.request ≡ true → has_to_tag arrival.request ≡ true
       → Apart state.requests → HoldsAll state.requests
       → Done (prack_received state call_id (dialog_id_of arrival.request arrival.tag) created_by
@@ -247,13 +251,13 @@ module _ (Brought : Message → Type 0) where
       (find (is_named_by rack name created_by) state.requests) (no_such_call state arrival)
       (λ invite found.
       let so = found_so (is_named_by rack name created_by) state.requests invite found in record {
-        requests = changed_so (Holds Brought) (has_id invite.id) (after_prack rack.rseq)
+        requests = changed_so (Holds Brought Gave) (has_id invite.id) (after_prack rack.rseq)
             state.requests
-            (λ one among here holds. prack_holds Brought rack.rseq one holds
-            (λ first. subst (λ (held : HeldRequest). Pracked Brought held.request held.tag)
+            (λ one among here holds. prack_holds Brought Gave rack.rseq one holds
+            (λ first. subst (λ (held : HeldRequest). Pracked Brought (arrived held))
             (sym (apart one invite among so.0 here))
-            (named_so rack created_by invite arrival.request arrival.tag
-            (each_of (Holds Brought) state.requests invite all so.0) brought is tagged has so.1
+            (named_so rack created_by invite arrival
+            (each_of (Holds Brought Gave) state.requests invite all so.0) brought is tagged has so.1
             first)))
             all;
         outs = outs_both (own_response arrival 200 (codes "OK"))
@@ -263,7 +267,7 @@ module _ (Brought : Message → Type 0) where
       (λ none. no_call_done state arrival all)
 
   dialog_done : (state : State) (call_id : List ℕ) (arrival : Arrival)
-      (held_dialog : HeldDialog) → Brought arrival.request → has_to_tag arrival.request ≡ true
+      (held_dialog : HeldDialog) → Brought arrival → has_to_tag arrival.request ≡ true
       → Apart state.requests → HoldsAll state.requests
       → Done (request_in_dialog state call_id (dialog_id_of arrival.request arrival.tag) arrival
       held_dialog)
@@ -312,11 +316,11 @@ module _ (Brought : Message → Type 0) where
       either Done (not (is_invite held.request && is_none held.removal)) still_ok ended
       (λ late. record { requests = all; outs = of_ok })
       (λ still. record {
-        requests = changed_so (Holds Brought) (has_id held.id) (after_487 now) state.requests
-            (λ one among here holds. cancel_holds Brought now one holds) all;
+        requests = changed_so (Holds Brought Gave) (has_id held.id) (after_487 now) state.requests
+            (λ one among here holds. cancel_holds Brought Gave now one holds) all;
         outs = outs_both ok (out.Command held.id (order.Answer held.key terminated)
             ∷ out.Notice (notice.Cancel call_id held.id) ∷ after.1) of_ok (
-              none_given Brought terminated refl,
+              none_given Brought Gave held.id terminated refl,
               (tt, early_given held.id state.dialogs),
             );
       })
@@ -336,8 +340,8 @@ module _ (Brought : Message → Type 0) where
   ack_done state call_id ack all =
       found_or Done (ack_for state call_id ack) (find (awaits ack) state.requests) (state, [])
       (λ invite found. record {
-        requests = changed_so (Holds Brought) (has_id invite.id) after_ack state.requests
-            (λ one among here holds. ack_holds Brought one holds) all;
+        requests = changed_so (Holds Brought Gave) (has_id invite.id) after_ack state.requests
+            (λ one among here holds. ack_holds Brought Gave one holds) all;
         outs = (tt, tt);
       })
       (λ none. record { requests = all; outs = tt })
@@ -345,7 +349,7 @@ module _ (Brought : Message → Type 0) where
   -- ---- any request
 
   request_done : (state : State) (call_id : List ℕ) (arrival : Arrival) (now : ℕ)
-      → Brought arrival.request → Apart state.requests → HoldsAll state.requests
+      → Brought arrival → Apart state.requests → HoldsAll state.requests
       → Done (request_received state call_id arrival now)
   unfolding request_received
   request_done state call_id arrival now brought apart all =
@@ -373,7 +377,7 @@ module _ (Brought : Message → Type 0) where
       })
       (λ single. either Done (list_any is_unknown_option request.require)
       (bad_extension state arrival) known
-      (λ unknown. record { requests = all; outs = (λ rseq is more. absurd (no_rseq rseq is), tt) })
+      (λ unknown. record { requests = all; outs = (λ rseq is. absurd (no_rseq rseq is), tt) })
       (λ fine. either Done (has_to_tag request) inside outside
       (λ tagged. found_or Done (request_in_dialog state call_id name arrival)
       (dialog_at name state.dialogs) (no_such_call state arrival)
@@ -384,18 +388,19 @@ module _ (Brought : Message → Type 0) where
       (λ odd. no_call_done state arrival all)
       (λ plain. user_done state call_id arrival brought all)))))
 
-  abbrev pub KindBrought : Kind → Type 0
-  KindBrought (kind.Request request reply_to) = Brought request
-  KindBrought (kind.Ack ack) = Unit {0}
-  KindBrought (kind.Response response) = Unit {0}
-  KindBrought kind.Timeout = Unit {0}
-  KindBrought kind.Failed = Unit {0}
+  abbrev pub KindBrought : List ℕ → AnUp → Kind → Type 0
+  KindBrought made up (kind.Request request reply_to) =
+      Brought (arrival_of up request reply_to made)
+  KindBrought made up (kind.Ack ack) = Unit {0}
+  KindBrought made up (kind.Response response) = Unit {0}
+  KindBrought made up kind.Timeout = Unit {0}
+  KindBrought made up kind.Failed = Unit {0}
 
   pub kind_done : (state : State) (made : List ℕ) (up : AnUp) (k : Kind) (now : ℕ)
-      → KindBrought k → Apart state.requests → HoldsAll state.requests
+      → KindBrought made up k → Apart state.requests → HoldsAll state.requests
       → Done (server_received state made up k now)
   kind_done state made up (kind.Request request reply_to) now brought apart all =
-      request_done state up.call_id _ now brought apart all
+      request_done state up.call_id (arrival_of up request reply_to made) now brought apart all
   kind_done state made up (kind.Ack ack) now brought apart all =
       ack_done state up.call_id ack all
   kind_done state made up (kind.Response response) now brought apart all =
@@ -420,34 +425,38 @@ module _ (Brought : Message → Type 0) where
       (λ none. tt)))
 
   answer_done : (state : State) (event : Id) (respond : Respond) (now : ℕ) (held : HeldRequest)
-      → Holds Brought held → HoldsAll state.requests
+      → Holds Brought Gave held → HoldsAll state.requests
+      → OutsGave Brought Gave (respond_to state event respond now held).1
       → Done (respond_to state event respond now held)
   answer_done state event respond now held holds all =
       let response = response_sent state.local held respond in
-      found_or Done _ (response_refusal state.dialogs held respond) _
-      (λ refusal refused. record { requests = all; outs = (tt, tt) })
-      (λ none. let sends = may_send Brought state.dialogs held respond none in record {
-        requests = changed_so (Holds Brought) (has_id respond.id)
+      found_or (λ (taken : ServedTaken). OutsGave Brought Gave taken.1 → Done taken) _
+      (response_refusal state.dialogs held respond) _
+      (λ refusal refused gave. record { requests = all; outs = (tt, tt) })
+      (λ none gave. let sends = may_send Brought Gave state.dialogs held respond none in record {
+        requests = changed_so (Holds Brought Gave) (has_id respond.id)
             (λ _. held_after event held respond response now) state.requests
-            (λ one among here before. answer_holds Brought state.local held respond holds sends
-            event now) all;
+            (λ one among here before. answer_holds Brought Gave state.local held respond holds
+            sends gave.0 event now) all;
         outs = (
-          answer_given Brought state.local held respond holds sends,
+          answer_given Brought Gave state.local held respond holds sends gave.0,
           dialogs_given event held respond.status response state.dialogs,
         );
       })
 
   holds_one : (requests : List HeldRequest) → HoldsAll requests → (one : HeldRequest)
-      → Contains requests one → Holds Brought one
-  holds_one requests all one among = each_of (Holds Brought) requests one all among
+      → Contains requests one → Holds Brought Gave one
+  holds_one requests all one among = each_of (Holds Brought Gave) requests one all among
 
   pub respond_done : (state : State) (event : Id) (respond : Respond) (now : ℕ)
-      → HoldsAll state.requests → Done (respond_command state event respond now)
+      → HoldsAll state.requests
+      → OutsGave Brought Gave (respond_command state event respond now).1
+      → Done (respond_command state event respond now)
   unfolding respond_command
   respond_done state event respond now all =
-      found_or Done (respond_to state event respond now)
-      (find (has_id respond.id) state.requests) _
+      found_or (λ (taken : ServedTaken). OutsGave Brought Gave taken.1 → Done taken)
+      (respond_to state event respond now) (find (has_id respond.id) state.requests) _
       (λ held found. answer_done state event respond now held
       (holds_one state.requests all held
       (found_so (has_id respond.id) state.requests held found).0) all)
-      (λ none. record { requests = all; outs = (tt, tt) })
+      (λ none gave. record { requests = all; outs = (tt, tt) })

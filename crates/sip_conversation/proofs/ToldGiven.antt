@@ -15,7 +15,7 @@ use Rattle.sip_message.specs.declared.message.Message.{Message}
 use Rattle.sip_message.specs.MessageKey.{key_of_message}
 use Rattle.sip_message.specs.Message.{is_request_message}
 use Rattle.sip_message.specs.Written.{written}
-use Rattle.sip_model.specs.Machine.{Timed, outputs_from, tick_at}
+use Rattle.sip_model.specs.Machine.{Timed, outputs_from, tick_at, given_at}
 use Rattle.sip_transactions.specs.declared.input.Command.TheVariants as order
 use Rattle.sip_transactions.specs.declared.input.Input.TheVariants.{Start}
 use Rattle.sip_transactions.specs.declared.output.Kind.TheVariants as kind
@@ -50,7 +50,7 @@ use Rattle.sip_round.proofs.Said.{call_alone}
 use Rattle.sip_conversation.specs.Answers.{AnswersARequest, IsResponseTo}
 use Rattle.sip_conversation.specs.ComeWhole.{IsToldOf, given_from, given_reliably, TellsOf}
 use Rattle.sip_conversation.specs.Conversation.{Carried, Side, Turn, peer, rounds_of}
-use Rattle.sip_conversation.specs.Messages.{CallSays, CallsKeepRules, ComesUnchanged, IsGiven, IsSaid, come_from}
+use Rattle.sip_conversation.specs.Messages.{CallSays, CallsKeepRules, ComesUnchanged, IsGiven as WasGiven, come_from}
 use Rattle.sip_conversation.specs.Messages.IsSaid.{Acknowledges, Asked, Direct, Trying}
 use Rattle.sip_conversation.specs.Replies.{AreCounted, IsStartedFor, SaidResponse}
 use Rattle.sip_conversation.proofs.AckTexts.{no_ack}
@@ -66,7 +66,7 @@ use Rattle.sip_conversation.proofs.OneTransaction.{KindCame}
 use Rattle.sip_conversation.proofs.Origins.{IsOrigin, TimedComes, counted, inputs_come, IsCounted}
 use Rattle.sip_conversation.proofs.PracksCame.{no_rseq}
 use Rattle.sip_conversation.proofs.PracksFollow.{of_first_inputs}
-use Rattle.sip_conversation.proofs.PracksSaid.{number_is, OfCall, IsAlike, came_alike}
+use Rattle.sip_conversation.proofs.PracksSaid.{number_is, OfCall, IsAlike, came_alike, given_in_call}
 use Rattle.sip_conversation.proofs.PracksServed.{same_name}
 use Rattle.sip_conversation.proofs.Provisionals.{said_reliably, IsReliablySo}
 use Rattle.sip_conversation.proofs.RepliesSaid.{Came, Comes, IsFair, inputs_come as ups_come}
@@ -86,27 +86,7 @@ use Rattle.sip_message.specs.declared.key.Key.{Key}
 use Rattle.sip_message.specs.declared.party.Party.{Party}
 use Rattle.sip_clients.specs.Rules.Requests.{is_invite_kind}
 use Rattle.sip_calls.specs.HeldDialogs.{opens_dialogs}
-
--- ---- what an answer is
-
--- The user gave this reliable response, with this RSeq, to a request that came up under this id. It
--- copies from that request; if the request has no To tag, its own is made of the event.
-pub record IsGivenAnswer (calls : Calls) (inputs : List (Timed CallItem)) (Brought : Message → Type 0)
-    (id : Id) (rseq : ℕ) (response : Message) : Type 0 where
-  pub given : Contains (given_from calls id None inputs) (rseq, response)
-  pub request : Message
-  pub brought : Brought request
-  pub event : Id
-  pub up : AnUp
-  pub reply_to : Addr
-  pub kind_is : up.kind ≡ kind.Request request reply_to
-  pub id_is : up.id ≡ id
-  pub timed : Timed CallItem
-  pub among : Contains inputs timed
-  pub comes : timed.input ≡ Some (event, Up up)
-  pub copies : IsResponseTo request response
-  pub made : IsTrue (has_good_tag (request.to).parameters) → has_to_tag request ≡ false
-      → tag_of response.to ≡ name_of calls.seed event 0
+use Rattle.sip_conversation.proofs.GivenReliably.{IsGiven, is_given as reliably_given}
 
 -- ---- a status
 
@@ -114,54 +94,6 @@ has_status : (response : Message) (rseq : ℕ) (o : Option ℕ)
     → provisional_number o response ≡ Some rseq → (status : ℕ) × (o ≡ Some status)
 has_status response rseq None is = absurd cc
 has_status response rseq (Some status) is = (status, refl)
-
--- ---- who gave it
-
-module _ (Came : Message → Type 0) (config : Config) (rounds : List Round)
-    (alone : EachKeyAlone call_cmp (call_machine (calls_of config)) tick_at)
-    (came : (call_id : List ℕ)
-    → AllByRecursion (TimedCame (UpCame Came)) (call_inputs_of config rounds call_id)) where
-  abbrev pub InCall : List ℕ → Id → ℕ → Message → Type 0
-  InCall call_id id rseq response = IsGivenAnswer (calls_of config)
-      (call_inputs_of config rounds call_id) (OfCall Came call_id) id rseq response
-
-  answer_given : (id : Id) (key : Key) (response : Message)
-      → (says : CallSays config rounds (call_out.Command id (order.Answer key response)))
-      → (rseq : ℕ) → response.rseq ≡ Some rseq → InCall says.0 id rseq response
-  answer_given id key response says rseq is = ?
-
-  pub record GivenInCall (rseq : ℕ) (response : Message) : Type 0 where
-    pub call_id : List ℕ
-    pub id : Id
-    pub answer : InCall call_id id rseq response
-
-  pub given_in_call : (response : Message) → IsSaid config rounds response → (status rseq : ℕ)
-      → status_of response.start ≡ Some status
-      → provisional_number (Some status) response ≡ Some rseq → GivenInCall rseq response
-  given_in_call response (Asked id (order.Start key call_id message to) says same) status rseq is
-      number =
-      absurd (no_status response.start status (ap is_request_message (sym same)
-      ∙ out_replies config alone rounds
-      (call_out.Command id (order.Start key call_id message to)) says) is)
-  given_in_call response (Asked id (order.Answer key message) says same) status rseq is number =
-      record {
-        call_id = says.0;
-        id = id;
-        answer = subst (InCall says.0 id rseq) same
-            (answer_given id key message says rseq
-            (ap (λ (m : Message). m.rseq) same ∙ number_is status rseq response number));
-      }
-  given_in_call response (Direct to says) status rseq is number =
-      let text = out_replies config alone rounds (call_out.Direct to (written response)) says in
-      absurd (no_ack response text.0 status is (text.2).request (text.2).method text.1)
-  given_in_call response (Trying key id request reply_to given asks same) status rseq is number =
-      absurd (no_rseq rseq (sym (ap (λ (m : Message). m.rseq) same)
-      ∙ number_is status rseq response number))
-  given_in_call response
-      (Acknowledges key id other call_id invite answer to reply_to given heard same) status rseq is
-      number =
-      absurd (no_rseq rseq (sym (ap (λ (m : Message). m.rseq) same)
-      ∙ number_is status rseq response number))
 
 -- ---- a turn
 
@@ -216,32 +148,30 @@ module _ (configs : Side → Config) (fair : IsFair configs) (before : List Turn
       pub id : Id
       pub response : Message
       pub tells : IsToldOf (rseq, one) (rseq, response)
-      pub answer : IsGivenAnswer (calls_of there) inputs_there (OfCall CameThere call_id) id rseq
-          response
+      pub answer : IsGiven (OfCall CameThere call_id) (calls_of there) inputs_there id rseq response
       pub named : (life.name).remote ≡ name_of there.seed answer.event 0
 
     -- all of one dialog are given to one request
-    pub same_request : (rseq other : ℕ) (one two : CallOut) → (here : IsGivenThere rseq one)
-        → (there : IsGivenThere other two) → here.id ≡ there.id
-    same_request rseq other one two first second =
+    pub same_request : (rseq other : ℕ) (told later : CallOut) → (first : IsGivenThere rseq told)
+        → (second : IsGivenThere other later) → first.id ≡ second.id
+    same_request rseq other told later first second =
         let a = first.answer in
         let b = second.answer in
-        let a_is = ap event_in a.comes
-        ∙ event_brought a.event a.up a.request a.reply_to a.kind_is in
-        let b_is = ap event_in b.comes
-        ∙ event_brought b.event b.up b.request b.reply_to b.kind_is in
-        let a_few = event_counted a.timed a.among a.event a_is in
-        let b_few = event_counted b.timed b.among b.event b_is in
+        let one : Timed CallItem = given_at a.now (a.event, Up a.up) in
+        let two : Timed CallItem = given_at b.now (b.event, Up b.up) in
+        let a_is = event_brought a.event a.up a.request a.reply_to a.is_request in
+        let b_is = event_brought b.event b.up b.request b.reply_to b.is_request in
+        let a_few = event_counted one a.came a.event a_is in
+        let b_few = event_counted two b.came b.event b_is in
         let events : a.event ≡ b.event =
         (names_differ there.seed there.seed a.event b.event 0 0 a_few.round b_few.round a_few.place
         b_few.place (omega arith) (omega arith) (sym first.named ∙ second.named)).0 in
-        let timed : a.timed ≡ b.timed =
+        let timed : one ≡ two =
         once_only (λ (timed : Timed CallItem). event_in timed.input) inputs_there
-        (events_differ there call_id rounds_there) a.timed b.timed a.among b.among b.event
+        (events_differ there call_id rounds_there) one two a.came b.came b.event
         (a_is ∙ ap (λ e. Some e) events) b_is in
         let ups : a.up ≡ b.up =
-        up_of a.event b.event a.up b.up
-        (sym a.comes ∙ (ap (λ (timed : Timed CallItem). timed.input) timed ∙ b.comes)) in
+        up_of a.event b.event a.up b.up (ap (λ (timed : Timed CallItem). timed.input) timed) in
         sym a.id_is ∙ (ap (λ (up : AnUp). up.id) ups ∙ b.id_is)
       where
         event_counted : (timed : Timed CallItem) → Contains inputs_there timed → (event : Id)
@@ -348,7 +278,7 @@ module _ (configs : Side → Config) (fair : IsFair configs) (before : List Turn
           started_request here (fair.calls turn.side) (rounds_of turn.side before)
           (rounds_of turn.side (turn ∷ [])) (subst (AreCounted here) longer few) key reply.up.id
           call_id begun.request begun.to
-          (subst (λ rounds. IsGiven here rounds key (Start reply.up.id call_id begun.request
+          (subst (λ rounds. WasGiven here rounds key (Start reply.up.id call_id begun.request
           begun.to)) longer begun.given)
           went.one
           (subst (λ rounds. CallSays here rounds went.one) longer (
@@ -370,17 +300,25 @@ module _ (configs : Side → Config) (fair : IsFair configs) (before : List Turn
           ∙ (ap (λ (m : Message). m.cseq.method) same_invite
           ∙ its.invites (ap is_invite_kind reply.initial))
 
-      abbrev Found : Type 0
-      Found = GivenInCall CameThere there rounds_there (fair.calls (peer turn.side))
-          (inputs_unchanged fair.transactions configs fair.addresses before carried keep
-          (peer turn.side)) rseq original
+      -- the user of the other side gave it, in one of its calls
+      record Found : Type 0 where
+        call_id : List ℕ
+        id : Id
+        answer : IsGiven (OfCall CameThere call_id) (calls_of there)
+            (call_inputs_of there rounds_there call_id) id rseq original
 
       found : Found
       found =
-          given_in_call CameThere there rounds_there (fair.calls (peer turn.side))
+          let given = given_in_call CameThere there rounds_there (fair.calls (peer turn.side))
           (inputs_unchanged fair.transactions configs fair.addresses before carried keep
           (peer turn.side)) original ((so.said).response).said answer_status.0 rseq
-          ((so.said).response).status_is (so.said).number
+          ((so.said).response).status_is (so.said).number in
+          record {
+            call_id = given.0;
+            id = given.1;
+            answer = reliably_given (OfCall CameThere given.0) (calls_of there)
+                (call_inputs_of there rounds_there given.0) given.1 rseq original given.2;
+          }
 
       own : IsOwnReply configs fair.calls before turn call_id original (found.answer).request
           begun.request
@@ -478,8 +416,7 @@ module _ (configs : Side → Config) (fair : IsFair configs) (before : List Turn
             (call_step (calls_of here) state (at.timed).input (at.timed).moment).1 one
             (step_fits Tells (calls_of here) state (at.timed).input (at.timed).moment input_tells)
             at.among);
-        answer = subst (λ c. IsGivenAnswer (calls_of there)
-            (call_inputs_of there rounds_there c) (OfCall CameThere c) found.id rseq original)
-            call_is found.answer;
+        answer = subst (λ c. IsGiven (OfCall CameThere c) (calls_of there)
+            (call_inputs_of there rounds_there c) found.id rseq original) call_is found.answer;
         named = its_name;
       }
