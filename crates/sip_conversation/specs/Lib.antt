@@ -1,5 +1,6 @@
 pub mod Answers
 pub mod ComeWhole
+pub mod Commands
 pub mod Conversation
 pub mod Datagrams
 pub mod Fair
