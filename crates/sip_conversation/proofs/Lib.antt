@@ -55,3 +55,4 @@ pub mod ComeWhole
 pub mod NextRseqs
 pub mod GivenInOrder
 pub mod UserInputs
+pub mod CallsKeep

@@ -302,10 +302,10 @@ module _ (configs : Side → Config) (fair : IsFair configs) (before : List Turn
 
       -- the user of the other side gave it, in one of its calls
       record Found : Type 0 where
-        call_id : List ℕ
+        its_call : List ℕ
         id : Id
-        answer : IsGiven (OfCall CameThere call_id) (calls_of there)
-            (call_inputs_of there rounds_there call_id) id rseq original
+        answer : IsGiven (OfCall CameThere its_call) (calls_of there)
+            (call_inputs_of there rounds_there its_call) id rseq original
 
       found : Found
       found =
@@ -314,7 +314,7 @@ module _ (configs : Side → Config) (fair : IsFair configs) (before : List Turn
           (peer turn.side)) original ((so.said).response).said answer_status.0 rseq
           ((so.said).response).status_is (so.said).number in
           record {
-            call_id = given.0;
+            its_call = given.0;
             id = given.1;
             answer = reliably_given (OfCall CameThere given.0) (calls_of there)
                 (call_inputs_of there rounds_there given.0) given.1 rseq original given.2;
@@ -358,7 +358,7 @@ module _ (configs : Side → Config) (fair : IsFair configs) (before : List Turn
           subst (λ (party : Party). IsTrue (has_good_tag party.parameters)) (sym asked_alike.to)
           asked.rules.to.tag
 
-      call_is : found.call_id ≡ call_id
+      call_is : found.its_call ≡ call_id
       call_is =
           sym (found.answer).brought.1 ∙ (sym (found.answer).copies.call_id ∙ own.call)
 

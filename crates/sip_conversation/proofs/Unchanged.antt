@@ -54,7 +54,7 @@ use Rattle.sip_conversation.proofs.Sends.{SendFits, direct_sends_fit, own_sends_
 use Rattle.sip_conversation.proofs.Ups.{OutCame, TimedCame, UpCame, inputs_came}
 use Rattle.sip_common.proofs.Each.{both}
 
-come_keeps : (source : Addr) → IsAddr source → (message : Message) → IsMessage message
+pub come_keeps : (source : Addr) → IsAddr source → (message : Message) → IsMessage message
     → IsMessage (come_from source message)
 come_keeps source address message rules = by (is_request_message message)
   where
@@ -169,13 +169,13 @@ module _ (alone : EachKeyAlone key_cmp transaction_machine tick_at) where
 
   module _ (configs : Side → Config) (addresses : (s : Side) → IsAddr (configs s).local) where
     -- a datagram from the other side is the text of a message that keeps the rules
-    abbrev IsFine : Side → Event → Type 0
+    abbrev pub IsFine : Side → Event → Type 0
     IsFine s (event.Datagram from bytes) = (from ≡ (configs (peer s)).local)
         × (message : Message) × (bytes ≡ written message) × IsMessage message
     IsFine s (event.Failed key) = Unit {0}
     IsFine s (event.Command c) = Unit {0}
 
-    abbrev AreFine : List Turn → Type 0
+    abbrev pub AreFine : List Turn → Type 0
     AreFine turns = AllByRecursion (TurnHolds IsFine) turns
 
     -- what arrives with it is sound
@@ -204,7 +204,7 @@ module _ (alone : EachKeyAlone key_cmp transaction_machine tick_at) where
         (each_turn {P = IsFine} {Q = ArrivesSound turns} (fine_sound turns) turns fine))
         key to bytes among
 
-    carried_fine : (turns : List Turn) → AreFine turns → CallsKeepRules configs turns
+    pub carried_fine : (turns : List Turn) → AreFine turns → CallsKeepRules configs turns
         → (s : Side) (e : Event) → IsCarried configs turns s e → IsFine s e
     carried_fine turns fine keep s (event.Datagram from bytes) carried =
         let text = texts turns fine keep (peer s) (carried.1).0 (carried.1).1 bytes

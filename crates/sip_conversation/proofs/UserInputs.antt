@@ -36,7 +36,7 @@ use Rattle.sip_round.proofs.GivenNotices.{calls_are, calls_from}
 
 module _ (P : UserCommand → Type 0) where
   -- this is true of a command
-  abbrev ItemAsks : Item → Type 0
+  abbrev pub ItemAsks : Item → Type 0
   ItemAsks (Up up) = Unit {0}
   ItemAsks (User command) = P command
 

@@ -11,3 +11,4 @@ pub mod Replies
 pub mod Requests
 pub mod Acks
 pub mod ToldPracks
+pub mod Sends

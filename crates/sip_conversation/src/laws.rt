@@ -3,6 +3,7 @@
 ghost use Rattle.std.specs.Prelude.{List};
 ghost use Rattle.sip_message.specs.Addr.{IsAddr};
 ghost use Rattle.sip_conversation.specs.Acks.{AcksToldWereSaid};
+ghost use Rattle.sip_conversation.specs.ComeWhole.{ProvisionalsComeWhole};
 ghost use Rattle.sip_conversation.specs.Conversation.{Carried, Turn, of_sides};
 ghost use Rattle.sip_conversation.specs.Datagrams.{DatagramsAreTextsSaid};
 ghost use Rattle.sip_conversation.specs.Fair.{IsFair};
@@ -120,6 +121,22 @@ pub fn the_first_is_told_first(one: Config, other: Config)
     ensures { (turns : List Turn) → Carried (of_sides one other) turns
         → CallsKeepRules (of_sides one other) turns
         → TheFirstIsToldFirst (of_sides one other) turns }
+{
+    sides_are_fair(&one, &other);
+    provisionals_in_each_life(&one);
+    provisionals_in_each_life(&other);
+}
+
+/// In such a conversation, the reliable provisional responses to the INVITE of a call that a user is
+/// told of in one life of a dialog come whole: they are consecutive ones of those that the other
+/// side's user gave to one request in the turns before, in the order in which he gave them, with
+/// their RSeqs, statuses, tags and bodies. If the user was told of no others in that dialog, they
+/// are the first ones given (RFC 3262, sections 3 and 4). The rounds of both sides have to be
+/// counted as above.
+pub fn provisionals_come_whole(one: Config, other: Config)
+    ensures { (turns : List Turn) → Carried (of_sides one other) turns
+        → CallsKeepRules (of_sides one other) turns
+        → ProvisionalsComeWhole (of_sides one other) turns }
 {
     sides_are_fair(&one, &other);
     provisionals_in_each_life(&one);

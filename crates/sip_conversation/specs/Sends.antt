@@ -1,0 +1,58 @@
+-- What a call that hears only messages that keep the rules sends.
+use Rattle.std.specs.Prelude.{◌≡◌, ℕ, List, Option, None, Some}
+use Rattle.std.specs.List.{AllByRecursion}
+use Rattle.sip_message.specs.declared.message.Message.{Message}
+use Rattle.sip_message.specs.Rules.{IsMessage}
+use Rattle.sip_message.specs.Written.{written}
+use Rattle.sip_model.specs.Machine.{Timed, outputs_from}
+use Rattle.sip_transactions.specs.declared.input.Command.TheVariants as order
+use Rattle.sip_transactions.specs.declared.output.Kind.{Kind}
+use Rattle.sip_transactions.specs.declared.output.Kind.TheVariants as kind
+use Rattle.sip_common.specs.declared.item.CallOut.{CallOut}
+use Rattle.sip_common.specs.declared.item.CallOut.TheVariants as call_out
+use Rattle.sip_common.specs.declared.item.Item.TheVariants.{Up, User}
+use Rattle.sip_calls.specs.Call.{CallItem, call_machine}
+use Rattle.sip_calls.specs.declared.calls.Calls.{Calls}
+use Rattle.sip_conversation.specs.Commands.{KeepsTypes}
+
+-- a message that comes up keeps the rules of messages
+abbrev pub KindKeeps : Kind → Type 0
+KindKeeps (kind.Request request reply_to) = IsMessage request
+KindKeeps (kind.Ack ack) = IsMessage ack
+KindKeeps (kind.Response response) = IsMessage response
+KindKeeps kind.Timeout = Unit {0}
+KindKeeps kind.Failed = Unit {0}
+
+-- so does an input, and a command has the types of its parts
+abbrev pub KeepsInput : Option CallItem → Type 0
+KeepsInput None = Unit {0}
+KeepsInput (Some (event, Up up)) = KindKeeps up.kind
+KeepsInput (Some (event, User command)) = KeepsTypes command
+
+-- a request that a transaction is started with keeps the rules; a text is that of a message that
+-- does
+abbrev pub StartKeeps : CallOut → Type 0
+StartKeeps (call_out.Notice notice) = Unit {0}
+StartKeeps (call_out.Command id (order.Start key call_id message to)) = IsMessage message
+StartKeeps (call_out.Command id (order.Answer key message)) = Unit {0}
+StartKeeps (call_out.Direct to bytes) =
+    (message : Message) × (bytes ≡ written message) × IsMessage message
+
+-- all that a call gives, from nothing held on
+abbrev pub StartsKeepRules : Calls → Type 0
+StartsKeepRules calls = (call_id : List ℕ) (inputs : List (Timed CallItem))
+    → AllByRecursion (λ timed. KeepsInput timed.input) inputs
+    → AllByRecursion StartKeeps (outputs_from (call_machine calls) call_id None inputs)
+
+-- an answer keeps the rules
+abbrev pub AnswerKeeps : CallOut → Type 0
+AnswerKeeps (call_out.Notice notice) = Unit {0}
+AnswerKeeps (call_out.Command id (order.Start key call_id message to)) = Unit {0}
+AnswerKeeps (call_out.Command id (order.Answer key message)) = IsMessage message
+AnswerKeeps (call_out.Direct to bytes) = Unit {0}
+
+-- all that a call gives, from nothing held on
+abbrev pub AnswersKeepRules : Calls → Type 0
+AnswersKeepRules calls = (call_id : List ℕ) (inputs : List (Timed CallItem))
+    → AllByRecursion (λ timed. KeepsInput timed.input) inputs
+    → AllByRecursion AnswerKeeps (outputs_from (call_machine calls) call_id None inputs)
