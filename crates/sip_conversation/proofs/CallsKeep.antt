@@ -47,7 +47,7 @@ use Rattle.sip_conversation.proofs.Carrying.{TurnHolds, each_turn, in_rounds}
 use Rattle.sip_conversation.proofs.OneTransaction.{IsFaithful, KindCame, faithful}
 use Rattle.sip_conversation.proofs.RepliesSaid.{IsFair}
 use Rattle.sip_conversation.proofs.Rounds.{ArrivalFits, OutFits, RoundFits, TimedFits, all_of_parts, calls_give, inputs_fit}
-use Rattle.sip_conversation.specs.Sends.{AnswerKeeps, AnswersKeepRules, KeepsInput, KindKeeps, StartKeeps, StartsKeepRules}
+use Rattle.sip_conversation.proofs.KeepsRules.{AnswerKeeps, AnswersKeepRules, KeepsInput, KindKeeps, StartKeeps, StartsKeepRules}
 use Rattle.sip_conversation.proofs.Unchanged.{AreFine, IsFine, carried_fine, come_keeps}
 use Rattle.sip_conversation.proofs.UserInputs.{EventAsks, ItemAsks, TimedAsks, inputs_ask}
 use Rattle.sip_conversation.proofs.Ups.{ItemCame, OutCame, TimedCame, UpCame, inputs_came}

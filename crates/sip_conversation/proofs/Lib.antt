@@ -55,4 +55,5 @@ pub mod ComeWhole
 pub mod NextRseqs
 pub mod GivenInOrder
 pub mod UserInputs
+pub mod KeepsRules
 pub mod CallsKeep

@@ -33,7 +33,7 @@ use Rattle.sip_round.proofs.Said.{call_alone}
 use Rattle.sip_conversation.specs.Conversation.{Carried, Side, Turn, peer, rounds_of}
 use Rattle.sip_conversation.specs.Messages.{CallsKeepRules, ComesUnchanged, IsSaid}
 use Rattle.sip_conversation.specs.Answers.{IsAnswered}
-pub use Rattle.sip_conversation.specs.Fair.{IsFair}
+pub use Rattle.sip_conversation.specs.Steps.Fair.{IsFair}
 use Rattle.sip_conversation.specs.Replies.{IsStartedFor, ResponsesToldWereSaid, SaidResponse, ToldResponse}
 use Rattle.sip_conversation.proofs.Among.{all_both, all_go, among_kept, each_of}
 use Rattle.sip_conversation.proofs.Answered.{AllCame, IsAnswer, answered}

@@ -3,7 +3,6 @@ pub mod ComeWhole
 pub mod Commands
 pub mod Conversation
 pub mod Datagrams
-pub mod Fair
 pub mod Messages
 pub mod Pracks
 pub mod Provisionals
@@ -11,4 +10,4 @@ pub mod Replies
 pub mod Requests
 pub mod Acks
 pub mod ToldPracks
-pub mod Sends
+pub mod Steps

@@ -6,7 +6,7 @@ ghost use Rattle.sip_conversation.specs.Acks.{AcksToldWereSaid};
 ghost use Rattle.sip_conversation.specs.ComeWhole.{ProvisionalsComeWhole};
 ghost use Rattle.sip_conversation.specs.Conversation.{Carried, Turn, of_sides};
 ghost use Rattle.sip_conversation.specs.Datagrams.{DatagramsAreTextsSaid};
-ghost use Rattle.sip_conversation.specs.Fair.{IsFair};
+ghost use Rattle.sip_conversation.specs.Steps.Fair.{IsFair};
 ghost use Rattle.sip_conversation.specs.Messages.{CallsHearUnchanged, CallsKeepRules, MessagesComeUnchanged};
 ghost use Rattle.sip_conversation.specs.Pracks.{PracksFollowResponses, TheFirstIsToldFirst};
 ghost use Rattle.sip_conversation.specs.Provisionals.{ProvisionalsToldAsSaid};

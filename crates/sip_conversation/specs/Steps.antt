@@ -1,0 +1,2 @@
+-- What only the proofs of the laws need: nothing of it has to be believed.
+pub mod Fair
