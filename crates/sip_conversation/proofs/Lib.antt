@@ -34,11 +34,14 @@ pub mod PracksServed
 pub mod PracksOfCalls
 pub mod PracksSaid
 pub mod OwedTold
+pub mod DialogOfReply
 pub mod RackedSteps
 pub mod RackedCalls
 pub mod ClientsSent
+pub mod ToldInLife
 pub mod PracksFollow
 pub mod FirstTold
+pub mod FirstInLife
 pub mod CommandAsks
 pub mod GivenTold
 pub mod HeardUps

@@ -74,8 +74,8 @@ number_is status rseq response is =
 
 -- ---- a PRACK as it came, and as it was said
 
-record IsAlike (came said : Message) : Type 0 where
-  pub method : came.cseq.method ≡ said.cseq.method
+pub record IsAlike (came said : Message) : Type 0 where
+  pub cseq : came.cseq ≡ said.cseq
   pub is_request : is_request_message came ≡ is_request_message said
   pub rack : came.rack ≡ said.rack
   pub call_id : came.call_id ≡ said.call_id
@@ -86,7 +86,7 @@ stamped_alike : (source : Addr) (said : Message) → IsAlike (stamped said sourc
 unfolding stamped
 stamped_alike source said =
     record {
-      method = refl;
+      cseq = refl;
       is_request = refl;
       rack = refl;
       call_id = refl;
@@ -94,14 +94,14 @@ stamped_alike source said =
       to = refl;
     }
 
-came_alike : (source : Addr) (said : Message) → IsAlike (come_from source said) said
+pub came_alike : (source : Addr) (said : Message) → IsAlike (come_from source said) said
 came_alike source said = by_request (is_request_message said)
   where
     by_request : (b : Bool) → IsAlike (if b then stamped said source else said) said
     by_request true = stamped_alike source said
     by_request false =
         record {
-          method = refl;
+          cseq = refl;
           is_request = refl;
           rack = refl;
           call_id = refl;
@@ -281,7 +281,7 @@ module _ (configs : Side → Config) (before : List Turn) (side : Side)
         said = subst (λ p. IsSaid (configs p) (rounds_of p before) comes.original)
             (peer_peer side) comes.said;
         is_request = sym alike.is_request ∙ its.brought.2;
-        method = sym alike.method ∙ its.method;
+        method = sym (ap (λ (cseq : CSeq). cseq.method) alike.cseq) ∙ its.method;
         rack = sym alike.rack ∙ (its.rack ∙ ap (λ (cseq : CSeq).
             Some record { rseq = 1; cseq = cseq.number; method = codes "INVITE" })
             (sym answer.cseq));

@@ -82,7 +82,7 @@ four_of true false c d e all = absurd cc
 four_of false b c d e all = absurd cc
 
 -- dialog IDs that are the same
-same_name : (one two : DialogId) → is_dialog_id one two ≡ true → one ≡ two
+pub same_name : (one two : DialogId) → is_dialog_id one two ≡ true → one ≡ two
 same_name one two is =
     let local : one.local ≡ two.local =
     same_bytes one.local two.local (and-left (pointwise nat_eq one.local two.local)
