@@ -1,6 +1,6 @@
 -- The dialog of a response to an INVITE: its name, and that it is held after a reliable provisional
 -- response, whether or not the user is told of that.
-use Rattle.std.proofs.Common.{◌≡◌, ℕ, ◌+◌, Bool, true, false, not, ◌&&◌, ◌==◌, cond, List, [], ◌∷◌, ◌++◌, refl, sym, ap, ◌∙◌, subst}
+use Rattle.std.proofs.Common.{◌≡◌, ℕ, ◌+◌, Bool, true, false, not, ◌&&◌, ◌||◌, ◌==◌, cond, List, [], ◌∷◌, ◌++◌, refl, sym, ap, ◌∙◌, subst}
 use Rattle.std.specs.Prelude.{Option, None, Some, is_none, is_some, length, unwrap_or, if◌then◌else◌}
 use Rattle.std.specs.Map.{lookup}
 use Rattle.std.specs.Option.{option_map_or}
@@ -196,6 +196,15 @@ module _ (reply : Reply) (client : Client) (dialogs : Dialogs) (rseq : ℕ) wher
       (either (λ (one : HeldDialog). has_dialog_of client.kind (Some one) ≡ true) initial hears held
       (λ first. same_has client.kind hears held refl ∙ there) (λ again. there)))
 
+  by_number : (o : Option ℕ) → o ≡ Some rseq → (other : Outcome)
+      → Held (reliable_response reply client dialogs
+      (unwrap_or (dialog_at reply.name dialogs) made) rseq)
+      → Held (option_map_or (reliable_response reply client dialogs
+      (unwrap_or (dialog_at reply.name dialogs) made)) o other)
+  by_number o is other held =
+      subst (λ o. Held (option_map_or (reliable_response reply client dialogs
+      (unwrap_or (dialog_at reply.name dialogs) made)) o other)) (sym is) held
+
   outcome_held : provisional_number (Some reply.status) reply.response ≡ Some rseq
       → has_dialog client dialogs ≡ true
       → has_dialog_of client.kind (dialog_at reply.name dialogs) ≡ true
@@ -205,8 +214,6 @@ module _ (reply : Reply) (client : Client) (dialogs : Dialogs) (rseq : ℕ) wher
       (has_to_tag reply.response) (rseq_of reply.response) rseq number in
       let found = dialog_at reply.name dialogs in
       let answer = lookup (is_dialog_id reply.name) client.answers in
-      let reliable : Option ℕ → Outcome = λ o.
-      option_map_or (reliable_response reply client dialogs (unwrap_or found made)) o _ in
       let early : outcome_of reply client dialogs ≡ dialog_response reply client dialogs = λ i.
       if so.0 i && not (is_invite_kind client.kind && is_success reply.status)
       then last_response reply client dialogs
@@ -215,7 +222,8 @@ module _ (reply : Reply) (client : Client) (dialogs : Dialogs) (rseq : ℕ) wher
       else if so.0 i then kept (accepted reply client None) dialogs (notice_of reply ∷ [])
       else if not (there i && not (so.1 i) && so.2 i)
       then kept client dialogs (notice_of reply ∷ []) else dialog_response reply client dialogs in
-      subst Held (sym (early ∙ ap reliable so.3)) (reliable_held found refl has)
+      subst Held (sym early)
+      (by_number (rseq_of reply.response) so.3 _ (reliable_held found refl has))
 
 -- after a reliable provisional response its dialog is held
 pub received_held : (event : Event) (id : Id) (of : List ℕ) (response : Message) (side : Side)

@@ -83,13 +83,13 @@ first_in_life configs fair turns carried keep before after turn same few call_id
     follows.life_is
     ∙ ((λ i. dialog_id_of_tags (tag_of (reply.from few i)) (tag_of (reply.so.whole i).to))
     ∙ (sym (ap (λ kind. reply_name kind was.client was.response) came.first) ∙ was.name_is)) in
-    let first_told : CallOut = out.Notice (notice.Response response.call_id follows.id follows.status
-    follows.local_tag follows.remote_tag follows.body) in
+    let first_told : CallOut = out.Notice (notice.Response response.call_id follows.id
+    follows.status follows.local_tag follows.remote_tag follows.body) in
     let one : Contains (rseqs_told configs before turn call_id follows.invite follows.life) 1 =
     mapped_among (λ (told : ℕ × CallOut). told.0)
     (told_reliably configs before turn call_id follows.invite follows.life) (1, first_told)
-    (told_later configs call_id follows.invite follows.life (1, first_told) before turn first.before
-    first.turn first.after first.turns_are first.side_is
+    (told_later configs call_id follows.invite follows.life (1, first_told) before turn
+    first.before first.turn first.after first.turns_are first.side_is
     (subst (λ c. Contains (told_reliably configs first.before first.turn c follows.invite
     follows.life) (1, first_told)) (reply.call few) follows.in_life)) in
     let alone = only follows.invite follows.life named

@@ -245,7 +245,8 @@ module _ (config : Config) (rounds : List Round)
             subst (λ all. Contains (outputs_from (call_machine calls) call_id None all) out)
             (sym was.are)
             (of_one_input calls call_id None was.before was.timed was.after out
-            (subst (λ state. Contains (call_step calls state was.timed.input was.timed.moment).1 out)
+            (subst (λ state.
+            Contains (call_step calls state was.timed.input was.timed.moment).1 out)
             (sym was.held) among))
 
 -- ---- a turn

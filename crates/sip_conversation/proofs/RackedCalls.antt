@@ -1,5 +1,5 @@
--- Each request with a RAck that a call starts is a PRACK for which a response in its dialog asks, of
--- which the user is told at one of the call's inputs.
+-- Each request with a RAck that a call starts is a PRACK for which a response in its dialog asks.
+-- The user is told of that response at one of the call's inputs.
 use Rattle.std.proofs.Common.{◌≡◌, ℕ, Bool, true, false, List, [], ◌∷◌, ◌++◌, refl, sym, ap, ◌∙◌, subst, append_assoc}
 use Rattle.std.specs.Prelude.{Contains, Option, None, Some, codes, filter_map, if◌then◌else◌}
 use Rattle.std.specs.List.{AllByRecursion, IsDistinct, list_any}
