@@ -194,60 +194,59 @@ module _ (config : Config) (rounds : List Round)
         (all_own calls call_id (IsOrigin config rounds call_id) None inputs
         (inputs_come config rounds call_id) tt tt)) among).own.call
 
-    module _ (name : DialogId) (rseq number : ℕ) (was : WasTold calls inputs name rseq number)
-      where
-        -- the input that brought the response
-        its_own : (P : Timed CallItem → Type 0) → AllByRecursion P inputs → P was.timed
-        its_own P all =
-            each_of P inputs was.timed all
-            (subst (λ all. Contains all was.timed) (sym was.are)
-            (Contains-append_right was.before (was.timed ∷ was.after) was.timed
-            (among_first was.timed was.after)))
+    module _ (name : DialogId) (rseq number : ℕ) (was : WasTold calls inputs name rseq number) where
+      -- the input that brought the response
+      its_own : (P : Timed CallItem → Type 0) → AllByRecursion P inputs → P was.timed
+      its_own P all =
+          each_of P inputs was.timed all
+          (subst (λ all. Contains all was.timed) (sym was.are)
+          (Contains-append_right was.before (was.timed ∷ was.after) was.timed
+          (among_first was.timed was.after)))
 
-        -- the INVITE went out under its id
-        went : WentOut outs_of_call was.up.id was.client.request
-        went =
-            let early = held_went calls call_id was.before was.up.id was.client
-            (ap (λ o. client_at was.up.id (side_held o).clients) was.held ∙ was.client_is) in
-            record {
-              one = early.one;
-              among = subst (λ all. Contains (outputs_from (call_machine calls) call_id None all)
-                  early.one) (sym was.are)
-                  (of_first_inputs calls call_id None was.before (was.timed ∷ was.after) early.one
-                  early.among);
-              starts = early.starts;
-              sends = early.sends;
-            }
+      -- the INVITE went out under its id
+      went : WentOut outs_of_call was.up.id was.client.request
+      went =
+          let early = held_went calls call_id was.before was.up.id was.client
+          (ap (λ o. client_at was.up.id (side_held o).clients) was.held ∙ was.client_is) in
+          record {
+            one = early.one;
+            among = subst (λ all. Contains (outputs_from (call_machine calls) call_id None all)
+                early.one) (sym was.are)
+                (of_first_inputs calls call_id None was.before (was.timed ∷ was.after) early.one
+                early.among);
+            starts = early.starts;
+            sends = early.sends;
+          }
 
-        abbrev IsOwnClient : Client → Type 0
-        IsOwnClient = Own calls.seed call_id (IsOrigin config rounds call_id)
+      abbrev IsOwnClient : Client → Type 0
+      IsOwnClient = Own calls.seed call_id (IsOrigin config rounds call_id)
 
-        -- it is an INVITE
-        invites : was.client.request.cseq.method ≡ codes "INVITE"
-        invites =
-            let Came = IsOrigin config rounds call_id in
-            let TimedIs : Timed CallItem → Type 0 = λ timed.
-            InputComes calls call_id Came timed.input in
-            let parts = all_of_parts TimedIs was.before (was.timed ∷ was.after)
-            (subst (AllByRecursion TimedIs) was.are (inputs_come config rounds call_id)) in
-            let own = subst (HeldOwn calls call_id Came) was.held
-            (held_own calls call_id Came None was.before parts.0 tt tt) in
-            let its : IsOwnClient was.client = subst (λ o. IfSome o IsOwnClient) was.client_is
-            (found_one IsOwnClient (is_id was.up.id) was.call.clients own) in
-            its.invites (is_of_invite was.client.kind
-            (dialog_at name (side_of was.call).dialogs) was.has)
+      -- it is an INVITE
+      invites : was.client.request.cseq.method ≡ codes "INVITE"
+      invites =
+          let Came = IsOrigin config rounds call_id in
+          let TimedIs : Timed CallItem → Type 0 = λ timed.
+          InputComes calls call_id Came timed.input in
+          let parts = all_of_parts TimedIs was.before (was.timed ∷ was.after)
+          (subst (AllByRecursion TimedIs) was.are (inputs_come config rounds call_id)) in
+          let own = subst (HeldOwn calls call_id Came) was.held
+          (held_own calls call_id Came None was.before parts.0 tt tt) in
+          let its : IsOwnClient was.client = subst (λ o. IfSome o IsOwnClient) was.client_is
+          (found_one IsOwnClient (is_id was.up.id) was.call.clients own) in
+          its.invites (is_of_invite was.client.kind
+          (dialog_at name (side_of was.call).dialogs) was.has)
 
-        -- each output of that input is among those of the call
-        of_its_input : (out : CallOut)
-            → Contains (call_step calls (Some was.call) was.timed.input was.timed.moment).1 out
-            → Contains outs_of_call out
-        of_its_input out among =
-            subst (λ all. Contains (outputs_from (call_machine calls) call_id None all) out)
-            (sym was.are)
-            (of_one_input calls call_id None was.before was.timed was.after out
-            (subst (λ state.
-            Contains (call_step calls state was.timed.input was.timed.moment).1 out)
-            (sym was.held) among))
+      -- each output of that input is among those of the call
+      of_its_input : (out : CallOut)
+          → Contains (call_step calls (Some was.call) was.timed.input was.timed.moment).1 out
+          → Contains outs_of_call out
+      of_its_input out among =
+          subst (λ all. Contains (outputs_from (call_machine calls) call_id None all) out)
+          (sym was.are)
+          (of_one_input calls call_id None was.before was.timed was.after out
+          (subst (λ state.
+          Contains (call_step calls state was.timed.input was.timed.moment).1 out)
+          (sym was.held) among))
 
 -- ---- a turn
 
@@ -296,10 +295,11 @@ module _ (configs : Side → Config) (fair : IsFair configs) (before : List Turn
 
     of_up : was.up.call_id ≡ call_id
     of_up =
-        subst (IsInputOf call_id) was.comes
+        let own = subst (IsInputOf call_id) was.comes
         (its_own local_config rounds_now (fair.calls turn.side) call_id name rack.rseq rack.cseq was
         (TimedComes local_config rounds_now call_id)
-        (inputs_come local_config rounds_now call_id)).0.0
+        (inputs_come local_config rounds_now call_id)).0 in
+        own.0
 
     -- the other side said the response that comes up, to that INVITE
     pub record IsReplySaid (status : ℕ) : Type 0 where

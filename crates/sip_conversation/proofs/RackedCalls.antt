@@ -233,21 +233,21 @@ module _ (calls : Calls) (all : List (Timed CallItem)) where
 
   -- ---- one input, after others
 
-  module _ (front rest : List (Timed CallItem)) (differ : EventsDiffer front) where
-    named_so : (call : Call) → call_from calls None front ≡ Some call
-        → AreNamed (side_of call).dialogs
-    named_so call held name dialog at =
-        has_its_name calls front differ name dialog
-        (ap (λ o. dialog_at name (side_held o).dialogs) held ∙ at)
+  named_so : (front : List (Timed CallItem)) → EventsDiffer front → (call : Call)
+      → call_from calls None front ≡ Some call → AreNamed (side_of call).dialogs
+  named_so front differ call held name dialog at =
+      has_its_name calls front differ name dialog
+      (ap (λ o. dialog_at name (side_held o).dialogs) held ∙ at)
 
+  module _ (front rest : List (Timed CallItem)) (differ : EventsDiffer front) where
     owed_so : (call : Call) → all ≡ front ++ rest → call_from calls None front ≡ Some call
         → PaysIn call
     owed_so call are held name dialog at (Ack invite number) among = tt
     owed_so call are held name dialog at (Prack rseq number) among =
         let owed = owes_as_told calls front differ name dialog
         (ap (λ o. dialog_at name (side_held o).dialogs) held ∙ at) in
-        let own = same_name name (name_of_dialog dialog.dialog) (named_so call held name dialog at)
-        in (
+        let own = same_name name (name_of_dialog dialog.dialog)
+        (named_so front differ call held name dialog at) in (
           refl,
           subst (λ name. WasTold calls all name rseq number) own
               (subst (λ inputs. WasTold calls inputs name rseq number) (sym are)

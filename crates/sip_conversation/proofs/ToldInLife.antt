@@ -3,7 +3,7 @@
 use Rattle.std.proofs.Common.{◌≡◌, ◌&&◌, ◌||◌, ⊎_elim, ℕ, Bool, true, false, List, [], ◌∷◌, ◌++◌, refl, sym, ap, ◌∙◌, subst, append_assoc}
 use Rattle.std.specs.Prelude.{Contains, Option, None, Some, filter, if◌then◌else◌}
 use Rattle.std.specs.List.{list_any}
-use Rattle.std.specs.Option.{option_and_then}
+use Rattle.std.specs.Option.{option_and_then, option_map_or}
 use Rattle.std.proofs.lemmas.Bool.{false≢true}
 use Rattle.std.proofs.lemmas.List.Elements.{Contains-append_cases, Contains-append_left, Contains-append_right}
 use Rattle.sip_message.specs.declared.id.Id.{Id}
@@ -207,7 +207,8 @@ module _ (calls : Calls) (inputs : List (Timed CallItem)) (name : DialogId) (rse
   number_so =
       let invite = its_invite.invite in
       let alive : lives (after_it (Some was.call) was.timed.input).dialogs life_now ≡ true =
-      (λ i. lives_by (held_after.at i)) ∙ id_laws.refl held_after.held.created_by in
+      (λ i. option_map_or (λ (held : HeldDialog). is_id held.created_by life_now.created_by)
+      (held_after.at i) false) ∙ id_laws.refl life_now.created_by in
       let brings : number_in invite life_now was.timed.input (side_of was.call) ≡ Some rseq =
       ap (λ input. number_in invite life_now input (side_of was.call)) was.comes
       ∙ (ap (λ k. number_up invite life_now was.up.id k (side_of was.call)) was.kind_is
@@ -215,10 +216,6 @@ module _ (calls : Calls) (inputs : List (Timed CallItem)) (name : DialogId) (rse
       ∙ ((λ i. if its_invite.is i then provisional_number (was.status_is i) was.response else None)
       ∙ was.rseq_is))) in
       (λ i. in_life (alive i) (brings i))
-    where
-      lives_by : Option HeldDialog → Bool
-      lives_by None = false
-      lives_by (Some held) = is_id held.created_by held_after.held.created_by
 
   -- the user was told of the response in a life of that dialog
   pub record IsToldInLife (out : CallOut) : Type 0 where
