@@ -22,7 +22,7 @@ use Rattle.sip_conversation.specs.Provisionals.{rseqs_told, told_from, told_reli
 use Rattle.sip_conversation.specs.Replies.{AreCounted}
 use Rattle.sip_conversation.proofs.Among.{mapped_among, none_among}
 use Rattle.sip_conversation.proofs.FirstTold.{told_first}
-use Rattle.sip_conversation.proofs.Fronts.{carried_before, carried_to, keeps_before, keeps_to}
+use Rattle.sip_conversation.proofs.Fronts.{carried_before, carried_to, counted_to, keeps_before, keeps_to}
 use Rattle.sip_conversation.proofs.Longer.{inputs_longer, rounds_of-append}
 use Rattle.sip_conversation.proofs.PracksFollow.{pracks_follow, reply_said}
 use Rattle.sip_conversation.proofs.RepliesSaid.{IsFair}
@@ -58,14 +58,15 @@ module _ (configs : Side → Config) (call_id : List ℕ) (invite : AnInvite) (l
 pub first_in_life : (configs : Side → Config) → IsFair configs → (turns : List Turn)
     → Carried configs turns → CallsKeepRules configs turns → (before after : List Turn)
     (turn : Turn) → turns ≡ before ++ turn ∷ after
-    → AreCounted (configs turn.side) (rounds_of turn.side (before ++ turn ∷ []))
+    → AreCounted (configs turn.side) (rounds_of turn.side turns)
     → (call_id : List ℕ) (life : DialogReference)
     → NoOthersTold configs before turn call_id OfTheCall life → (told : ℕ × CallOut)
     → Contains (told_reliably configs before turn call_id OfTheCall life) told → 1 < told.0
     → Contains (rseqs_told configs before turn call_id OfTheCall life) 1
-first_in_life configs fair turns carried keep before after turn same few call_id life only told
-    among more =
+first_in_life configs fair turns carried keep before after turn same counted call_id life only
+    told among more =
     let config = configs turn.side in
+    let few = counted_to config turn.side turns before after turn same counted in
     let early = carried_before configs turns before after turn same carried in
     let rules = keeps_before configs turns before after turn same keep in
     let came = told_came (calls_of config)
