@@ -1,7 +1,7 @@
 -- A PRACK that a side says follows the reliable provisional response that it acknowledges, of which
 -- the user was told in its dialog.
 use Rattle.std.proofs.Common.{◌≡◌, ℕ, Bool, true, false, ◌||◌, List, [], ◌∷◌, ◌++◌, refl, sym, ap, ◌∙◌, subst, ⊎_elim}
-use Rattle.std.specs.Prelude.{Contains, IfSome, IsTrue, Option, None, Some, codes, if◌then◌else◌}
+use Rattle.std.specs.Prelude.{Contains, IfSome, IsTrue, Option, None, Some, codes}
 use Rattle.std.specs.List.{AllByRecursion, list_any}
 use Rattle.std.specs.Str.{bytes_eq}
 use Rattle.std.proofs.lemmas.Bool.{false≢true}
