@@ -55,6 +55,18 @@ module _ (configs : Side → Config) (call_id : List ℕ) (invite : AnInvite) (l
       (subst (λ t. Contains (told_from (calls_of (configs t)) invite life None
       (call_inputs_of (configs t) (rounds_of t front) call_id)) told) own among)))
 
+-- if he was told of no others in that dialog, what he was told in it is of this life
+only_here : (configs : Side → Config) (call_id : List ℕ) (before : List Turn) (turn : Turn)
+    (life : DialogReference) → NoOthersTold configs before turn call_id OfTheCall life
+    → (other : AnInvite) (later : DialogReference) → later.name ≡ life.name → (rseq : ℕ)
+    → Contains (rseqs_told configs before turn call_id other later) rseq
+    → Contains (rseqs_told configs before turn call_id OfTheCall life) rseq
+only_here configs call_id before turn life only other later named rseq among =
+    let same = only other later named
+    (λ none. none_among rseq (subst (λ rseqs. Contains rseqs rseq) none among)) in
+    subst (λ rseqs. Contains rseqs rseq)
+    (λ i. rseqs_told configs before turn call_id (same.0 i) (same.1 i)) among
+
 pub first_in_life : (configs : Side → Config) → IsFair configs → (turns : List Turn)
     → Carried configs turns → CallsKeepRules configs turns → (before after : List Turn)
     (turn : Turn) → turns ≡ before ++ turn ∷ after
@@ -93,7 +105,4 @@ first_in_life configs fair turns carried keep before after turn same counted cal
     first.before first.turn first.after first.turns_are first.side_is
     (subst (λ c. Contains (told_reliably configs first.before first.turn c follows.invite
     follows.life) (1, first_told)) (reply.call few) follows.in_life)) in
-    let alone = only follows.invite follows.life named
-    (λ none. none_among 1 (subst (λ rseqs. Contains rseqs 1) none one)) in
-    subst (λ rseqs. Contains rseqs 1)
-    (λ i. rseqs_told configs before turn call_id (alone.0 i) (alone.1 i)) one
+    only_here configs call_id before turn life only follows.invite follows.life named 1 one
