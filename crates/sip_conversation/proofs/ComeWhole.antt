@@ -21,7 +21,8 @@ use Rattle.sip_conversation.specs.Messages.{CallsKeepRules}
 use Rattle.sip_conversation.specs.Provisionals.{rseqs_told, told_reliably}
 use Rattle.sip_conversation.specs.Replies.{AreCounted}
 use Rattle.sip_conversation.proofs.Among.{all_go, among_mapped, first_or_later, none_among, among_first}
-use Rattle.sip_conversation.proofs.Fronts.{carried_before, carried_to, keeps_before, keeps_to}
+use Rattle.sip_conversation.proofs.FirstInLife.{first_in_life}
+use Rattle.sip_conversation.proofs.Fronts.{carried_before, carried_to, counted_front, counted_to, keeps_before, keeps_to}
 use Rattle.sip_conversation.proofs.InOrder.{Follow, TellsOfOne, next_follow, run_of}
 use Rattle.sip_conversation.proofs.Longer.{rounds_of-append}
 use Rattle.sip_conversation.proofs.Provisionals.{provisionals_said}
@@ -70,21 +71,6 @@ above_one n least isnt = grind (arith, common_steps, least, isnt)
 equal : (one two : ℕ) → (one == two) ≡ true → one ≡ two
 equal one two is = grind (arith, common_steps, is)
 
--- ---- rounds
-
--- the first of counted rounds are counted
-counted_front : (config : Config) (rounds more : List Round) → AreCounted config (rounds ++ more)
-    → AreCounted config rounds
-counted_front config rounds more few = record {
-  numbers = fewer rounds few.numbers;
-  events = (all_of_parts (λ (round : Round). length round.events < 2 ^ 64) rounds more
-      few.events).0;
-}
-  where
-    fewer : (rounds : List Round) → config.first + length (rounds ++ more) ≤ 2 ^ 64
-        → config.first + length rounds ≤ 2 ^ 64
-    fewer rounds most = omega (arith, most, length-append rounds more)
-
 -- ---- the law
 
 module _ (configs : Side → Config) (fair : IsFair configs)
@@ -99,20 +85,16 @@ module _ (configs : Side → Config) (fair : IsFair configs)
   abbrev there : Config
   there = configs (peer turn.side)
 
-  few_in : (front rest : List Turn) → turns ≡ front ++ rest → (side : Side)
-      → AreCounted (configs side) (rounds_of side front)
-  few_in front rest are side =
-      counted_front (configs side) (rounds_of side front) (rounds_of side rest)
-      (subst (AreCounted (configs side))
-      (ap (rounds_of side) are ∙ rounds_of-append side front rest) (few side))
-
   few_here : AreCounted here (rounds_of turn.side (before ++ turn ∷ []))
-  few_here =
-      few_in (before ++ turn ∷ []) after
-      (same ∙ sym (append_assoc before (turn ∷ []) after)) turn.side
+  few_here = counted_to here turn.side turns before after turn same (few turn.side)
 
   few_there : AreCounted there (rounds_of (peer turn.side) before)
-  few_there = few_in before (turn ∷ after) same (peer turn.side)
+  few_there =
+      counted_front there (rounds_of (peer turn.side) before)
+      (rounds_of (peer turn.side) (turn ∷ after))
+      (subst (AreCounted there)
+      (ap (rounds_of (peer turn.side)) same
+      ∙ rounds_of-append (peer turn.side) before (turn ∷ after)) (few (peer turn.side)))
 
   carried_early : Carried configs before
   carried_early = carried_before configs turns before after turn same carried
@@ -216,9 +198,9 @@ module _ (configs : Side → Config) (fair : IsFair configs)
           by_bool (first.0 == 1) (λ one. equal first.0 1 one)
           (λ isnt.
           let one : Contains (rseqs_told configs before turn call_id OfTheCall life) 1 =
-          first_in_life configs fair in_lives turns carried keep before after turn same few_here
-          call_id life first.0 first.1 (subst (λ t. Contains t first) (sym is)
-          (among_first first rest)) (above_one first.0 least isnt) alone in
+          first_in_life configs fair turns carried keep before after turn same (few turn.side)
+          call_id life alone first (subst (λ t. Contains t first) (sym is) (among_first first rest))
+          (above_one first.0 least isnt) in
           let mapped = among_mapped (λ (one : ℕ × CallOut). one.0) (first ∷ rest) 1
           (subst (λ t. Contains (map (λ (one : ℕ × CallOut). one.0) t) 1) is one) in
           absurd (omega (

@@ -1,9 +1,12 @@
 -- Where the user is told of a reliable provisional response with an RSeq above 1, he was told of
--- one with RSeq 1 before.
+-- one with RSeq 1 before, in its dialog.
 use Rattle.std.proofs.Common.{◌≡◌, ◌⊎◌, inl, inr, ℕ, Bool, true, false, cond, List, [], ◌∷◌, ◌++◌, map, refl, sym, ap, ◌∙◌, subst, append-nil, append_assoc, ⊎_elim}
 use Rattle.std.specs.Prelude.{codes}
 use Rattle.std.proofs.lemmas.Bool.{false≢true}
+use Rattle.sip_message.specs.Party.{tag_of}
 use Rattle.sip_message.specs.declared.message.Message.{Message}
+use Rattle.sip_common.specs.Requests.{dialog_id_of_tags}
+use Rattle.sip_common.specs.declared.held_dialog.DialogId.{DialogId}
 use Rattle.sip_common.specs.declared.item.CallOut.{CallOut}
 use Rattle.sip_common.specs.declared.item.CallOut.TheVariants as out
 use Rattle.sip_common.specs.declared.notice.Notice.TheVariants as notice
@@ -83,7 +86,7 @@ module _ (configs : Side → Config) where
       (subst (λ rounds. IsSaid (configs s) rounds message) same said)
 
   module _ (turns : List Turn) (follow : PracksFollowResponses configs turns) (s : Side) where
-    told_first : (response : Message) → SaidPrack (configs s) (rounds_of s turns) response
+    pub told_first : (response : Message) → SaidPrack (configs s) (rounds_of s turns) response
         → WasToldFirst configs turns s response
     told_first response so =
         ⊎_elim
@@ -95,14 +98,18 @@ module _ (configs : Side → Config) where
           after = last.after;
           turns_are = last.turns_are;
           side_is = last.side_is;
-          first = subst (λ c. FollowsResponse configs last.before last.turn c
-              record { rseq = 1; cseq = response.cseq.number; method = codes "INVITE" })
-              so.call_id
+          first = subst (FollowsAs last response.call_id) so.dialog
+              (subst (λ c. FollowsAs last c
+              (dialog_id_of_tags (tag_of so.prack.from) (tag_of so.prack.to))) so.call_id
               (follow last.before last.after last.turn last.turns_are so.prack
               (said_by_last s turns so.prack last so.said) so.is_request so.method
-              record { rseq = 1; cseq = response.cseq.number; method = codes "INVITE" } so.rack);
+              record { rseq = 1; cseq = response.cseq.number; method = codes "INVITE" } so.rack));
         })
         (last_turn s turns)
+      where
+        FollowsAs : LastTurn s turns → List ℕ → DialogId → Type 0
+        FollowsAs last call_id name = FollowsResponse configs last.before last.turn call_id name
+            record { rseq = 1; cseq = response.cseq.number; method = codes "INVITE" }
 
     notice_after : (rseq : ℕ) (one : CallOut) → IsSaidReliably configs turns s rseq one
         → IsAfterTheFirst configs turns s rseq one

@@ -1,11 +1,14 @@
--- A front of a carried conversation is carried, and its last turn adds nothing to what the other
--- side says.
-use Rattle.std.proofs.Common.{◌≡◌, false, cond, List, [], ◌∷◌, ◌++◌, map, refl, sym, ap, ◌∙◌, subst, append-nil, append_assoc}
+-- A front of a carried conversation is carried, and its rounds are counted if all are; its last
+-- turn adds nothing to what the other side says.
+use Rattle.std.proofs.Common.{◌≡◌, ◌<◌, ◌^◌, false, cond, List, [], ◌∷◌, ◌++◌, length, map, refl, sym, ap, ◌∙◌, subst, append-nil, append_assoc, length-append, arith}
 use Rattle.sip_round.specs.declared.config.Config.{Config}
+use Rattle.sip_round.specs.declared.round.Round.{Round}
 use Rattle.sip_conversation.specs.Conversation.{Carried, CarriedAfter, Side, Turn, is_side, peer, rounds_of}
 use Rattle.sip_conversation.specs.Conversation as side
 use Rattle.sip_conversation.specs.Messages.{CallSays, CallsKeepRules}
+use Rattle.sip_conversation.specs.Replies.{AreCounted}
 use Rattle.sip_conversation.proofs.Longer.{rounds_of-append, says_longer}
+use Rattle.sip_conversation.proofs.Rounds.{all_of_parts}
 
 module _ (configs : Side → Config) where
   carried_front : (start front more : List Turn) → CarriedAfter configs start (front ++ more)
@@ -56,6 +59,26 @@ module _ (configs : Side → Config) where
       → CallsKeepRules configs before
   keeps_before turns before after turn same keep =
       front_keeps before (turn ∷ after) (subst (CallsKeepRules configs) same keep)
+
+-- ---- counted rounds
+
+pub counted_front : (config : Config) (rounds more : List Round) → AreCounted config (rounds ++ more)
+    → AreCounted config rounds
+counted_front config rounds more few = record {
+  numbers = omega (arith, length-append rounds more, few.numbers);
+  events = (all_of_parts (λ round. length round.events < 2 ^ 64) rounds more few.events).0;
+}
+
+-- if those of all turns are counted, so are those up to a turn
+pub counted_to : (config : Config) (s : Side) (turns before after : List Turn) (turn : Turn)
+    → turns ≡ before ++ turn ∷ after → AreCounted config (rounds_of s turns)
+    → AreCounted config (rounds_of s (before ++ turn ∷ []))
+counted_to config s turns before after turn same few =
+    let front = before ++ turn ∷ [] in
+    counted_front config (rounds_of s front) (rounds_of s after)
+    (subst (AreCounted config)
+    (ap (rounds_of s) (same ∙ sym (append_assoc before (turn ∷ []) after))
+    ∙ rounds_of-append s front after) few)
 
 -- ---- a turn of one side isn't one of the other side
 

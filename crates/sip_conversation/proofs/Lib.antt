@@ -36,11 +36,14 @@ pub mod ToTags
 pub mod GivenReliably
 pub mod PracksSaid
 pub mod OwedTold
+pub mod DialogOfReply
 pub mod RackedSteps
 pub mod RackedCalls
 pub mod ClientsSent
+pub mod ToldInLife
 pub mod PracksFollow
 pub mod FirstTold
+pub mod FirstInLife
 pub mod CommandAsks
 pub mod GivenTold
 pub mod HeardUps

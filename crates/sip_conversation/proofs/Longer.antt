@@ -6,17 +6,18 @@ use Rattle.std.proofs.lemmas.Grind.{flat_map-append}
 use Rattle.std.proofs.lemmas.List.{map-append}
 use Rattle.std.proofs.lemmas.List.Elements.{Contains-append_cases, Contains-append_left, Contains-append_right, filter-append}
 use Rattle.sip_model.specs.Laws.{said_by}
-use Rattle.sip_model.specs.Machine.{Machine, tick_at}
-use Rattle.sip_model.specs.Phase.{Phase}
+use Rattle.sip_model.specs.Machine.{Machine, Timed, tick_at}
+use Rattle.sip_model.specs.Phase.{Phase, history, own_inputs}
 use Rattle.sip_model.specs.Rules.{said_in, said_since}
 use Rattle.sip_common.specs.declared.item.CallOut.{CallOut}
-use Rattle.sip_calls.specs.Call.{call_machine}
+use Rattle.sip_calls.specs.Call.{CallItem, call_machine}
 use Rattle.sip_calls.specs.CallShard.{call_cmp}
 use Rattle.sip_round.specs.declared.config.Config.{Config}
 use Rattle.sip_round.specs.declared.output.Output.{Output}
 use Rattle.sip_round.specs.declared.round.Round.{Round}
 use Rattle.sip_round.specs.Answers.{answer, answers, calls_of, each_from, no_past, past_from, past_of}
 use Rattle.sip_round.specs.Given.{all_given}
+use Rattle.sip_round.specs.Laws.{call_inputs_of}
 use Rattle.sip_round.proofs.GivenNotices.{calls_are, calls_from}
 use Rattle.sip_round.proofs.Runs.{each_from-append, past_from-append}
 use Rattle.sip_conversation.specs.Conversation.{Side, Turn, is_side, rounds_of}
@@ -66,20 +67,39 @@ module _ {K S I O : Type 0} (cmp : K → K → Ordering) (machine : Machine K S 
       (said_longer after phases more o later))
       (Contains-append_cases here (said_since cmp machine tick key after phases) o among)
 
+calls_longer : (config : Config) (rounds more : List Round)
+    → let past = past_from config config.first no_past rounds in
+    (past_from config config.first no_past (rounds ++ more)).calls
+    ≡ past.calls ++ calls_from config (config.first + length rounds) past more
+calls_longer config rounds more =
+    ap (λ p. p.calls) (past_from-append config config.first no_past rounds more)
+    ∙ calls_are config (config.first + length rounds)
+    (past_from config config.first no_past rounds) more
+
 pub says_longer : (config : Config) (rounds more : List Round) (o : CallOut)
     → CallSays config rounds o → CallSays config (rounds ++ more) o
 unfolding past_of
 says_longer config rounds more o says =
     let past = past_from config config.first no_past rounds in
-    let number = config.first + length rounds in
-    let machine = call_machine (calls_of config) in
-    let same : (past_from config config.first no_past (rounds ++ more)).calls
-    ≡ past.calls ++ calls_from config number past more =
-    ap (λ p. p.calls) (past_from-append config config.first no_past rounds more)
-    ∙ calls_are config number past more in (
+    let machine = call_machine (calls_of config) in (
       says.0,
       subst (λ phases. Contains (said_since call_cmp machine tick_at says.0 [] phases) o)
-          (sym same)
+          (sym (calls_longer config rounds more))
           (said_longer call_cmp machine tick_at says.0 [] past.calls
-          (calls_from config number past more) o says.1),
+          (calls_from config (config.first + length rounds) past more) o says.1),
+    )
+
+-- ---- what calls are given
+
+pub inputs_longer : (config : Config) (rounds more : List Round) (call_id : List ℕ)
+    → (later : List (Timed CallItem))
+    × (call_inputs_of config (rounds ++ more) call_id
+    ≡ call_inputs_of config rounds call_id ++ later)
+unfolding past_of
+inputs_longer config rounds more call_id =
+    let past = past_from config config.first no_past rounds in
+    let later = calls_from config (config.first + length rounds) past more in (
+      history call_cmp tick_at later call_id,
+      ap (λ phases. history call_cmp tick_at phases call_id) (calls_longer config rounds more)
+          ∙ flat_map-append (λ phase. own_inputs call_cmp tick_at phase call_id) past.calls later,
     )

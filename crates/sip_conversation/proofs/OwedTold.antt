@@ -1,5 +1,5 @@
--- What is owed in a dialog over all inputs of a call, a response asked for of which the user was
--- told.
+-- What is owed in a dialog over all inputs of a call, a response in that dialog asked for, of which
+-- the user was told.
 use Rattle.std.proofs.Common.{◌≡◌, ⊎_elim, ℕ, Bool, true, false, not, ◌&&◌, List, [], ◌∷◌, ◌++◌, refl, sym, ap, ◌∙◌, append_assoc}
 use Rattle.std.specs.Prelude.{Contains, Option, None, Some, filter, find, if◌then◌else◌}
 use Rattle.std.specs.List.{list_any}
@@ -11,7 +11,7 @@ use Rattle.sip_model.specs.Machine.{Timed}
 use Rattle.sip_transactions.specs.declared.output.Kind.{Kind}
 use Rattle.sip_transactions.specs.declared.output.Kind.TheVariants as kind
 use Rattle.sip_transactions.specs.declared.output.Up.{Up as AnUp}
-use Rattle.sip_transactions.proofs.RowFacts.{and-right}
+use Rattle.sip_transactions.proofs.RowFacts.{and-left, and-right}
 use Rattle.sip_common.specs.Dialogs.{dialog_at, is_dialog_id}
 use Rattle.sip_common.specs.declared.command.DialogBody.{DialogBody}
 use Rattle.sip_common.specs.declared.command.UserCommand.{UserCommand}
@@ -29,10 +29,7 @@ use Rattle.sip_clients.specs.Commands.{name_in}
 use Rattle.sip_clients.specs.Pending.{is_of, is_same_pending}
 use Rattle.sip_clients.specs.Provisionals.{is_response}
 use Rattle.sip_clients.specs.ReceivedResponse.{has_dialog}
-use Rattle.sip_clients.specs.Rules.Requests.{is_invite_kind}
 use Rattle.sip_clients.specs.declared.client.Client.{Client}
-use Rattle.sip_clients.specs.declared.client.RequestKind.{RequestKind}
-use Rattle.sip_clients.specs.declared.client.RequestKind.TheVariants.{InDialog, InitialInvite, OutOfDialog, ReInvite}
 use Rattle.sip_calls.specs.Call.{CallItem, call_step}
 use Rattle.sip_calls.specs.Histories.{call_from, is_born_of}
 use Rattle.sip_calls.specs.Owing.{owed_by_command, owed_by_kind, owed_from, owed_in, owed_next}
@@ -52,28 +49,23 @@ Owed = Domain command_pays
 
 -- ---- what one response asks for
 
--- the response of the request of this id asks for this, and the user is told of a response
+-- the response to the request of this id, an INVITE of the dialog of this name, asks for this, and
+-- the user is told of a response
 pub record AsksFor (pending : PendingRequest) (id : Id) (response : Message) (clients : Clients)
-    (outs : List CallOut) : Type 0 where
+    (name : DialogId) (found : Option HeldDialog) (outs : List CallOut) : Type 0 where
   pub client : Client
   pub held : client_at id clients ≡ Some client
   pub status : ℕ
   pub status_is : status_of response.start ≡ Some status
-  pub kind : is_invite_kind client.kind ≡ true
+  pub named : is_dialog_id (reply_name client.kind client response) name ≡ true
+  pub has : has_dialog client.kind found ≡ true
   pub asks : asked_for status client response ≡ Some pending
   pub told : list_any is_response outs ≡ true
 
 module _ (pending : PendingRequest) (id : Id) (response : Message) (clients : Clients)
     (name : DialogId) (found : Option HeldDialog) (outs : List CallOut) where
   abbrev Asks : Type 0
-  Asks = AsksFor pending id response clients outs
-
-  -- only an INVITE has a dialog
-  invites : (kind : RequestKind) → has_dialog kind found ≡ true → is_invite_kind kind ≡ true
-  invites InitialInvite has = refl
-  invites (ReInvite life) has = refl
-  invites (InDialog life) has = has
-  invites OutOfDialog has = has
+  Asks = AsksFor pending id response clients name found outs
 
   by_told : (told other : Bool) (asked : PendingRequest)
       → Contains (if told && other then asked ∷ [] else []) pending
@@ -109,9 +101,10 @@ module _ (pending : PendingRequest) (id : Id) (response : Message) (clients : Cl
             held = held;
             status = status;
             status_is = is;
-            kind = invites client.kind
-                (and-right (is_dialog_id (reply_name client.kind client response) name)
-                (has_dialog client.kind found) at);
+            named = and-left (is_dialog_id (reply_name client.kind client response) name)
+                (has_dialog client.kind found) at;
+            has = and-right (is_dialog_id (reply_name client.kind client response) name)
+                (has_dialog client.kind found) at;
             asks = asks ∙ ap (λ p. Some p) so.1;
             told = so.0;
           }
@@ -122,9 +115,9 @@ module _ (pending : PendingRequest) (id : Id) (response : Message) (clients : Cl
 
 -- ---- all inputs
 
--- at one of these inputs a response asks for it
-pub record WasAskedFor (calls : Calls) (inputs : List (Timed CallItem)) (pending : PendingRequest)
-    : Type 0 where
+-- at one of these inputs a response asks for it in the dialog of this name
+pub record WasAskedFor (calls : Calls) (inputs : List (Timed CallItem)) (name : DialogId)
+    (pending : PendingRequest) : Type 0 where
   pub before : List (Timed CallItem)
   pub timed : Timed CallItem
   pub after : List (Timed CallItem)
@@ -136,7 +129,8 @@ pub record WasAskedFor (calls : Calls) (inputs : List (Timed CallItem)) (pending
   pub response : Message
   pub comes : timed.input ≡ Some (event, Up up)
   pub kind_is : up.kind ≡ kind.Response response
-  pub asks : AsksFor pending up.id response call.clients
+  pub asks : AsksFor pending up.id response call.clients name
+      (dialog_at name (side_of call).dialogs)
       (call_step calls (Some call) timed.input timed.moment).1
 
 less_owed : (pending : PendingRequest) (b : Bool) (paid owed : List PendingRequest)
@@ -181,7 +175,7 @@ module _ (pending : PendingRequest) (name : DialogId) where
 
   module _ (calls : Calls) (all : List (Timed CallItem)) where
     abbrev Was : Type 0
-    Was = WasAskedFor calls all pending
+    Was = WasAskedFor calls all name pending
 
     by_kind : (before after : List (Timed CallItem)) (now : ℕ) (event : Id) (up : AnUp)
         (call : Call) (k : Kind) → up.kind ≡ k
@@ -251,7 +245,7 @@ module _ (pending : PendingRequest) (name : DialogId) where
 -- what is owed was asked for
 pub owed_was_asked : (calls : Calls) (name : DialogId) (inputs : List (Timed CallItem))
     (pending : PendingRequest) → Contains (owed_from calls name None [] inputs) pending
-    → WasAskedFor calls inputs pending
+    → WasAskedFor calls inputs name pending
 owed_was_asked calls name inputs pending among =
     from_was pending name calls inputs [] inputs refl None refl []
     (λ none. absurd (none_among pending none)) among

@@ -1,7 +1,7 @@
 -- A PRACK that a side says follows the reliable provisional response that it acknowledges, of which
--- the user was told.
+-- the user was told in its dialog.
 use Rattle.std.proofs.Common.{◌≡◌, ℕ, Bool, true, false, ◌||◌, List, [], ◌∷◌, ◌++◌, refl, sym, ap, ◌∙◌, subst, ⊎_elim}
-use Rattle.std.specs.Prelude.{Contains, IfSome, IsTrue, Option, None, Some, codes, if◌then◌else◌}
+use Rattle.std.specs.Prelude.{Contains, IfSome, IsTrue, Option, None, Some, codes}
 use Rattle.std.specs.List.{AllByRecursion, list_any}
 use Rattle.std.specs.Str.{bytes_eq}
 use Rattle.std.proofs.lemmas.Bool.{false≢true}
@@ -9,7 +9,6 @@ use Rattle.std.proofs.lemmas.List.Elements.{Contains-append_cases, Contains-appe
 use Rattle.sip_text.specs.Token.{is_token, is_token_byte}
 use Rattle.sip_message.specs.Message.{is_request_message}
 use Rattle.sip_message.specs.Party.{tag_of}
-use Rattle.sip_message.specs.Source.{stamped}
 use Rattle.sip_message.specs.Written.{written}
 use Rattle.sip_message.specs.declared.addr.Addr.{Addr}
 use Rattle.sip_message.specs.declared.cseq.CSeq.{CSeq}
@@ -23,7 +22,10 @@ use Rattle.sip_model.specs.Laws.{EachKeyAlone}
 use Rattle.sip_model.specs.Machine.{Timed, outputs_from, tick_at}
 use Rattle.sip_transactions.specs.declared.input.Input.TheVariants.{Start}
 use Rattle.sip_transactions.specs.declared.input.Command.TheVariants as order
+use Rattle.sip_common.specs.Dialogs.{dialog_at}
 use Rattle.sip_common.specs.Ids.{is_id}
+use Rattle.sip_common.specs.Requests.{dialog_id_of_tags}
+use Rattle.sip_common.specs.declared.held_dialog.DialogId.{DialogId}
 use Rattle.sip_common.specs.declared.item.CallOut.{CallOut}
 use Rattle.sip_common.specs.declared.item.CallOut.TheVariants as call_out
 use Rattle.sip_common.specs.declared.notice.Notice.{Notice}
@@ -38,6 +40,7 @@ use Rattle.sip_calls.specs.CallShard.{call_cmp}
 use Rattle.sip_calls.specs.Histories.{call_from}
 use Rattle.sip_calls.specs.OwnCall.{IsInputOf}
 use Rattle.sip_calls.specs.Provisionals.{side_held}
+use Rattle.sip_calls.specs.Sides.{side_of}
 use Rattle.sip_calls.specs.declared.call.Call.{Call}
 use Rattle.sip_calls.specs.declared.calls.Calls.{Calls}
 use Rattle.sip_round.specs.declared.config.Config.{Config}
@@ -53,12 +56,13 @@ use Rattle.sip_conversation.specs.Conversation.{Carried, Side, Turn, given_by, r
 use Rattle.sip_conversation.specs.Messages.{CallSays, CallsKeepRules, IsGiven, IsSaid, come_from}
 use Rattle.sip_conversation.specs.Messages.IsSaid.{Acknowledges, Asked, Direct, Trying}
 use Rattle.sip_conversation.specs.Pracks.{FollowsResponse, PracksFollowResponses}
-use Rattle.sip_conversation.specs.Provisionals.{SaidReliably}
+use Rattle.sip_conversation.specs.Provisionals.{SaidReliably, told_reliably}
 use Rattle.sip_conversation.specs.Replies.{AreCounted, IsStartedFor}
 use Rattle.sip_conversation.proofs.AckTexts.{is_ack}
 use Rattle.sip_conversation.proofs.Among.{among_first, among_later, each_of, in_all_of, kept_among, none_among}
 use Rattle.sip_conversation.proofs.Branches.{Own}
 use Rattle.sip_conversation.proofs.CallBranches.{HeldOwn, InputComes, OutIsOwn, all_own, held_own}
+use Rattle.sip_conversation.proofs.DialogOfReply.{is_of_invite}
 use Rattle.sip_conversation.proofs.CallOuts.{InputFits, KindTells, OutFits, ResponseTells, step_fits}
 use Rattle.sip_conversation.proofs.ClientsSent.{WentOut, held_went}
 use Rattle.sip_conversation.proofs.Longer.{rounds_of-append}
@@ -66,12 +70,14 @@ use Rattle.sip_conversation.proofs.Fronts.{carried_before, carried_to, keeps_bef
 use Rattle.sip_conversation.proofs.OneCallId.{IsOfStart, out_replies, started_request}
 use Rattle.sip_conversation.proofs.OneTransaction.{KindCame}
 use Rattle.sip_conversation.proofs.Origins.{IsOrigin, TimedComes, inputs_come}
-use Rattle.sip_conversation.proofs.Provisionals.{said_reliably}
-use Rattle.sip_conversation.proofs.RackedCalls.{OutIsTold, WasTold, all_told}
+use Rattle.sip_conversation.proofs.PracksSaid.{IsAlike, came_alike}
+use Rattle.sip_conversation.proofs.Provisionals.{IsReliablySo, said_reliably}
+use Rattle.sip_conversation.proofs.RackedCalls.{IsTold, OutIsTold, WasTold, all_told}
 use Rattle.sip_conversation.proofs.RepliesSaid.{Came, Comes, IsFair, inputs_come as ups_come}
 use Rattle.sip_conversation.proofs.Rounds.{all_of_parts}
 use Rattle.sip_conversation.proofs.StartedFor.{KindStarted, response_key}
 use Rattle.sip_conversation.proofs.ToldCallId.{own_reply}
+use Rattle.sip_conversation.proofs.ToldInLife.{IsToldInLife, told_in_life}
 use Rattle.sip_conversation.proofs.Ups.{ItemCame, TimedCame}
 
 -- ---- lists
@@ -123,14 +129,6 @@ module _ (calls : Calls) (key : List ℕ) where
 
 -- ---- messages
 
-come_cseq : (source : Addr) (message : Message) → (come_from source message).cseq ≡ message.cseq
-unfolding stamped
-come_cseq source message = by_request (is_request_message message)
-  where
-    by_request : (b : Bool) → (if b then stamped message source else message).cseq ≡ message.cseq
-    by_request true = refl
-    by_request false = refl
-
 prack_token : IsTrue (is_token (codes "PRACK"))
 unfolding is_token is_token_byte
 prack_token = refl
@@ -172,12 +170,12 @@ module _ (config : Config) (rounds : List Round)
         (output.Notice told) (said_by_it (call_out.Notice told) among)
         (among_first (output.Notice told) [])))).0
 
-    -- what it starts with a RAck is a PRACK of a response of which the user was told
+    -- what it starts with a RAck is a PRACK of a response in its dialog of which the user was told
     told_of : (id : Id) (key : Key) (of : List ℕ) (prack : Message) (to : Addr)
         → Contains (said_of_call config rounds call_id)
         (call_out.Command id (order.Start key of prack to)) → (rack : RAck)
         → prack.rack ≡ Some rack
-        → (rack.method ≡ codes "INVITE") × WasTold calls inputs rack.rseq rack.cseq
+        → IsTold calls inputs (dialog_id_of_tags (tag_of prack.from) (tag_of prack.to)) rack
     told_of id key of prack to among =
         each_of (OutIsTold calls inputs) (said_of_call config rounds call_id)
         (call_out.Command id (order.Start key of prack to))
@@ -196,7 +194,7 @@ module _ (config : Config) (rounds : List Round)
         (all_own calls call_id (IsOrigin config rounds call_id) None inputs
         (inputs_come config rounds call_id) tt tt)) among).own.call
 
-    module _ (rseq number : ℕ) (was : WasTold calls inputs rseq number) where
+    module _ (name : DialogId) (rseq number : ℕ) (was : WasTold calls inputs name rseq number) where
       -- the input that brought the response
       its_own : (P : Timed CallItem → Type 0) → AllByRecursion P inputs → P was.timed
       its_own P all =
@@ -235,7 +233,8 @@ module _ (config : Config) (rounds : List Round)
           (held_own calls call_id Came None was.before parts.0 tt tt) in
           let its : IsOwnClient was.client = subst (λ o. IfSome o IsOwnClient) was.client_is
           (found_one IsOwnClient (is_id was.up.id) was.call.clients own) in
-          its.invites was.kind
+          its.invites (is_of_invite was.client.kind
+          (dialog_at name (side_of was.call).dialogs) was.has)
 
       -- each output of that input is among those of the call
       of_its_input : (out : CallOut)
@@ -245,7 +244,8 @@ module _ (config : Config) (rounds : List Round)
           subst (λ all. Contains (outputs_from (call_machine calls) call_id None all) out)
           (sym was.are)
           (of_one_input calls call_id None was.before was.timed was.after out
-          (subst (λ state. Contains (call_step calls state was.timed.input was.timed.moment).1 out)
+          (subst (λ state.
+          Contains (call_step calls state was.timed.input was.timed.moment).1 out)
           (sym was.held) among))
 
 -- ---- a turn
@@ -266,12 +266,12 @@ module _ (configs : Side → Config) (fair : IsFair configs) (before : List Turn
     pub cseq : AreCounted local_config rounds_now
         → said.response.original.cseq.number ≡ rack.cseq
 
-  module _ (call_id : List ℕ) (rack : RAck)
-      (was : WasTold (calls_of local_config) (call_inputs_of local_config rounds_now call_id)
+  module _ (call_id : List ℕ) (name : DialogId) (rack : RAck)
+      (was : WasTold (calls_of local_config) (call_inputs_of local_config rounds_now call_id) name
       rack.rseq rack.cseq) where
     abbrev sent : WentOut (outputs_from (call_machine (calls_of local_config)) call_id None
         (call_inputs_of local_config rounds_now call_id)) was.up.id was.client.request
-    sent = went local_config rounds_now (fair.calls turn.side) call_id rack.rseq rack.cseq was
+    sent = went local_config rounds_now (fair.calls turn.side) call_id name rack.rseq rack.cseq was
 
     -- the transaction was started with that INVITE
     own_start : (of : List ℕ) (response : Message) → AreCounted local_config rounds_now
@@ -293,50 +293,89 @@ module _ (configs : Side → Config) (fair : IsFair configs) (before : List Turn
         ))
         sent.starts
 
-    response_tells : (response : Message)
-        → Came configs fair before turn carried keep response
-        → ((status : ℕ) → status_of response.start ≡ Some status
-        → IsStartedFor local_config rounds_now was.up.call_id was.up.id response)
-        → was.up.call_id ≡ call_id
-        → provisional_number (status_of response.start) response ≡ Some rack.rseq
-        → ResponseTells (IsTelling call_id rack) was.up.call_id was.up.id response
-    response_tells response came started of_is number status is =
+    of_up : was.up.call_id ≡ call_id
+    of_up =
+        let own = subst (IsInputOf call_id) was.comes
+        (its_own local_config rounds_now (fair.calls turn.side) call_id name rack.rseq rack.cseq was
+        (TimedComes local_config rounds_now call_id)
+        (inputs_come local_config rounds_now call_id)).0 in
+        own.0
+
+    -- the other side said the response that comes up, to that INVITE
+    pub record IsReplySaid (status : ℕ) : Type 0 where
+      pub so : IsReliablySo configs fair before turn carried keep was.response rack.rseq status
+      pub call : AreCounted local_config rounds_now
+          → so.said.response.original.call_id ≡ call_id
+      pub cseq : AreCounted local_config rounds_now
+          → so.said.response.original.cseq.number ≡ rack.cseq
+      pub from : AreCounted local_config rounds_now
+          → so.said.response.original.from ≡ was.client.request.from
+
+    reply_so : Came configs fair before turn carried keep was.response → (status : ℕ)
+        → status_of was.response.start ≡ Some status
+        → IsStartedFor local_config rounds_now was.up.call_id was.up.id was.response
+        → IsReplySaid status
+    reply_so came status is started =
+        let response = was.response in
+        let number = ap (λ o. provisional_number o response) was.status_is ∙ was.rseq_is in
         let so = said_reliably configs fair before turn carried keep response came rack.rseq number
         status is in
         let reply = so.said.response in
         let begun = subst (IsStartedFor local_config rounds_now was.up.call_id was.up.id)
-        (sym so.whole) (started status is) in
+        (sym so.whole) started in
+        let own = own_reply configs fair.calls before turn was.up.call_id was.up.id status
+        (tag_of response.from) (tag_of response.to) response.body reply begun in
+        let answers : AreCounted local_config rounds_now
+        → IsAlike reply.request.request was.client.request = λ few.
+        let start = own_start was.up.call_id reply.original few begun in
+        let same : begun.request ≡ was.client.request =
+        sym (start.same begun.request) ∙ sent.sends begun.request in
+        let method : reply.original.cseq.method ≡ codes "INVITE" =
+        start.method (top_branch reply.original) reply.original.cseq.method
+        (response_key reply.original status reply.status_is)
+        ∙ (ap (λ (m : Message). m.cseq.method) same
+        ∙ invites local_config rounds_now (fair.calls turn.side) call_id name rack.rseq rack.cseq
+        was) in
+        subst (λ (m : Message). IsAlike m was.client.request)
+        (sym ((own few).same (λ cancel. no_cancel (sym cancel ∙ method))
+        ∙ ap (come_from local_config.local) same))
+        (came_alike local_config.local was.client.request) in
         record {
-          of_is = of_is;
-          said = so.said;
-          cseq = λ few.
-              let own = own_reply configs fair.calls before turn was.up.call_id was.up.id status
-              (tag_of response.from) (tag_of response.to) response.body reply begun few in
-              let start = own_start was.up.call_id reply.original few begun in
-              let same : begun.request ≡ was.client.request =
-              sym (start.same begun.request) ∙ sent.sends begun.request in
-              let method : reply.original.cseq.method ≡ codes "INVITE" =
-              start.method (top_branch reply.original) reply.original.cseq.method
-              (response_key reply.original status reply.status_is)
-              ∙ (ap (λ (m : Message). m.cseq.method) same
-              ∙ invites local_config rounds_now (fair.calls turn.side) call_id rack.rseq rack.cseq
-              was) in
-              ap (λ (c : CSeq). c.number) (reply.request.copies.cseq
-              ∙ (ap (λ (m : Message). m.cseq)
-              (own.same (λ cancel. no_cancel (sym cancel ∙ method)))
-              ∙ (come_cseq local_config.local begun.request
-              ∙ ap (λ (m : Message). m.cseq) same)))
-              ∙ was.number_is;
+          so = so;
+          call = λ few. (own few).call ∙ of_up;
+          cseq = λ few. ap (λ (c : CSeq). c.number)
+              (reply.request.copies.cseq ∙ (answers few).cseq) ∙ was.number_is;
+          from = λ few. reply.request.copies.from ∙ (answers few).from;
         }
+
+    pub reply_said : Carried configs (before ++ turn ∷ [])
+        → CallsKeepRules configs (before ++ turn ∷ []) → (status : ℕ)
+        → status_of was.response.start ≡ Some status → IsReplySaid status
+    reply_said carried_so keep_so status is =
+        let up = was.up in
+        let Comes_up = Comes configs fair before turn carried keep in
+        let came : Comes_up up =
+        subst (λ i. IfSome i (λ (item : CallItem). ItemCame Comes_up item.1)) was.comes
+        (its_own local_config rounds_now (fair.calls turn.side) call_id name rack.rseq rack.cseq was
+        (TimedCame Comes_up)
+        (ups_come configs fair before turn carried keep carried_so keep_so call_id)) in
+        reply_so (subst (KindCame (Came configs fair before turn carried keep)) was.kind_is came.0)
+        status is
+        (subst (KindStarted local_config rounds_now up.id up.call_id) was.kind_is came.1 status is)
 
     -- an output that tells of a response tells of that one
     by_out : rack.method ≡ codes "INVITE" → (out : CallOut)
         → Contains (outputs_from (call_machine (calls_of local_config)) call_id None
         (call_inputs_of local_config rounds_now call_id)) out
         → is_response out ≡ true → OutFits (IsTelling call_id rack) out
-        → FollowsResponse configs before turn call_id rack
+        → IsToldInLife (calls_of local_config) (call_inputs_of local_config rounds_now call_id) name
+        rack.rseq rack.cseq was out
+        → FollowsResponse configs before turn call_id name rack
     by_out method (call_out.Notice (notice.Response of id status local_tag remote_tag body)) among
-        is fits = record {
+        is fits lives = record {
+          invite = lives.invite;
+          life = lives.life;
+          life_is = lives.life_is;
           id = id;
           status = status;
           local_tag = local_tag;
@@ -346,74 +385,78 @@ module _ (configs : Side → Config) (fair : IsFair configs) (before : List Turn
               (output.Notice (notice.Response c id status local_tag remote_tag body))) fits.of_is
               (told_to_user local_config rounds_now (fair.calls turn.side) call_id
               (notice.Response of id status local_tag remote_tag body) among);
+          in_life = subst (λ c. Contains (told_reliably configs before turn call_id lives.invite
+              lives.life) (
+                rack.rseq,
+                call_out.Notice (notice.Response c id status local_tag remote_tag body),
+              )) fits.of_is lives.among;
           said = fits.said;
           cseq = fits.cseq;
           method = method;
         }
-    by_out method (call_out.Notice (notice.Request of id name local_tag remote_tag body)) among is
-        fits = absurd (false≢true is)
-    by_out method (call_out.Notice (notice.Ack of id body)) among is fits = absurd (false≢true is)
-    by_out method (call_out.Notice (notice.Prack of id rseq body)) among is fits =
+    by_out method (call_out.Notice (notice.Request of id asked local_tag remote_tag body)) among is
+        fits lives = absurd (false≢true is)
+    by_out method (call_out.Notice (notice.Ack of id body)) among is fits lives =
         absurd (false≢true is)
-    by_out method (call_out.Notice (notice.Timeout of id)) among is fits = absurd (false≢true is)
-    by_out method (call_out.Notice (notice.Failed of id)) among is fits = absurd (false≢true is)
-    by_out method (call_out.Notice (notice.NoAck of id)) among is fits = absurd (false≢true is)
-    by_out method (call_out.Notice (notice.NoPrack of id)) among is fits = absurd (false≢true is)
-    by_out method (call_out.Notice (notice.Cancel of id)) among is fits = absurd (false≢true is)
-    by_out method (call_out.Notice (notice.Ended of local_tag remote_tag)) among is fits =
+    by_out method (call_out.Notice (notice.Prack of id rseq body)) among is fits lives =
         absurd (false≢true is)
-    by_out method (call_out.Notice (notice.Refused of place why)) among is fits =
+    by_out method (call_out.Notice (notice.Timeout of id)) among is fits lives =
         absurd (false≢true is)
-    by_out method (call_out.Command id command) among is fits = absurd (false≢true is)
-    by_out method (call_out.Direct to bytes) among is fits = absurd (false≢true is)
+    by_out method (call_out.Notice (notice.Failed of id)) among is fits lives =
+        absurd (false≢true is)
+    by_out method (call_out.Notice (notice.NoAck of id)) among is fits lives =
+        absurd (false≢true is)
+    by_out method (call_out.Notice (notice.NoPrack of id)) among is fits lives =
+        absurd (false≢true is)
+    by_out method (call_out.Notice (notice.Cancel of id)) among is fits lives =
+        absurd (false≢true is)
+    by_out method (call_out.Notice (notice.Ended of local_tag remote_tag)) among is fits lives =
+        absurd (false≢true is)
+    by_out method (call_out.Notice (notice.Refused of place why)) among is fits lives =
+        absurd (false≢true is)
+    by_out method (call_out.Command id command) among is fits lives = absurd (false≢true is)
+    by_out method (call_out.Direct to bytes) among is fits lives = absurd (false≢true is)
 
     follows : rack.method ≡ codes "INVITE" → Carried configs (before ++ turn ∷ [])
         → CallsKeepRules configs (before ++ turn ∷ [])
-        → FollowsResponse configs before turn call_id rack
+        → FollowsResponse configs before turn call_id name rack
     follows method carried_so keep_so =
-        let up = was.up in
-        let alone = fair.calls turn.side in
-        let Comes_up = Comes configs fair before turn carried keep in
-        let came : Comes_up up =
-        subst (λ i. IfSome i (λ (item : CallItem). ItemCame Comes_up item.1)) was.comes
-        (its_own local_config rounds_now alone call_id rack.rseq rack.cseq was
-        (TimedCame Comes_up)
-        (ups_come configs fair before turn carried keep carried_so keep_so call_id)) in
-        let own = subst (IsInputOf call_id) was.comes
-        (its_own local_config rounds_now alone call_id rack.rseq rack.cseq was
-        (TimedComes local_config rounds_now call_id)
-        (inputs_come local_config rounds_now call_id)).0 in
-        let tells = response_tells was.response
-        (subst (KindCame (Came configs fair before turn carried keep)) was.kind_is came.0)
-        (subst (KindStarted local_config rounds_now up.id up.call_id) was.kind_is came.1) own.0
-        (ap (λ o. provisional_number o was.response) was.status_is ∙ was.rseq_is) in
+        let tells : ResponseTells (IsTelling call_id rack) was.up.call_id was.up.id was.response =
+        λ status is. let reply = reply_said carried_so keep_so status is in
+        record { of_is = of_up; said = reply.so.said; cseq = reply.cseq } in
         let fits : InputFits (IsTelling call_id rack) was.timed.input =
         subst (InputFits (IsTelling call_id rack)) (sym was.comes)
-        (subst (KindTells (IsTelling call_id rack) up.call_id up.id) (sym was.kind_is) tells) in
+        (subst (KindTells (IsTelling call_id rack) was.up.call_id was.up.id) (sym was.kind_is)
+        tells) in
+        let inputs = call_inputs_of local_config rounds_now call_id in
         let outs =
         (call_step (calls_of local_config) (Some was.call) was.timed.input was.timed.moment).1 in
         let one = some_response outs was.told in
         by_out method one.0
-        (of_its_input local_config rounds_now alone call_id rack.rseq rack.cseq was one.0 one.1)
+        (of_its_input local_config rounds_now (fair.calls turn.side) call_id name rack.rseq
+        rack.cseq was one.0 one.1)
         one.2
         (each_of (OutFits (IsTelling call_id rack)) outs one.0
         (step_fits (IsTelling call_id rack) (calls_of local_config) (Some was.call)
         was.timed.input was.timed.moment fits) one.1)
+        (told_in_life (calls_of local_config) inputs name rack.rseq rack.cseq was one.0 one.1 one.2)
 
   said_follows : Carried configs (before ++ turn ∷ [])
       → CallsKeepRules configs (before ++ turn ∷ [])
       → (prack : Message) → IsSaid local_config rounds_now prack
       → is_request_message prack ≡ true → prack.cseq.method ≡ codes "PRACK" → (rack : RAck)
-      → prack.rack ≡ Some rack → FollowsResponse configs before turn prack.call_id rack
+      → prack.rack ≡ Some rack → FollowsResponse configs before turn prack.call_id
+      (dialog_id_of_tags (tag_of prack.from) (tag_of prack.to)) rack
   said_follows carried_so keep_so prack (Asked id (order.Start key of sent_so to) says same) asks
       method rack is =
       let alone = fair.calls turn.side in
       let among = subst (λ (m : Message). Contains (said_of_call local_config rounds_now says.0)
       (call_out.Command id (order.Start key of m to))) same says.1 in
       let so = told_of local_config rounds_now alone says.0 id key of prack to among rack is in
-      subst (λ c. FollowsResponse configs before turn c rack)
+      let name = dialog_id_of_tags (tag_of prack.from) (tag_of prack.to) in
+      subst (λ c. FollowsResponse configs before turn c name rack)
       (sym (own_call local_config rounds_now alone says.0 id key of prack to among))
-      (follows says.0 rack so.1 so.0 carried_so keep_so)
+      (follows says.0 name rack so.1 so.0 carried_so keep_so)
   said_follows carried_so keep_so prack (Asked id (order.Answer key answer) says same) asks method
       rack is =
       absurd (false≢true (sym (out_replies local_config (fair.calls turn.side) rounds_now

@@ -70,7 +70,7 @@ number_is status rseq response is =
 -- ---- a PRACK as it came, and as it was said
 
 pub record IsAlike (came said : Message) : Type 0 where
-  pub method : came.cseq.method ≡ said.cseq.method
+  pub cseq : came.cseq ≡ said.cseq
   pub is_request : is_request_message came ≡ is_request_message said
   pub rack : came.rack ≡ said.rack
   pub call_id : came.call_id ≡ said.call_id
@@ -81,7 +81,7 @@ stamped_alike : (source : Addr) (said : Message) → IsAlike (stamped said sourc
 unfolding stamped
 stamped_alike source said =
     record {
-      method = refl;
+      cseq = refl;
       is_request = refl;
       rack = refl;
       call_id = refl;
@@ -96,7 +96,7 @@ came_alike source said = by_request (is_request_message said)
     by_request true = stamped_alike source said
     by_request false =
         record {
-          method = refl;
+          cseq = refl;
           is_request = refl;
           rack = refl;
           call_id = refl;
@@ -240,7 +240,7 @@ module _ (configs : Side → Config) (before : List Turn) (side : Side)
         said = subst (λ p. IsSaid (configs p) (rounds_of p before) comes.original)
             (peer_peer side) comes.said;
         is_request = sym alike.is_request ∙ ((its.brought).brought).2;
-        method = sym alike.method ∙ its.method;
+        method = sym (ap (λ (cseq : CSeq). cseq.method) alike.cseq) ∙ its.method;
         rack = sym alike.rack ∙ (its.rack ∙ ap (λ (cseq : CSeq).
             Some record { rseq = 1; cseq = cseq.number; method = codes "INVITE" })
             (sym answer.copies.cseq));

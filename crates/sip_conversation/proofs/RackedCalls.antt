@@ -1,5 +1,5 @@
--- Each request with a RAck that a call starts is a PRACK for which a response asks, of which the
--- user is told at one of the call's inputs.
+-- Each request with a RAck that a call starts is a PRACK for which a response in its dialog asks.
+-- The user is told of that response at one of the call's inputs.
 use Rattle.std.proofs.Common.{◌≡◌, ℕ, Bool, true, false, List, [], ◌∷◌, ◌++◌, refl, sym, ap, ◌∙◌, subst, append_assoc}
 use Rattle.std.specs.Prelude.{Contains, Option, None, Some, codes, filter_map, if◌then◌else◌}
 use Rattle.std.specs.List.{AllByRecursion, IsDistinct, list_any}
@@ -15,6 +15,7 @@ use Rattle.sip_transactions.specs.declared.output.Up.{Up as AnUp}
 use Rattle.sip_common.specs.Dialogs.{dialog_at}
 use Rattle.sip_common.specs.Ids.{is_id}
 use Rattle.sip_common.specs.Requests.{is_success}
+use Rattle.sip_common.specs.Sent.{name_of_dialog}
 use Rattle.sip_common.specs.declared.command.UserCommand.{UserCommand}
 use Rattle.sip_common.specs.declared.command.UserCommand.TheVariants as user
 use Rattle.sip_common.specs.declared.held_dialog.DialogId.{DialogId}
@@ -30,20 +31,23 @@ use Rattle.sip_served.proofs.NoStarts.{kind_starts, respond_starts}
 use Rattle.sip_served.proofs.ResponseRules.{respond_same}
 use Rattle.sip_served.specs.State.{ServedTaken}
 use Rattle.sip_clients.specs.Client.{client_at}
-use Rattle.sip_clients.specs.Clients.{status_of}
+use Rattle.sip_clients.specs.Clients.{reply_name, status_of}
 use Rattle.sip_clients.specs.Owing.{asked_for}
 use Rattle.sip_clients.specs.Provisionals.{is_response, provisional_number}
-use Rattle.sip_clients.specs.Rules.Requests.{is_invite_kind}
+use Rattle.sip_clients.specs.ReceivedResponse.{has_dialog}
 use Rattle.sip_clients.specs.declared.client.Client.{Client}
+use Rattle.sip_clients.proofs.DialogSends.{AreNamed}
 use Rattle.sip_calls.specs.Call.{CallItem, CallTaken, call_machine, call_step, event_of, item_of_call, made_tag, new_call, received, side_of}
 use Rattle.sip_calls.specs.Histories.{call_from}
 use Rattle.sip_calls.specs.Provisionals.{EventsDiffer, event_in, side_held}
 use Rattle.sip_calls.specs.declared.call.Call.{Call}
 use Rattle.sip_calls.specs.declared.calls.Calls.{Calls}
 use Rattle.sip_calls.proofs.CallStarts.{tick_silent}
+use Rattle.sip_calls.proofs.Histories.{has_its_name}
 use Rattle.sip_calls.proofs.Owing.{owes_as_told}
 use Rattle.sip_conversation.proofs.OwedTold.{WasAskedFor, owed_was_asked}
 use Rattle.sip_conversation.proofs.PracksOfCalls.{from_more}
+use Rattle.sip_conversation.proofs.PracksServed.{same_name}
 use Rattle.sip_conversation.proofs.RackedSteps.{Hears, OutRacked, Pays, Say, ack_racked, cancel_command_racked, invite_racked, lost_racked, no_requests, plain_racked, prack_command_racked, received_racked, request_command_racked}
 
 -- ---- the first of different ids differ too
@@ -90,33 +94,36 @@ prack_asked status client response rseq number asks =
         let two : client.request.cseq.number ≡ number = cc in
         record { rseq_is = is ∙ ap (λ r. Some r) one; number_is = two }
 
--- At one of these inputs a reliable provisional response with this RSeq comes up, to an INVITE with
--- this CSeq number, and the user is told of a response.
-pub record WasTold (calls : Calls) (inputs : List (Timed CallItem)) (rseq number : ℕ) : Type 0
-  where
-    pub before : List (Timed CallItem)
-    pub timed : Timed CallItem
-    pub after : List (Timed CallItem)
-    pub are : inputs ≡ before ++ timed ∷ after
-    pub call : Call
-    pub held : call_from calls None before ≡ Some call
-    pub event : Id
-    pub up : AnUp
-    pub comes : timed.input ≡ Some (event, Up up)
-    pub response : Message
-    pub kind_is : up.kind ≡ kind.Response response
-    pub client : Client
-    pub client_is : client_at up.id call.clients ≡ Some client
-    pub kind : is_invite_kind client.kind ≡ true
-    pub number_is : client.request.cseq.number ≡ number
-    pub status : ℕ
-    pub status_is : status_of response.start ≡ Some status
-    pub rseq_is : provisional_number (Some status) response ≡ Some rseq
-    pub told : list_any is_response (call_step calls (Some call) timed.input timed.moment).1 ≡ true
+-- At one of these inputs a reliable provisional response with this RSeq comes up in the dialog of
+-- this name, to an INVITE with this CSeq number, and the user is told of a response. The dialog is
+-- held, or may be made.
+pub record WasTold (calls : Calls) (inputs : List (Timed CallItem)) (name : DialogId)
+    (rseq number : ℕ) : Type 0 where
+  pub before : List (Timed CallItem)
+  pub timed : Timed CallItem
+  pub after : List (Timed CallItem)
+  pub are : inputs ≡ before ++ timed ∷ after
+  pub call : Call
+  pub held : call_from calls None before ≡ Some call
+  pub event : Id
+  pub up : AnUp
+  pub comes : timed.input ≡ Some (event, Up up)
+  pub response : Message
+  pub kind_is : up.kind ≡ kind.Response response
+  pub client : Client
+  pub client_is : client_at up.id call.clients ≡ Some client
+  pub name_is : reply_name client.kind client response ≡ name
+  pub has : has_dialog client.kind (dialog_at name (side_of call).dialogs) ≡ true
+  pub number_is : client.request.cseq.number ≡ number
+  pub status : ℕ
+  pub status_is : status_of response.start ≡ Some status
+  pub rseq_is : provisional_number (Some status) response ≡ Some rseq
+  pub told : list_any is_response (call_step calls (Some call) timed.input timed.moment).1 ≡ true
 
-asked_told : (calls : Calls) (front rest : List (Timed CallItem)) (rseq number : ℕ)
-    → WasAskedFor calls front (Prack rseq number) → WasTold calls (front ++ rest) rseq number
-asked_told calls front rest rseq number was =
+asked_told : (calls : Calls) (front rest : List (Timed CallItem)) (name : DialogId)
+    (rseq number : ℕ) → WasAskedFor calls front name (Prack rseq number)
+    → WasTold calls (front ++ rest) name rseq number
+asked_told calls front rest name rseq number was =
     let asked = prack_asked was.asks.status was.asks.client was.response rseq number was.asks.asks
     in record {
       before = was.before;
@@ -133,7 +140,9 @@ asked_told calls front rest rseq number was =
       kind_is = was.kind_is;
       client = was.asks.client;
       client_is = was.asks.held;
-      kind = was.asks.kind;
+      name_is = same_name (reply_name was.asks.client.kind was.asks.client was.response) name
+          was.asks.named;
+      has = was.asks.has;
       number_is = asked.number_is;
       status = was.asks.status;
       status_is = was.asks.status_is;
@@ -142,9 +151,10 @@ asked_told calls front rest rseq number was =
     }
 
 module _ (calls : Calls) (all : List (Timed CallItem)) where
-  -- the RAck is of an INVITE, and of a response of which the user is told
-  abbrev pub IsTold : RAck → Type 0
-  IsTold rack = (rack.method ≡ codes "INVITE") × WasTold calls all rack.rseq rack.cseq
+  -- the RAck is of an INVITE, and of a response in the dialog of which the user is told
+  abbrev pub IsTold : DialogId → RAck → Type 0
+  IsTold name rack =
+      (rack.method ≡ codes "INVITE") × WasTold calls all name rack.rseq rack.cseq
 
   abbrev pub OutIsTold : CallOut → Type 0
   OutIsTold = OutRacked IsTold
@@ -160,26 +170,29 @@ module _ (calls : Calls) (all : List (Timed CallItem)) where
       → status_of response.start ≡ Some status → (client : Client)
       → client_at id call.clients ≡ Some client
       → Hears IsTold (list_any is_response taken.1 ≡ true) response status client
+      (reply_name client.kind client response) (side_of call).dialogs
   HearsUp taken call id _ = Unit {0}
 
   up_says : (call : Call) (id : Id) (now : ℕ) (up : AnUp) (k : Kind)
+      → AreNamed (side_of call).dialogs
       → HearsUp (received call (event_of calls id now) up k) call up.id k
       → Says (received call (event_of calls id now) up k).1
-  up_says call id now up (kind.Request request reply_to) hears =
+  up_says call id now up (kind.Request request reply_to) named hears =
       no_requests IsTold _ (ap (λ (taken : ServedTaken). starts taken.1)
       (kind_same call.served (made_tag (event_of calls id now)) up
       (kind.Request request reply_to) now)
       ∙ kind_starts call.served (made_tag (event_of calls id now)) up
       (kind.Request request reply_to) now)
-  up_says call id now up (kind.Ack ack) hears =
+  up_says call id now up (kind.Ack ack) named hears =
       no_requests IsTold _ (ap (λ (taken : ServedTaken). starts taken.1)
       (kind_same call.served (made_tag (event_of calls id now)) up (kind.Ack ack) now)
       ∙ kind_starts call.served (made_tag (event_of calls id now)) up (kind.Ack ack) now)
-  up_says call id now up (kind.Response response) hears =
-      received_racked IsTold (event_of calls id now) up.id up.call_id response (side_of call) hears
-  up_says call id now up kind.Timeout hears =
+  up_says call id now up (kind.Response response) named hears =
+      received_racked IsTold (event_of calls id now) up.id up.call_id response (side_of call) named
+      hears
+  up_says call id now up kind.Timeout named hears =
       (tt, lost_racked IsTold up.id true (side_of call))
-  up_says call id now up kind.Failed hears =
+  up_says call id now up kind.Failed named hears =
       (tt, lost_racked IsTold up.id false (side_of call))
 
   -- ---- commands
@@ -188,7 +201,7 @@ module _ (calls : Calls) (all : List (Timed CallItem)) where
   abbrev PaysIn : Call → Type 0
   PaysIn call = (name : DialogId) (held : HeldDialog)
       → dialog_at name (side_of call).dialogs ≡ Some held → (pending : PendingRequest)
-      → Contains held.pending_requests pending → Pays IsTold pending
+      → Contains held.pending_requests pending → Pays IsTold (name_of_dialog held.dialog) pending
 
   first_says : (call : Call) (id : Id) (now : ℕ) (command : UserCommand)
       → Says (item_of_call false call (event_of calls id now) (User command)).1
@@ -220,18 +233,27 @@ module _ (calls : Calls) (all : List (Timed CallItem)) where
 
   -- ---- one input, after others
 
+  named_so : (front : List (Timed CallItem)) → EventsDiffer front → (call : Call)
+      → call_from calls None front ≡ Some call → AreNamed (side_of call).dialogs
+  named_so front differ call held name dialog at =
+      has_its_name calls front differ name dialog
+      (ap (λ o. dialog_at name (side_held o).dialogs) held ∙ at)
+
   module _ (front rest : List (Timed CallItem)) (differ : EventsDiffer front) where
     owed_so : (call : Call) → all ≡ front ++ rest → call_from calls None front ≡ Some call
         → PaysIn call
     owed_so call are held name dialog at (Ack invite number) among = tt
     owed_so call are held name dialog at (Prack rseq number) among =
         let owed = owes_as_told calls front differ name dialog
-        (ap (λ o. dialog_at name (side_held o).dialogs) held ∙ at) in (
+        (ap (λ o. dialog_at name (side_held o).dialogs) held ∙ at) in
+        let own = same_name name (name_of_dialog dialog.dialog)
+        (named_so front differ call held name dialog at) in (
           refl,
-          subst (λ inputs. WasTold calls inputs rseq number) (sym are)
-              (asked_told calls front rest rseq number
+          subst (λ name. WasTold calls all name rseq number) own
+              (subst (λ inputs. WasTold calls inputs name rseq number) (sym are)
+              (asked_told calls front rest name rseq number
               (owed_was_asked calls name front (Prack rseq number)
-              (subst (λ pending. Contains pending (Prack rseq number)) owed among))),
+              (subst (λ pending. Contains pending (Prack rseq number)) owed among)))),
         )
 
   hears_so : (front rest : List (Timed CallItem)) (call : Call) (id : Id) (now : ℕ) (up : AnUp)
@@ -239,7 +261,7 @@ module _ (calls : Calls) (all : List (Timed CallItem)) where
       → call_from calls None front ≡ Some call → (k : Kind) → up.kind ≡ k
       → HearsUp (received call (event_of calls id now) up k) call up.id k
   hears_so front rest call id now up are held (kind.Response response) is =
-      λ status status_is client found rseq number kind told. (
+      λ status status_is client found rseq number has told. (
         refl,
         record {
           before = front;
@@ -255,7 +277,8 @@ module _ (calls : Calls) (all : List (Timed CallItem)) where
           kind_is = is;
           client = client;
           client_is = found;
-          kind = kind;
+          name_is = refl;
+          has = has;
           number_is = refl;
           status = status;
           status_is = status_is;
@@ -291,11 +314,11 @@ module _ (calls : Calls) (all : List (Timed CallItem)) where
   step_says front rest (Some call) now None are held differ =
       no_requests IsTold _ (tick_silent calls (Some call) now)
   step_says front rest None now (Some (id, Up up)) are held differ =
-      up_says (new_call calls.local) id now up up.kind
+      up_says (new_call calls.local) id now up up.kind (λ name dialog at. absurd cc)
       (none_hears (received (new_call calls.local) (event_of calls id now) up up.kind)
       (new_call calls.local) refl up.id up.kind)
   step_says front rest (Some call) now (Some (id, Up up)) are held differ =
-      up_says call id now up up.kind
+      up_says call id now up up.kind (named_so front differ call held)
       (hears_so front rest call id now up are held up.kind refl)
   step_says front rest None now (Some (id, User command)) are held differ =
       first_says (new_call calls.local) id now command

@@ -1,5 +1,6 @@
--- What is started by a response, or by a command, and has a RAck, is a PRACK that is pending in a
--- held dialog, or for which that response asks; then the user is told of that response.
+-- What is started by a response, or by a command, and has a RAck, is a PRACK in a dialog: it is
+-- pending in that dialog, which is held, or that response asks for it; then the user is told of
+-- that response.
 use Rattle.std.proofs.Common.{◌≡◌, ℕ, ◌+◌, Bool, true, false, ◌||◌, ◌&&◌, not, ◌==◌, List, [], ◌∷◌, ◌++◌, refl, sym, ap, ◌∙◌, subst}
 use Rattle.std.proofs.lemmas.List.Folds.{list_any-append}
 use Rattle.std.specs.Prelude.{Contains, Option, None, Some, codes, filter, find, fold, is_some, length, unwrap_or, if◌then◌else◌}
@@ -7,19 +8,22 @@ use Rattle.std.specs.List.{AllByRecursion, list_any}
 use Rattle.std.specs.Map.{lookup, remove_entry, set_value}
 use Rattle.std.specs.Option.{option_map_or}
 use Rattle.std.specs.Str.{bytes_eq}
+use Rattle.sip_parts.specs.Parameters.{value_named}
 use Rattle.sip_message.specs.Content.{Content, content_of_body, with_content_of}
-use Rattle.sip_message.specs.Party.{tag_of}
+use Rattle.sip_message.specs.Party.{party_of, tag_of}
+use Rattle.sip_message.specs.declared.addr.Addr.{Addr}
 use Rattle.sip_message.specs.declared.id.Id.{Id}
 use Rattle.sip_message.specs.declared.key.Key.{Key}
 use Rattle.sip_message.specs.declared.message.Message.{Message}
 use Rattle.sip_message.specs.declared.rack.RAck.{RAck}
-use Rattle.sip_dialog.specs.Request.{contact_of}
+use Rattle.sip_dialog.specs.Request.{contact_of, request_in}
+use Rattle.sip_dialog.specs.declared.dialog.Dialog.{Dialog}
 use Rattle.sip_transactions.specs.declared.input.Command.TheVariants as order
-use Rattle.sip_transactions.proofs.RowFacts.{and-left}
-use Rattle.sip_common.specs.Dialogs.{Dialogs, ended_at, is_dialog_id, tag_text}
+use Rattle.sip_common.specs.Dialogs.{Dialogs, dialog_at, ended_at, is_dialog_id, tag_text}
 use Rattle.sip_common.specs.Ids.{is_id}
 use Rattle.sip_common.specs.Refusal.{first_refusal}
 use Rattle.sip_common.specs.Requests.{dialog_id_of_tags, has_to_tag, is_final, is_success, requires_100rel}
+use Rattle.sip_common.specs.Sent.{name_of_dialog}
 use Rattle.sip_common.specs.declared.command.Cancel.{Cancel}
 use Rattle.sip_common.specs.declared.command.DialogBody.{DialogBody}
 use Rattle.sip_common.specs.declared.command.DialogRequest.{DialogRequest}
@@ -38,6 +42,9 @@ use Rattle.sip_common.specs.declared.refusal.Refusal.TheVariants.{AlreadyFinal, 
 use Rattle.sip_common.proofs.Each.{both}
 use Rattle.sip_common.proofs.Starts.{ended_starts, starts}
 use Rattle.sip_clients.specs.Client.{Clients, ClientTaken, Side}
+use Rattle.sip_clients.specs.Clients.{reply_name}
+use Rattle.sip_clients.specs.Event.{branch_of}
+use Rattle.sip_clients.specs.ReceivedResponse.{has_dialog as has_dialog_of}
 use Rattle.sip_clients.specs.Rules.Requests.{PendingOutcome, ack_command, ack_kept, cancel_command, cancel_of_request, cancel_request, dialog_of_kind, has_command, invite_command, is_asked, is_invite_kind, is_same_pending, method_of, oldest_pending, pending_by_user, pending_command, pending_outcome, pending_sent, pending_with, plain_command, prack_command, refusals_in, refuse, request_command, request_in_dialog, request_outside, request_with_next_number, start, with_100rel, with_number}
 use Rattle.sip_clients.specs.Provisionals.{is_response, provisional_number}
 use Rattle.sip_clients.specs.Rules.Ends.{request_is_lost, request_over}
@@ -47,16 +54,11 @@ use Rattle.sip_clients.specs.declared.client.Cancelling.{Cancelling}
 use Rattle.sip_clients.specs.declared.client.Cancelling.TheVariants.{NotAsked, Sent, Waits}
 use Rattle.sip_clients.specs.declared.client.Client.{Client}
 use Rattle.sip_clients.specs.declared.event.Event.{Event}
+use Rattle.sip_clients.proofs.DialogSends.{AreNamed}
 use Rattle.sip_conversation.proofs.Among.{all_both, all_go, all_of, among_first, among_later}
 use Rattle.sip_conversation.proofs.Branches.{either, found_or}
 use Rattle.sip_conversation.proofs.BranchSteps.{over_silent}
-
--- the type of what a response is with all that comes up with it
-abbrev Domain : {A B : Type 0} → (A → B) → Type 0
-Domain {A} f = A
-
-abbrev Reply : Type 0
-Reply = Domain notice_of
+use Rattle.sip_conversation.proofs.DialogOfReply.{Reply, dialog_named, has_so, name_so}
 
 found_among : {X : Type 0} (p : X → Bool) (xs : List X) (x : X) → find p xs ≡ Some x
     → Contains xs x
@@ -69,10 +71,28 @@ found_among p (y ∷ ys) x is = by_first (p y) is (λ later. found_among p ys x 
         let same : y ≡ x = cc in subst (Contains (y ∷ ys)) same (among_first y ys)
     by_first false is rest = among_later y ys x (rest is)
 
-module _ (Fact : RAck → Type 0) where
-  -- of its RAck, where it has one, this is said
+-- ---- the tags of a PRACK
+
+party_tag : (uri : List ℕ) (tag : Option (List ℕ)) → tag_of (party_of uri tag) ≡ tag_text tag
+unfolding value_named
+party_tag uri None = refl
+party_tag uri (Some tag) = refl
+
+-- a request that is made in a dialog has its tags
+request_named : (dialog : Dialog) (method : List ℕ) (number : ℕ) (content : Content)
+    (branch : List ℕ) (local : Addr)
+    → let message = request_in dialog method number content branch local in
+    dialog_id_of_tags (tag_of message.from) (tag_of message.to) ≡ name_of_dialog dialog
+unfolding with_content_of
+request_named dialog method number content branch local =
+    (λ i. dialog_id_of_tags (party_tag dialog.local.uri dialog.local.tag i)
+    (party_tag dialog.remote.uri dialog.remote.tag i))
+
+module _ (Fact : DialogId → RAck → Type 0) where
+  -- of the dialog of its tags and of its RAck, where it has one, this is said
   abbrev pub IsRacked : Message → Type 0
-  IsRacked message = (rack : RAck) → message.rack ≡ Some rack → Fact rack
+  IsRacked message = (rack : RAck) → message.rack ≡ Some rack
+      → Fact (dialog_id_of_tags (tag_of message.from) (tag_of message.to)) rack
 
   abbrev pub OutRacked : CallOut → Type 0
   OutRacked (out.Notice notice) = Unit {0}
@@ -86,11 +106,11 @@ module _ (Fact : RAck → Type 0) where
   abbrev Racked : Client → Type 0
   Racked client = IsRacked client.request
 
-  -- of a pending PRACK
-  abbrev pub Pays : PendingRequest → Type 0
-  Pays (Ack invite cseq) = Unit {0}
-  Pays (Prack rseq cseq) =
-      Fact record { rseq = rseq; cseq = cseq; method = codes "INVITE" }
+  -- of a PRACK that is pending in a dialog
+  abbrev pub Pays : DialogId → PendingRequest → Type 0
+  Pays name (Ack invite cseq) = Unit {0}
+  Pays name (Prack rseq cseq) =
+      Fact name record { rseq = rseq; cseq = cseq; method = codes "INVITE" }
 
   pub starts_say : (clients : List Client) (done : Clients × List CallOut) → Say done.1
       → AllByRecursion Racked clients → Say (fold start done clients).1
@@ -103,10 +123,13 @@ module _ (Fact : RAck → Type 0) where
   same_rack one two same = cc
 
   prack_racked : (event : Event) (name : DialogId) (rack : RAck) (content : Content)
-      (held : HeldDialog) → Fact rack
+      (held : HeldDialog) → Fact (name_of_dialog held.dialog) rack
       → Racked (request_with_next_number event name (codes "PRACK") (Some rack) content held)
   prack_racked event name rack content held fact other is =
-      subst Fact (same_rack rack other is) fact
+      subst (λ name. Fact name other)
+      (sym (request_named held.dialog (codes "PRACK") (held.dialog.local_cseq + 1) content
+      (branch_of event) event.local))
+      (subst (Fact (name_of_dialog held.dialog)) (same_rack rack other is) fact)
 
   pub record IsPaid (Told : Type 0) (done : PendingOutcome) : Type 0 where
     pub prack : AllByRecursion (λ client. Told → Racked client) done.prack
@@ -114,7 +137,7 @@ module _ (Fact : RAck → Type 0) where
 
   module _ (Told : Type 0) where
     sent_paid : (event : Event) (name : DialogId) (pending : PendingRequest) (content : Content)
-        (held : HeldDialog) → (Told → Pays pending)
+        (held : HeldDialog) → (Told → Pays (name_of_dialog held.dialog) pending)
         → IsPaid Told (pending_sent event name pending content held)
     sent_paid event name (Ack invite cseq) content held pays =
         record { prack = tt; outs = (tt, tt) }
@@ -130,7 +153,7 @@ module _ (Fact : RAck → Type 0) where
 
     pub outcome_paid : (event : Event) (of : List ℕ) (name : DialogId)
         (pending : PendingRequest) (content : Option Content) (without_it with_it : HeldDialog)
-        → (Told → Pays pending)
+        → (Told → Pays (name_of_dialog without_it.dialog) pending)
         → IsPaid Told (pending_outcome event of name pending content without_it with_it)
     outcome_paid event of name pending content without_it with_it pays =
         found_or (IsPaid Told) (pending_with event of name pending without_it with_it) content _
@@ -146,7 +169,7 @@ module _ (Fact : RAck → Type 0) where
   Taken taken = Say taken.1
 
   by_user : (event : Event) (command : DialogBody) (side : Side) (name : DialogId)
-      (held : HeldDialog) (pending : PendingRequest) → Pays pending
+      (held : HeldDialog) (pending : PendingRequest) → Pays (name_of_dialog held.dialog) pending
       → Taken (pending_by_user event command side name held pending)
   by_user event command side name held pending pays =
       let others = filter (λ other. not (is_same_pending pending other)) held.pending_requests in
@@ -163,7 +186,7 @@ module _ (Fact : RAck → Type 0) where
       (command : DialogBody) (side : Side)
       → ((name : DialogId) (held : HeldDialog)
       → lookup (is_dialog_id name) side.dialogs ≡ Some held → (pending : PendingRequest)
-      → Contains held.pending_requests pending → Pays pending)
+      → Contains held.pending_requests pending → Pays (name_of_dialog held.dialog) pending)
       → Taken (pending_command method nothing event command side)
   command_racked method nothing event command side pays =
       let name = dialog_id_of_tags (tag_text command.local_tag) (tag_text command.remote_tag) in
@@ -186,12 +209,13 @@ module _ (Fact : RAck → Type 0) where
     pub prack : AllByRecursion (λ client. Told → Racked client) done.prack
     pub told : AllByRecursion (λ client. list_any is_response done.outs ≡ true) done.prack
 
-  -- of each reliable provisional response to an INVITE, of which the user is told, this is said
-  abbrev pub Hears : Type 0 → Message → ℕ → Client → Type 0
-  Hears Told response status client = (rseq : ℕ)
+  -- of each reliable provisional response to an INVITE in the dialog of a name, of which the user
+  -- is told, this is said
+  abbrev pub Hears : Type 0 → Message → ℕ → Client → DialogId → Dialogs → Type 0
+  Hears Told response status client name dialogs = (rseq : ℕ)
       → provisional_number (Some status) response ≡ Some rseq
-      → is_invite_kind client.kind ≡ true → Told
-      → Fact record { rseq = rseq; cseq = client.request.cseq.number; method = codes "INVITE" }
+      → has_dialog_of client.kind (dialog_at name dialogs) ≡ true → Told → Fact name
+      record { rseq = rseq; cseq = client.request.cseq.number; method = codes "INVITE" }
 
   module _ (Told : Type 0) where
     abbrev Replied : Outcome → Type 0
@@ -199,7 +223,8 @@ module _ (Fact : RAck → Type 0) where
 
     asks_racked : (pending : PendingRequest) (reply : Reply) (client : Client)
         (after : Option SentAck → Client) (held : HeldDialog) (dialogs : Dialogs)
-        → (Told → Pays pending) → Replied (asks_for pending reply client after held dialogs)
+        → (Told → Pays (name_of_dialog held.dialog) pending)
+        → Replied (asks_for pending reply client after held dialogs)
     asks_racked pending reply client after held dialogs pays =
         let content =
         if not (length client.request.body == 0) || (length reply.response.body == 0)
@@ -219,8 +244,7 @@ module _ (Fact : RAck → Type 0) where
 
     reliable_racked : (reply : Reply) (client : Client) (dialogs : Dialogs) (held : HeldDialog)
         (rseq : ℕ)
-        → (Told
-        → Fact record { rseq = rseq; cseq = client.request.cseq.number; method = codes "INVITE" })
+        → (Told → Pays (name_of_dialog held.dialog) (Prack rseq client.request.cseq.number))
         → Replied (reliable_response reply client dialogs held rseq)
     reliable_racked reply client dialogs held rseq fact =
         let initial = is_initial client in
@@ -234,20 +258,26 @@ module _ (Fact : RAck → Type 0) where
         (asks_for (Prack rseq client.request.cseq.number) reply client after dialog dialogs)
         (λ passed. record { outs = tt; prack = tt; told = tt })
         (λ taken. asks_racked (Prack rseq client.request.cseq.number) reply client after dialog
-        dialogs fact)
+        dialogs
+        (either (λ (held : HeldDialog). Told → Pays (name_of_dialog held.dialog)
+        (Prack rseq client.request.cseq.number)) initial hears held (λ first. fact)
+        (λ again. fact)))
 
     dialog_racked : (reply : Reply) (client : Client) (dialogs : Dialogs)
+        → reply.name ≡ name_of_dialog (unwrap_or (lookup (is_dialog_id reply.name) dialogs)
+        (dialog_made_by reply client)).dialog
         → ((rseq : ℕ) → (if requires_100rel reply.response then reply.response.rseq else None)
-        ≡ Some rseq → Told
-        → Fact record { rseq = rseq; cseq = client.request.cseq.number; method = codes "INVITE" })
+        ≡ Some rseq → Told → Pays reply.name (Prack rseq client.request.cseq.number))
         → Replied (dialog_response reply client dialogs)
-    dialog_racked reply client dialogs hears =
+    dialog_racked reply client dialogs named hears =
         let response = reply.response in
         let held = unwrap_or (lookup (is_dialog_id reply.name) dialogs)
         (dialog_made_by reply client) in
         found_or Replied (reliable_response reply client dialogs held)
         (if requires_100rel response then response.rseq else None) _
-        (λ rseq is. reliable_racked reply client dialogs held rseq (hears rseq is))
+        (λ rseq is. reliable_racked reply client dialogs held rseq
+        (subst (λ name. Told → Pays name (Prack rseq client.request.cseq.number)) named
+        (hears rseq is)))
         (λ none. record { outs = (tt, tt); prack = tt; told = tt })
 
     again_racked : (answer : Option (Option SentAck)) (client : Client) (dialogs : Dialogs)
@@ -294,9 +324,10 @@ module _ (Fact : RAck → Type 0) where
       some_started start rest same = absurd cc
 
   outcome_racked : (Told : Type 0) (reply : Reply) (client : Client) (dialogs : Dialogs)
-      → Hears Told reply.response reply.status client
+      → AreNamed dialogs → reply.name ≡ reply_name client.kind client reply.response
+      → Hears Told reply.response reply.status client reply.name dialogs
       → IsReplied Told (outcome_of reply client dialogs)
-  outcome_racked Told reply client dialogs hears =
+  outcome_racked Told reply client dialogs named own hears =
       let final = is_final reply.status in
       let answer = lookup (is_dialog_id reply.name) client.answers in
       let told : Outcome = kept client dialogs (notice_of reply ∷ []) in
@@ -335,11 +366,16 @@ module _ (Fact : RAck → Type 0) where
       (λ over. record { outs = (tt, tt); prack = tt; told = tt })
       (λ provisional. either (IsReplied Told) is_told told (dialog_response reply client dialogs)
       (λ other. record { outs = (tt, tt); prack = tt; told = tt })
-      (λ early. dialog_racked Told reply client dialogs
+      (λ early. let has : has_dialog_of client.kind (dialog_at reply.name dialogs) ≡ true =
+      ap (λ name. has_dialog_of client.kind (dialog_at name dialogs)) own
+      ∙ (sym (has_so client.kind client reply.response dialogs)
+      ∙ in_dialog (has_dialog client dialogs) (not (reply.status == 100))
+      (has_to_tag reply.response) early) in
+      dialog_racked Told reply client dialogs
+      (dialog_named reply client dialogs named own
+      (lookup (is_dialog_id reply.name) dialogs) refl has)
       (λ rseq is. hears rseq (number_of reply.status reply.response final
-      (has_dialog client dialogs) refl provisional early rseq is)
-      (and-left (is_invite_kind client.kind) _ (in_dialog (has_dialog client dialogs)
-      (not (reply.status == 100)) (has_to_tag reply.response) early))))))))
+      (has_dialog client dialogs) refl provisional early rseq is) has))))))
 
   no_rack : (rack : RAck) → None ≡ Some rack → ⊥
   no_rack rack is = absurd cc
@@ -365,11 +401,11 @@ module _ (Fact : RAck → Type 0) where
   IsToldOf taken = list_any is_response taken.1 ≡ true
 
   response_racked : (event : Event) (id : Id) (of : List ℕ) (response : Message) (side : Side)
-      (status : ℕ) (client : Client)
+      (status : ℕ) (client : Client) → AreNamed side.dialogs
       → Hears (IsToldOf (response_to event id of response side status client)) response status
-      client
+      client (reply_name client.kind client response) side.dialogs
       → Taken (response_to event id of response side status client)
-  response_racked event id of response side status client hears =
+  response_racked event id of response side status client named hears =
       let final = is_final status in
       let waiting = waiting_cancel client.cancel in
       let cancels : List Client = if final then []
@@ -392,7 +428,10 @@ module _ (Fact : RAck → Type 0) where
       let clients : Clients = option_map_or (set_value (is_id id) side.clients) done.request
       (remove_entry (is_id id) side.clients) in
       let Told : Type 0 = IsToldOf (response_to event id of response side status client) in
-      let so = outcome_racked Told reply after side.dialogs hears in
+      let so = outcome_racked Told reply after side.dialogs named
+      (name_so client.kind after response)
+      (subst (λ name. Hears Told response status client name side.dialogs)
+      (sym (name_so client.kind client response)) hears) in
       starts_say (done.prack ++ cancels) (clients, done.outs) so.outs
       (both Racked done.prack cancels
       (all_both {P = λ client. Told → Racked client}
@@ -408,18 +447,19 @@ module _ (Fact : RAck → Type 0) where
       (λ asked_by is. (cancel_racked asked_by client, tt)) (λ none. tt))))
 
   pub received_racked : (event : Event) (id : Id) (of : List ℕ) (response : Message)
-      (side : Side)
+      (side : Side) → AreNamed side.dialogs
       → ((status : ℕ) → status_of response.start ≡ Some status → (client : Client)
       → lookup (is_id id) side.clients ≡ Some client
-      → Hears (IsToldOf (response_received event id of response side)) response status client)
+      → Hears (IsToldOf (response_received event id of response side)) response status client
+      (reply_name client.kind client response) side.dialogs)
       → Taken (response_received event id of response side)
   unfolding response_received
-  received_racked event id of response side hears =
+  received_racked event id of response side named hears =
       found_or Taken _ (status_of response.start) (side, [])
       (λ status is. found_or Taken (response_to event id of response side status)
       (lookup (is_id id) side.clients) (side, [])
-      (λ client found. response_racked event id of response side status client
-      (λ rseq number kind told. hears status is client found rseq number kind
+      (λ client found. response_racked event id of response side status client named
+      (λ rseq number has told. hears status is client found rseq number has
       (subst IsToldOf
       (sym (λ i. option_map_or (λ status. option_map_or
       (response_to event id of response side status) (found i) (side, [])) (is i) (side, [])))
@@ -543,7 +583,7 @@ module _ (Fact : RAck → Type 0) where
   pub ack_racked : (event : Event) (command : DialogBody) (side : Side)
       → ((name : DialogId) (held : HeldDialog)
       → lookup (is_dialog_id name) side.dialogs ≡ Some held → (pending : PendingRequest)
-      → Contains held.pending_requests pending → Pays pending)
+      → Contains held.pending_requests pending → Pays (name_of_dialog held.dialog) pending)
       → Taken (ack_command event command side)
   unfolding ack_command
   ack_racked event command side pays =
@@ -552,7 +592,7 @@ module _ (Fact : RAck → Type 0) where
   pub prack_command_racked : (event : Event) (command : DialogBody) (side : Side)
       → ((name : DialogId) (held : HeldDialog)
       → lookup (is_dialog_id name) side.dialogs ≡ Some held → (pending : PendingRequest)
-      → Contains held.pending_requests pending → Pays pending)
+      → Contains held.pending_requests pending → Pays (name_of_dialog held.dialog) pending)
       → Taken (prack_command event command side)
   unfolding prack_command
   prack_command_racked event command side pays =

@@ -1,11 +1,14 @@
 -- A PRACK that a side says follows the reliable provisional response that it acknowledges: the user
--- was told of that response (RFC 3262, sections 4 and 7.2).
+-- was told of that response in the dialog of the PRACK (RFC 3262, sections 4 and 7.2).
 use Rattle.std.specs.Prelude.{◌≡◌, ◌<◌, ℕ, true, List, [], ◌∷◌, ◌++◌, Contains, Some, codes}
 use Rattle.std.specs.List.{AllByRecursion}
 use Rattle.sip_message.specs.declared.id.Id.{Id}
 use Rattle.sip_message.specs.declared.message.Message.{Message}
 use Rattle.sip_message.specs.declared.rack.RAck.{RAck}
 use Rattle.sip_message.specs.Message.{is_request_message}
+use Rattle.sip_message.specs.Party.{tag_of}
+use Rattle.sip_common.specs.Requests.{dialog_id_of_tags}
+use Rattle.sip_common.specs.declared.held_dialog.DialogId.{DialogId}
 use Rattle.sip_common.specs.declared.held_dialog.DialogReference.{DialogReference}
 use Rattle.sip_common.specs.declared.item.CallOut.{CallOut}
 use Rattle.sip_common.specs.declared.item.CallOut.TheVariants as call_out
@@ -18,11 +21,16 @@ use Rattle.sip_conversation.specs.Messages.{IsSaid}
 use Rattle.sip_conversation.specs.Provisionals.{SaidReliably, told_reliably}
 use Rattle.sip_conversation.specs.Replies.{AreCounted}
 
--- Up to a turn's end the user of its side was told of a response of this call. The other side said
--- it in the turns before, as a reliable provisional one with the RSeq of this RAck. If the rounds
--- of the turn's side are counted, its CSeq has the number of the RAck. The RAck's method is INVITE.
+-- Up to a turn's end the user of its side was told of a response of this call. It is among the
+-- reliable provisional ones to an INVITE in a life of this dialog that he was told of, with the
+-- RSeq of this RAck. The other side said it in the turns before, as such a response with that RSeq.
+-- If the rounds of the turn's side are counted, its CSeq has the number of the RAck. The RAck's
+-- method is INVITE.
 pub record FollowsResponse (configs : Side → Config) (before : List Turn) (turn : Turn)
-    (call_id : List ℕ) (rack : RAck) : Type 0 where
+    (call_id : List ℕ) (dialog : DialogId) (rack : RAck) : Type 0 where
+  pub invite : AnInvite
+  pub life : DialogReference
+  pub life_is : life.name ≡ dialog
   pub id : Id
   pub status : ℕ
   pub local_tag : List ℕ
@@ -30,12 +38,14 @@ pub record FollowsResponse (configs : Side → Config) (before : List Turn) (tur
   pub body : List ℕ
   pub told : Contains (given_by configs (before ++ turn ∷ []) turn.side)
       (Notice (Response call_id id status local_tag remote_tag body))
+  pub in_life : Contains (told_reliably configs before turn call_id invite life)
+      (rack.rseq, call_out.Notice (Response call_id id status local_tag remote_tag body))
   pub said : SaidReliably configs before turn.side rack.rseq status local_tag remote_tag body
   pub cseq : AreCounted (configs turn.side) (rounds_of turn.side (before ++ turn ∷ []))
       → said.response.original.cseq.number ≡ rack.cseq
   pub method : rack.method ≡ codes "INVITE"
 
--- so does each PRACK that a turn's side said up to the turn's end
+-- so does each PRACK that a turn's side said up to the turn's end, in the dialog of its tags
 abbrev pub PracksFollowResponses : (Side → Config) → List Turn → Type 0
 PracksFollowResponses configs turns =
     (before after : List Turn) (turn : Turn) → turns ≡ before ++ turn ∷ after
@@ -43,12 +53,14 @@ PracksFollowResponses configs turns =
     → IsSaid (configs turn.side) (rounds_of turn.side (before ++ turn ∷ [])) prack
     → is_request_message prack ≡ true → prack.cseq.method ≡ codes "PRACK"
     → (rack : RAck) → prack.rack ≡ Some rack
-    → FollowsResponse configs before turn prack.call_id rack
+    → FollowsResponse configs before turn prack.call_id
+    (dialog_id_of_tags (tag_of prack.from) (tag_of prack.to)) rack
 
 -- ---- the first is told before the others
 
 -- In one of these turns the user of this side was told of a reliable provisional response of RSeq
--- 1, under the Call-ID of this response, and to an INVITE with the number of its CSeq.
+-- 1, under the Call-ID and in the dialog of this response, and to an INVITE with the number of its
+-- CSeq.
 pub record WasToldFirst (configs : Side → Config) (turns : List Turn) (side : Side)
     (response : Message) : Type 0 where
   pub before : List Turn
@@ -57,6 +69,7 @@ pub record WasToldFirst (configs : Side → Config) (turns : List Turn) (side : 
   pub turns_are : turns ≡ before ++ turn ∷ after
   pub side_is : turn.side ≡ side
   pub first : FollowsResponse configs before turn response.call_id
+      (dialog_id_of_tags (tag_of response.from) (tag_of response.to))
       record { rseq = 1; cseq = response.cseq.number; method = codes "INVITE" }
 
 -- The other side said such a response. If its RSeq is above 1, the user was told of the first

@@ -100,10 +100,11 @@ pub fn responses_told_were_said(one: Config, other: Config)
 
 /// In such a conversation, a PRACK with a RAck that a side says follows the response that it
 /// acknowledges: in the same turn or before, the user was told of a response under the Call-ID of
-/// the PRACK. In the turns before, the other side said that response as a reliable provisional one
-/// with the RSeq that the RAck names, as its user gave the command to respond so. Its CSeq has the
-/// number that the RAck names, if the rounds of the side that says the PRACK are counted as above;
-/// and the RAck's method is INVITE (RFC 3262, sections 4 and 7.2).
+/// the PRACK. It is among the reliable provisional responses to one INVITE, in one life of the
+/// PRACK's dialog, that he was told of, with the RSeq that the RAck names. In the turns before, the
+/// other side said that response as such a one with that RSeq, as its user gave the command to
+/// respond so. Its CSeq has the number that the RAck names, if the rounds of the side that says the
+/// PRACK are counted as above; and the RAck's method is INVITE (RFC 3262, sections 4 and 7.2).
 pub fn pracks_follow_responses(one: Config, other: Config)
     ensures { (turns : List Turn) → Carried (of_sides one other) turns
         → CallsKeepRules (of_sides one other) turns
@@ -113,10 +114,10 @@ pub fn pracks_follow_responses(one: Config, other: Config)
 }
 
 /// In such a conversation, if the user is told of a reliable provisional response with an RSeq
-/// above 1, he was told of one with RSeq 1 in the turns before, under the Call-ID of that response.
-/// The other side said it with the number of that response's CSeq, if the rounds of the side that
-/// is told are counted as above (RFC 3262, sections 3 and 4). The law doesn't say that both were to
-/// one INVITE in one dialog.
+/// above 1, he was told of one with RSeq 1 in the turns before, under the Call-ID and in the dialog
+/// of that response. The other side said it with the number of that response's CSeq, if the rounds
+/// of the side that is told are counted as above (RFC 3262, sections 3 and 4). The law doesn't say
+/// that both were to one INVITE, or in one life of that dialog.
 pub fn the_first_is_told_first(one: Config, other: Config)
     ensures { (turns : List Turn) → Carried (of_sides one other) turns
         → CallsKeepRules (of_sides one other) turns
