@@ -1,12 +1,11 @@
 -- In a carried conversation, in which each command has the types of its parts, each message that a
 -- call sends keeps the rules of messages.
-use Rattle.std.proofs.Common.{◌≡◌, ℕ, List, [], ◌∷◌, ◌++◌, sym, subst, append_assoc, append-nil}
+use Rattle.std.proofs.Common.{ℕ, List, [], ◌∷◌, ◌++◌, sym, subst, append_assoc, append-nil}
 use Rattle.std.specs.Prelude.{Contains, IfSome, Option, None, Some}
 use Rattle.std.specs.List.{AllByRecursion}
 use Rattle.sip_message.specs.Addr.{IsAddr}
 use Rattle.sip_message.specs.Key.{key_cmp}
 use Rattle.sip_message.specs.Rules.{IsMessage}
-use Rattle.sip_message.specs.Written.{written}
 use Rattle.sip_message.specs.declared.addr.Addr.{Addr}
 use Rattle.sip_message.specs.declared.id.Id.{Id}
 use Rattle.sip_message.specs.declared.key.Key.{Key}
@@ -23,7 +22,6 @@ use Rattle.sip_transactions.specs.declared.output.Kind.{Kind}
 use Rattle.sip_transactions.specs.declared.output.Kind.TheVariants as kind
 use Rattle.sip_transactions.specs.declared.output.Out.{Out}
 use Rattle.sip_transactions.specs.declared.output.Out.TheVariants as out
-use Rattle.sip_common.specs.declared.command.UserCommand.{UserCommand}
 use Rattle.sip_common.specs.declared.item.CallOut.{CallOut}
 use Rattle.sip_common.specs.declared.item.CallOut.TheVariants as call_out
 use Rattle.sip_common.specs.declared.item.Item.TheVariants.{Up, User}
@@ -40,14 +38,16 @@ use Rattle.sip_round.specs.Laws.{call_inputs_of, inputs_of, said_of, said_of_cal
 use Rattle.sip_round.proofs.Said.{call_alone, transaction_alone}
 use Rattle.sip_conversation.specs.Commands.{CommandsKeepTypes, EventKeepsTypes, KeepsTypes}
 use Rattle.sip_conversation.specs.Conversation.{Carried, CarriedAfter, IsCarried, Side, Turn, peer, rounds_of}
-use Rattle.sip_conversation.specs.Messages.{CallsKeepRules, IsGiven, KeepsRules}
+use Rattle.sip_conversation.specs.Messages.{CallsKeepRules, KeepsRules}
 use Rattle.sip_conversation.proofs.Among.{all_both, all_go, all_of, each_of}
 use Rattle.sip_conversation.proofs.Bridge.{text_fits}
 use Rattle.sip_conversation.proofs.Carrying.{TurnHolds, each_turn, in_rounds}
 use Rattle.sip_conversation.proofs.OneTransaction.{IsFaithful, KindCame, faithful}
 use Rattle.sip_conversation.proofs.RepliesSaid.{IsFair}
-use Rattle.sip_conversation.proofs.Rounds.{ArrivalFits, OutFits, RoundFits, TimedFits, all_of_parts, calls_give, inputs_fit}
-use Rattle.sip_conversation.proofs.KeepsRules.{AnswerKeeps, AnswersKeepRules, KeepsInput, KindKeeps, StartKeeps, StartsKeepRules}
+use Rattle.sip_conversation.proofs.Rounds.{ArrivalFits, OutFits, TimedFits, all_of_parts, calls_give, inputs_fit}
+use Rattle.sip_conversation.proofs.KeepsRules.{AnswerKeeps, KeepsInput, KindKeeps, StartKeeps}
+use Rattle.sip_conversation.proofs.SoundCalls.{starts_keep_rules}
+use Rattle.sip_conversation.proofs.AnswersOfCalls.{answers_keep}
 use Rattle.sip_conversation.proofs.Unchanged.{AreFine, IsFine, carried_fine, come_keeps}
 use Rattle.sip_conversation.proofs.UserInputs.{EventAsks, ItemAsks, TimedAsks, inputs_ask}
 use Rattle.sip_conversation.proofs.Ups.{ItemCame, OutCame, TimedCame, UpCame, inputs_came}
@@ -139,9 +139,7 @@ module _ (alone : EachKeyAlone key_cmp transaction_machine tick_at) (config : Co
 
 -- ---- what a call sends
 
-module _ (starts_keep : (calls : Calls) → IsAddr calls.local → StartsKeepRules calls)
-    (answers_keep : (calls : Calls) → IsAddr calls.local → AnswersKeepRules calls)
-    (calls : Calls) (address : IsAddr calls.local) where
+module _ (calls : Calls) (address : IsAddr calls.local) where
   out_keeps : (out : CallOut) → StartKeeps out → AnswerKeeps out → KeepsRules out
   out_keeps (call_out.Notice notice) start answer = tt
   out_keeps (call_out.Command id (command.Start key call_id message to)) start answer = start
@@ -154,7 +152,7 @@ module _ (starts_keep : (calls : Calls) → IsAddr calls.local → StartsKeepRul
   outs_keep call_id inputs keeps =
       all_both {P = StartKeeps} {Q = AnswerKeeps} {R = KeepsRules} out_keeps
       (outputs_from (call_machine calls) call_id None inputs)
-      (starts_keep calls address call_id inputs keeps)
+      (starts_keep_rules calls address call_id inputs keeps)
       (answers_keep calls address call_id inputs keeps)
 
 -- ---- both sides
@@ -164,9 +162,7 @@ event_asks (event.Datagram from bytes) keeps = tt
 event_asks (event.Failed key) keeps = tt
 event_asks (event.Command c) keeps = keeps
 
-module _ (starts_keep : (calls : Calls) → IsAddr calls.local → StartsKeepRules calls)
-    (answers_keep : (calls : Calls) → IsAddr calls.local → AnswersKeepRules calls)
-    (configs : Side → Config) (fair : IsFair configs) where
+module _ (configs : Side → Config) (fair : IsFair configs) where
   abbrev Fine : List Turn → Type 0
   Fine turns = AreFine fair.transactions configs fair.addresses turns
 
@@ -195,7 +191,7 @@ module _ (starts_keep : (calls : Calls) → IsAddr calls.local → StartsKeepRul
       each_of KeepsRules (said_of_call config rounds call_id) out
       (subst (AllByRecursion KeepsRules)
       (sym (call_alone (calls_of config) (fair.calls s) [] (past_of config rounds).calls call_id))
-      (outs_keep starts_keep answers_keep (calls_of config) (fair.addresses s) call_id (call_inputs_of config rounds call_id)
+      (outs_keep (calls_of config) (fair.addresses s) call_id (call_inputs_of config rounds call_id)
       (inputs_keep fair.transactions config rounds sound asks call_id))) says.1
 
   all_keep : (before turns : List Turn) → Fine before → CommandsKeepTypes (before ++ turns)
@@ -218,3 +214,9 @@ module _ (starts_keep : (calls : Calls) → IsAddr calls.local → StartsKeepRul
   pub calls_keep_rules : (turns : List Turn) → Carried configs turns → CommandsKeepTypes turns
       → CallsKeepRules configs turns
   calls_keep_rules turns carried types = all_keep [] turns tt types carried
+
+  -- a law of turns in which calls keep the rules is one of turns in which commands have their types
+  pub by_types : {P : List Turn → Type 0}
+      → ((turns : List Turn) → Carried configs turns → CallsKeepRules configs turns → P turns)
+      → (turns : List Turn) → Carried configs turns → CommandsKeepTypes turns → P turns
+  by_types law turns carried types = law turns carried (calls_keep_rules turns carried types)

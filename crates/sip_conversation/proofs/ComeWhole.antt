@@ -1,7 +1,7 @@
 -- The reliable provisional responses to the INVITE of a call that a user is told of are consecutive
 -- ones of those that the other user gave, or the first ones.
-use Rattle.std.proofs.Common.{◌≡◌, ◌≤◌, ◌<◌, ◌^◌, ℕ, suc, ◌+◌, ◌==◌, Bool, true, false, List, [], ◌∷◌, ◌++◌, refl, sym, ap, ◌∙◌, subst, ⊎_elim, length-append, arith, append_assoc}
-use Rattle.std.specs.Prelude.{Contains, length, map}
+use Rattle.std.proofs.Common.{◌≡◌, ◌≤◌, ◌<◌, ℕ, suc, ◌==◌, true, false, List, [], ◌∷◌, ◌++◌, refl, sym, ap, ◌∙◌, subst, ⊎_elim, arith}
+use Rattle.std.specs.Prelude.{Contains, map}
 use Rattle.std.specs.List.{AllByRecursion, AllZip}
 use Rattle.std.proofs.lemmas.Grind.{common_steps}
 use Rattle.sip_message.specs.declared.id.Id.{Id}
@@ -15,7 +15,7 @@ use Rattle.sip_round.specs.declared.config.Config.{Config}
 use Rattle.sip_round.specs.declared.round.Round.{Round}
 use Rattle.sip_round.specs.Answers.{calls_of}
 use Rattle.sip_round.specs.Laws.{ProvisionalsInLives, call_inputs_of}
-use Rattle.sip_conversation.specs.ComeWhole.{IsToldOf, NoOthersTold, ProvisionalsComeWhole, TellRun, ToldWhole, given_reliably}
+use Rattle.sip_conversation.specs.ComeWhole.{IsToldOf, NoOthersTold, ProvisionalsComeWhole, ToldWhole, given_reliably}
 use Rattle.sip_conversation.specs.Conversation.{Carried, Side, Turn, peer, rounds_of}
 use Rattle.sip_conversation.specs.Messages.{CallsKeepRules}
 use Rattle.sip_conversation.specs.Provisionals.{rseqs_told, told_reliably}
@@ -27,7 +27,6 @@ use Rattle.sip_conversation.proofs.InOrder.{Follow, TellsOfOne, next_follow, run
 use Rattle.sip_conversation.proofs.Longer.{rounds_of-append}
 use Rattle.sip_conversation.proofs.Provisionals.{provisionals_said}
 use Rattle.sip_conversation.proofs.RepliesSaid.{IsFair}
-use Rattle.sip_conversation.proofs.Rounds.{all_of_parts}
 use Rattle.sip_conversation.proofs.ToldAt.{told_at}
 use Rattle.sip_conversation.proofs.ToldGiven.{IsGivenThere, is_given, same_request}
 use Rattle.sip_reliable.specs.Inbound.{IsConsecutive}

@@ -1,6 +1,6 @@
 -- Of what is given in order, what is told in order and without a gap is a run.
 use Rattle.std.proofs.Common.{◌≡◌, ◌≤◌, ◌<◌, ℕ, suc, ◌+◌, ◌==◌, Bool, true, false, List, [], ◌∷◌, ◌++◌, refl, sym, ap, ◌∙◌, subst, ⊎_elim, arith}
-use Rattle.std.specs.Prelude.{Contains, length, map}
+use Rattle.std.specs.Prelude.{Contains, map}
 use Rattle.std.specs.List.{AllByRecursion, AllZip, slice_index}
 use Rattle.std.proofs.lemmas.Grind.{common_steps}
 use Rattle.sip_reliable.specs.Inbound.{IsConsecutive}

@@ -1,7 +1,7 @@
 -- Each reliable provisional response to the INVITE of a call that a user is told of is one that the
 -- other user gave; all that are told in one dialog, he gave to one request.
-use Rattle.std.proofs.Common.{◌≡◌, ℕ, Bool, true, false, not, ◌&&◌, ◌==◌, List, [], ◌∷◌, ◌++◌, refl, sym, ap, ◌∙◌, subst, arith}
-use Rattle.std.specs.Prelude.{Contains, IfSome, IsTrue, Option, None, Some, codes, length, if◌then◌else◌}
+use Rattle.std.proofs.Common.{◌≡◌, ℕ, true, false, not, ◌==◌, List, [], ◌∷◌, ◌++◌, refl, sym, ap, ◌∙◌, subst, arith}
+use Rattle.std.specs.Prelude.{Contains, IfSome, IsTrue, Option, None, Some, codes, length}
 use Rattle.std.specs.List.{AllByRecursion}
 use Rattle.std.specs.Str.{bytes_eq, str_to_ascii_lowercase}
 use Rattle.std.proofs.lemmas.Bool.{false≢true}
@@ -9,14 +9,10 @@ use Rattle.std.proofs.lemmas.Option.{same_Some}
 use Rattle.sip_parts.specs.Tag.{has_good_tag}
 use Rattle.sip_message.specs.Party.{tag_of}
 use Rattle.sip_message.specs.TopVia.{top_branch}
-use Rattle.sip_message.specs.declared.cseq.CSeq.{CSeq}
 use Rattle.sip_message.specs.declared.id.Id.{Id}
 use Rattle.sip_message.specs.declared.message.Message.{Message}
 use Rattle.sip_message.specs.MessageKey.{key_of_message}
-use Rattle.sip_message.specs.Message.{is_request_message}
-use Rattle.sip_message.specs.Written.{written}
-use Rattle.sip_model.specs.Machine.{Timed, outputs_from, tick_at, given_at}
-use Rattle.sip_transactions.specs.declared.input.Command.TheVariants as order
+use Rattle.sip_model.specs.Machine.{Timed, outputs_from, given_at}
 use Rattle.sip_transactions.specs.declared.input.Input.TheVariants.{Start}
 use Rattle.sip_transactions.specs.declared.output.Kind.TheVariants as kind
 use Rattle.sip_transactions.specs.declared.output.Up.{Up as AnUp}
@@ -32,28 +28,22 @@ use Rattle.sip_clients.specs.Client.{client_at}
 use Rattle.sip_clients.specs.Clients.{status_of, reply_name}
 use Rattle.sip_clients.specs.Name.{name_of}
 use Rattle.sip_clients.specs.Provisionals.{OfTheCall, is_response, provisional_number}
-use Rattle.sip_clients.specs.declared.client.Client.{Client}
 use Rattle.sip_clients.proofs.Names.{names_differ}
 use Rattle.sip_calls.specs.Call.{CallItem, call_machine, call_step}
-use Rattle.sip_calls.specs.CallShard.{call_cmp}
 use Rattle.sip_calls.specs.Histories.{call_from}
 use Rattle.sip_calls.specs.OwnCall.{IsInputOf}
 use Rattle.sip_calls.specs.Provisionals.{event_in, side_held, event_of_kind}
 use Rattle.sip_calls.specs.declared.call.Call.{Call}
-use Rattle.sip_calls.specs.declared.calls.Calls.{Calls}
 use Rattle.sip_round.specs.declared.config.Config.{Config}
 use Rattle.sip_round.specs.declared.round.Round.{Round}
 use Rattle.sip_round.specs.Answers.{calls_of, past_of}
-use Rattle.sip_round.specs.Laws.{call_inputs_of, said_of_call}
+use Rattle.sip_round.specs.Laws.{call_inputs_of}
 use Rattle.sip_round.proofs.CallEvents.{events_differ}
 use Rattle.sip_round.proofs.Said.{call_alone}
-use Rattle.sip_conversation.specs.Answers.{AnswersARequest, IsResponseTo}
-use Rattle.sip_conversation.specs.ComeWhole.{IsToldOf, given_from, given_reliably, TellsOf}
+use Rattle.sip_conversation.specs.ComeWhole.{IsToldOf, TellsOf}
 use Rattle.sip_conversation.specs.Conversation.{Carried, Side, Turn, peer, rounds_of}
 use Rattle.sip_conversation.specs.Messages.{CallSays, CallsKeepRules, ComesUnchanged, IsGiven as WasGiven, come_from}
-use Rattle.sip_conversation.specs.Messages.IsSaid.{Acknowledges, Asked, Direct, Trying}
-use Rattle.sip_conversation.specs.Replies.{AreCounted, IsStartedFor, SaidResponse}
-use Rattle.sip_conversation.proofs.AckTexts.{no_ack}
+use Rattle.sip_conversation.specs.Replies.{AreCounted, IsStartedFor}
 use Rattle.sip_conversation.proofs.Among.{among_first, each_of}
 use Rattle.sip_conversation.proofs.Branches.{Own}
 use Rattle.sip_conversation.proofs.CallBranches.{InputComes, held_own, HeldOwn}
@@ -61,12 +51,11 @@ use Rattle.sip_conversation.proofs.CallOuts.{InputFits, KindTells, OutFits, step
 use Rattle.sip_conversation.proofs.ClientsSent.{WentOut, held_went}
 use Rattle.sip_conversation.proofs.Longer.{rounds_of-append}
 use Rattle.sip_conversation.proofs.OnceOnly.{once_only}
-use Rattle.sip_conversation.proofs.OneCallId.{IsOfStart, name_low, out_replies, started_request}
+use Rattle.sip_conversation.proofs.OneCallId.{IsOfStart, name_low, started_request}
 use Rattle.sip_conversation.proofs.OneTransaction.{KindCame}
 use Rattle.sip_conversation.proofs.Origins.{IsOrigin, TimedComes, counted, inputs_come, IsCounted}
-use Rattle.sip_conversation.proofs.PracksCame.{no_rseq}
 use Rattle.sip_conversation.proofs.PracksFollow.{of_first_inputs}
-use Rattle.sip_conversation.proofs.PracksSaid.{number_is, OfCall, IsAlike, came_alike, given_in_call}
+use Rattle.sip_conversation.proofs.PracksSaid.{OfCall, IsAlike, came_alike, given_in_call}
 use Rattle.sip_conversation.proofs.PracksServed.{same_name}
 use Rattle.sip_conversation.proofs.Provisionals.{said_reliably, IsReliablySo}
 use Rattle.sip_conversation.proofs.RepliesSaid.{Came, Comes, IsFair, inputs_come as ups_come}
@@ -75,14 +64,11 @@ use Rattle.sip_conversation.proofs.StartedFor.{KindStarted, response_key}
 use Rattle.sip_conversation.proofs.ToldAt.{IsToldAt, RepliesToInvite, replies_to_invite}
 use Rattle.sip_conversation.proofs.ToldCallId.{own_reply, IsOwnReply}
 use Rattle.sip_conversation.proofs.Unchanged.{inputs_unchanged}
-use Rattle.sip_conversation.proofs.Unstamped.{no_status}
-use Rattle.sip_conversation.proofs.Ups.{ItemCame, TimedCame, UpCame}
+use Rattle.sip_conversation.proofs.Ups.{ItemCame, TimedCame}
 use Rattle.sip_message.specs.declared.addr.Addr.{Addr}
 use Rattle.std.proofs.lemmas.List.Elements.{Contains-append_right}
 use Rattle.sip_common.specs.declared.held_dialog.DialogId.{DialogId}
-use Rattle.sip_model.specs.Laws.{EachKeyAlone}
 use Rattle.sip_clients.specs.declared.client.RequestKind.TheVariants.{InitialInvite}
-use Rattle.sip_message.specs.declared.key.Key.{Key}
 use Rattle.sip_message.specs.declared.party.Party.{Party}
 use Rattle.sip_clients.specs.Rules.Requests.{is_invite_kind}
 use Rattle.sip_calls.specs.HeldDialogs.{opens_dialogs}

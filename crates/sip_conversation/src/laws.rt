@@ -4,6 +4,7 @@ ghost use Rattle.std.specs.Prelude.{List};
 ghost use Rattle.sip_message.specs.Addr.{IsAddr};
 ghost use Rattle.sip_conversation.specs.Acks.{AcksToldWereSaid};
 ghost use Rattle.sip_conversation.specs.ComeWhole.{ProvisionalsComeWhole};
+ghost use Rattle.sip_conversation.specs.Commands.{CommandsKeepTypes};
 ghost use Rattle.sip_conversation.specs.Conversation.{Carried, Turn, of_sides};
 ghost use Rattle.sip_conversation.specs.Datagrams.{DatagramsAreTextsSaid};
 ghost use Rattle.sip_conversation.specs.Steps.Fair.{IsFair};
@@ -23,16 +24,14 @@ use sip_transactions::Transactions;
 /// In a carried conversation, each message that comes to a transaction of one side in a turn is one
 /// that the other side said in the turns before. One of its calls asked to send the message, or one
 /// of its transactions made it from what it was given. The message comes unchanged, except for the
-/// stamp of its source in a request (RFC 3261, section 18.2.1). The law requires that all that
-/// calls of both sides ask to send keeps the rules of messages.
+/// stamp of its source in a request (RFC 3261, section 18.2.1). Here and below, each command of a
+/// user has the types of its parts; a program can give no other.
 pub fn messages_come_unchanged(one: Config, other: Config)
     ensures { (turns : List Turn) → Carried (of_sides one other) turns
-        → CallsKeepRules (of_sides one other) turns
+        → CommandsKeepTypes turns
         → MessagesComeUnchanged (of_sides one other) turns }
 {
-    numbers_fit(one.local);
-    numbers_fit(other.local);
-    laws_of_phases(&Transactions);
+    sides_are_fair(&one, &other);
 }
 
 /// In such a conversation each datagram that comes in a turn is the text of a message that the
@@ -40,24 +39,20 @@ pub fn messages_come_unchanged(one: Config, other: Config)
 /// bytes.
 pub fn datagrams_are_texts_said(one: Config, other: Config)
     ensures { (turns : List Turn) → Carried (of_sides one other) turns
-        → CallsKeepRules (of_sides one other) turns
+        → CommandsKeepTypes turns
         → DatagramsAreTextsSaid (of_sides one other) turns }
 {
-    numbers_fit(one.local);
-    numbers_fit(other.local);
-    laws_of_phases(&Transactions);
+    sides_are_fair(&one, &other);
 }
 
 /// In such a conversation each message that comes up to a call in a turn is also one that the other
 /// side said in the turns before, except for the stamp.
 pub fn calls_hear_unchanged(one: Config, other: Config)
     ensures { (turns : List Turn) → Carried (of_sides one other) turns
-        → CallsKeepRules (of_sides one other) turns
+        → CommandsKeepTypes turns
         → CallsHearUnchanged (of_sides one other) turns }
 {
-    numbers_fit(one.local);
-    numbers_fit(other.local);
-    laws_of_phases(&Transactions);
+    sides_are_fair(&one, &other);
 }
 
 /// In such a conversation, the reliable provisional responses to an INVITE that a user is told of,
@@ -70,7 +65,7 @@ pub fn calls_hear_unchanged(one: Config, other: Config)
 /// response was to this INVITE, or that the first of these RSeqs is 1.
 pub fn provisionals_told_were_said(one: Config, other: Config)
     ensures { (turns : List Turn) → Carried (of_sides one other) turns
-        → CallsKeepRules (of_sides one other) turns
+        → CommandsKeepTypes turns
         → ProvisionalsToldAsSaid (of_sides one other) turns }
 {
     sides_are_fair(&one, &other);
@@ -92,7 +87,7 @@ pub fn provisionals_told_were_said(one: Config, other: Config)
 /// that transaction was started, with the stamp of its source.
 pub fn responses_told_were_said(one: Config, other: Config)
     ensures { (turns : List Turn) → Carried (of_sides one other) turns
-        → CallsKeepRules (of_sides one other) turns
+        → CommandsKeepTypes turns
         → ResponsesToldWereSaid (of_sides one other) turns }
 {
     sides_are_fair(&one, &other);
@@ -107,7 +102,7 @@ pub fn responses_told_were_said(one: Config, other: Config)
 /// PRACK are counted as above; and the RAck's method is INVITE (RFC 3262, sections 4 and 7.2).
 pub fn pracks_follow_responses(one: Config, other: Config)
     ensures { (turns : List Turn) → Carried (of_sides one other) turns
-        → CallsKeepRules (of_sides one other) turns
+        → CommandsKeepTypes turns
         → PracksFollowResponses (of_sides one other) turns }
 {
     sides_are_fair(&one, &other);
@@ -120,7 +115,7 @@ pub fn pracks_follow_responses(one: Config, other: Config)
 /// that both were to one INVITE, or in one life of that dialog.
 pub fn the_first_is_told_first(one: Config, other: Config)
     ensures { (turns : List Turn) → Carried (of_sides one other) turns
-        → CallsKeepRules (of_sides one other) turns
+        → CommandsKeepTypes turns
         → TheFirstIsToldFirst (of_sides one other) turns }
 {
     sides_are_fair(&one, &other);
@@ -136,7 +131,7 @@ pub fn the_first_is_told_first(one: Config, other: Config)
 /// counted as above.
 pub fn provisionals_come_whole(one: Config, other: Config)
     ensures { (turns : List Turn) → Carried (of_sides one other) turns
-        → CallsKeepRules (of_sides one other) turns
+        → CommandsKeepTypes turns
         → ProvisionalsComeWhole (of_sides one other) turns }
 {
     sides_are_fair(&one, &other);
@@ -151,7 +146,7 @@ pub fn provisionals_come_whole(one: Config, other: Config)
 /// request has the remote tag in From, and in To the local tag or none.
 pub fn requests_told_were_asked_for(one: Config, other: Config)
     ensures { (turns : List Turn) → Carried (of_sides one other) turns
-        → CallsKeepRules (of_sides one other) turns
+        → CommandsKeepTypes turns
         → RequestsToldWereAskedFor (of_sides one other) turns }
 {
     sides_are_fair(&one, &other);
@@ -161,7 +156,7 @@ pub fn requests_told_were_asked_for(one: Config, other: Config)
 /// ACK with that body in the turns before (RFC 3261, section 13.2.2.4).
 pub fn acks_told_were_said(one: Config, other: Config)
     ensures { (turns : List Turn) → Carried (of_sides one other) turns
-        → CallsKeepRules (of_sides one other) turns
+        → CommandsKeepTypes turns
         → AcksToldWereSaid (of_sides one other) turns }
 {
     sides_are_fair(&one, &other);
@@ -173,8 +168,18 @@ pub fn acks_told_were_said(one: Config, other: Config)
 /// there is no body: such a PRACK may be the agent's own.
 pub fn pracks_told_were_said(one: Config, other: Config)
     ensures { (turns : List Turn) → Carried (of_sides one other) turns
-        → CallsKeepRules (of_sides one other) turns
+        → CommandsKeepTypes turns
         → PracksToldWereSaid (of_sides one other) turns }
+{
+    sides_are_fair(&one, &other);
+}
+
+/// In such a conversation, each message that a call asks a transaction to send keeps the rules of
+/// messages, and each text that it sends directly is that of such a message.
+pub fn calls_keep_rules(one: Config, other: Config)
+    ensures { (turns : List Turn) → Carried (of_sides one other) turns
+        → CommandsKeepTypes turns
+        → CallsKeepRules (of_sides one other) turns }
 {
     sides_are_fair(&one, &other);
 }
