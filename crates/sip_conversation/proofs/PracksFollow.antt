@@ -59,6 +59,7 @@ use Rattle.sip_conversation.specs.Pracks.{FollowsResponse, PracksFollowResponses
 use Rattle.sip_conversation.specs.Provisionals.{SaidReliably, told_reliably}
 use Rattle.sip_conversation.specs.Replies.{AreCounted, IsStartedFor}
 use Rattle.sip_conversation.proofs.AckTexts.{is_ack}
+use Rattle.sip_conversation.proofs.AmongInputs.{of_first_inputs, of_one_input}
 use Rattle.sip_conversation.proofs.Among.{among_first, among_later, each_of, in_all_of, kept_among, none_among}
 use Rattle.sip_conversation.proofs.Branches.{Own}
 use Rattle.sip_conversation.proofs.CallBranches.{HeldOwn, InputComes, OutIsOwn, all_own, held_own}
@@ -98,35 +99,6 @@ some_response (first ∷ outs) told =
         let later = rest told in
         (later.0, among_later first outs later.0 later.1, later.2)
 
-module _ (calls : Calls) (key : List ℕ) where
-  -- what one input gives is among what all give
-  of_one_input : (state : Option Call) (before : List (Timed CallItem)) (timed : Timed CallItem)
-      (after : List (Timed CallItem)) (out : CallOut)
-      → Contains (call_step calls (call_from calls state before) timed.input timed.moment).1 out
-      → Contains (outputs_from (call_machine calls) key state (before ++ timed ∷ after)) out
-  of_one_input state [] timed after out among =
-      let step = call_step calls state timed.input timed.moment in
-      Contains-append_left step.1 (outputs_from (call_machine calls) key step.0 after) out among
-  of_one_input state (first ∷ before) timed after out among =
-      let step = call_step calls state first.input first.moment in
-      Contains-append_right step.1
-      (outputs_from (call_machine calls) key step.0 (before ++ timed ∷ after)) out
-      (of_one_input step.0 before timed after out among)
-
-  -- so is what the first inputs give
-  of_first_inputs : (state : Option Call) (before after : List (Timed CallItem)) (out : CallOut)
-      → Contains (outputs_from (call_machine calls) key state before) out
-      → Contains (outputs_from (call_machine calls) key state (before ++ after)) out
-  of_first_inputs state [] after out among = absurd (none_among out among)
-  of_first_inputs state (first ∷ before) after out among =
-      let step = call_step calls state first.input first.moment in
-      let early = outputs_from (call_machine calls) key step.0 before in
-      let all = outputs_from (call_machine calls) key step.0 (before ++ after) in
-      ⊎_elim (λ here. Contains-append_left step.1 all out here)
-      (λ later. Contains-append_right step.1 all out
-      (of_first_inputs step.0 before after out later))
-      (Contains-append_cases step.1 early out among)
-
 -- ---- messages
 
 prack_token : IsTrue (is_token (codes "PRACK"))
@@ -150,8 +122,15 @@ module _ (config : Config) (rounds : List Round)
     abbrev inputs : List (Timed CallItem)
     inputs = call_inputs_of config rounds call_id
 
+    -- what one input gives, and what all do
+    abbrev gives : Option Call → Timed CallItem → List CallOut
+    gives call timed = (call_step calls call timed.input timed.moment).1
+
+    abbrev gives_from : Option Call → List (Timed CallItem) → List CallOut
+    gives_from call inputs = outputs_from (call_machine calls) call_id call inputs
+
     abbrev outs_of_call : List CallOut
-    outs_of_call = outputs_from (call_machine calls) call_id None inputs
+    outs_of_call = gives_from None inputs
 
     same_outs : said_of_call config rounds call_id ≡ outs_of_call
     same_outs = call_alone calls alone [] (past_of config rounds).calls call_id
@@ -210,9 +189,9 @@ module _ (config : Config) (rounds : List Round)
           (ap (λ o. client_at was.up.id (side_held o).clients) was.held ∙ was.client_is) in
           record {
             one = early.one;
-            among = subst (λ all. Contains (outputs_from (call_machine calls) call_id None all)
-                early.one) (sym was.are)
-                (of_first_inputs calls call_id None was.before (was.timed ∷ was.after) early.one
+            among = subst (λ inputs. Contains (gives_from None inputs) early.one) (sym was.are)
+                (of_first_inputs calls gives gives_from (λ call. refl)
+                (λ call timed inputs. refl) None was.before (was.timed ∷ was.after) early.one
                 early.among);
             starts = early.starts;
             sends = early.sends;
@@ -241,9 +220,9 @@ module _ (config : Config) (rounds : List Round)
           → Contains (call_step calls (Some was.call) was.timed.input was.timed.moment).1 out
           → Contains outs_of_call out
       of_its_input out among =
-          subst (λ all. Contains (outputs_from (call_machine calls) call_id None all) out)
-          (sym was.are)
-          (of_one_input calls call_id None was.before was.timed was.after out
+          subst (λ inputs. Contains (gives_from None inputs) out) (sym was.are)
+          (of_one_input calls gives gives_from (λ call. refl)
+          (λ call timed inputs. refl) None was.before was.timed was.after out
           (subst (λ state.
           Contains (call_step calls state was.timed.input was.timed.moment).1 out)
           (sym was.held) among))
