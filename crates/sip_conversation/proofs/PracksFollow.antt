@@ -1,11 +1,11 @@
 -- A PRACK that a side says follows the reliable provisional response that it acknowledges, of which
 -- the user was told in its dialog.
-use Rattle.std.proofs.Common.{◌≡◌, ℕ, Bool, true, false, ◌||◌, List, [], ◌∷◌, ◌++◌, refl, sym, ap, ◌∙◌, subst, ⊎_elim}
+use Rattle.std.proofs.Common.{◌≡◌, ℕ, Bool, true, false, ◌||◌, List, [], ◌∷◌, ◌++◌, refl, sym, ap, ◌∙◌, subst}
 use Rattle.std.specs.Prelude.{Contains, IfSome, IsTrue, Option, None, Some, codes}
 use Rattle.std.specs.List.{AllByRecursion, list_any}
 use Rattle.std.specs.Str.{bytes_eq}
 use Rattle.std.proofs.lemmas.Bool.{false≢true}
-use Rattle.std.proofs.lemmas.List.Elements.{Contains-append_cases, Contains-append_left, Contains-append_right}
+use Rattle.std.proofs.lemmas.List.Elements.{Contains-append_right}
 use Rattle.sip_text.specs.Token.{is_token, is_token_byte}
 use Rattle.sip_message.specs.Message.{is_request_message}
 use Rattle.sip_message.specs.Party.{tag_of}
@@ -37,7 +37,6 @@ use Rattle.sip_clients.specs.Provisionals.{is_response, provisional_number}
 use Rattle.sip_clients.specs.declared.client.Client.{Client}
 use Rattle.sip_calls.specs.Call.{CallItem, call_machine, call_step}
 use Rattle.sip_calls.specs.CallShard.{call_cmp}
-use Rattle.sip_calls.specs.Histories.{call_from}
 use Rattle.sip_calls.specs.OwnCall.{IsInputOf}
 use Rattle.sip_calls.specs.Provisionals.{side_held}
 use Rattle.sip_calls.specs.Sides.{side_of}

@@ -1,6 +1,6 @@
 -- A reliable provisional response with an RSeq above 1 that the other side said, it said after this
 -- side said the PRACK of the response of RSeq 1 to the same INVITE.
-use Rattle.std.proofs.Common.{◌≡◌, ℕ, ◌<◌, Bool, true, false, ◌&&◌, not, ◌==◌, List, [], ◌∷◌, ◌++◌, refl, sym, ap, ◌∙◌, subst, arith}
+use Rattle.std.proofs.Common.{◌≡◌, ℕ, ◌<◌, Bool, true, false, ◌==◌, List, [], ◌∷◌, ◌++◌, refl, sym, ap, ◌∙◌, subst, arith}
 use Rattle.std.specs.Prelude.{IfSome, IsTrue, Option, None, Some, codes, find, is_some, length, unwrap_or, if◌then◌else◌}
 use Rattle.std.specs.List.{AllByRecursion}
 use Rattle.std.specs.Str.{str_eq_ignore_ascii_case}
