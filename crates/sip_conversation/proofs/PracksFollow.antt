@@ -70,7 +70,7 @@ use Rattle.sip_conversation.proofs.Fronts.{carried_before, carried_to, keeps_bef
 use Rattle.sip_conversation.proofs.OneCallId.{IsOfStart, out_replies, started_request}
 use Rattle.sip_conversation.proofs.OneTransaction.{KindCame}
 use Rattle.sip_conversation.proofs.Origins.{IsOrigin, TimedComes, inputs_come}
-use Rattle.sip_conversation.proofs.PracksSaid.{IsAlike, came_alike}
+use Rattle.sip_conversation.proofs.PracksSaid.{came_alike}
 use Rattle.sip_conversation.proofs.Provisionals.{IsReliablySo, said_reliably}
 use Rattle.sip_conversation.proofs.RackedCalls.{IsTold, OutIsTold, WasTold, all_told}
 use Rattle.sip_conversation.proofs.RepliesSaid.{Came, Comes, IsFair, inputs_come as ups_come}
@@ -284,6 +284,9 @@ module _ (configs : Side → Config) (fair : IsFair configs) (before : List Turn
       pub so : IsReliablySo configs fair before turn carried keep was.response rack.rseq status
       pub call : AreCounted local_config rounds_now
           → so.said.response.original.call_id ≡ call_id
+      pub request : AreCounted local_config rounds_now
+          → (so.said.response.request).request
+          ≡ come_from local_config.local was.client.request
       pub cseq : AreCounted local_config rounds_now
           → so.said.response.original.cseq.number ≡ rack.cseq
       pub from : AreCounted local_config rounds_now
@@ -303,8 +306,8 @@ module _ (configs : Side → Config) (fair : IsFair configs) (before : List Turn
         (sym so.whole) started in
         let own = own_reply configs fair.calls before turn was.up.call_id was.up.id status
         (tag_of response.from) (tag_of response.to) response.body reply begun in
-        let answers : AreCounted local_config rounds_now
-        → IsAlike reply.request.request was.client.request = λ few.
+        let request : AreCounted local_config rounds_now
+        → reply.request.request ≡ come_from local_config.local was.client.request = λ few.
         let start = own_start was.up.call_id reply.original few begun in
         let same : begun.request ≡ was.client.request =
         sym (start.same begun.request) ∙ sent.sends begun.request in
@@ -314,16 +317,17 @@ module _ (configs : Side → Config) (fair : IsFair configs) (before : List Turn
         ∙ (ap (λ (m : Message). m.cseq.method) same
         ∙ invites local_config rounds_now (fair.calls turn.side) call_id name rack.rseq rack.cseq
         was) in
-        subst (λ (m : Message). IsAlike m was.client.request)
-        (sym ((own few).same (λ cancel. no_cancel (sym cancel ∙ method))
-        ∙ ap (come_from local_config.local) same))
-        (came_alike local_config.local was.client.request) in
+        (own few).same (λ cancel. no_cancel (sym cancel ∙ method))
+        ∙ ap (come_from local_config.local) same in
+        let alike = came_alike local_config.local was.client.request in
         record {
           so = so;
           call = λ few. (own few).call ∙ of_up;
-          cseq = λ few. ap (λ (c : CSeq). c.number)
-              (reply.request.copies.cseq ∙ (answers few).cseq) ∙ was.number_is;
-          from = λ few. reply.request.copies.from ∙ (answers few).from;
+          request = request;
+          cseq = λ few. ap (λ (c : CSeq). c.number) (reply.request.copies.cseq
+              ∙ (ap (λ (m : Message). m.cseq) (request few) ∙ alike.cseq)) ∙ was.number_is;
+          from = λ few. reply.request.copies.from
+              ∙ (ap (λ (m : Message). m.from) (request few) ∙ alike.from);
         }
 
     pub reply_said : Carried configs (before ++ turn ∷ [])
