@@ -1,11 +1,11 @@
 -- A PRACK that a side says follows the reliable provisional response that it acknowledges, of which
 -- the user was told in its dialog.
-use Rattle.std.proofs.Common.{◌≡◌, ℕ, Bool, true, false, ◌||◌, List, [], ◌∷◌, ◌++◌, refl, sym, ap, ◌∙◌, subst, ⊎_elim}
+use Rattle.std.proofs.Common.{◌≡◌, ℕ, Bool, true, false, ◌||◌, List, [], ◌∷◌, ◌++◌, refl, sym, ap, ◌∙◌, subst}
 use Rattle.std.specs.Prelude.{Contains, IfSome, IsTrue, Option, None, Some, codes}
 use Rattle.std.specs.List.{AllByRecursion, list_any}
 use Rattle.std.specs.Str.{bytes_eq}
 use Rattle.std.proofs.lemmas.Bool.{false≢true}
-use Rattle.std.proofs.lemmas.List.Elements.{Contains-append_cases, Contains-append_left, Contains-append_right}
+use Rattle.std.proofs.lemmas.List.Elements.{Contains-append_right}
 use Rattle.sip_text.specs.Token.{is_token, is_token_byte}
 use Rattle.sip_message.specs.Message.{is_request_message}
 use Rattle.sip_message.specs.Party.{tag_of}
@@ -37,7 +37,6 @@ use Rattle.sip_clients.specs.Provisionals.{is_response, provisional_number}
 use Rattle.sip_clients.specs.declared.client.Client.{Client}
 use Rattle.sip_calls.specs.Call.{CallItem, call_machine, call_step}
 use Rattle.sip_calls.specs.CallShard.{call_cmp}
-use Rattle.sip_calls.specs.Histories.{call_from}
 use Rattle.sip_calls.specs.OwnCall.{IsInputOf}
 use Rattle.sip_calls.specs.Provisionals.{side_held}
 use Rattle.sip_calls.specs.Sides.{side_of}
@@ -59,6 +58,7 @@ use Rattle.sip_conversation.specs.Pracks.{FollowsResponse, PracksFollowResponses
 use Rattle.sip_conversation.specs.Provisionals.{SaidReliably, told_reliably}
 use Rattle.sip_conversation.specs.Replies.{AreCounted, IsStartedFor}
 use Rattle.sip_conversation.proofs.AckTexts.{is_ack}
+use Rattle.sip_conversation.proofs.AmongInputs.{of_first_inputs, of_one_input}
 use Rattle.sip_conversation.proofs.Among.{among_first, among_later, each_of, in_all_of, kept_among, none_among}
 use Rattle.sip_conversation.proofs.Branches.{Own}
 use Rattle.sip_conversation.proofs.CallBranches.{HeldOwn, InputComes, OutIsOwn, all_own, held_own}
@@ -70,7 +70,7 @@ use Rattle.sip_conversation.proofs.Fronts.{carried_before, carried_to, keeps_bef
 use Rattle.sip_conversation.proofs.OneCallId.{IsOfStart, out_replies, started_request}
 use Rattle.sip_conversation.proofs.OneTransaction.{KindCame}
 use Rattle.sip_conversation.proofs.Origins.{IsOrigin, TimedComes, inputs_come}
-use Rattle.sip_conversation.proofs.PracksSaid.{IsAlike, came_alike}
+use Rattle.sip_conversation.proofs.PracksSaid.{came_alike}
 use Rattle.sip_conversation.proofs.Provisionals.{IsReliablySo, said_reliably}
 use Rattle.sip_conversation.proofs.RackedCalls.{IsTold, OutIsTold, WasTold, all_told}
 use Rattle.sip_conversation.proofs.RepliesSaid.{Came, Comes, IsFair, inputs_come as ups_come}
@@ -98,35 +98,6 @@ some_response (first ∷ outs) told =
         let later = rest told in
         (later.0, among_later first outs later.0 later.1, later.2)
 
-module _ (calls : Calls) (key : List ℕ) where
-  -- what one input gives is among what all give
-  of_one_input : (state : Option Call) (before : List (Timed CallItem)) (timed : Timed CallItem)
-      (after : List (Timed CallItem)) (out : CallOut)
-      → Contains (call_step calls (call_from calls state before) timed.input timed.moment).1 out
-      → Contains (outputs_from (call_machine calls) key state (before ++ timed ∷ after)) out
-  of_one_input state [] timed after out among =
-      let step = call_step calls state timed.input timed.moment in
-      Contains-append_left step.1 (outputs_from (call_machine calls) key step.0 after) out among
-  of_one_input state (first ∷ before) timed after out among =
-      let step = call_step calls state first.input first.moment in
-      Contains-append_right step.1
-      (outputs_from (call_machine calls) key step.0 (before ++ timed ∷ after)) out
-      (of_one_input step.0 before timed after out among)
-
-  -- so is what the first inputs give
-  pub of_first_inputs : (state : Option Call) (before after : List (Timed CallItem)) (out : CallOut)
-      → Contains (outputs_from (call_machine calls) key state before) out
-      → Contains (outputs_from (call_machine calls) key state (before ++ after)) out
-  of_first_inputs state [] after out among = absurd (none_among out among)
-  of_first_inputs state (first ∷ before) after out among =
-      let step = call_step calls state first.input first.moment in
-      let early = outputs_from (call_machine calls) key step.0 before in
-      let all = outputs_from (call_machine calls) key step.0 (before ++ after) in
-      ⊎_elim (λ here. Contains-append_left step.1 all out here)
-      (λ later. Contains-append_right step.1 all out
-      (of_first_inputs step.0 before after out later))
-      (Contains-append_cases step.1 early out among)
-
 -- ---- messages
 
 prack_token : IsTrue (is_token (codes "PRACK"))
@@ -150,8 +121,15 @@ module _ (config : Config) (rounds : List Round)
     abbrev inputs : List (Timed CallItem)
     inputs = call_inputs_of config rounds call_id
 
+    -- what one input gives, and what all do
+    abbrev gives : Option Call → Timed CallItem → List CallOut
+    gives call timed = (call_step calls call timed.input timed.moment).1
+
+    abbrev gives_from : Option Call → List (Timed CallItem) → List CallOut
+    gives_from call inputs = outputs_from (call_machine calls) call_id call inputs
+
     abbrev outs_of_call : List CallOut
-    outs_of_call = outputs_from (call_machine calls) call_id None inputs
+    outs_of_call = gives_from None inputs
 
     same_outs : said_of_call config rounds call_id ≡ outs_of_call
     same_outs = call_alone calls alone [] (past_of config rounds).calls call_id
@@ -210,9 +188,9 @@ module _ (config : Config) (rounds : List Round)
           (ap (λ o. client_at was.up.id (side_held o).clients) was.held ∙ was.client_is) in
           record {
             one = early.one;
-            among = subst (λ all. Contains (outputs_from (call_machine calls) call_id None all)
-                early.one) (sym was.are)
-                (of_first_inputs calls call_id None was.before (was.timed ∷ was.after) early.one
+            among = subst (λ inputs. Contains (gives_from None inputs) early.one) (sym was.are)
+                (of_first_inputs calls gives gives_from (λ call. refl)
+                (λ call timed inputs. refl) None was.before (was.timed ∷ was.after) early.one
                 early.among);
             starts = early.starts;
             sends = early.sends;
@@ -241,9 +219,9 @@ module _ (config : Config) (rounds : List Round)
           → Contains (call_step calls (Some was.call) was.timed.input was.timed.moment).1 out
           → Contains outs_of_call out
       of_its_input out among =
-          subst (λ all. Contains (outputs_from (call_machine calls) call_id None all) out)
-          (sym was.are)
-          (of_one_input calls call_id None was.before was.timed was.after out
+          subst (λ inputs. Contains (gives_from None inputs) out) (sym was.are)
+          (of_one_input calls gives gives_from (λ call. refl)
+          (λ call timed inputs. refl) None was.before was.timed was.after out
           (subst (λ state.
           Contains (call_step calls state was.timed.input was.timed.moment).1 out)
           (sym was.held) among))
@@ -306,6 +284,9 @@ module _ (configs : Side → Config) (fair : IsFair configs) (before : List Turn
       pub so : IsReliablySo configs fair before turn carried keep was.response rack.rseq status
       pub call : AreCounted local_config rounds_now
           → so.said.response.original.call_id ≡ call_id
+      pub request : AreCounted local_config rounds_now
+          → (so.said.response.request).request
+          ≡ come_from local_config.local was.client.request
       pub cseq : AreCounted local_config rounds_now
           → so.said.response.original.cseq.number ≡ rack.cseq
       pub from : AreCounted local_config rounds_now
@@ -325,8 +306,8 @@ module _ (configs : Side → Config) (fair : IsFair configs) (before : List Turn
         (sym so.whole) started in
         let own = own_reply configs fair.calls before turn was.up.call_id was.up.id status
         (tag_of response.from) (tag_of response.to) response.body reply begun in
-        let answers : AreCounted local_config rounds_now
-        → IsAlike reply.request.request was.client.request = λ few.
+        let request : AreCounted local_config rounds_now
+        → reply.request.request ≡ come_from local_config.local was.client.request = λ few.
         let start = own_start was.up.call_id reply.original few begun in
         let same : begun.request ≡ was.client.request =
         sym (start.same begun.request) ∙ sent.sends begun.request in
@@ -336,16 +317,17 @@ module _ (configs : Side → Config) (fair : IsFair configs) (before : List Turn
         ∙ (ap (λ (m : Message). m.cseq.method) same
         ∙ invites local_config rounds_now (fair.calls turn.side) call_id name rack.rseq rack.cseq
         was) in
-        subst (λ (m : Message). IsAlike m was.client.request)
-        (sym ((own few).same (λ cancel. no_cancel (sym cancel ∙ method))
-        ∙ ap (come_from local_config.local) same))
-        (came_alike local_config.local was.client.request) in
+        (own few).same (λ cancel. no_cancel (sym cancel ∙ method))
+        ∙ ap (come_from local_config.local) same in
+        let alike = came_alike local_config.local was.client.request in
         record {
           so = so;
           call = λ few. (own few).call ∙ of_up;
-          cseq = λ few. ap (λ (c : CSeq). c.number)
-              (reply.request.copies.cseq ∙ (answers few).cseq) ∙ was.number_is;
-          from = λ few. reply.request.copies.from ∙ (answers few).from;
+          request = request;
+          cseq = λ few. ap (λ (c : CSeq). c.number) (reply.request.copies.cseq
+              ∙ (ap (λ (m : Message). m.cseq) (request few) ∙ alike.cseq)) ∙ was.number_is;
+          from = λ few. reply.request.copies.from
+              ∙ (ap (λ (m : Message). m.from) (request few) ∙ alike.from);
         }
 
     pub reply_said : Carried configs (before ++ turn ∷ [])

@@ -8,10 +8,10 @@ use Rattle.std.specs.List.{AllByRecursion, list_any}
 use Rattle.std.specs.Map.{lookup, remove_entry, set_value}
 use Rattle.std.specs.Option.{option_map_or}
 use Rattle.std.specs.Str.{bytes_eq}
-use Rattle.sip_parts.specs.Parameters.{value_named}
 use Rattle.sip_message.specs.Content.{Content, content_of_body, with_content_of}
-use Rattle.sip_message.specs.Party.{party_of, tag_of}
+use Rattle.sip_message.specs.Party.{tag_of}
 use Rattle.sip_message.specs.declared.addr.Addr.{Addr}
+use Rattle.sip_message.specs.declared.cseq.CSeq.{CSeq}
 use Rattle.sip_message.specs.declared.id.Id.{Id}
 use Rattle.sip_message.specs.declared.key.Key.{Key}
 use Rattle.sip_message.specs.declared.message.Message.{Message}
@@ -23,7 +23,7 @@ use Rattle.sip_common.specs.Dialogs.{Dialogs, dialog_at, ended_at, is_dialog_id,
 use Rattle.sip_common.specs.Ids.{is_id}
 use Rattle.sip_common.specs.Refusal.{first_refusal}
 use Rattle.sip_common.specs.Requests.{dialog_id_of_tags, has_to_tag, is_final, is_success, requires_100rel}
-use Rattle.sip_common.specs.Sent.{name_of_dialog}
+use Rattle.sip_common.specs.Sent.{has_own_number, name_of_dialog}
 use Rattle.sip_common.specs.declared.command.Cancel.{Cancel}
 use Rattle.sip_common.specs.declared.command.DialogBody.{DialogBody}
 use Rattle.sip_common.specs.declared.command.DialogRequest.{DialogRequest}
@@ -40,6 +40,8 @@ use Rattle.sip_common.specs.declared.pending_request.PendingRequest.TheVariants.
 use Rattle.sip_common.specs.declared.refusal.Refusal.{Refusal}
 use Rattle.sip_common.specs.declared.refusal.Refusal.TheVariants.{AlreadyFinal, BadMethod, NoSuchRequest, NothingToAck, NothingToPrack}
 use Rattle.sip_common.proofs.Each.{both}
+use Rattle.sip_common.proofs.Heard.{name_laws}
+use Rattle.sip_common.proofs.Sent.{made_in}
 use Rattle.sip_common.proofs.Starts.{ended_starts, starts}
 use Rattle.sip_clients.specs.Client.{Clients, ClientTaken, Side}
 use Rattle.sip_clients.specs.Clients.{reply_name}
@@ -59,6 +61,7 @@ use Rattle.sip_conversation.proofs.Among.{all_both, all_go, all_of, among_first,
 use Rattle.sip_conversation.proofs.Branches.{either, found_or}
 use Rattle.sip_conversation.proofs.BranchSteps.{over_silent}
 use Rattle.sip_conversation.proofs.DialogOfReply.{Reply, dialog_named, has_so, name_so}
+use Rattle.sip_conversation.proofs.PracksServed.{same_name}
 
 found_among : {X : Type 0} (p : X → Bool) (xs : List X) (x : X) → find p xs ≡ Some x
     → Contains xs x
@@ -71,22 +74,24 @@ found_among p (y ∷ ys) x is = by_first (p y) is (λ later. found_among p ys x 
         let same : y ≡ x = cc in subst (Contains (y ∷ ys)) same (among_first y ys)
     by_first false is rest = among_later y ys x (rest is)
 
--- ---- the tags of a PRACK
-
-party_tag : (uri : List ℕ) (tag : Option (List ℕ)) → tag_of (party_of uri tag) ≡ tag_text tag
-unfolding value_named
-party_tag uri None = refl
-party_tag uri (Some tag) = refl
-
--- a request that is made in a dialog has its tags
-request_named : (dialog : Dialog) (method : List ℕ) (number : ℕ) (content : Content)
-    (branch : List ℕ) (local : Addr)
-    → let message = request_in dialog method number content branch local in
-    dialog_id_of_tags (tag_of message.from) (tag_of message.to) ≡ name_of_dialog dialog
-unfolding with_content_of
-request_named dialog method number content branch local =
-    (λ i. dialog_id_of_tags (party_tag dialog.local.uri dialog.local.tag i)
-    (party_tag dialog.remote.uri dialog.remote.tag i))
+-- a PRACK that is made in a dialog has its tags
+prack_named : (dialog : Dialog) (number : ℕ) (content : Content) (branch : List ℕ) (local : Addr)
+    → let prack = request_in dialog (codes "PRACK") number content branch local in
+    dialog_id_of_tags (tag_of prack.from) (tag_of prack.to) ≡ name_of_dialog dialog
+prack_named dialog number content branch local =
+    let name = name_of_dialog dialog in
+    let prack = request_in dialog (codes "PRACK") number content branch local in
+    let tags = dialog_id_of_tags (tag_of prack.from) (tag_of prack.to) in
+    let cseq : CSeq = record { number = number; method = codes "PRACK" } in
+    sym (same_name name tags (by_some (has_own_number prack) (is_dialog_id name tags) prack.cseq
+    cseq (made_in name name dialog (codes "PRACK") number content branch local (name_laws.refl name)
+    ∙ ap (λ b. if b then Some cseq else None) (name_laws.refl name))))
+  where
+    by_some : (numbered named : Bool) (one other : CSeq)
+        → (if numbered && named then Some one else None) ≡ Some other → named ≡ true
+    by_some true true one other is = refl
+    by_some true false one other is = absurd cc
+    by_some false named one other is = absurd cc
 
 module _ (Fact : DialogId → RAck → Type 0) where
   -- of the dialog of its tags and of its RAck, where it has one, this is said
@@ -127,8 +132,8 @@ module _ (Fact : DialogId → RAck → Type 0) where
       → Racked (request_with_next_number event name (codes "PRACK") (Some rack) content held)
   prack_racked event name rack content held fact other is =
       subst (λ name. Fact name other)
-      (sym (request_named held.dialog (codes "PRACK") (held.dialog.local_cseq + 1) content
-      (branch_of event) event.local))
+      (sym (prack_named held.dialog (held.dialog.local_cseq + 1) content (branch_of event)
+      event.local))
       (subst (Fact (name_of_dialog held.dialog)) (same_rack rack other is) fact)
 
   pub record IsPaid (Told : Type 0) (done : PendingOutcome) : Type 0 where

@@ -97,9 +97,10 @@ pub fn responses_told_were_said(one: Config, other: Config)
 /// acknowledges: in the same turn or before, the user was told of a response under the Call-ID of
 /// the PRACK. It is among the reliable provisional responses to one INVITE, in one life of the
 /// PRACK's dialog, that he was told of, with the RSeq that the RAck names. In the turns before, the
-/// other side said that response as such a one with that RSeq, as its user gave the command to
-/// respond so. Its CSeq has the number that the RAck names, if the rounds of the side that says the
-/// PRACK are counted as above; and the RAck's method is INVITE (RFC 3262, sections 4 and 7.2).
+/// other side said that response as a reliable provisional one with that RSeq, as its user gave the
+/// command to respond so. Its CSeq has the number that the RAck names, if the rounds of the side
+/// that says the PRACK are counted as above; and the RAck's method is INVITE (RFC 3262, sections 4
+/// and 7.2).
 pub fn pracks_follow_responses(one: Config, other: Config)
     ensures { (turns : List Turn) → Carried (of_sides one other) turns
         → CommandsKeepTypes turns
