@@ -5,7 +5,7 @@ use Rattle.std.specs.List.{AllByRecursion, cons_option}
 use Rattle.std.specs.Option.{option_map}
 use Rattle.std.proofs.lemmas.Bool.{false≢true}
 use Rattle.std.proofs.lemmas.Grind.{common_steps}
-use Rattle.std.proofs.lemmas.List.Elements.{Contains-append_left, Contains-append_right}
+use Rattle.std.proofs.lemmas.List.Elements.{Contains-append_right}
 use Rattle.std.proofs.lemmas.Option.{same_Some}
 use Rattle.sip_message.specs.declared.id.Id.{Id}
 use Rattle.sip_message.specs.declared.key.Key.{Key}
@@ -28,7 +28,6 @@ use Rattle.sip_common.specs.declared.item.CallOut.TheVariants as out
 use Rattle.sip_common.specs.declared.item.Item.TheVariants.{Up, User}
 use Rattle.sip_served.specs.declared.arrival.Arrival.{Arrival}
 use Rattle.sip_clients.specs.Name.{name_of}
-use Rattle.sip_calls.specs.declared.call.Call.{Call}
 use Rattle.sip_calls.specs.declared.calls.Calls.{Calls}
 use Rattle.sip_calls.specs.Call.{CallItem, call_machine, call_step}
 use Rattle.sip_calls.specs.HeldById.{RequestsRise}
@@ -157,7 +156,7 @@ module _ (Brought : Message → Type 0) (calls : Calls) (inputs : List (Timed Ca
         subst (λ xs. Contains (given_from calls id None xs) (rseq, response)) (sym same)
         (of_one_input calls
         (λ call one. given_in calls id one.input (call_step calls call one.input one.moment).1)
-        (given_from calls id) (λ call one rest. refl) None before timed after (rseq, response)
+        (given_from calls id) (λ call. refl) (λ call one rest. refl) None before timed after (rseq, response)
         (among_chosen (sent_reliably calls id) (says_at now timed.input)
         (out.Command id (order.Answer key response)) (rseq, response) among
         (sent_so calls id key response rseq is)))

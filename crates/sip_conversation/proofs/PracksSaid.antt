@@ -1,7 +1,7 @@
 -- Each reliable provisional response that a side said, its user gave to a request that came up. One
 -- with an RSeq above 1 the other side said after this side said the PRACK of the response of RSeq 1
 -- to the same INVITE.
-use Rattle.std.proofs.Common.{◌≡◌, ℕ, ◌<◌, Bool, true, false, ◌&&◌, not, ◌==◌, List, [], refl, sym, ap, ◌∙◌, subst}
+use Rattle.std.proofs.Common.{◌≡◌, ℕ, ◌<◌, Bool, true, false, ◌==◌, List, [], refl, sym, ap, ◌∙◌, subst}
 use Rattle.std.specs.Prelude.{IfSome, IsTrue, Option, None, Some, codes, if◌then◌else◌}
 use Rattle.std.specs.List.{AllByRecursion}
 use Rattle.sip_parts.specs.Tag.{has_good_tag}
