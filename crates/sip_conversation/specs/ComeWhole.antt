@@ -1,6 +1,6 @@
--- The reliable provisional responses to the INVITE of a call that a user is told of are consecutive
--- ones of those that the other user gave, in order; if nothing else comes between, they are the
--- first ones (RFC 3262, sections 3 and 4).
+-- The reliable provisional responses to the INVITE of a call that a user is told of in one life of
+-- a dialog are consecutive ones of those that the other user gave, in order. If he is told of no
+-- others in that dialog, they are the first ones (RFC 3262, sections 3 and 4).
 use Rattle.std.specs.Prelude.{◌≡◌, ◌≢◌, ℕ, List, [], ◌∷◌, ◌++◌, Option, None, Some, filter_map, if◌then◌else◌}
 use Rattle.std.specs.List.{AllZip}
 use Rattle.std.specs.Option.{option_map}
@@ -31,13 +31,13 @@ use Rattle.sip_conversation.specs.Replies.{AreCounted}
 -- ---- what a user gives
 
 module _ (calls : Calls) (request : Id) where
-  -- a reliable response to the request of this id that goes out, with its RSeq
+  -- the reliable response to the request of this id that this output is, with its RSeq
   abbrev pub sent_reliably : CallOut → Option (ℕ × Message)
   sent_reliably (Command id (Answer key response)) =
       if is_id id request then option_map (λ rseq. (rseq, response)) response.rseq else None
   sent_reliably _ = None
 
-  -- those that an input sends, if it is the user's command to respond
+  -- those among the outputs of an input, if that is the user's command to respond
   abbrev pub given_in : Option CallItem → List CallOut → List (ℕ × Message)
   given_in (Some (event, User (Respond respond))) outs = filter_map sent_reliably outs
   given_in _ outs = []
@@ -51,7 +51,7 @@ module _ (calls : Calls) (request : Id) where
 
 -- ---- what the other user is told
 
--- the notice tells of this response
+-- a notice with this status, these tags and this body tells of this response
 pub record TellsOf (status : ℕ) (local_tag remote_tag body : List ℕ) (response : Message)
     : Type 0 where
   pub status_is : status_of response.start ≡ Some status
@@ -65,7 +65,7 @@ IsToldOf (rseq, Notice (Response call_id id status local_tag remote_tag body)) (
     (rseq ≡ number) × TellsOf status local_tag remote_tag body response
 IsToldOf _ _ = ⊥
 
--- the notices tell of consecutive ones of these responses
+-- the notices tell of consecutive ones of these responses, each of one, in order
 pub record TellRun (told : List (ℕ × CallOut)) (given : List (ℕ × Message)) : Type 0 where
   pub earlier : List (ℕ × Message)
   pub run : List (ℕ × Message)
@@ -74,21 +74,22 @@ pub record TellRun (told : List (ℕ × CallOut)) (given : List (ℕ × Message)
   pub tell : AllZip IsToldOf told run
 
 module _ (configs : Side → Config) (before : List Turn) (turn : Turn) (call_id : List ℕ) where
-  -- up to the turn's end its user was told of such responses in no other life of this dialog, and
-  -- to no other INVITE in it
+  -- up to the turn's end the user was told of reliable provisional responses in no other life of
+  -- this dialog, and to no other INVITE in it
   abbrev pub NoOthersTold : AnInvite → DialogReference → Type 0
   NoOthersTold invite life = (other : AnInvite) (later : DialogReference)
       → later.name ≡ life.name
       → rseqs_told configs before turn call_id other later ≢ []
       → (other ≡ invite) × (later ≡ life)
 
-  -- those that the other user gave to the request of this id in the turns before
+  -- those that the other user gave, in the turns before, to the request that came up under this id
   abbrev pub given_reliably : Id → List (ℕ × Message)
   given_reliably request = given_from (calls_of (configs (peer turn.side))) request None
       (call_inputs_of (configs (peer turn.side)) (rounds_of (peer turn.side) before) call_id)
 
-  -- What the user is told in one life of a dialog are consecutive ones of those that the other user
-  -- gave to one request. If he was told of no others in that dialog, they are the first ones.
+  -- Those to the INVITE of the call that the user was told of in this life are consecutive ones of
+  -- those that the other user gave to one request. If he was told of no others in that dialog, they
+  -- are the first ones.
   pub record ToldWhole (life : DialogReference) : Type 0 where
     pub request : Id
     pub told : TellRun (told_reliably configs before turn call_id OfTheCall life)

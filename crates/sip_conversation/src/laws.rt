@@ -24,8 +24,8 @@ use sip_transactions::Transactions;
 /// In a carried conversation, each message that comes to a transaction of one side in a turn is one
 /// that the other side said in the turns before. One of its calls asked to send the message, or one
 /// of its transactions made it from what it was given. The message comes unchanged, except for the
-/// stamp of its source in a request (RFC 3261, section 18.2.1). Here and below, each command of a
-/// user has the types of its parts; a program can give no other.
+/// stamp of its source in a request (RFC 3261, section 18.2.1). Here and in the laws below, the
+/// parts of each command are what their types say. A program can give no other command.
 pub fn messages_come_unchanged(one: Config, other: Config)
     ensures { (turns : List Turn) → Carried (of_sides one other) turns
         → CommandsKeepTypes turns
@@ -62,7 +62,8 @@ pub fn calls_hear_unchanged(one: Config, other: Config)
 /// told. Its user gave the command to respond with that status and body. If the RSeq is above 1,
 /// this side said in those turns, in the dialog of that response, a PRACK whose RAck has RSeq 1,
 /// the response's CSeq number and INVITE (RFC 3262, section 7.2). The law doesn't say that the
-/// response was to this INVITE, or that the first of these RSeqs is 1.
+/// response was to this INVITE, or that the first of these RSeqs is 1. `provisionals_come_whole`
+/// does, of the INVITE of a call.
 pub fn provisionals_told_were_said(one: Config, other: Config)
     ensures { (turns : List Turn) → Carried (of_sides one other) turns
         → CommandsKeepTypes turns
@@ -124,12 +125,12 @@ pub fn the_first_is_told_first(one: Config, other: Config)
     provisionals_in_each_life(&other);
 }
 
-/// In such a conversation, the reliable provisional responses to the INVITE of a call that a user is
-/// told of in one life of a dialog come whole: they are consecutive ones of those that the other
-/// side's user gave to one request in the turns before, in the order in which he gave them, with
-/// their RSeqs, statuses, tags and bodies. If the user was told of no others in that dialog, they
-/// are the first ones given (RFC 3262, sections 3 and 4). The rounds of both sides have to be
-/// counted as above.
+/// In such a conversation, the reliable provisional responses to the INVITE of a call come whole.
+/// Those that a user is told of in one life of a dialog are consecutive ones of those that the
+/// other side's user gave to one request in the turns before. They come in the order in which he
+/// gave them, with their RSeqs, statuses, tags and bodies. If the user was told of no others in
+/// that dialog, they are the first ones given (RFC 3262, sections 3 and 4). The rounds of both
+/// sides have to be counted as above.
 pub fn provisionals_come_whole(one: Config, other: Config)
     ensures { (turns : List Turn) → Carried (of_sides one other) turns
         → CommandsKeepTypes turns
@@ -164,8 +165,8 @@ pub fn acks_told_were_said(one: Config, other: Config)
 }
 
 /// In such a conversation, for each PRACK that a user is told of in a turn, the other side said a
-/// PRACK of that Call-ID in the turns before, with that body, and with the RSeq that is told in RAck
-/// (RFC 3262, section 7.2). Its user gave the command Prack under that Call-ID with that body, or
+/// PRACK of that Call-ID in the turns before, with that body, and with the RSeq that is told in
+/// RAck (RFC 3262, section 7.2). Its user gave the command Prack under that Call-ID with that body, or
 /// there is no body: such a PRACK may be the agent's own.
 pub fn pracks_told_were_said(one: Config, other: Config)
     ensures { (turns : List Turn) → Carried (of_sides one other) turns
