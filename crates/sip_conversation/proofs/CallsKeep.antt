@@ -45,7 +45,7 @@ use Rattle.sip_conversation.proofs.Carrying.{TurnHolds, each_turn, in_rounds}
 use Rattle.sip_conversation.proofs.OneTransaction.{IsFaithful, KindCame, faithful}
 use Rattle.sip_conversation.proofs.RepliesSaid.{IsFair}
 use Rattle.sip_conversation.proofs.Rounds.{ArrivalFits, OutFits, TimedFits, all_of_parts, calls_give, inputs_fit}
-use Rattle.sip_conversation.proofs.KeepsRules.{AnswerKeeps, KeepsInput, KindKeeps, StartKeeps}
+use Rattle.sip_conversation.proofs.KeepsRules.{Any, AnswerKeeps, KeepsInput, KindKeeps, StartKeeps}
 use Rattle.sip_conversation.proofs.SoundCalls.{starts_keep_rules}
 use Rattle.sip_conversation.proofs.AnswersOfCalls.{answers_keep}
 use Rattle.sip_conversation.proofs.Unchanged.{AreFine, IsFine, carried_fine, come_keeps}
@@ -53,9 +53,6 @@ use Rattle.sip_conversation.proofs.UserInputs.{EventAsks, ItemAsks, TimedAsks, i
 use Rattle.sip_conversation.proofs.Ups.{ItemCame, OutCame, TimedCame, UpCame, inputs_came}
 
 -- ---- one agent, to which only messages that keep the rules come
-
-abbrev Any : Message → Type 0
-Any message = Unit {0}
 
 -- such a message is received
 abbrev ReceivesSound : Key → Input → Type 0
@@ -140,17 +137,17 @@ module _ (alone : EachKeyAlone key_cmp transaction_machine tick_at) (config : Co
 -- ---- what a call sends
 
 module _ (calls : Calls) (address : IsAddr calls.local) where
-  out_keeps : (out : CallOut) → StartKeeps out → AnswerKeeps out → KeepsRules out
+  out_keeps : (out : CallOut) → StartKeeps Any out → AnswerKeeps out → KeepsRules out
   out_keeps (call_out.Notice notice) start answer = tt
   out_keeps (call_out.Command id (command.Start key call_id message to)) start answer = start
   out_keeps (call_out.Command id (command.Answer key message)) start answer = answer
-  out_keeps (call_out.Direct to bytes) start answer = start
+  out_keeps (call_out.Direct to bytes) start answer = (start.0, start.1, start.2)
 
   outs_keep : (call_id : List ℕ) (inputs : List (Timed CallItem))
       → AllByRecursion (λ (timed : Timed CallItem). KeepsInput timed.input) inputs
       → AllByRecursion KeepsRules (outputs_from (call_machine calls) call_id None inputs)
   outs_keep call_id inputs keeps =
-      all_both {P = StartKeeps} {Q = AnswerKeeps} {R = KeepsRules} out_keeps
+      all_both {P = StartKeeps Any} {Q = AnswerKeeps} {R = KeepsRules} out_keeps
       (outputs_from (call_machine calls) call_id None inputs)
       (starts_keep_rules calls address call_id inputs keeps)
       (answers_keep calls address call_id inputs keeps)

@@ -55,21 +55,10 @@ use Rattle.sip_clients.specs.declared.client.Cancelling.TheVariants.{NotAsked, S
 use Rattle.sip_clients.specs.declared.client.Client.{Client}
 use Rattle.sip_clients.specs.declared.event.Event.{Event}
 use Rattle.sip_clients.proofs.DialogSends.{AreNamed}
-use Rattle.sip_conversation.proofs.Among.{all_both, all_go, all_of, among_first, among_later}
+use Rattle.sip_conversation.proofs.Among.{all_both, all_go, all_of, found_among}
 use Rattle.sip_conversation.proofs.Branches.{either, found_or}
 use Rattle.sip_conversation.proofs.BranchSteps.{over_silent}
 use Rattle.sip_conversation.proofs.DialogOfReply.{Reply, dialog_named, has_so, name_so}
-
-found_among : {X : Type 0} (p : X → Bool) (xs : List X) (x : X) → find p xs ≡ Some x
-    → Contains xs x
-found_among p [] x is = absurd cc
-found_among p (y ∷ ys) x is = by_first (p y) is (λ later. found_among p ys x later)
-  where
-    by_first : (b : Bool) → (if b then Some y else find p ys) ≡ Some x
-        → (find p ys ≡ Some x → Contains ys x) → Contains (y ∷ ys) x
-    by_first true is rest =
-        let same : y ≡ x = cc in subst (Contains (y ∷ ys)) same (among_first y ys)
-    by_first false is rest = among_later y ys x (rest is)
 
 -- ---- the tags of a PRACK
 
@@ -87,6 +76,23 @@ unfolding with_content_of
 request_named dialog method number content branch local =
     (λ i. dialog_id_of_tags (party_tag dialog.local.uri dialog.local.tag i)
     (party_tag dialog.remote.uri dialog.remote.tag i))
+
+-- ---- the user is still told of it after what it starts
+
+more_told : (xs ys : List CallOut) → list_any is_response xs ≡ true
+    → list_any is_response (xs ++ ys) ≡ true
+more_told xs ys told =
+    list_any-append is_response xs ys ∙ ap (λ b. b || list_any is_response ys) told
+
+pub still_told : (clients : List Client) (done : Clients × List CallOut)
+    → list_any is_response done.1 ≡ true
+    → list_any is_response (fold start done clients).1 ≡ true
+still_told [] done told = told
+still_told (client ∷ clients) done told =
+    still_told clients (start done client) (more_told done.1 _ told)
+
+abbrev pub IsToldOf : ClientTaken → Type 0
+IsToldOf taken = list_any is_response taken.1 ≡ true
 
 module _ (Fact : DialogId → RAck → Type 0) where
   -- of the dialog of its tags and of its RAck, where it has one, this is said
@@ -382,23 +388,6 @@ module _ (Fact : DialogId → RAck → Type 0) where
 
   cancel_racked : (id : Id) (invite : Client) → Racked (cancel_request id invite)
   cancel_racked id invite rack is = absurd (no_rack rack is)
-
-  -- ---- the user is still told of it after what it starts
-
-  more_told : (xs ys : List CallOut) → list_any is_response xs ≡ true
-      → list_any is_response (xs ++ ys) ≡ true
-  more_told xs ys told =
-      list_any-append is_response xs ys ∙ ap (λ b. b || list_any is_response ys) told
-
-  still_told : (clients : List Client) (done : Clients × List CallOut)
-      → list_any is_response done.1 ≡ true
-      → list_any is_response (fold start done clients).1 ≡ true
-  still_told [] done told = told
-  still_told (client ∷ clients) done told =
-      still_told clients (start done client) (more_told done.1 _ told)
-
-  abbrev pub IsToldOf : ClientTaken → Type 0
-  IsToldOf taken = list_any is_response taken.1 ≡ true
 
   response_racked : (event : Event) (id : Id) (of : List ℕ) (response : Message) (side : Side)
       (status : ℕ) (client : Client) → AreNamed side.dialogs
