@@ -38,6 +38,7 @@ pub mod PracksSaid
 pub mod OwedTold
 pub mod DialogOfReply
 pub mod RackedSteps
+pub mod HeardReplies
 pub mod RackedCalls
 pub mod ClientsSent
 pub mod ToldInLife

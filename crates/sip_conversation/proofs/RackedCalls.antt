@@ -45,6 +45,7 @@ use Rattle.sip_calls.specs.declared.calls.Calls.{Calls}
 use Rattle.sip_calls.proofs.CallStarts.{tick_silent}
 use Rattle.sip_calls.proofs.Histories.{has_its_name}
 use Rattle.sip_calls.proofs.Owing.{owes_as_told}
+use Rattle.sip_conversation.proofs.HeardReplies.{WasHeard}
 use Rattle.sip_conversation.proofs.OwedTold.{WasAskedFor, owed_was_asked}
 use Rattle.sip_conversation.proofs.PracksOfCalls.{from_more}
 use Rattle.sip_conversation.proofs.PracksServed.{same_name}
@@ -94,31 +95,12 @@ prack_asked status client response rseq number asks =
         let two : client.request.cseq.number ≡ number = cc in
         record { rseq_is = is ∙ ap (λ r. Some r) one; number_is = two }
 
--- At one of these inputs a reliable provisional response with this RSeq comes up in the dialog of
--- this name, to an INVITE with this CSeq number, and the user is told of a response. The dialog is
--- held, or may be made.
-pub record WasTold (calls : Calls) (inputs : List (Timed CallItem)) (name : DialogId)
-    (rseq number : ℕ) : Type 0 where
-  pub before : List (Timed CallItem)
-  pub timed : Timed CallItem
-  pub after : List (Timed CallItem)
-  pub are : inputs ≡ before ++ timed ∷ after
-  pub call : Call
-  pub held : call_from calls None before ≡ Some call
-  pub event : Id
-  pub up : AnUp
-  pub comes : timed.input ≡ Some (event, Up up)
-  pub response : Message
-  pub kind_is : up.kind ≡ kind.Response response
-  pub client : Client
-  pub client_is : client_at up.id call.clients ≡ Some client
-  pub name_is : reply_name client.kind client response ≡ name
-  pub has : has_dialog client.kind (dialog_at name (side_of call).dialogs) ≡ true
-  pub number_is : client.request.cseq.number ≡ number
-  pub status : ℕ
-  pub status_is : status_of response.start ≡ Some status
-  pub rseq_is : provisional_number (Some status) response ≡ Some rseq
-  pub told : list_any is_response (call_step calls (Some call) timed.input timed.moment).1 ≡ true
+-- it is a reliable provisional response with this RSeq
+abbrev pub HasRseq : ℕ → ℕ → Message → Type 0
+HasRseq rseq status response = provisional_number (Some status) response ≡ Some rseq
+
+abbrev pub WasTold : Calls → List (Timed CallItem) → DialogId → ℕ → ℕ → Type 0
+WasTold calls inputs name rseq number = WasHeard (HasRseq rseq) calls inputs name number
 
 asked_told : (calls : Calls) (front rest : List (Timed CallItem)) (name : DialogId)
     (rseq number : ℕ) → WasAskedFor calls front name (Prack rseq number)
@@ -146,7 +128,7 @@ asked_told calls front rest name rseq number was =
       number_is = asked.number_is;
       status = was.asks.status;
       status_is = was.asks.status_is;
-      rseq_is = asked.rseq_is;
+      is = asked.rseq_is;
       told = was.asks.told;
     }
 
@@ -282,7 +264,7 @@ module _ (calls : Calls) (all : List (Timed CallItem)) where
           number_is = refl;
           status = status;
           status_is = status_is;
-          rseq_is = number;
+          is = number;
           told = ap (λ k. list_any is_response
               (received call (event_of calls id now) up k).1) is ∙ told;
         },

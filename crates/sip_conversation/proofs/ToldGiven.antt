@@ -54,7 +54,7 @@ use Rattle.sip_conversation.proofs.OnceOnly.{once_only}
 use Rattle.sip_conversation.proofs.OneCallId.{IsOfStart, name_low, started_request}
 use Rattle.sip_conversation.proofs.OneTransaction.{KindCame}
 use Rattle.sip_conversation.proofs.Origins.{IsOrigin, TimedComes, counted, inputs_come, IsCounted}
-use Rattle.sip_conversation.proofs.PracksFollow.{of_first_inputs}
+use Rattle.sip_conversation.proofs.HeardReplies.{of_first_inputs}
 use Rattle.sip_conversation.proofs.PracksSaid.{OfCall, IsAlike, came_alike, given_in_call}
 use Rattle.sip_conversation.proofs.PracksServed.{same_name}
 use Rattle.sip_conversation.proofs.Provisionals.{said_reliably, IsReliablySo}
