@@ -71,3 +71,4 @@ pub mod AnswersHeld
 pub mod AnswersServed
 pub mod AnswersOfCalls
 pub mod CallsKeep
+pub mod AckedCalls

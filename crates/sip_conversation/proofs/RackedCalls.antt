@@ -64,7 +64,7 @@ distinct_before [] ys apart = tt
 distinct_before (x ∷ xs) ys apart =
     (all_before (λ y. is_id x y ≡ false) xs ys apart.0, distinct_before xs ys apart.1)
 
-front_differ : (front rest : List (Timed CallItem)) → EventsDiffer (front ++ rest)
+pub front_differ : (front rest : List (Timed CallItem)) → EventsDiffer (front ++ rest)
     → EventsDiffer front
 front_differ front rest differ =
     distinct_before (filter_map (λ timed. event_in timed.input) front)
@@ -74,40 +74,40 @@ front_differ front rest differ =
 
 -- ---- what a response asks for
 
-record IsAsked (status : ℕ) (client : Client) (response : Message) (rseq number : ℕ) : Type 0 where
-  pub rseq_is : provisional_number (Some status) response ≡ Some rseq
-  pub number_is : client.request.cseq.number ≡ number
+-- it is a reliable provisional response with this RSeq
+abbrev pub HasRseq : ℕ → ℕ → Message → Type 0
+HasRseq rseq status response = provisional_number (Some status) response ≡ Some rseq
 
 prack_asked : (status : ℕ) (client : Client) (response : Message) (rseq number : ℕ)
     → asked_for status client response ≡ Some (Prack rseq number)
-    → IsAsked status client response rseq number
+    → HasRseq rseq status response × (client.request.cseq.number ≡ number)
 prack_asked status client response rseq number asks =
     by_success (is_success status) (provisional_number (Some status) response) refl asks
   where
     by_success : (b : Bool) (o : Option ℕ) → provisional_number (Some status) response ≡ o
         → (if b then Some (Ack client.id client.request.cseq.number)
         else option_map (λ r. Prack r client.request.cseq.number) o) ≡ Some (Prack rseq number)
-        → IsAsked status client response rseq number
+        → HasRseq rseq status response × (client.request.cseq.number ≡ number)
     by_success true o is asks = absurd cc
     by_success false None is asks = absurd cc
     by_success false (Some r) is asks =
         let one : r ≡ rseq = cc in
         let two : client.request.cseq.number ≡ number = cc in
-        record { rseq_is = is ∙ ap (λ r. Some r) one; number_is = two }
-
--- it is a reliable provisional response with this RSeq
-abbrev pub HasRseq : ℕ → ℕ → Message → Type 0
-HasRseq rseq status response = provisional_number (Some status) response ≡ Some rseq
+        (is ∙ ap (λ r. Some r) one, two)
 
 abbrev pub WasTold : Calls → List (Timed CallItem) → DialogId → ℕ → ℕ → Type 0
 WasTold calls inputs name rseq number = WasHeard (HasRseq rseq) calls inputs name number
 
-asked_told : (calls : Calls) (front rest : List (Timed CallItem)) (name : DialogId)
-    (rseq number : ℕ) → WasAskedFor calls front name (Prack rseq number)
-    → WasTold calls (front ++ rest) name rseq number
-asked_told calls front rest name rseq number was =
-    let asked = prack_asked was.asks.status was.asks.client was.response rseq number was.asks.asks
-    in record {
+-- what was asked for at the first inputs, by a response of which this is true
+pub asked_heard : (Is : ℕ → Message → Type 0) (calls : Calls) (front rest : List (Timed CallItem))
+    (name : DialogId) (pending : PendingRequest) (number : ℕ)
+    → ((status : ℕ) (client : Client) (response : Message)
+    → asked_for status client response ≡ Some pending
+    → Is status response × (client.request.cseq.number ≡ number))
+    → WasAskedFor calls front name pending → WasHeard Is calls (front ++ rest) name number
+asked_heard Is calls front rest name pending number so was =
+    let asked = so was.asks.status was.asks.client was.response was.asks.asks in
+    record {
       before = was.before;
       timed = was.timed;
       after = was.after ++ rest;
@@ -125,10 +125,10 @@ asked_told calls front rest name rseq number was =
       name_is = same_name (reply_name was.asks.client.kind was.asks.client was.response) name
           was.asks.named;
       has = was.asks.has;
-      number_is = asked.number_is;
+      number_is = asked.1;
       status = was.asks.status;
       status_is = was.asks.status_is;
-      is = asked.rseq_is;
+      is = asked.0;
       told = was.asks.told;
     }
 
@@ -215,7 +215,7 @@ module _ (calls : Calls) (all : List (Timed CallItem)) where
 
   -- ---- one input, after others
 
-  named_so : (front : List (Timed CallItem)) → EventsDiffer front → (call : Call)
+  pub named_so : (front : List (Timed CallItem)) → EventsDiffer front → (call : Call)
       → call_from calls None front ≡ Some call → AreNamed (side_of call).dialogs
   named_so front differ call held name dialog at =
       has_its_name calls front differ name dialog
@@ -233,7 +233,9 @@ module _ (calls : Calls) (all : List (Timed CallItem)) where
           refl,
           subst (λ name. WasTold calls all name rseq number) own
               (subst (λ inputs. WasTold calls inputs name rseq number) (sym are)
-              (asked_told calls front rest name rseq number
+              (asked_heard (HasRseq rseq) calls front rest name (Prack rseq number) number
+              (λ status client response asks.
+              prack_asked status client response rseq number asks)
               (owed_was_asked calls name front (Prack rseq number)
               (subst (λ pending. Contains pending (Prack rseq number)) owed among)))),
         )

@@ -68,7 +68,7 @@ party_tag uri None = refl
 party_tag uri (Some tag) = refl
 
 -- a request that is made in a dialog has its tags
-request_named : (dialog : Dialog) (method : List ℕ) (number : ℕ) (content : Content)
+pub request_named : (dialog : Dialog) (method : List ℕ) (number : ℕ) (content : Content)
     (branch : List ℕ) (local : Addr)
     → let message = request_in dialog method number content branch local in
     dialog_id_of_tags (tag_of message.from) (tag_of message.to) ≡ name_of_dialog dialog

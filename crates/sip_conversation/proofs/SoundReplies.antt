@@ -59,6 +59,12 @@ reply_for event id of response status client = record {
   response = response;
 }
 
+-- the dialog of a 2xx, as it is then
+abbrev pub success_dialog : Reply → Client → Dialogs → HeldDialog
+success_dialog reply client dialogs =
+    option_map_or (success_in (is_initial client) reply.response)
+    (lookup (is_dialog_id reply.name) dialogs) (dialog_made_by reply client)
+
 -- of each ACK that is sent this is said
 module _ (AckIs : Message → Type 0) where
   -- ---- the end of a request
@@ -105,12 +111,6 @@ module _ (AckIs : Message → Type 0) where
   )
 
   -- ---- a response
-
-  -- the dialog of a 2xx, as it is then
-  abbrev success_dialog : Reply → Client → Dialogs → HeldDialog
-  success_dialog reply client dialogs =
-      option_map_or (success_in (is_initial client) reply.response)
-      (lookup (is_dialog_id reply.name) dialogs) (dialog_made_by reply client)
 
   -- so is each ACK that may be made for a 2xx, if the user is told of it
   abbrev pub Hears : Type 0 → Reply → Client → Dialogs → Type 0
