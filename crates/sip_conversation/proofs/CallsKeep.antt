@@ -122,7 +122,7 @@ module _ (alone : EachKeyAlone key_cmp transaction_machine tick_at) (config : Co
               received key now id message reply_to among;
         }) key))
 
-    pub inputs_keep : AllByRecursion (λ (round : Round).
+    inputs_keep : AllByRecursion (λ (round : Round).
         AllByRecursion (EventAsks KeepsTypes) round.events) rounds → (call_id : List ℕ)
         → AllByRecursion (λ (timed : Timed CallItem). KeepsInput timed.input)
         (call_inputs_of config rounds call_id)
@@ -173,23 +173,30 @@ module _ (configs : Side → Config) (fair : IsFair configs) where
   fine_arrives s (event.Failed key) fine id = tt
   fine_arrives s (event.Command c) fine id = tt
 
-  calls_keep : (turns : List Turn) → Fine turns → CommandsKeepTypes turns
-      → CallsKeepRules configs turns
-  calls_keep turns fine types s out says =
+  pub inputs_keep_so : (turns : List Turn) → Fine turns → CommandsKeepTypes turns → (s : Side)
+      (call_id : List ℕ) → AllByRecursion (λ (timed : Timed CallItem). KeepsInput timed.input)
+      (call_inputs_of (configs s) (rounds_of s turns) call_id)
+  inputs_keep_so turns fine types s call_id =
       let config = configs s in
-      let rounds = rounds_of s turns in
-      let call_id = says.0 in
       let sound = in_rounds (λ s e. ArrivesSound fair.transactions (configs s) [] e) s turns
       (each_turn {P = IsFine fair.transactions configs fair.addresses}
       {Q = λ s e. ArrivesSound fair.transactions (configs s) [] e} fine_arrives turns fine) in
       let asks = in_rounds (λ s e. EventAsks KeepsTypes e) s turns
       (each_turn {P = λ s e. EventKeepsTypes e} {Q = λ s e. EventAsks KeepsTypes e}
       (λ s e. event_asks e) turns types) in
+      inputs_keep fair.transactions config (rounds_of s turns) sound asks call_id
+
+  calls_keep : (turns : List Turn) → Fine turns → CommandsKeepTypes turns
+      → CallsKeepRules configs turns
+  calls_keep turns fine types s out says =
+      let config = configs s in
+      let rounds = rounds_of s turns in
+      let call_id = says.0 in
       each_of KeepsRules (said_of_call config rounds call_id) out
       (subst (AllByRecursion KeepsRules)
       (sym (call_alone (calls_of config) (fair.calls s) [] (past_of config rounds).calls call_id))
       (outs_keep (calls_of config) (fair.addresses s) call_id (call_inputs_of config rounds call_id)
-      (inputs_keep fair.transactions config rounds sound asks call_id))) says.1
+      (inputs_keep_so turns fine types s call_id))) says.1
 
   all_keep : (before turns : List Turn) → Fine before → CommandsKeepTypes (before ++ turns)
       → CarriedAfter configs before turns → CallsKeepRules configs (before ++ turns)

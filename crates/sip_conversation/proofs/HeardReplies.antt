@@ -286,25 +286,38 @@ module _ (configs : Side → Config) (fair : IsFair configs) (before : List Turn
           (inputs_come local_config rounds_now call_id)).0 in
           own.0
 
-      -- a response that the other side said, to that INVITE
+      -- a request that came to the other side, and one with which a transaction was started, are
+      -- that INVITE
+      pub record IsThatInvite (came started : Message) : Type 0 where
+        pub alike : IsAlike came was.client.request
+        pub same : started ≡ was.client.request
+        pub method : (was.client.request).cseq.method ≡ codes "INVITE"
+
+      -- so are those of a response that the other side said
       pub invite_answered : (status : ℕ) (local_tag remote_tag body : List ℕ)
           → (said : SaidResponse configs before turn.side status local_tag remote_tag body)
-          → IsStartedFor local_config rounds_now was.up.call_id was.up.id said.original
-          → AreCounted local_config rounds_now → IsAlike said.request.request was.client.request
+          → (begun : IsStartedFor local_config rounds_now was.up.call_id was.up.id said.original)
+          → AreCounted local_config rounds_now → IsThatInvite said.request.request begun.request
       invite_answered status local_tag remote_tag body said begun few =
           let start = own_start was.up.call_id said.original few begun in
           let same : begun.request ≡ was.client.request =
           sym (start.same begun.request) ∙ (sent).sends begun.request in
+          let invite =
+          invites local_config rounds_now (fair.calls turn.side) call_id Is name number was in
           let method : said.original.cseq.method ≡ codes "INVITE" =
           start.method (top_branch said.original) said.original.cseq.method
           (response_key said.original status said.status_is)
-          ∙ (ap (λ (m : Message). m.cseq.method) same
-          ∙ invites local_config rounds_now (fair.calls turn.side) call_id Is name number was) in
-          subst (λ (m : Message). IsAlike m was.client.request)
-          (sym (((own_reply configs fair.calls before turn was.up.call_id was.up.id status local_tag
-          remote_tag body said begun few).same (λ cancel. no_cancel (sym cancel ∙ method)))
-          ∙ ap (come_from local_config.local) same))
-          (came_alike local_config.local was.client.request)
+          ∙ (ap (λ (m : Message). m.cseq.method) same ∙ invite) in
+          record {
+            alike = subst (λ (m : Message). IsAlike m was.client.request)
+                (sym (((own_reply configs fair.calls before turn was.up.call_id was.up.id status
+                local_tag remote_tag body said begun few).same
+                (λ cancel. no_cancel (sym cancel ∙ method)))
+                ∙ ap (come_from local_config.local) same))
+                (came_alike local_config.local was.client.request);
+            same = same;
+            method = invite;
+          }
 
       -- ---- that it came, and what the user is told of it
 

@@ -72,3 +72,4 @@ pub mod AnswersServed
 pub mod AnswersOfCalls
 pub mod CallsKeep
 pub mod AckedCalls
+pub mod AcksFollow

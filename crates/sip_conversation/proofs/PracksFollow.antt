@@ -182,8 +182,8 @@ module _ (configs : Side → Config) (fair : IsFair configs) (before : List Turn
               (tag_of response.from) (tag_of response.to) response.body reply begun few).call
               ∙ of_up configs fair before turn call_id HasIt name rack.cseq was;
           cseq = λ few. ap (λ (c : CSeq). c.number)
-              (reply.request.copies.cseq ∙ (own few).cseq) ∙ was.number_is;
-          from = λ few. reply.request.copies.from ∙ (own few).from;
+              (reply.request.copies.cseq ∙ (own few).alike.cseq) ∙ was.number_is;
+          from = λ few. reply.request.copies.from ∙ (own few).alike.from;
         }
 
     follows : rack.method ≡ codes "INVITE" → Carried configs (before ++ turn ∷ [])

@@ -213,7 +213,7 @@ module _ (alone : EachKeyAlone key_cmp transaction_machine tick_at) where
     carried_fine turns fine keep s (event.Failed key) carried = tt
     carried_fine turns fine keep s (event.Command c) carried = tt
 
-    fine_after : (before turns : List Turn) → AreFine before → CarriedAfter configs before turns
+    pub fine_after : (before turns : List Turn) → AreFine before → CarriedAfter configs before turns
         → CallsKeepRules configs (before ++ turns) → AreFine (before ++ turns)
     fine_after before [] fine carried keep = subst AreFine (sym (append-nil before)) fine
     fine_after before (turn ∷ turns) fine carried keep =

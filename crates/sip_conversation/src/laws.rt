@@ -2,6 +2,7 @@
 
 ghost use Rattle.std.specs.Prelude.{List};
 ghost use Rattle.sip_message.specs.Addr.{IsAddr};
+ghost use Rattle.sip_conversation.specs.AckedResponses.{AcksFollowResponses};
 ghost use Rattle.sip_conversation.specs.Acks.{AcksToldWereSaid};
 ghost use Rattle.sip_conversation.specs.ComeWhole.{ProvisionalsComeWhole};
 ghost use Rattle.sip_conversation.specs.Commands.{CommandsKeepTypes};
@@ -104,6 +105,20 @@ pub fn pracks_follow_responses(one: Config, other: Config)
     ensures { (turns : List Turn) → Carried (of_sides one other) turns
         → CommandsKeepTypes turns
         → PracksFollowResponses (of_sides one other) turns }
+{
+    sides_are_fair(&one, &other);
+}
+
+/// In such a conversation, each text that a call sends directly is that of an ACK, which keeps the
+/// rules of messages and follows the 2xx that it acknowledges: in the same turn or before, the user
+/// was told of a 2xx under the Call-ID of the ACK. In the turns before, the other side said that
+/// response. If the rounds of the side that sends the ACK are counted as above, the response answers
+/// an INVITE with the ACK's CSeq number, and the ACK is in the dialog of the response's tags, or in
+/// the one in which the INVITE was sent (RFC 3261, section 13.2.2.4).
+pub fn acks_follow_responses(one: Config, other: Config)
+    ensures { (turns : List Turn) → Carried (of_sides one other) turns
+        → CommandsKeepTypes turns
+        → AcksFollowResponses (of_sides one other) turns }
 {
     sides_are_fair(&one, &other);
 }
