@@ -29,7 +29,6 @@ use Rattle.sip_common.specs.Requests.{dialog_id_of_tags, is_success}
 use Rattle.sip_common.specs.Sent.{name_of_dialog}
 use Rattle.sip_common.specs.declared.held_dialog.DialogId.{DialogId}
 use Rattle.sip_common.specs.declared.held_dialog.HeldDialog.{HeldDialog}
-use Rattle.sip_common.specs.declared.item.CallOut.{CallOut}
 use Rattle.sip_common.specs.declared.item.Item.TheVariants.{Up, User}
 use Rattle.sip_common.specs.declared.pending_request.PendingRequest.TheVariants.{Ack, Prack}
 use Rattle.sip_common.proofs.Each.{found_one}
@@ -181,7 +180,7 @@ module _ (calls : Calls) (call_id : List ℕ) (all : List (Timed CallItem)) wher
         let owed = owes_as_told calls front differ name dialog
         (ap (λ o. dialog_at name (side_held o).dialogs) held ∙ at) in
         let own = same_name name (name_of_dialog dialog.dialog)
-        (named_so calls all front differ call held name dialog at) in
+        (named_so calls front differ call held name dialog at) in
         made_so dialog.dialog number (dialog_of name (Some dialog) at)
         (subst (λ name. WasHeard Is2xx calls all name number) own
         (subst (λ inputs. WasHeard Is2xx calls inputs name number) (sym are)
@@ -218,7 +217,7 @@ module _ (calls : Calls) (call_id : List ℕ) (all : List (Timed CallItem)) wher
         let its = success_of (is_initial client) response reply.name call_id
         (dialog_at reply.name dialogs) (dialog_made_by reply client)
         (record {
-          named = dialog_named reply client dialogs (named_so calls all front differ call held)
+          named = dialog_named reply client dialogs (named_so calls front differ call held)
               own (dialog_at reply.name dialogs) refl there;
           call_id_is = either_of reply client (request_of up.id client found)
               (dialog_at reply.name dialogs) refl;
@@ -263,9 +262,11 @@ module _ (calls : Calls) (call_id : List ℕ) (all : List (Timed CallItem)) wher
   input_pays front rest (Some call) held now None are differ of = tt
   input_pays front rest (Some call) held now (Some (id, Up up)) are differ of =
       hears_pays front rest call held differ of id now up are up.kind refl
-  input_pays front rest (Some call) held now (Some (id, User command)) are differ of =
-      owed_pays front (record { moment = now; input = Some (id, User command) } ∷ rest) call held
-      differ of are
+  input_pays front rest (Some call) held now (Some (id, User command)) are differ of = (
+    owed_pays front (record { moment = now; input = Some (id, User command) } ∷ rest) call held
+        differ of are,
+    named_so calls front differ call held,
+  )
 
   -- ---- all inputs
 

@@ -1,25 +1,23 @@
 -- An ACK that a call sends follows the 2xx that it acknowledges, of which the user was told.
-use Rattle.std.proofs.Common.{◌≡◌, ◌⊎◌, inl, inr, ℕ, true, false, List, [], ◌∷◌, ◌++◌, refl, sym, ap, ◌∙◌, subst}
-use Rattle.std.specs.Prelude.{Contains, None, Some, codes}
+use Rattle.std.proofs.Common.{◌≡◌, ◌⊎◌, inl, inr, ℕ, true, List, [], ◌∷◌, ◌++◌, refl, sym, ap, ◌∙◌, subst}
+use Rattle.std.specs.Prelude.{IfSome, Some, codes}
 use Rattle.std.specs.List.{AllByRecursion}
 use Rattle.std.proofs.lemmas.Bool.{false≢true}
 use Rattle.sip_message.specs.Party.{tag_of}
 use Rattle.sip_message.specs.declared.addr.Addr.{Addr}
-use Rattle.sip_message.specs.declared.cseq.CSeq.{CSeq}
 use Rattle.sip_message.specs.declared.id.Id.{Id}
 use Rattle.sip_message.specs.declared.message.Message.{Message}
-use Rattle.sip_model.specs.Machine.{Timed, outputs_from}
+use Rattle.sip_model.specs.Machine.{Timed}
 use Rattle.sip_common.specs.Dialogs.{dialog_at}
 use Rattle.sip_common.specs.Requests.{dialog_id_of_tags, is_success}
 use Rattle.sip_common.specs.declared.held_dialog.DialogId.{DialogId}
-use Rattle.sip_common.specs.declared.item.CallOut.{CallOut}
 use Rattle.sip_common.specs.declared.item.CallOut.TheVariants as call_out
 use Rattle.sip_common.proofs.Each.{both}
 use Rattle.sip_clients.specs.Clients.{reply_name}
 use Rattle.sip_clients.specs.ReceivedResponse.{has_dialog}
 use Rattle.sip_clients.specs.declared.client.RequestKind.{RequestKind}
 use Rattle.sip_clients.specs.declared.client.RequestKind.TheVariants.{InDialog, InitialInvite, OutOfDialog, ReInvite}
-use Rattle.sip_calls.specs.Call.{CallItem, call_machine}
+use Rattle.sip_calls.specs.Call.{CallItem}
 use Rattle.sip_calls.specs.Sides.{side_of}
 use Rattle.sip_calls.specs.OwnCall.{IsInputOf}
 use Rattle.sip_calls.specs.declared.calls.Calls.{Calls}
@@ -40,7 +38,9 @@ use Rattle.sip_conversation.proofs.CallsKeep.{calls_keep_rules, inputs_keep_so}
 use Rattle.sip_conversation.proofs.Carrying.{TurnHolds}
 use Rattle.sip_conversation.proofs.Fronts.{carried_before, carried_to, keeps_before, keeps_to}
 use Rattle.sip_conversation.proofs.HeardReplies.{WasHeard, has_come, invite_answered, of_up, same_outs, told_so}
-use Rattle.sip_conversation.proofs.KeepsRules.{StartKeeps}
+use Rattle.sip_conversation.proofs.KeepsRules.{Any, KeepsInput, StartKeeps}
+use Rattle.sip_conversation.proofs.SoundCalls.{IsSoundCall, any_pays, held_sound}
+use Rattle.sip_conversation.proofs.SoundClients.{IsNamedIn, client_found}
 use Rattle.sip_conversation.proofs.Origins.{TimedComes, inputs_come}
 use Rattle.sip_conversation.proofs.RepliesSaid.{IsFair, response_said, told_response}
 use Rattle.sip_conversation.proofs.Rounds.{all_of_parts}
@@ -63,7 +63,17 @@ module _ (configs : Side → Config) (fair : IsFair configs) (before : List Turn
   inputs call_id = call_inputs_of local_config rounds_now call_id
 
   module _ (call_id : List ℕ) (name : DialogId) (number : ℕ)
-      (was : WasHeard Is2xx calls (inputs call_id) name number) where
+      (was : WasHeard Is2xx calls (inputs call_id) name number)
+      (keeps : AllByRecursion (λ timed. KeepsInput timed.input) (inputs call_id)) where
+    -- an INVITE in a dialog has its tags
+    its_name : IsNamedIn was.client.kind was.client.request
+    its_name =
+        let sound = subst (λ o. IfSome o (IsSoundCall Any)) was.held
+        (held_sound Any calls (fair.addresses turn.side) call_id (inputs call_id)
+        (any_pays calls (inputs call_id) (events_differ local_config call_id rounds_now))
+        was.before (was.timed ∷ was.after) was.are keeps) in
+        (client_found Any was.up.id was.call.clients sound.clients was.client was.client_is).named
+
     -- the notice is of this call, and of such a response
     record IsTelling (of : List ℕ) (id : Id) (status : ℕ) (local_tag remote_tag body : List ℕ)
         : Type 0 where
@@ -88,7 +98,9 @@ module _ (configs : Side → Config) (fair : IsFair configs) (before : List Turn
         ⊎ (dialog_id_of_tags (tag_of started.from) (tag_of started.to) ≡ name)
     its_dialog InitialInvite is has named local_tag tag started same =
         inl (ap (λ tag. dialog_id_of_tags tag (tag_of was.response.to)) tag ∙ named)
-    its_dialog (ReInvite life) is has named local_tag tag started same = inr ?
+    its_dialog (ReInvite life) is has named local_tag tag started same =
+        inr (subst (λ (m : Message). dialog_id_of_tags (tag_of m.from) (tag_of m.to) ≡ name)
+        (sym same) (subst (λ k. IsNamedIn k was.client.request) is its_name ∙ named))
     its_dialog (InDialog life) is has named local_tag tag started same = absurd (false≢true has)
     its_dialog OutOfDialog is has named local_tag tag started same = absurd (false≢true has)
 
@@ -167,7 +179,7 @@ module _ (configs : Side → Config) (fair : IsFair configs) (before : List Turn
             (dialog_id_of_tags (tag_of ack.from) (tag_of ack.to)) ack.cseq.number)
             (sym so.call_id_is)
             (follows call_id (dialog_id_of_tags (tag_of ack.from) (tag_of ack.to))
-            ack.cseq.number so.heard);
+            ack.cseq.number so.heard keeps);
       }
 
 pub acks_follow : (configs : Side → Config) → IsFair configs → (turns : List Turn)

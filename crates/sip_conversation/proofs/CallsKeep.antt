@@ -35,6 +35,8 @@ use Rattle.sip_round.specs.declared.round.Round.{Round}
 use Rattle.sip_round.specs.Answers.{calls_of, no_past, past_of}
 use Rattle.sip_round.specs.Arrivals.{arrival_of}
 use Rattle.sip_round.specs.Laws.{call_inputs_of, inputs_of, said_of, said_of_call}
+use Rattle.sip_round.proofs.CallEvents.{events_differ}
+use Rattle.sip_calls.specs.Provisionals.{EventsDiffer}
 use Rattle.sip_round.proofs.Said.{call_alone, transaction_alone}
 use Rattle.sip_conversation.specs.Commands.{CommandsKeepTypes, EventKeepsTypes, KeepsTypes}
 use Rattle.sip_conversation.specs.Conversation.{Carried, CarriedAfter, IsCarried, Side, Turn, peer, rounds_of}
@@ -143,13 +145,13 @@ module _ (calls : Calls) (address : IsAddr calls.local) where
   out_keeps (call_out.Command id (command.Answer key message)) start answer = answer
   out_keeps (call_out.Direct to bytes) start answer = (start.0, start.1, start.2)
 
-  outs_keep : (call_id : List ℕ) (inputs : List (Timed CallItem))
+  outs_keep : (call_id : List ℕ) (inputs : List (Timed CallItem)) → EventsDiffer inputs
       → AllByRecursion (λ (timed : Timed CallItem). KeepsInput timed.input) inputs
       → AllByRecursion KeepsRules (outputs_from (call_machine calls) call_id None inputs)
-  outs_keep call_id inputs keeps =
+  outs_keep call_id inputs differ keeps =
       all_both {P = StartKeeps Any} {Q = AnswerKeeps} {R = KeepsRules} out_keeps
       (outputs_from (call_machine calls) call_id None inputs)
-      (starts_keep_rules calls address call_id inputs keeps)
+      (starts_keep_rules calls address call_id inputs differ keeps)
       (answers_keep calls address call_id inputs keeps)
 
 -- ---- both sides
@@ -196,7 +198,7 @@ module _ (configs : Side → Config) (fair : IsFair configs) where
       (subst (AllByRecursion KeepsRules)
       (sym (call_alone (calls_of config) (fair.calls s) [] (past_of config rounds).calls call_id))
       (outs_keep (calls_of config) (fair.addresses s) call_id (call_inputs_of config rounds call_id)
-      (inputs_keep_so turns fine types s call_id))) says.1
+      (events_differ config call_id rounds) (inputs_keep_so turns fine types s call_id))) says.1
 
   all_keep : (before turns : List Turn) → Fine before → CommandsKeepTypes (before ++ turns)
       → CarriedAfter configs before turns → CallsKeepRules configs (before ++ turns)

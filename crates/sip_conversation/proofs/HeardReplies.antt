@@ -1,29 +1,19 @@
 -- The input at which a call hears a response to an INVITE, of which the user is told.
 use Rattle.std.proofs.Common.{◌≡◌, ℕ, Bool, true, false, ◌||◌, List, [], ◌∷◌, ◌++◌, refl, sym, ap, ◌∙◌, subst, ⊎_elim}
-use Rattle.std.specs.Prelude.{Contains, IfSome, IsTrue, Option, None, Some, codes}
+use Rattle.std.specs.Prelude.{Contains, IfSome, Option, None, Some, codes}
 use Rattle.std.specs.List.{AllByRecursion, list_any}
 use Rattle.std.specs.Str.{bytes_eq}
 use Rattle.std.proofs.lemmas.Bool.{false≢true}
 use Rattle.std.proofs.lemmas.List.Elements.{Contains-append_cases, Contains-append_left, Contains-append_right}
-use Rattle.sip_text.specs.Token.{is_token, is_token_byte}
-use Rattle.sip_message.specs.Message.{is_request_message}
-use Rattle.sip_message.specs.Party.{tag_of}
-use Rattle.sip_message.specs.Written.{written}
-use Rattle.sip_message.specs.declared.addr.Addr.{Addr}
-use Rattle.sip_message.specs.declared.cseq.CSeq.{CSeq}
 use Rattle.sip_message.specs.declared.id.Id.{Id}
-use Rattle.sip_message.specs.declared.key.Key.{Key}
 use Rattle.sip_message.specs.declared.message.Message.{Message}
-use Rattle.sip_message.specs.declared.rack.RAck.{RAck}
 use Rattle.sip_message.specs.MessageKey.{key_of_message}
 use Rattle.sip_message.specs.TopVia.{top_branch}
 use Rattle.sip_model.specs.Laws.{EachKeyAlone}
 use Rattle.sip_model.specs.Machine.{Timed, outputs_from, tick_at}
 use Rattle.sip_transactions.specs.declared.input.Input.TheVariants.{Start}
-use Rattle.sip_transactions.specs.declared.input.Command.TheVariants as order
 use Rattle.sip_common.specs.Dialogs.{dialog_at}
 use Rattle.sip_common.specs.Ids.{is_id}
-use Rattle.sip_common.specs.Requests.{dialog_id_of_tags}
 use Rattle.sip_common.specs.declared.held_dialog.DialogId.{DialogId}
 use Rattle.sip_common.specs.declared.item.CallOut.{CallOut}
 use Rattle.sip_common.specs.declared.item.CallOut.TheVariants as call_out
@@ -31,7 +21,7 @@ use Rattle.sip_common.specs.declared.notice.Notice.{Notice}
 use Rattle.sip_common.specs.declared.notice.Notice.TheVariants as notice
 use Rattle.sip_common.proofs.Each.{found_one}
 use Rattle.sip_clients.specs.Client.{client_at}
-use Rattle.sip_clients.specs.Provisionals.{is_response, provisional_number}
+use Rattle.sip_clients.specs.Provisionals.{is_response}
 use Rattle.sip_clients.specs.declared.client.Client.{Client}
 use Rattle.sip_calls.specs.Call.{CallItem, call_machine, call_step}
 use Rattle.sip_calls.specs.CallShard.{call_cmp}
@@ -47,24 +37,19 @@ use Rattle.sip_round.specs.declared.round.Round.{Round}
 use Rattle.sip_round.specs.Answers.{answers, calls_of, past_of}
 use Rattle.sip_round.specs.Given.{all_given, is_notice_of, notice_in}
 use Rattle.sip_round.specs.Laws.{call_inputs_of, said_of_call}
-use Rattle.sip_round.proofs.CallEvents.{events_differ}
 use Rattle.sip_round.proofs.GivenNotices.{notices_given}
 use Rattle.sip_round.proofs.Said.{call_alone}
 use Rattle.sip_conversation.specs.Conversation.{Carried, Side, Turn, given_by, rounds_of}
-use Rattle.sip_conversation.specs.Messages.{CallSays, CallsKeepRules, IsGiven, IsSaid, come_from}
-use Rattle.sip_conversation.specs.Messages.IsSaid.{Acknowledges, Asked, Direct, Trying}
-use Rattle.sip_conversation.specs.Provisionals.{SaidReliably, told_reliably}
+use Rattle.sip_conversation.specs.Messages.{CallSays, CallsKeepRules, IsGiven, come_from}
 use Rattle.sip_conversation.specs.Replies.{AreCounted, IsStartedFor, SaidResponse}
-use Rattle.sip_conversation.proofs.AckTexts.{is_ack}
 use Rattle.sip_conversation.proofs.Among.{among_first, among_later, each_of, in_all_of, kept_among, none_among}
 use Rattle.sip_conversation.proofs.Branches.{Own}
-use Rattle.sip_conversation.proofs.CallBranches.{HeldOwn, InputComes, OutIsOwn, all_own, held_own}
+use Rattle.sip_conversation.proofs.CallBranches.{HeldOwn, InputComes, held_own}
 use Rattle.sip_conversation.proofs.DialogOfReply.{is_of_invite}
 use Rattle.sip_conversation.proofs.CallOuts.{InputFits, KindTells, OutFits, ResponseTells, step_fits}
 use Rattle.sip_conversation.proofs.ClientsSent.{WentOut, held_went}
 use Rattle.sip_conversation.proofs.Longer.{rounds_of-append}
-use Rattle.sip_conversation.proofs.Fronts.{carried_before, carried_to, keeps_before, keeps_to}
-use Rattle.sip_conversation.proofs.OneCallId.{IsOfStart, out_replies, started_request}
+use Rattle.sip_conversation.proofs.OneCallId.{IsOfStart, started_request}
 use Rattle.sip_conversation.proofs.OneTransaction.{KindCame}
 use Rattle.sip_conversation.proofs.Origins.{IsOrigin, TimedComes, inputs_come}
 use Rattle.sip_conversation.proofs.PracksSaid.{IsAlike, came_alike}

@@ -12,6 +12,7 @@ use Rattle.sip_common.specs.declared.item.CallOut.{CallOut}
 use Rattle.sip_common.specs.declared.item.CallOut.TheVariants as call_out
 use Rattle.sip_common.specs.declared.item.Item.TheVariants.{Up, User}
 use Rattle.sip_calls.specs.Call.{CallItem, call_machine}
+use Rattle.sip_calls.specs.Provisionals.{EventsDiffer}
 use Rattle.sip_calls.specs.declared.calls.Calls.{Calls}
 use Rattle.sip_conversation.specs.Commands.{KeepsTypes}
 
@@ -44,7 +45,7 @@ StartKeeps AckIs (call_out.Direct to bytes) =
 
 -- all that a call gives, from nothing held on
 abbrev pub StartsKeepRules : Calls → Type 0
-StartsKeepRules calls = (call_id : List ℕ) (inputs : List (Timed CallItem))
+StartsKeepRules calls = (call_id : List ℕ) (inputs : List (Timed CallItem)) → EventsDiffer inputs
     → AllByRecursion (λ timed. KeepsInput timed.input) inputs
     → AllByRecursion (StartKeeps Any) (outputs_from (call_machine calls) call_id None inputs)
 

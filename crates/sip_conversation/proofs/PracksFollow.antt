@@ -1,11 +1,10 @@
 -- A PRACK that a side says follows the reliable provisional response that it acknowledges, of which
 -- the user was told in its dialog.
-use Rattle.std.proofs.Common.{◌≡◌, ℕ, Bool, true, false, ◌||◌, List, [], ◌∷◌, ◌++◌, refl, sym, ap, ◌∙◌, subst, ⊎_elim}
-use Rattle.std.specs.Prelude.{Contains, IfSome, IsTrue, Option, None, Some, codes}
-use Rattle.std.specs.List.{AllByRecursion, list_any}
+use Rattle.std.proofs.Common.{◌≡◌, ℕ, true, List, [], ◌∷◌, ◌++◌, refl, sym, ap, ◌∙◌, subst}
+use Rattle.std.specs.Prelude.{Contains, IsTrue, None, Some, codes}
+use Rattle.std.specs.List.{AllByRecursion}
 use Rattle.std.specs.Str.{bytes_eq}
 use Rattle.std.proofs.lemmas.Bool.{false≢true}
-use Rattle.std.proofs.lemmas.List.Elements.{Contains-append_cases, Contains-append_left, Contains-append_right}
 use Rattle.sip_text.specs.Token.{is_token, is_token_byte}
 use Rattle.sip_message.specs.Message.{is_request_message}
 use Rattle.sip_message.specs.Party.{tag_of}
@@ -16,70 +15,43 @@ use Rattle.sip_message.specs.declared.id.Id.{Id}
 use Rattle.sip_message.specs.declared.key.Key.{Key}
 use Rattle.sip_message.specs.declared.message.Message.{Message}
 use Rattle.sip_message.specs.declared.rack.RAck.{RAck}
-use Rattle.sip_message.specs.MessageKey.{key_of_message}
-use Rattle.sip_message.specs.TopVia.{top_branch}
 use Rattle.sip_model.specs.Laws.{EachKeyAlone}
 use Rattle.sip_model.specs.Machine.{Timed, outputs_from, tick_at}
-use Rattle.sip_transactions.specs.declared.input.Input.TheVariants.{Start}
 use Rattle.sip_transactions.specs.declared.input.Command.TheVariants as order
-use Rattle.sip_common.specs.Dialogs.{dialog_at}
-use Rattle.sip_common.specs.Ids.{is_id}
 use Rattle.sip_common.specs.Requests.{dialog_id_of_tags}
 use Rattle.sip_common.specs.declared.held_dialog.DialogId.{DialogId}
 use Rattle.sip_common.specs.declared.item.CallOut.{CallOut}
 use Rattle.sip_common.specs.declared.item.CallOut.TheVariants as call_out
-use Rattle.sip_common.specs.declared.notice.Notice.{Notice}
 use Rattle.sip_common.specs.declared.notice.Notice.TheVariants as notice
-use Rattle.sip_common.proofs.Each.{found_one}
-use Rattle.sip_clients.specs.Client.{client_at}
 use Rattle.sip_clients.specs.Clients.{status_of}
-use Rattle.sip_clients.specs.Provisionals.{is_response, provisional_number}
-use Rattle.sip_clients.specs.declared.client.Client.{Client}
-use Rattle.sip_calls.specs.Call.{CallItem, call_machine, call_step}
+use Rattle.sip_clients.specs.Provisionals.{provisional_number}
+use Rattle.sip_calls.specs.Call.{CallItem, call_machine}
 use Rattle.sip_calls.specs.CallShard.{call_cmp}
-use Rattle.sip_calls.specs.Histories.{call_from}
-use Rattle.sip_calls.specs.OwnCall.{IsInputOf}
-use Rattle.sip_calls.specs.Provisionals.{side_held}
-use Rattle.sip_calls.specs.Sides.{side_of}
-use Rattle.sip_calls.specs.declared.call.Call.{Call}
 use Rattle.sip_calls.specs.declared.calls.Calls.{Calls}
 use Rattle.sip_round.specs.declared.config.Config.{Config}
 use Rattle.sip_round.specs.declared.output.Output.TheVariants as output
 use Rattle.sip_round.specs.declared.round.Round.{Round}
-use Rattle.sip_round.specs.Answers.{answers, calls_of, past_of}
-use Rattle.sip_round.specs.Given.{all_given, is_notice_of, notice_in}
+use Rattle.sip_round.specs.Answers.{calls_of, past_of}
 use Rattle.sip_round.specs.Laws.{call_inputs_of, said_of_call}
 use Rattle.sip_round.proofs.CallEvents.{events_differ}
-use Rattle.sip_round.proofs.GivenNotices.{notices_given}
-use Rattle.sip_round.proofs.Said.{call_alone}
 use Rattle.sip_conversation.specs.Conversation.{Carried, Side, Turn, given_by, rounds_of}
-use Rattle.sip_conversation.specs.Messages.{CallSays, CallsKeepRules, IsGiven, IsSaid, come_from}
+use Rattle.sip_conversation.specs.Messages.{CallsKeepRules, IsSaid}
 use Rattle.sip_conversation.specs.Messages.IsSaid.{Acknowledges, Asked, Direct, Trying}
 use Rattle.sip_conversation.specs.Pracks.{FollowsResponse, PracksFollowResponses}
 use Rattle.sip_conversation.specs.Provisionals.{SaidReliably, told_reliably}
 use Rattle.sip_conversation.specs.Replies.{AreCounted, IsStartedFor}
 use Rattle.sip_conversation.proofs.AckTexts.{is_ack}
-use Rattle.sip_conversation.proofs.Among.{among_first, among_later, each_of, in_all_of, kept_among, none_among}
-use Rattle.sip_conversation.proofs.Branches.{Own}
-use Rattle.sip_conversation.proofs.CallBranches.{HeldOwn, InputComes, OutIsOwn, all_own, held_own}
-use Rattle.sip_conversation.proofs.DialogOfReply.{is_of_invite}
-use Rattle.sip_conversation.proofs.CallOuts.{InputFits, KindTells, OutFits, ResponseTells, step_fits}
-use Rattle.sip_conversation.proofs.ClientsSent.{WentOut, held_went}
-use Rattle.sip_conversation.proofs.Longer.{rounds_of-append}
+use Rattle.sip_conversation.proofs.Among.{each_of, none_among}
+use Rattle.sip_conversation.proofs.CallBranches.{OutIsOwn, all_own}
 use Rattle.sip_conversation.proofs.Fronts.{carried_before, carried_to, keeps_before, keeps_to}
-use Rattle.sip_conversation.proofs.OneCallId.{IsOfStart, out_replies, started_request}
-use Rattle.sip_conversation.proofs.OneTransaction.{KindCame}
-use Rattle.sip_conversation.proofs.Origins.{IsOrigin, TimedComes, inputs_come}
-use Rattle.sip_conversation.proofs.PracksSaid.{IsAlike, came_alike}
+use Rattle.sip_conversation.proofs.OneCallId.{out_replies}
+use Rattle.sip_conversation.proofs.Origins.{IsOrigin, inputs_come}
 use Rattle.sip_conversation.proofs.Provisionals.{IsReliablySo, said_reliably}
 use Rattle.sip_conversation.proofs.HeardReplies.{invite_answered, has_come, of_up, same_outs, told_so}
 use Rattle.sip_conversation.proofs.RackedCalls.{HasRseq, IsTold, OutIsTold, WasTold, all_told}
-use Rattle.sip_conversation.proofs.RepliesSaid.{Came, Comes, IsFair, inputs_come as ups_come}
-use Rattle.sip_conversation.proofs.Rounds.{all_of_parts}
-use Rattle.sip_conversation.proofs.StartedFor.{KindStarted, response_key}
+use Rattle.sip_conversation.proofs.RepliesSaid.{IsFair}
 use Rattle.sip_conversation.proofs.ToldCallId.{own_reply}
-use Rattle.sip_conversation.proofs.ToldInLife.{IsToldInLife, told_in_life}
-use Rattle.sip_conversation.proofs.Ups.{ItemCame, TimedCame}
+use Rattle.sip_conversation.proofs.ToldInLife.{told_in_life}
 
 -- ---- messages
 

@@ -34,7 +34,6 @@ use Rattle.sip_clients.specs.Client.{client_at}
 use Rattle.sip_clients.specs.Clients.{reply_name, status_of}
 use Rattle.sip_clients.specs.Owing.{asked_for}
 use Rattle.sip_clients.specs.Provisionals.{is_response, provisional_number}
-use Rattle.sip_clients.specs.ReceivedResponse.{has_dialog}
 use Rattle.sip_clients.specs.declared.client.Client.{Client}
 use Rattle.sip_clients.proofs.DialogSends.{AreNamed}
 use Rattle.sip_calls.specs.Call.{CallItem, CallTaken, call_machine, call_step, event_of, item_of_call, made_tag, new_call, received, side_of}
@@ -71,6 +70,13 @@ front_differ front rest differ =
     (filter_map (λ timed. event_in timed.input) rest)
     (subst (IsDistinct is_id)
     (filter_map-append (λ (timed : Timed CallItem). event_in timed.input) front rest) differ)
+
+-- each held dialog has the name of its tags
+pub named_so : (calls : Calls) (front : List (Timed CallItem)) → EventsDiffer front
+    → (call : Call) → call_from calls None front ≡ Some call → AreNamed (side_of call).dialogs
+named_so calls front differ call held name dialog at =
+    has_its_name calls front differ name dialog
+    (ap (λ o. dialog_at name (side_held o).dialogs) held ∙ at)
 
 -- ---- what a response asks for
 
@@ -215,12 +221,6 @@ module _ (calls : Calls) (all : List (Timed CallItem)) where
 
   -- ---- one input, after others
 
-  pub named_so : (front : List (Timed CallItem)) → EventsDiffer front → (call : Call)
-      → call_from calls None front ≡ Some call → AreNamed (side_of call).dialogs
-  named_so front differ call held name dialog at =
-      has_its_name calls front differ name dialog
-      (ap (λ o. dialog_at name (side_held o).dialogs) held ∙ at)
-
   module _ (front rest : List (Timed CallItem)) (differ : EventsDiffer front) where
     owed_so : (call : Call) → all ≡ front ++ rest → call_from calls None front ≡ Some call
         → PaysIn call
@@ -229,7 +229,7 @@ module _ (calls : Calls) (all : List (Timed CallItem)) where
         let owed = owes_as_told calls front differ name dialog
         (ap (λ o. dialog_at name (side_held o).dialogs) held ∙ at) in
         let own = same_name name (name_of_dialog dialog.dialog)
-        (named_so front differ call held name dialog at) in (
+        (named_so calls front differ call held name dialog at) in (
           refl,
           subst (λ name. WasTold calls all name rseq number) own
               (subst (λ inputs. WasTold calls inputs name rseq number) (sym are)
@@ -302,7 +302,7 @@ module _ (calls : Calls) (all : List (Timed CallItem)) where
       (none_hears (received (new_call calls.local) (event_of calls id now) up up.kind)
       (new_call calls.local) refl up.id up.kind)
   step_says front rest (Some call) now (Some (id, Up up)) are held differ =
-      up_says call id now up up.kind (named_so front differ call held)
+      up_says call id now up up.kind (named_so calls front differ call held)
       (hears_so front rest call id now up are held up.kind refl)
   step_says front rest None now (Some (id, User command)) are held differ =
       first_says (new_call calls.local) id now command

@@ -1,5 +1,5 @@
 -- If what a call hears keeps the rules of messages, so does what it starts and sends as text.
-use Rattle.std.proofs.Common.{◌≡◌, ℕ, Bool, true, false, cond, List, [], ◌∷◌, ◌++◌, refl, sym, ◌∙◌, subst, append_assoc}
+use Rattle.std.proofs.Common.{◌≡◌, ℕ, Bool, true, false, cond, List, [], ◌∷◌, ◌++◌, refl, sym, ◌∙◌, subst, append-nil, append_assoc}
 use Rattle.std.specs.Prelude.{Option, None, Some, IfSome}
 use Rattle.std.specs.List.{AllByRecursion}
 use Rattle.sip_message.specs.Addr.{IsAddr}
@@ -40,12 +40,16 @@ use Rattle.sip_dialog.specs.declared.dialog.Dialog.{Dialog}
 use Rattle.sip_common.specs.declared.pending_request.PendingRequest.{PendingRequest}
 use Rattle.sip_common.specs.declared.pending_request.PendingRequest.TheVariants.{Ack, Prack}
 use Rattle.sip_calls.specs.Histories.{call_from}
+use Rattle.sip_conversation.proofs.RackedCalls.{front_differ, named_so}
 use Rattle.sip_conversation.proofs.RackedSteps.{IsToldOf}
+use Rattle.sip_conversation.proofs.Rounds.{all_of_parts}
+use Rattle.sip_clients.proofs.DialogSends.{AreNamed}
+use Rattle.sip_calls.specs.Provisionals.{EventsDiffer}
 use Rattle.sip_conversation.proofs.PracksOfCalls.{from_more}
 
 -- of each ACK that is sent as a text this is said
 module _ (AckIs : Message → Type 0) where
-  record IsSoundCall (call : Call) : Type 0 where
+  pub record IsSoundCall (call : Call) : Type 0 where
     pub served : IsSoundState call.served
     pub clients : AreSoundClients AckIs call.clients
 
@@ -129,23 +133,24 @@ module _ (AckIs : Message → Type 0) where
   first_done call event (user.Cancel cancel) address types sound = (sound, (tt, tt))
 
   command_done : (call : Call) (event : Event) (command : UserCommand) → IsAddr event.local
-      → KeepsTypes command → PaysIn AckIs (side_of call) → IsSoundCall call
+      → KeepsTypes command → PaysIn AckIs (side_of call) → AreNamed (side_of call).dialogs
+      → IsSoundCall call
       → Done (item_of_call true call event (User command))
-  command_done call event (user.Invite invite) address types pays sound = (sound, (tt, tt))
-  command_done call event (user.Plain plain) address types pays sound = (sound, (tt, tt))
-  command_done call event (user.Request request) address types pays sound =
+  command_done call event (user.Invite invite) address types pays named sound = (sound, (tt, tt))
+  command_done call event (user.Plain plain) address types pays named sound = (sound, (tt, tt))
+  command_done call event (user.Request request) address types pays named sound =
       by_clients_done call _ sound
-      (request_done AckIs event address request (side_of call) types (sides_of call sound))
-  command_done call event (user.Respond respond) address types pays sound =
+      (request_done AckIs event address request (side_of call) types named (sides_of call sound))
+  command_done call event (user.Respond respond) address types pays named sound =
       by_server_done call _ sound
       (respond_done AckIs call.served event.id respond event.moment types sound.served)
-  command_done call event (user.Ack ack) address types pays sound =
+  command_done call event (user.Ack ack) address types pays named sound =
       by_clients_done call _ sound
       (ack_done AckIs event address ack (side_of call) types pays (sides_of call sound))
-  command_done call event (user.Prack prack) address types pays sound =
+  command_done call event (user.Prack prack) address types pays named sound =
       by_clients_done call _ sound
       (prack_done AckIs event address prack (side_of call) types pays (sides_of call sound))
-  command_done call event (user.Cancel cancel) address types pays sound =
+  command_done call event (user.Cancel cancel) address types pays named sound =
       by_clients_done call _ sound
       (cancel_done AckIs event cancel (side_of call) (sides_of call sound))
 
@@ -160,11 +165,13 @@ module _ (AckIs : Message → Type 0) where
       (replies.tick_done AckIs (side_of first.0) now (sides_of first.0 so.0)) in
       (later.0, both (StartKeeps AckIs) first.1 second.1 so.1 later.1)
 
-  -- so is each that may be made for an input of the call that is held
+  -- so is each that may be made for an input of the call that is held; and at a command the dialogs
+  -- have the names of their tags
   abbrev pub InputPays : Calls → Option Call → Option CallItem → ℕ → Type 0
   InputPays calls (Some call) (Some (id, Up up)) now =
       KindPays call (event_of calls id now) up up.kind
-  InputPays calls (Some call) (Some (id, User command)) now = PaysIn AckIs (side_of call)
+  InputPays calls (Some call) (Some (id, User command)) now =
+      PaysIn AckIs (side_of call) × AreNamed (side_of call).dialogs
   InputPays calls (Some call) None now = Unit {0}
   InputPays calls None input now = Unit {0}
 
@@ -222,7 +229,7 @@ module _ (AckIs : Message → Type 0) where
         (first_done call (event_of calls id now) command address keeps new_sound)
     step_done (Some call) (Some (id, User command)) now keeps pays sound =
         kept_done (item_of_call true call (event_of calls id now) (User command))
-        (command_done call (event_of calls id now) command address keeps pays sound)
+        (command_done call (event_of calls id now) command address keeps pays.0 pays.1 sound)
 
     -- ---- all inputs
 
@@ -241,6 +248,30 @@ module _ (AckIs : Message → Type 0) where
           (subst (λ s. Keep AckIs (outputs_from (call_machine calls) key s rest)) more
           (from_done (front ++ timed ∷ []) rest (are ∙ sym (append_assoc front (timed ∷ []) rest))
           keep.1 (subst Held (sym more) so.0)))
+
+      -- what is held after the first inputs is sound
+      held_from : (front rest more : List (Timed CallItem)) → all ≡ front ++ (rest ++ more)
+          → AllByRecursion (λ timed. KeepsInput timed.input) rest → Held (call_from calls None front)
+          → Held (call_from calls None (front ++ rest))
+      held_from front [] more are keep sound =
+          subst (λ xs. Held (call_from calls None xs)) (sym (append-nil front)) sound
+      held_from front (timed ∷ rest) more are keep sound =
+          let state = call_from calls None front in
+          let so = step_done state timed.input timed.moment keep.0
+          (pays front timed (rest ++ more) are) sound in
+          subst (λ xs. Held (call_from calls None xs)) (append_assoc front (timed ∷ []) rest)
+          (held_from (front ++ timed ∷ []) rest more
+          (are ∙ sym (append_assoc front (timed ∷ []) (rest ++ more))) keep.1
+          (subst Held (sym (from_more calls None front timed)) so.0))
+
+      pub held_sound : (front more : List (Timed CallItem)) → all ≡ front ++ more
+          → AllByRecursion (λ timed. KeepsInput timed.input) all
+          → Held (call_from calls None front)
+      held_sound front more are keep =
+          held_from [] front more are
+          (all_of_parts (λ (timed : Timed CallItem). KeepsInput timed.input) front more
+          (subst (AllByRecursion (λ (timed : Timed CallItem). KeepsInput timed.input)) are keep)).0
+          tt
 
       -- what a call sends keeps the rules, and of each ACK that it sends as a text this is said
       pub starts_keep : AllByRecursion (λ timed. KeepsInput timed.input) all
@@ -261,17 +292,24 @@ any_kind call event up (kind.Ack ack) = tt
 any_kind call event up kind.Timeout = tt
 any_kind call event up kind.Failed = tt
 
-any_input : (calls : Calls) (state : Option Call) (input : Option CallItem) (now : ℕ)
-    → InputPays Any calls state input now
-any_input calls (Some call) (Some (id, Up up)) now =
+any_input : (calls : Calls) (front : List (Timed CallItem)) → EventsDiffer front
+    → (state : Option Call) → call_from calls None front ≡ state → (input : Option CallItem)
+    (now : ℕ) → InputPays Any calls state input now
+any_input calls front differ (Some call) held (Some (id, Up up)) now =
     any_kind call (event_of calls id now) up up.kind
-any_input calls (Some call) (Some (id, User command)) now =
-    λ name held at pending among. any_pending held.dialog pending
-any_input calls (Some call) None now = tt
-any_input calls None input now = tt
+any_input calls front differ (Some call) held (Some (id, User command)) now = (
+  λ name held at pending among. any_pending held.dialog pending,
+  named_so calls front differ call held,
+)
+any_input calls front differ (Some call) held None now = tt
+any_input calls front differ None held input now = tt
+
+pub any_pays : (calls : Calls) (inputs : List (Timed CallItem)) → EventsDiffer inputs
+    → AllPay Any calls inputs
+any_pays calls inputs differ before timed after are =
+    any_input calls before (front_differ before (timed ∷ after) (subst EventsDiffer are differ))
+    (call_from calls None before) refl timed.input timed.moment
 
 pub starts_keep_rules : (calls : Calls) → IsAddr calls.local → StartsKeepRules calls
-starts_keep_rules calls address key inputs keep =
-    starts_keep Any calls address key inputs
-    (λ before timed after are.
-    any_input calls (call_from calls None before) timed.input timed.moment) keep
+starts_keep_rules calls address key inputs differ keep =
+    starts_keep Any calls address key inputs (any_pays calls inputs differ) keep

@@ -1,6 +1,6 @@
 -- Whatever comes to the client side of a call: its dialogs stay sound, what it starts keeps the
 -- rules of messages, and each text that it sends is that of a message that does.
-use Rattle.std.proofs.Common.{◌≡◌, ℕ, ◌+◌, ◌-◌, ◌<◌, ◌^◌, Bool, true, false, ◌||◌, ◌&&◌, List, [], ◌∷◌, refl, subst, arith}
+use Rattle.std.proofs.Common.{◌≡◌, ℕ, ◌+◌, ◌-◌, ◌<◌, ◌^◌, Bool, true, false, ◌||◌, ◌&&◌, ◌∙◌, List, [], ◌∷◌, refl, sym, subst, arith}
 use Rattle.std.specs.Prelude.{Contains, Option, None, Some, IfSome, IsTrue, codes, filter, find, fold, is_some, nat_le, not, if◌then◌else◌}
 use Rattle.std.specs.List.{AllByRecursion}
 use Rattle.std.specs.Map.{lookup, set_value}
@@ -43,6 +43,14 @@ use Rattle.sip_clients.specs.declared.answers.SentAck.{SentAck}
 use Rattle.sip_clients.specs.declared.client.Cancelling.{Cancelling}
 use Rattle.sip_clients.specs.declared.client.Cancelling.TheVariants.{Sent, Waits}
 use Rattle.sip_clients.specs.declared.client.Client.{Client}
+use Rattle.sip_clients.specs.declared.client.RequestKind.{RequestKind}
+use Rattle.sip_clients.specs.declared.client.RequestKind.TheVariants.{InDialog, ReInvite}
+use Rattle.sip_clients.proofs.DialogSends.{AreNamed}
+use Rattle.sip_common.specs.Sent.{name_of_dialog}
+use Rattle.sip_message.specs.Party.{tag_of}
+use Rattle.std.proofs.lemmas.Bool.{false≢true}
+use Rattle.sip_conversation.proofs.PracksServed.{same_name}
+use Rattle.sip_conversation.proofs.RackedSteps.{request_named}
 use Rattle.sip_clients.specs.declared.event.Event.{Event}
 use Rattle.sip_conversation.specs.Commands.{IsContent, IsInvite, IsPlain}
 use Rattle.sip_conversation.proofs.KeepsRules.{StartKeeps}
@@ -98,6 +106,12 @@ dialog_found name dialogs all held is =
 
 -- ---- what is held and given
 
+-- an INVITE in a dialog has the tags of the dialog
+abbrev pub IsNamedIn : RequestKind → Message → Type 0
+IsNamedIn (ReInvite life) request =
+    dialog_id_of_tags (tag_of request.from) (tag_of request.to) ≡ life.name
+IsNamedIn _ request = Unit {0}
+
 module _ (AckIs : Message → Type 0) where
   -- an ACK that was sent is the text of a message that keeps the rules, and of which this is said
   abbrev pub IsText : SentAck → Type 0
@@ -109,6 +123,7 @@ module _ (AckIs : Message → Type 0) where
 
   pub record IsSoundClient (client : Client) : Type 0 where
     pub request : IsMessage client.request
+    pub named : IsNamedIn client.kind client.request
     pub answers : AllByRecursion (λ (entry : DialogId × Option SentAck). IsKept entry.1)
         client.answers
 
@@ -150,7 +165,7 @@ module _ (AckIs : Message → Type 0) where
   unfolding invite_command
   invite_done event invite clients address types all =
       start_done (clients, []) _ (all, tt)
-      (record { request = invite_keeps event invite address types; answers = tt })
+      (record { request = invite_keeps event invite address types; named = tt; answers = tt })
 
   pub plain_done : (event : Event) (plain : Plain) (clients : Clients) → IsAddr event.local
       → IsPlain plain → AreSoundClients clients → Started (plain_command event plain clients)
@@ -160,12 +175,12 @@ module _ (AckIs : Message → Type 0) where
       || bytes_eq plain.method (codes "BYE")) _ _
       (λ bad. (all, (tt, tt)))
       (λ good. start_done (clients, []) _ (all, tt)
-      (record { request = plain_keeps event plain address types; answers = tt }))
+      (record { request = plain_keeps event plain address types; named = tt; answers = tt }))
 
   pub cancel_sound : (id : Id) (invite : Client) → IsSoundClient invite
       → IsSoundClient (cancel_request id invite)
   cancel_sound id invite its =
-      record { request = cancel_keeps invite.request its.request; answers = tt }
+      record { request = cancel_keeps invite.request its.request; named = tt; answers = tt }
 
   -- ---- in a dialog
 
@@ -191,10 +206,19 @@ module _ (AckIs : Message → Type 0) where
     next_sound : (name : DialogId) (method : List ℕ) (rack : Option RAck) (content : Content)
         (held : HeldDialog) → IsSound held → IsTrue (is_token method) → IfSome rack IsRAck
         → IsContent content → held.dialog.local_cseq + 1 < 2 ^ 32
+        → (bytes_eq method (codes "INVITE") ≡ true → name_of_dialog held.dialog ≡ name)
         → IsSoundClient (request_with_next_number event name method rack content held)
-    next_sound name method rack content held sound token of_rack types fits = record {
+    next_sound name method rack content held sound token of_rack types fits named = record {
       request = with_rack _ rack of_rack (in_dialog_keeps event address held.dialog sound.dialog
           method (held.dialog.local_cseq + 1) content token fits types);
+      named = either
+          (λ k. IsNamedIn k (request_with_next_number event name method rack content held).request)
+          (bytes_eq method (codes "INVITE"))
+          (ReInvite record { name = name; created_by = held.created_by })
+          (InDialog record { name = name; created_by = held.created_by })
+          (λ invite. request_named held.dialog method (held.dialog.local_cseq + 1) content
+          (branch_of event) event.local ∙ named invite)
+          (λ other. tt);
       answers = tt;
     }
 
@@ -228,7 +252,8 @@ module _ (AckIs : Message → Type 0) where
           ack = tt;
           prack = (
             next_sound name (codes "PRACK") (Some rack) content held sound prack_token
-                (record { rseq = fits.0; cseq = fits.1; method = invite_token }) types next,
+                (record { rseq = fits.0; cseq = fits.1; method = invite_token }) types next
+                (λ invite. absurd (false≢true invite)),
             tt,
           );
           outs = tt;
@@ -254,8 +279,9 @@ module _ (AckIs : Message → Type 0) where
 
     request_held : (command : DialogRequest) (side : Side) (name : DialogId) (held : HeldDialog)
         → IsTrue (is_token command.method) → IsContent command.content → IsSound held
-        → IsSoundSide side → Taken (request_in_dialog event command side name held)
-    request_held command side name held token types sound sides =
+        → name_of_dialog held.dialog ≡ name → IsSoundSide side
+        → Taken (request_in_dialog event command side name held)
+    request_held command side name held token types sound named sides =
         let method = command.method in
         let sent = start (side.clients, [])
         (request_with_next_number event name method None command.content held) in
@@ -269,7 +295,8 @@ module _ (AckIs : Message → Type 0) where
         (first_holds (has_command method) BadMethod (refusals_in held.dialog method) none))
         (others_fail (has_command method) BadMethod (refusals_in held.dialog method) none) in
         let started = start_done (side.clients, []) _ (sides.clients, tt)
-        (next_sound name method None command.content held sound token tt types fits) in
+        (next_sound name method None command.content held sound token tt types fits
+        (λ invite. named)) in
         let all = each_set IsSound (is_dialog_id name) side.dialogs (with_number held)
         (numbered held sound fits) sides.dialogs in
         let ended = either (Ended AckIs) (bytes_eq method (codes "BYE")) (ended_at name dialogs)
@@ -279,15 +306,16 @@ module _ (AckIs : Message → Type 0) where
         ))
 
     pub request_done : (command : DialogRequest) (side : Side)
-        → IsTrue (is_token command.method) × IsContent command.content → IsSoundSide side
-        → Taken (request_command event command side)
+        → IsTrue (is_token command.method) × IsContent command.content → AreNamed side.dialogs
+        → IsSoundSide side → Taken (request_command event command side)
     unfolding request_command
-    request_done command side types sides =
+    request_done command side types named sides =
         let name = dialog_id_of_tags (tag_text command.local_tag) (tag_text command.remote_tag) in
         found_or Taken (request_in_dialog event command side name)
         (lookup (is_dialog_id name) side.dialogs) _
         (λ held is. request_held command side name held types.0 types.1
-        (dialog_found name side.dialogs sides.dialogs held is) sides)
+        (dialog_found name side.dialogs sides.dialogs held is)
+        (sym (same_name name (name_of_dialog held.dialog) (named name held is))) sides)
         (λ none. (sides, (tt, tt)))
 
     ack_kept_sound : (pending : PendingRequest) (name : DialogId) (ack : Option SentAck)
@@ -297,6 +325,7 @@ module _ (AckIs : Message → Type 0) where
     ack_kept_sound (Ack invite number) name (Some ack) clients kept all =
         each_changed IsSoundClient (is_id invite) _ (λ client its. record {
           request = its.request;
+          named = its.named;
           answers = each_inserted IsKept is_dialog_id name (Some ack) kept client.answers
               its.answers;
         }) clients all
@@ -369,7 +398,7 @@ module _ (AckIs : Message → Type 0) where
       set_value (is_id command.id) side.clients (record invite { cancel = cancel }) in
       let put : (cancel : Cancelling) → AreSoundClients (with_cancel cancel) = λ cancel.
       each_set IsSoundClient (is_id command.id) side.clients (record invite { cancel = cancel })
-      (record { request = its.request; answers = its.answers }) sides.clients in
+      (record { request = its.request; named = its.named; answers = its.answers }) sides.clients in
       let started : Clients × List CallOut =
       start (with_cancel Sent, []) (cancel_request event.id invite) in
       let waits : Clients × List CallOut = (with_cancel (Waits event.id), []) in

@@ -160,6 +160,7 @@ module _ (AckIs : Message → Type 0) where
       → IsKept AckIs ack → IsSoundClient AckIs (accepted reply client ack)
   accepted_sound reply client ack its kept = record {
     request = its.request;
+    named = its.named;
     answers = each_inserted (IsKept AckIs) is_dialog_id reply.name ack kept client.answers its.answers;
   }
 
@@ -225,7 +226,7 @@ module _ (AckIs : Message → Type 0) where
       (λ taken. asks_done (Prack rseq client.request.cseq.number) reply client after dialog dialogs
       comes (fits, (its.request).number) tt
       (λ ack kept. either (IsSoundClient AckIs) initial client heard (λ first. its)
-      (λ again. record { request = its.request; answers = its.answers }))
+      (λ again. record { request = its.request; named = its.named; answers = its.answers }))
       (either IsSound initial hears held
       (λ first. record { dialog = sound.dialog; pending = sound.pending }) (λ again. sound)) all)
 
@@ -342,7 +343,7 @@ module _ (AckIs : Message → Type 0) where
       (remove_entry (is_id id) side.clients) in
       let so = outcome_done reply after side.dialogs
       (record { address = address; rules = rules })
-      (record { request = its.request; answers = its.answers }) sides.dialogs
+      (record { request = its.request; named = its.named; answers = its.answers }) sides.dialogs
       (λ success has told. hears success has
       (still_told (done.prack ++ cancels) (clients, done.outs) told)) in
       let started = starts_done AckIs (done.prack ++ cancels) (clients, done.outs) (
