@@ -188,7 +188,7 @@ module _ (alone : EachKeyAlone key_cmp transaction_machine tick_at) where
     fine_sound turns s (event.Datagram from bytes) fine id =
         text_fits (configs s) (IsSoundInput (configs s) (rounds_of s turns)) id from fine.1 bytes
         fine.2 fine.3
-        (λ reply_to. come_keeps from (subst IsAddr (sym fine.0) (addresses (peer s))) fine.1
+        (λ short reply_to. come_keeps from (subst IsAddr (sym fine.0) (addresses (peer s))) fine.1
         fine.3)
     fine_sound turns s (event.Failed key) fine id = tt
     fine_sound turns s (event.Command c) fine id = tt
@@ -246,10 +246,11 @@ module _ (alone : EachKeyAlone key_cmp transaction_machine tick_at) where
         let text = texts turns fine keep (peer s) (carried.1).0 (carried.1).1 bytes
         (carried.1).2 in
         text_fits (configs s) (IsUnchanged turns s) id from text.0 bytes text.1 (text.2).0
-        (λ reply_to. record {
+        (λ short reply_to. record {
           original = text.0;
           said = (text.2).1;
           rules = (text.2).0;
+          short = short;
           same = ap (λ source. come_from source text.0) carried.0;
         })
     carried_unchanged turns fine keep s (event.Failed key) carried id = tt

@@ -1,5 +1,5 @@
 -- What a message that comes is: one that the other side said before.
-use Rattle.std.specs.Prelude.{◌≡◌, ℕ, true, List, [], ◌∷◌, ◌++◌, Contains, Option, None, Some, IfSome, if◌then◌else◌}
+use Rattle.std.specs.Prelude.{◌≡◌, ◌≤◌, ℕ, true, List, [], ◌∷◌, ◌++◌, Contains, Option, None, Some, IfSome, length, if◌then◌else◌}
 use Rattle.sip_message.specs.declared.addr.Addr.{Addr}
 use Rattle.sip_message.specs.declared.id.Id.{Id}
 use Rattle.sip_message.specs.declared.key.Key.{Key}
@@ -75,12 +75,13 @@ come_from source message =
     if is_request_message message then stamped message source else message
 
 -- the message is one that the other side said in these turns and that keeps the rules, except for
--- the stamp
+-- the stamp; a text of more than 65535 bytes isn't read
 pub record ComesUnchanged (configs : Side → Config) (turns : List Turn) (side : Side)
     (message : Message) : Type 0 where
   pub original : Message
   pub said : IsSaid (configs (peer side)) (rounds_of (peer side) turns) original
   pub rules : IsMessage original
+  pub short : length (written original) ≤ 65535
   pub same : message ≡ come_from (configs (peer side)).local original
 
 -- so is each message that came to a side's transaction up to a turn, by the turns before it
