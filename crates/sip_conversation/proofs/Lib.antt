@@ -73,3 +73,4 @@ pub mod AnswersOfCalls
 pub mod CallsKeep
 pub mod AckedCalls
 pub mod AcksFollow
+pub mod AcksSaid

@@ -100,7 +100,7 @@ module _ (config : Config) (rounds : List Round)
       (all_of (λ (timed : Timed CallItem). InputIsAsked call_id timed.input) inputs
       (λ timed among. input_asks call_id timed.moment timed.input among)))) says.1
 
-  out_own : (out : CallOut) → (says : CallSays config rounds out)
+  pub out_own : (out : CallOut) → (says : CallSays config rounds out)
       → OutIsOwn (calls_of config) says.0 (IsOrigin config rounds says.0) out
   out_own out says =
       let call_id = says.0 in
