@@ -95,7 +95,8 @@ module _ (configs : Side → Config) (fair : IsFair configs) (turns : List Turn)
   by_whom ack its (Trying key id request reply_to given asks same) =
       absurd (false≢true (sym (ap is_request_message same) ∙ its.is_request))
   by_whom ack its
-      (Acknowledges key id answered call_id invite response to reply_to started came made) =
+      (Acknowledges key id answered call_id invite response to reply_to started came failure
+      made) =
       inr record {
         key = key;
         id = id;
@@ -107,6 +108,7 @@ module _ (configs : Side → Config) (fair : IsFair configs) (turns : List Turn)
         reply_to = reply_to;
         started = started;
         came = came;
+        failure = failure;
         made = made;
       }
 

@@ -119,7 +119,8 @@ module _ (alone : EachKeyAlone key_cmp transaction_machine tick_at) (config : Co
           started = λ now id call_id message to among. tt;
           answered = λ now id message among. tt;
           tried = λ now id request reply_to among is. tt;
-          acknowledged = λ now later id answered call_id invite response to reply_to among came. tt;
+          acknowledged = λ now later id answered call_id invite response to reply_to among came failure.
+              tt;
           came = λ now id message reply_to among.
               received key now id message reply_to among;
         }) key))

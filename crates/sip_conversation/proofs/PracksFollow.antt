@@ -230,7 +230,7 @@ module _ (configs : Side → Config) (fair : IsFair configs) (before : List Turn
       method rack is =
       absurd (false≢true (sym (ap is_request_message same) ∙ asks))
   said_follows carried_so keep_so prack
-      (Acknowledges key id answered of invite response to reply_to begun heard same) asks method
+      (Acknowledges key id answered of invite response to reply_to begun heard failure same) asks method
       rack is =
       absurd (no_ack (sym (ap (λ (m : Message). m.cseq.method) same) ∙ method))
 
@@ -245,7 +245,7 @@ no_rounds_say config prack asks method (Direct to says) =
 no_rounds_say config prack asks method (Trying key id request reply_to given asked same) =
     false≢true (sym (ap is_request_message same) ∙ asks)
 no_rounds_say config prack asks method
-    (Acknowledges key id answered of invite response to reply_to begun heard same) =
+    (Acknowledges key id answered of invite response to reply_to begun heard failure same) =
     no_ack (sym (ap (λ (m : Message). m.cseq.method) same) ∙ method)
 
 pub pracks_follow : (configs : Side → Config) → IsFair configs → (turns : List Turn)

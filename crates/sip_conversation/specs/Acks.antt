@@ -19,7 +19,7 @@ use Rattle.sip_round.specs.declared.output.Output.TheVariants.{Notice}
 use Rattle.sip_round.specs.declared.round.Round.{Round}
 use Rattle.sip_conversation.specs.AckedResponses.{FollowsSuccess}
 use Rattle.sip_conversation.specs.Conversation.{Side, Turn, given_by, peer, rounds_of}
-use Rattle.sip_conversation.specs.Messages.{CallSays, IsGiven, IsSaid}
+use Rattle.sip_conversation.specs.Messages.{CallSays, IsFailure, IsGiven, IsSaid}
 
 -- In one of these turns a call of this side sent the ACK as a text. In that turn or before, the user
 -- of this side was told of the 2xx that the ACK acknowledges (RFC 3261, section 13.2.2.4).
@@ -36,8 +36,8 @@ pub record IsSentByCall (configs : Side → Config) (turns : List Turn) (side : 
   pub follows : FollowsSuccess configs before turn ack.call_id
       (dialog_id_of_tags (tag_of ack.from) (tag_of ack.to)) ack.cseq.number
 
--- In these rounds a transaction made the ACK for a request that it was to start and a message that
--- came to it (RFC 3261, section 17.1.1.3).
+-- In these rounds a transaction made the ACK for a request that it was to start and a response of
+-- 300 to 699 that came to it (RFC 3261, section 17.1.1.3).
 pub record IsMadeByTransaction (config : Config) (rounds : List Round) (ack : Message) : Type 0
   where
     pub key : Key
@@ -50,10 +50,11 @@ pub record IsMadeByTransaction (config : Config) (rounds : List Round) (ack : Me
     pub reply_to : Addr
     pub started : IsGiven config rounds key (Start id call_id invite to)
     pub came : IsGiven config rounds key (Receive answered response reply_to)
+    pub failure : IsFailure response
     pub made : ack ≡ ack_of invite response
 
 -- In these turns the other side said an ACK with this body. A call sent it for a 2xx, or a
--- transaction made it.
+-- transaction made it for a response of 300 to 699.
 pub record SaidAck (configs : Side → Config) (turns : List Turn) (side : Side) (body : List ℕ)
     : Type 0 where
   pub original : Message

@@ -168,7 +168,9 @@ pub fn requests_told_were_asked_for(one: Config, other: Config)
 }
 
 /// In such a conversation, for each ACK that a user is told of in a turn, the other side said an
-/// ACK with that body in the turns before (RFC 3261, section 13.2.2.4).
+/// ACK with that body in the turns before. Either a call sent it directly, after the user of that
+/// side was told of the 2xx that it acknowledges, as in `acks_follow_responses`. Or a transaction
+/// made it for a response of 300 to 699 (RFC 3261, sections 13.2.2.4 and 17.1.1.3).
 pub fn acks_told_were_said(one: Config, other: Config)
     ensures { (turns : List Turn) → Carried (of_sides one other) turns
         → CommandsKeepTypes turns
