@@ -1,5 +1,5 @@
--- Each ACK that a call sends as a text is in the dialog of a 2xx, of which the user is told at one of
--- the call's inputs.
+-- Each ACK that a call sends as a text is in the dialog of a 2xx, of which the user is told at one
+-- of the call's inputs.
 use Rattle.std.proofs.Common.{◌≡◌, ℕ, Bool, true, false, List, [], ◌∷◌, ◌++◌, refl, sym, ap, ◌∙◌, subst}
 use Rattle.std.specs.Prelude.{Contains, IfSome, Option, None, Some, codes, unwrap_or, if◌then◌else◌}
 use Rattle.std.specs.List.{AllByRecursion, list_any}

@@ -1,5 +1,5 @@
--- The other side said each ACK that a user is told of: a call sent it for a 2xx of which that side's
--- user was told, or a transaction made it.
+-- The other side said each ACK that a user is told of: a call sent it for a 2xx of which that
+-- side's user was told, or a transaction made it.
 use Rattle.std.proofs.Common.{◌≡◌, ◌⊎◌, inl, inr, ⊎_elim, ◌≤◌, ℕ, true, length, List, [], ◌∷◌, ◌++◌, sym, ap, ◌∙◌, subst}
 use Rattle.std.specs.Prelude.{codes}
 use Rattle.std.proofs.lemmas.Bool.{false≢true}

@@ -246,8 +246,8 @@ module _ (config : Config) (rounds : List Round) (Came : Message → Type 0) whe
         subst Answers (sym same)
         (own_says 100 (0, omega arith, refl) (codes "Trying") request (codes "")
         (came.transactions key id request reply_to given, asks)) status is
-    answered response (Acknowledges key id other call_id invite answer to reply_to given heard failure
-        same)
+    answered response (Acknowledges key id other call_id invite answer to reply_to given heard
+        failure same)
         status is =
         absurd (no_status response.start status (ap is_request_message same
         ∙ start_asks key id call_id invite to given) is)

@@ -119,8 +119,8 @@ module _ (alone : EachKeyAlone key_cmp transaction_machine tick_at) (config : Co
           started = λ now id call_id message to among. tt;
           answered = λ now id message among. tt;
           tried = λ now id request reply_to among is. tt;
-          acknowledged = λ now later id answered call_id invite response to reply_to among came failure.
-              tt;
+          acknowledged = λ now later id answered call_id invite response to reply_to among
+              came failure. tt;
           came = λ now id message reply_to among.
               received key now id message reply_to among;
         }) key))
@@ -171,8 +171,8 @@ module _ (configs : Side → Config) (fair : IsFair configs) where
   unfolding arrival_of
   fine_arrives s (event.Datagram from bytes) fine id =
       text_fits (configs s) ReceivesSound id from fine.1 bytes fine.2 fine.3
-      (λ short reply_to. come_keeps from (subst IsAddr (sym fine.0) (fair.addresses (peer s))) fine.1
-      fine.3)
+      (λ short reply_to. come_keeps from (subst IsAddr (sym fine.0) (fair.addresses (peer s)))
+      fine.1 fine.3)
   fine_arrives s (event.Failed key) fine id = tt
   fine_arrives s (event.Command c) fine id = tt
 

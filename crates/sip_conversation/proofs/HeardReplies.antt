@@ -64,9 +64,9 @@ use Rattle.sip_common.specs.declared.item.Item.TheVariants.{Up}
 use Rattle.sip_clients.specs.Clients.{reply_name, status_of}
 use Rattle.sip_clients.specs.ReceivedResponse.{has_dialog}
 
--- At one of these inputs a response comes up of which this is true, in the dialog of this name, to an
--- INVITE with this CSeq number, and the user is told of a response. The dialog is held, or may be
--- made.
+-- At one of these inputs a response comes up of which this is true. It is in the dialog of this
+-- name, which is held or may be made, and to an INVITE with this CSeq number; and the user is told
+-- of a response.
 pub record WasHeard (Is : ℕ → Message → Type 0) (calls : Calls) (inputs : List (Timed CallItem))
     (name : DialogId) (number : ℕ) : Type 0 where
   pub before : List (Timed CallItem)
@@ -306,8 +306,8 @@ module _ (configs : Side → Config) (fair : IsFair configs) (before : List Turn
 
       -- ---- that it came, and what the user is told of it
 
-      -- it came in this turn or before it, and its transaction was started under the Call-ID and the
-      -- id of what comes up
+      -- it came in this turn or before it, and its transaction was started under the Call-ID and
+      -- the id of what comes up
       pub record HasCome (carried : Carried configs before) (keep : CallsKeepRules configs before)
           : Type 0 where
         pub came : Came configs fair before turn carried keep was.response
@@ -326,8 +326,8 @@ module _ (configs : Side → Config) (fair : IsFair configs) (before : List Turn
           (ups_come configs fair before turn carried keep carried_so keep_so call_id)) in
           record {
             came = subst (KindCame (Came configs fair before turn carried keep)) was.kind_is came.0;
-            started = subst (KindStarted local_config rounds_now up.id up.call_id) was.kind_is came.1
-                was.status was.status_is;
+            started = subst (KindStarted local_config rounds_now up.id up.call_id) was.kind_is
+                came.1 was.status was.status_is;
           }
 
       module _ (Tells : List ℕ → Id → ℕ → List ℕ → List ℕ → List ℕ → Type 0) where
@@ -362,7 +362,8 @@ module _ (configs : Side → Config) (fair : IsFair configs) (before : List Turn
               among = among;
               given = told_to_user local_config rounds_now (fair.calls turn.side) call_id
                   (notice.Response of id status local_tag remote_tag body)
-                  (of_its_input local_config rounds_now (fair.calls turn.side) call_id Is name number
+                  (of_its_input local_config rounds_now (fair.calls turn.side) call_id Is name
+                  number
                   was (call_out.Notice (notice.Response of id status local_tag remote_tag body))
                   among);
               tells = fits;

@@ -230,8 +230,8 @@ module _ (configs : Side → Config) (fair : IsFair configs) (before : List Turn
       method rack is =
       absurd (false≢true (sym (ap is_request_message same) ∙ asks))
   said_follows carried_so keep_so prack
-      (Acknowledges key id answered of invite response to reply_to begun heard failure same) asks method
-      rack is =
+      (Acknowledges key id answered of invite response to reply_to begun heard failure same) asks
+      method rack is =
       absurd (no_ack (sym (ap (λ (m : Message). m.cseq.method) same) ∙ method))
 
 -- where there is no round nothing is said

@@ -165,8 +165,8 @@ module _ (config : Config) (rounds : List Round)
       (text.2).method text.1))
   user_asked message (Trying key id request reply_to given asks same) rules is other =
       absurd (no_request message is (ap is_request_message same))
-  user_asked message (Acknowledges key id answered of invite response to reply_to given heard failure
-      same)
+  user_asked message (Acknowledges key id answered of invite response to reply_to given heard
+      failure same)
       rules is other = absurd (no_ack message other (ap (λ (m : Message). m.cseq.method) same))
 
   not_both : codes "PRACK" ≡ codes "ACK" → ⊥

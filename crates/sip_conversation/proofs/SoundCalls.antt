@@ -64,7 +64,8 @@ module _ (AckIs : Message → Type 0) where
   sides_of : (call : Call) → IsSoundCall call → IsSoundSide AckIs (side_of call)
   sides_of call sound = record { dialogs = (sound.served).dialogs; clients = sound.clients }
 
-  by_clients_done : (call : Call) (taken : ClientTaken) → IsSoundCall call → clients.Taken AckIs taken
+  by_clients_done : (call : Call) (taken : ClientTaken) → IsSoundCall call
+      → clients.Taken AckIs taken
       → Done (by_clients call taken)
   by_clients_done call taken sound done = (
     record {
@@ -93,15 +94,16 @@ module _ (AckIs : Message → Type 0) where
   lost_so : (call : Call) (id : Id) (timed_out : Bool) → IsSoundCall call
       → Done (by_clients call (request_is_lost id timed_out (side_of call)))
   lost_so call id timed_out sound =
-      by_clients_done call _ sound (lost_done AckIs id timed_out (side_of call) (sides_of call sound))
+      by_clients_done call _ sound
+      (lost_done AckIs id timed_out (side_of call) (sides_of call sound))
 
   up_done : (call : Call) (event : Event) (up : AnUp) (k : Kind) → IsAddr event.local
       → KindKeeps k → KindPays call event up k → IsSoundCall call
       → Done (received call event up k)
   up_done call event up (kind.Request request reply_to) address rules pays sound =
       by_server_done call _ sound
-      (kind_done AckIs call.served (made_tag event) up (kind.Request request reply_to) event.moment rules
-      (name_is_token event.seed event.id 0) sound.served)
+      (kind_done AckIs call.served (made_tag event) up (kind.Request request reply_to)
+      event.moment rules (name_is_token event.seed event.id 0) sound.served)
   up_done call event up (kind.Ack ack) address rules pays sound =
       by_server_done call _ sound
       (kind_done AckIs call.served (made_tag event) up (kind.Ack ack) event.moment rules
@@ -235,7 +237,8 @@ module _ (AckIs : Message → Type 0) where
 
     module _ (key : List ℕ) (all : List (Timed CallItem)) (pays : AllPay calls all) where
       from_done : (front rest : List (Timed CallItem)) → all ≡ front ++ rest
-          → AllByRecursion (λ timed. KeepsInput timed.input) rest → Held (call_from calls None front)
+          → AllByRecursion (λ timed. KeepsInput timed.input) rest
+          → Held (call_from calls None front)
           → Keep AckIs (outputs_from (call_machine calls) key (call_from calls None front) rest)
       from_done front [] are keep sound = tt
       from_done front (timed ∷ rest) are keep sound =
@@ -251,7 +254,8 @@ module _ (AckIs : Message → Type 0) where
 
       -- what is held after the first inputs is sound
       held_from : (front rest more : List (Timed CallItem)) → all ≡ front ++ (rest ++ more)
-          → AllByRecursion (λ timed. KeepsInput timed.input) rest → Held (call_from calls None front)
+          → AllByRecursion (λ timed. KeepsInput timed.input) rest
+          → Held (call_from calls None front)
           → Held (call_from calls None (front ++ rest))
       held_from front [] more are keep sound =
           subst (λ xs. Held (call_from calls None xs)) (sym (append-nil front)) sound

@@ -231,7 +231,8 @@ module _ (AckIs : Message → Type 0) where
 
     sent_paid : (name : DialogId) (pending : PendingRequest) (content : Content)
         (held : HeldDialog) → IsSound held → IsSoundPending pending → Pays held.dialog pending
-        → IsContent content → first_refusal (refusals_in held.dialog (method_of pending)) None ≡ None
+        → IsContent content
+        → first_refusal (refusals_in held.dialog (method_of pending)) None ≡ None
         → IsPaid (pending_sent event name pending content held)
     sent_paid name (Ack invite number) content held sound fits pays types none =
         let message = request_in held.dialog (codes "ACK") number content (branch_of event)

@@ -98,7 +98,8 @@ module _ (AckIs : Message → Type 0) where
         ended.1,
       )
 
-  pub tick_done : (side : Side) (now : ℕ) → IsSoundSide AckIs side → Taken AckIs (client_tick side now)
+  pub tick_done : (side : Side) (now : ℕ) → IsSoundSide AckIs side
+      → Taken AckIs (client_tick side now)
   unfolding client_tick
   tick_done side now sides = (
     record {
@@ -140,7 +141,8 @@ module _ (AckIs : Message → Type 0) where
       || (length reply.response.body == 0) then Some (content_of_body []) else None in
       let with_it : HeldDialog =
       record held { pending_requests = held.pending_requests ++ pending ∷ [] } in
-      let so = outcome_paid AckIs reply.event comes.address reply.call_id reply.name pending content held
+      let so = outcome_paid AckIs reply.event comes.address reply.call_id reply.name pending content
+      held
       with_it sound
       (record {
         dialog = sound.dialog;
@@ -156,12 +158,14 @@ module _ (AckIs : Message → Type 0) where
         prack = so.prack;
       }
 
-  accepted_sound : (reply : Reply) (client : Client) (ack : Option SentAck) → IsSoundClient AckIs client
+  accepted_sound : (reply : Reply) (client : Client) (ack : Option SentAck)
+      → IsSoundClient AckIs client
       → IsKept AckIs ack → IsSoundClient AckIs (accepted reply client ack)
   accepted_sound reply client ack its kept = record {
     request = its.request;
     named = its.named;
-    answers = each_inserted (IsKept AckIs) is_dialog_id reply.name ack kept client.answers its.answers;
+    answers = each_inserted (IsKept AckIs) is_dialog_id reply.name ack kept client.answers
+        its.answers;
   }
 
   made_sound : (reply : Reply) (client : Client) → IsSoundReply reply → IsSoundClient AckIs client
@@ -279,7 +283,8 @@ module _ (AckIs : Message → Type 0) where
 
   outcome_done : (reply : Reply) (client : Client) (dialogs : Dialogs) → IsSoundReply reply
       → IsSoundClient AckIs client → AreSound dialogs
-      → Hears (list_any is_response (outcome_of reply client dialogs).outs ≡ true) reply client dialogs
+      → Hears (list_any is_response (outcome_of reply client dialogs).outs ≡ true) reply client
+      dialogs
       → IsReplied (outcome_of reply client dialogs)
   outcome_done reply client dialogs comes its all =
       let Done : Outcome → Type 0 = λ done.

@@ -400,7 +400,8 @@ module _ (AckIs : Message → Type 0) where
           sound.requests);
       dialogs = sound.dialogs;
     },
-    all_of_each (StartKeeps AckIs) (λ held. (success_tick now held).1 ++ (provisionals_tick now held).1)
+    all_of_each (StartKeeps AckIs)
+        (λ held. (success_tick now held).1 ++ (provisionals_tick now held).1)
         (λ held. both (StartKeeps AckIs) (success_tick now held).1 (provisionals_tick now held).1
         (success_keeps now held) (provisionals_keep now held)) state.requests,
   )

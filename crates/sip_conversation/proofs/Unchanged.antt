@@ -120,7 +120,8 @@ module _ (alone : EachKeyAlone key_cmp transaction_machine tick_at) where
               (sound_input key now (input.Receive id request reply_to) among),
           Trying key id request reply_to (now, among) is refl,
         );
-        acknowledged = λ now later id answered call_id invite response to reply_to among came failure. (
+        acknowledged = λ now later id answered call_id invite response to reply_to among came
+            failure. (
           ack_keeps invite response
               (sound_input key now (input.Start id call_id invite to) among).0
               (sound_input key later (input.Receive answered response reply_to) came),
@@ -348,8 +349,8 @@ module _ (alone : EachKeyAlone key_cmp transaction_machine tick_at) where
           started = λ now id call_id message to among. tt;
           answered = λ now id message among. tt;
           tried = λ now id request reply_to among is. tt;
-          acknowledged = λ now later id answered call_id invite response to reply_to among came failure.
-              tt;
+          acknowledged = λ now later id answered call_id invite response to reply_to among
+              came failure. tt;
           came = λ now id message reply_to among.
               messages_unchanged turns carried keep s key id message reply_to (now, among);
         }) key))

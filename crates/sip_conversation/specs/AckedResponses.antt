@@ -1,5 +1,5 @@
--- An ACK that a call sends follows the 2xx that it acknowledges: the user was told of that (RFC 3261,
--- section 13.2.2.4).
+-- An ACK that a call sends follows the 2xx that it acknowledges: the user was told of that (RFC
+-- 3261, section 13.2.2.4).
 use Rattle.std.specs.Prelude.{◌≡◌, ◌⊎◌, ℕ, true, List, [], ◌∷◌, ◌++◌, Contains, codes}
 use Rattle.sip_message.specs.declared.addr.Addr.{Addr}
 use Rattle.sip_message.specs.declared.id.Id.{Id}
@@ -20,7 +20,7 @@ use Rattle.sip_conversation.specs.Replies.{AreCounted, ToldResponse}
 
 -- Up to a turn's end the user of its side was told of a 2xx under this Call-ID. The other side said
 -- it in the turns before. If the rounds of the turn's side are counted, it answers an INVITE with
--- this CSeq number; and this dialog is the one of its tags, or the one in which the INVITE was sent.
+-- this CSeq number; and this is the dialog of its tags, or the one in which the INVITE was sent.
 pub record FollowsSuccess (configs : Side → Config) (before : List Turn) (turn : Turn)
     (call_id : List ℕ) (dialog : DialogId) (number : ℕ) : Type 0 where
   pub id : Id
