@@ -1,15 +1,17 @@
 -- An ACK that a call sends follows the 2xx that it acknowledges, of which the user was told.
-use Rattle.std.proofs.Common.{◌≡◌, ◌⊎◌, inl, inr, ℕ, true, List, [], ◌∷◌, ◌++◌, refl, sym, ap, ◌∙◌, subst}
-use Rattle.std.specs.Prelude.{IfSome, Some, codes}
+use Rattle.std.proofs.Common.{◌≡◌, ◌⊎◌, inl, inr, ℕ, true, false, List, [], ◌∷◌, ◌++◌, refl, sym, ap, ◌∙◌, subst}
+use Rattle.std.specs.Prelude.{◌==◌, IfSome, Some, codes, length, not}
 use Rattle.std.specs.List.{AllByRecursion}
 use Rattle.std.proofs.lemmas.Bool.{false≢true}
 use Rattle.sip_message.specs.Party.{tag_of}
 use Rattle.sip_message.specs.declared.addr.Addr.{Addr}
 use Rattle.sip_message.specs.declared.id.Id.{Id}
 use Rattle.sip_message.specs.declared.message.Message.{Message}
+use Rattle.sip_message.specs.declared.party.Party.{Party}
+use Rattle.sip_model.proofs.Ordered.{by_bool}
 use Rattle.sip_model.specs.Machine.{Timed}
 use Rattle.sip_common.specs.Dialogs.{dialog_at}
-use Rattle.sip_common.specs.Requests.{dialog_id_of_tags, is_success}
+use Rattle.sip_common.specs.Requests.{dialog_id_of_tags, has_to_tag, is_success}
 use Rattle.sip_common.specs.declared.held_dialog.DialogId.{DialogId}
 use Rattle.sip_common.specs.declared.item.CallOut.TheVariants as call_out
 use Rattle.sip_common.proofs.Each.{both}
@@ -84,25 +86,27 @@ module _ (configs : Side → Config) (fair : IsFair configs) (before : List Turn
           → said.response.original.cseq ≡ record { number = number; method = codes "INVITE" }
       pub dialog_is : AreCounted local_config rounds_now
           → (dialog_id_of_tags local_tag remote_tag ≡ name)
-          ⊎ (dialog_id_of_tags (tag_of said.started.request.from)
-          (tag_of said.started.request.to) ≡ name)
+          ⊎ ((dialog_id_of_tags (tag_of said.started.request.from)
+          (tag_of said.started.request.to) ≡ name) × (has_to_tag said.started.request ≡ false))
 
-    -- the dialog of the response to the first INVITE has its tags, that of the response to another
-    -- the tags of that INVITE
+    -- the response has the tags of the dialog, unless an INVITE in it has no To tag
     its_dialog : (k : RequestKind) → was.client.kind ≡ k
         → has_dialog k (dialog_at name (side_of was.call).dialogs) ≡ true
         → reply_name k was.client was.response ≡ name → (local_tag : List ℕ)
-        → local_tag ≡ tag_of was.client.request.from → (started : Message)
-        → started ≡ was.client.request
+        → local_tag ≡ tag_of was.client.request.from
+        → (has_to_tag was.client.request ≡ true → was.response.to ≡ was.client.request.to)
         → (dialog_id_of_tags local_tag (tag_of was.response.to) ≡ name)
-        ⊎ (dialog_id_of_tags (tag_of started.from) (tag_of started.to) ≡ name)
-    its_dialog InitialInvite is has named local_tag tag started same =
-        inl (ap (λ tag. dialog_id_of_tags tag (tag_of was.response.to)) tag ∙ named)
-    its_dialog (ReInvite life) is has named local_tag tag started same =
-        inr (subst (λ (m : Message). dialog_id_of_tags (tag_of m.from) (tag_of m.to) ≡ name)
-        (sym same) (subst (λ k. IsNamedIn k was.client.request) is its_name ∙ named))
-    its_dialog (InDialog life) is has named local_tag tag started same = absurd (false≢true has)
-    its_dialog OutOfDialog is has named local_tag tag started same = absurd (false≢true has)
+        ⊎ ((dialog_id_of_tags (tag_of was.client.request.from) (tag_of was.client.request.to)
+        ≡ name) × (has_to_tag was.client.request ≡ false))
+    its_dialog InitialInvite is has named local_tag from to =
+        inl (ap (λ tag. dialog_id_of_tags tag (tag_of was.response.to)) from ∙ named)
+    its_dialog (ReInvite life) is has named local_tag from to =
+        let own = subst (λ k. IsNamedIn k was.client.request) is its_name ∙ named in
+        by_bool (has_to_tag was.client.request)
+        (λ tagged. inl ((λ i. dialog_id_of_tags (from i) (tag_of (to tagged i))) ∙ own))
+        (λ bare. inr (own, bare))
+    its_dialog (InDialog life) is has named local_tag from to = absurd (false≢true has)
+    its_dialog OutOfDialog is has named local_tag from to = absurd (false≢true has)
 
     tells : ResponseTells IsTelling was.up.call_id was.up.id was.response
     tells status is =
@@ -123,10 +127,15 @@ module _ (configs : Side → Config) (fair : IsFair configs) (before : List Turn
           said = said;
           cseq = λ few. copies.cseq ∙ ((that few).alike.cseq
               ∙ (λ i. record { number = was.number_is i; method = (that few).method i }));
-          dialog_is = λ few. its_dialog was.client.kind refl was.has was.name_is
-              (tag_of response.from)
+          dialog_is = λ few. subst (λ (m : Message).
+              (dialog_id_of_tags (tag_of response.from) (tag_of response.to) ≡ name)
+              ⊎ ((dialog_id_of_tags (tag_of m.from) (tag_of m.to) ≡ name)
+              × (has_to_tag m ≡ false))) (sym (that few).same)
+              (its_dialog was.client.kind refl was.has was.name_is (tag_of response.from)
               (sym so.said.from ∙ ap tag_of (copies.from ∙ (that few).alike.from))
-              said.started.request (that few).same;
+              (λ tagged. sym (ap (λ (m : Message). m.to) so.whole)
+              ∙ (copies.to (ap (λ (to : Party). not (length (tag_of to) == 0))
+              (that few).alike.to ∙ tagged) ∙ (that few).alike.to)));
         }
       where
         some_same : (one other : ℕ) → Some one ≡ Some other → one ≡ other

@@ -122,12 +122,12 @@ module _ (alone : EachKeyAlone key_cmp transaction_machine tick_at) where
         );
         acknowledged = λ now later id answered call_id invite response to reply_to among came
             failure. (
-          ack_keeps invite response
-              (sound_input key now (input.Start id call_id invite to) among).0
-              (sound_input key later (input.Receive answered response reply_to) came),
-          Acknowledges key id answered call_id invite response to reply_to (now, among)
-              (later, came) failure refl,
-        );
+              ack_keeps invite response
+                  (sound_input key now (input.Start id call_id invite to) among).0
+                  (sound_input key later (input.Receive answered response reply_to) came),
+              Acknowledges key id answered call_id invite response to reply_to (now, among)
+                  (later, came) failure refl,
+            );
         came = λ now id message reply_to among.
             sound_input key now (input.Receive id message reply_to) among;
       }

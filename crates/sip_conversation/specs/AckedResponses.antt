@@ -1,6 +1,6 @@
 -- An ACK that a call sends follows the 2xx that it acknowledges: the user was told of that (RFC
 -- 3261, section 13.2.2.4).
-use Rattle.std.specs.Prelude.{◌≡◌, ◌⊎◌, ℕ, true, List, [], ◌∷◌, ◌++◌, Contains, codes}
+use Rattle.std.specs.Prelude.{◌≡◌, ◌⊎◌, ℕ, true, false, List, [], ◌∷◌, ◌++◌, Contains, codes}
 use Rattle.sip_message.specs.declared.addr.Addr.{Addr}
 use Rattle.sip_message.specs.declared.id.Id.{Id}
 use Rattle.sip_message.specs.declared.message.Message.{Message}
@@ -8,7 +8,7 @@ use Rattle.sip_message.specs.Message.{is_request_message}
 use Rattle.sip_message.specs.Party.{tag_of}
 use Rattle.sip_message.specs.Rules.{IsMessage}
 use Rattle.sip_message.specs.Written.{written}
-use Rattle.sip_common.specs.Requests.{dialog_id_of_tags, is_success}
+use Rattle.sip_common.specs.Requests.{dialog_id_of_tags, has_to_tag, is_success}
 use Rattle.sip_common.specs.declared.held_dialog.DialogId.{DialogId}
 use Rattle.sip_common.specs.declared.item.CallOut.TheVariants.{Direct}
 use Rattle.sip_common.specs.declared.notice.Notice.TheVariants.{Response}
@@ -20,7 +20,8 @@ use Rattle.sip_conversation.specs.Replies.{AreCounted, ToldResponse}
 
 -- Up to a turn's end the user of its side was told of a 2xx under this Call-ID. The other side said
 -- it in the turns before. If the rounds of the turn's side are counted, it answers an INVITE with
--- this CSeq number; and this is the dialog of its tags, or the one in which the INVITE was sent.
+-- this CSeq number; and this is the dialog of its tags, or the INVITE, which was sent in this dialog,
+-- has no To tag.
 pub record FollowsSuccess (configs : Side → Config) (before : List Turn) (turn : Turn)
     (call_id : List ℕ) (dialog : DialogId) (number : ℕ) : Type 0 where
   pub id : Id
@@ -36,8 +37,8 @@ pub record FollowsSuccess (configs : Side → Config) (before : List Turn) (turn
       → said.response.original.cseq ≡ record { number = number; method = codes "INVITE" }
   pub dialog_is : AreCounted (configs turn.side) (rounds_of turn.side (before ++ turn ∷ []))
       → (dialog_id_of_tags local_tag remote_tag ≡ dialog)
-      ⊎ (dialog_id_of_tags (tag_of said.started.request.from) (tag_of said.started.request.to)
-      ≡ dialog)
+      ⊎ ((dialog_id_of_tags (tag_of said.started.request.from) (tag_of said.started.request.to)
+      ≡ dialog) × (has_to_tag said.started.request ≡ false))
 
 -- the text is that of an ACK that keeps the rules of messages, and that follows a 2xx
 pub record IsAckOfSuccess (configs : Side → Config) (before : List Turn) (turn : Turn)
