@@ -20,7 +20,7 @@ use Rattle.sip_conversation.specs.Replies.{AreCounted, ToldResponse}
 
 -- Up to a turn's end the user of its side was told of a 2xx under this Call-ID. The other side said
 -- it in the turns before. If the rounds of the turn's side are counted, it answers an INVITE with
--- this CSeq number; and this is the dialog of its tags, or the INVITE, which was sent in this dialog,
+-- this CSeq number; and this is the dialog of its tags, or the INVITE was sent in this dialog and
 -- has no To tag.
 pub record FollowsSuccess (configs : Side → Config) (before : List Turn) (turn : Turn)
     (call_id : List ℕ) (dialog : DialogId) (number : ℕ) : Type 0 where

@@ -21,8 +21,8 @@ use Rattle.sip_conversation.specs.AckedResponses.{FollowsSuccess}
 use Rattle.sip_conversation.specs.Conversation.{Side, Turn, given_by, peer, rounds_of}
 use Rattle.sip_conversation.specs.Messages.{CallSays, IsFailure, IsGiven, IsSaid}
 
--- Up to the end of one of these turns, which is this side's, a call of it sent the ACK as a text, and
--- its user was told of the 2xx that the ACK acknowledges (RFC 3261, section 13.2.2.4).
+-- Up to the end of one of these turns, which is this side's, a call of it sent the ACK as a text,
+-- and its user was told of the 2xx that the ACK acknowledges (RFC 3261, section 13.2.2.4).
 pub record IsSentByCall (configs : Side → Config) (turns : List Turn) (side : Side) (ack : Message)
     : Type 0 where
   pub before : List Turn
