@@ -1,6 +1,6 @@
 -- The elements of lists that are put together.
 use Rattle.std.proofs.Common.{◌≡◌, ◌⊎◌, inl, inr, ⊎_elim, Bool, true, false, cond, List, [], ◌∷◌, map, refl, sym, subst, ap, ◌∙◌, arith}
-use Rattle.std.specs.Prelude.{Contains, filter}
+use Rattle.std.specs.Prelude.{Contains, Some, find, filter, if◌then◌else◌}
 use Rattle.std.specs.List.{AllByRecursion, flat_map}
 use Rattle.std.proofs.lemmas.Bool.{false≢true}
 use Rattle.std.proofs.lemmas.List.Elements.{Contains-append_cases, Contains-append_left, Contains-append_right, Contains-push, Contains-push_cases}
@@ -119,3 +119,15 @@ module _ {X Y : Type 0} where
       (subst (λ w. Contains (f w) y) (sym same) has))
       (λ later. Contains-append_right (f z) (flat_map f zs) y (in_all_of f zs x y later has))
       (first_or_later z zs x among)
+
+-- what is found is among them
+pub found_among : {X : Type 0} (p : X → Bool) (xs : List X) (x : X) → find p xs ≡ Some x
+    → Contains xs x
+found_among p [] x is = absurd cc
+found_among p (y ∷ ys) x is = by_first (p y) is (λ later. found_among p ys x later)
+  where
+    by_first : (b : Bool) → (if b then Some y else find p ys) ≡ Some x
+        → (find p ys ≡ Some x → Contains ys x) → Contains (y ∷ ys) x
+    by_first true is rest =
+        let same : y ≡ x = cc in subst (Contains (y ∷ ys)) same (among_first y ys)
+    by_first false is rest = among_later y ys x (rest is)

@@ -43,6 +43,7 @@ use Rattle.sip_conversation.specs.Messages.{CallSays, IsGiven, IsSaid}
 use Rattle.sip_conversation.specs.Messages.IsSaid.{Acknowledges, Asked, Direct, Trying}
 use Rattle.sip_conversation.specs.Answers.{AnswersARequest, IsAnswered, IsResponseTo, Responds, own_statuses}
 use Rattle.sip_conversation.specs.Answers.IsAnswered.{ByAgent, ByUser}
+use Rattle.sip_conversation.proofs.ToTags.{answered_to}
 use Rattle.sip_conversation.proofs.AckTexts.{no_ack}
 use Rattle.sip_conversation.proofs.Among.{all_of, each_of}
 use Rattle.sip_conversation.proofs.Bridge.{any_arrival}
@@ -62,8 +63,13 @@ answer_body local held r = refl
 
 made_copies : (request : Message) (status : ℕ) (reason tag : List ℕ)
     → IsResponseTo request (response_of request status reason tag)
-made_copies request status reason tag =
-    record { vias = refl; from = refl; call_id = refl; cseq = refl }
+made_copies request status reason tag = record {
+  vias = refl;
+  from = refl;
+  to = answered_to request status tag;
+  call_id = refl;
+  cseq = refl;
+}
 
 answer_copies : (local : Addr) (held : HeldRequest) (r : Respond)
     → IsResponseTo held.request (answer_to local held r)
@@ -71,16 +77,46 @@ unfolding with_content_of
 answer_copies local held r =
     let copies = by_case (is_sent_reliably held r.status r.reliability)
     (makes_or_confirms_dialog held r.status) in
-    record { vias = copies.vias; from = copies.from; call_id = copies.call_id; cseq = copies.cseq }
+    record {
+      vias = copies.vias;
+      from = copies.from;
+      to = copies.to;
+      call_id = copies.call_id;
+      cseq = copies.cseq;
+    }
   where
     by_case : (reliable routed : Bool) → IsResponseTo held.request
         (if_so reliable (with_rseq (result_ok (send_answer held.ledger)))
         (if_so routed (with_routes local held.request)
         (response_of held.request r.status r.reason held.tag)))
-    by_case true true = record { vias = refl; from = refl; call_id = refl; cseq = refl }
-    by_case true false = record { vias = refl; from = refl; call_id = refl; cseq = refl }
-    by_case false true = record { vias = refl; from = refl; call_id = refl; cseq = refl }
-    by_case false false = record { vias = refl; from = refl; call_id = refl; cseq = refl }
+    by_case true true = record {
+      vias = refl;
+      from = refl;
+      to = answered_to held.request r.status held.tag;
+      call_id = refl;
+      cseq = refl;
+    }
+    by_case true false = record {
+      vias = refl;
+      from = refl;
+      to = answered_to held.request r.status held.tag;
+      call_id = refl;
+      cseq = refl;
+    }
+    by_case false true = record {
+      vias = refl;
+      from = refl;
+      to = answered_to held.request r.status held.tag;
+      call_id = refl;
+      cseq = refl;
+    }
+    by_case false false = record {
+      vias = refl;
+      from = refl;
+      to = answered_to held.request r.status held.tag;
+      call_id = refl;
+      cseq = refl;
+    }
 
 module _ (config : Config) (rounds : List Round) (Came : Message → Type 0) where
   -- ---- each answer
@@ -125,7 +161,13 @@ module _ (config : Config) (rounds : List Round) (Came : Message → Type 0) whe
         request = request;
         is_request = came.1;
         came = came.0;
-        copies = record { vias = refl; from = refl; call_id = refl; cseq = refl };
+        copies = record {
+          vias = refl;
+          from = refl;
+          to = answered_to request 420 tag;
+          call_id = refl;
+          cseq = refl;
+        };
       };
     };
     no_dialog = λ request tag came. own_says 481 (3, omega arith, refl)
@@ -246,7 +288,8 @@ module _ (config : Config) (rounds : List Round) (Came : Message → Type 0) whe
         subst Answers (sym same)
         (own_says 100 (0, omega arith, refl) (codes "Trying") request (codes "")
         (came.transactions key id request reply_to given, asks)) status is
-    answered response (Acknowledges key id other call_id invite answer to reply_to given heard same)
+    answered response (Acknowledges key id other call_id invite answer to reply_to given heard
+        failure same)
         status is =
         absurd (no_status response.start status (ap is_request_message same
         ∙ start_asks key id call_id invite to given) is)

@@ -25,6 +25,7 @@ comes_before configs before turn message comes = record {
   said = subst (λ rounds. IsSaid (configs (peer turn.side)) rounds comes.original)
       (peer_rounds before turn) comes.said;
   rules = comes.rules;
+  short = comes.short;
   same = comes.same;
 }
 

@@ -1,6 +1,6 @@
 -- What is written for a message that keeps the rules arrives as that message; a request has the
 -- stamp of its source.
-use Rattle.std.proofs.Common.{◌≡◌, ◌⊎◌, inl, inr, ℕ, Bool, true, false, List, length, sym, ap, subst, ◌<◌, ◌≤◌}
+use Rattle.std.proofs.Common.{◌≡◌, ◌⊎◌, inl, inr, ℕ, Bool, true, false, List, length, sym, ap, ◌∙◌, subst, ◌<◌, ◌≤◌}
 use Rattle.std.specs.Prelude.{nat_lt, Result, Ok, Err, Some, None, if◌then◌else◌}
 use Rattle.std.proofs.lemmas.Bool.{ltb-false, ltb-true}
 use Rattle.sip_message.specs.declared.addr.Addr.{Addr}
@@ -37,7 +37,7 @@ read_again message rules short =
     spelled_again (written message) message (written_spelled message rules short)
 
 what_comes : (message : Message) → IsMessage message
-    → (message_at (written message) ≡ Ok message)
+    → ((message_at (written message) ≡ Ok message) × (length (written message) ≤ 65535))
     ⊎ (message_at (written message) ≡ Err fault.TooLong)
 what_comes message rules =
     let text = written message in
@@ -45,7 +45,20 @@ what_comes message rules =
     λ long. if long then Err fault.TooLong else message_in (without_line_ends text) in
     by_bool (nat_lt 65535 (length text))
     (λ long. inr (ap read long))
-    (λ short. inl (read_again message rules (ltb-false 65535 (length text) short)))
+    (λ short. let fits = ltb-false 65535 (length text) short in
+    inl (read_again message rules fits, fits))
+
+-- a text that isn't too long is that of one message
+pub same_text : (one other : Message) → IsMessage one → IsMessage other
+    → length (written one) ≤ 65535 → written one ≡ written other → one ≡ other
+same_text one other rules also short same =
+    same_ok (message_at (written one)) one other (read_again one rules short)
+    (ap message_at same
+    ∙ read_again other also (subst (λ text. length text ≤ 65535) same short))
+  where
+    same_ok : (read : Result Message ReadFault) (one other : Message) → read ≡ Ok one
+        → read ≡ Ok other → one ≡ other
+    same_ok read one other is also = cc
 
 pub read_or_long : (message : Message) → IsMessage message
     → (message_at (written message) ≡ Ok message) ⊎ (65535 < length (written message))
@@ -81,13 +94,14 @@ module _ (config : Config) (Fits : Key → Input → Type 0) (id : Id) (from : A
       stray_or_not (is_stray config.local message) message from (fits from)
 
   long_or_read : (message : Message) (read : Result Message ReadFault)
-      → ((reply_to : Addr) → ReceiptFits (come_from from message) reply_to)
-      → (read ≡ Ok message) ⊎ (read ≡ Err fault.TooLong)
+      → (length (written message) ≤ 65535 → (reply_to : Addr)
+      → ReceiptFits (come_from from message) reply_to)
+      → ((read ≡ Ok message) × (length (written message) ≤ 65535)) ⊎ (read ≡ Err fault.TooLong)
       → ArrivalFits config Fits (datagram_arrival config.local id from read)
   unfolding message_arrival
   long_or_read message read fits (inl is) =
-      subst (λ r. ArrivalFits config Fits (datagram_arrival config.local id from r)) (sym is)
-      (by_request (is_request_message message) message fits)
+      subst (λ r. ArrivalFits config Fits (datagram_arrival config.local id from r)) (sym is.0)
+      (by_request (is_request_message message) message (fits is.1))
   long_or_read message read fits (inr long) =
       subst (λ r. ArrivalFits config Fits (datagram_arrival config.local id from r)) (sym long) tt
 
@@ -95,7 +109,8 @@ module _ (config : Config) (Fits : Key → Input → Type 0) (id : Id) (from : A
   -- from there does; a text that is too long is dropped
   pub text_fits : (message : Message) (bytes : List ℕ) → bytes ≡ written message
       → IsMessage message
-      → ((reply_to : Addr) → ReceiptFits (come_from from message) reply_to)
+      → (length (written message) ≤ 65535 → (reply_to : Addr)
+      → ReceiptFits (come_from from message) reply_to)
       → ArrivalFits config Fits (arrival_of config.local id (Datagram from bytes))
   unfolding arrival_of
   text_fits message bytes is rules fits =

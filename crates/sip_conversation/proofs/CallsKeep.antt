@@ -35,6 +35,8 @@ use Rattle.sip_round.specs.declared.round.Round.{Round}
 use Rattle.sip_round.specs.Answers.{calls_of, no_past, past_of}
 use Rattle.sip_round.specs.Arrivals.{arrival_of}
 use Rattle.sip_round.specs.Laws.{call_inputs_of, inputs_of, said_of, said_of_call}
+use Rattle.sip_round.proofs.CallEvents.{events_differ}
+use Rattle.sip_calls.specs.Provisionals.{EventsDiffer}
 use Rattle.sip_round.proofs.Said.{call_alone, transaction_alone}
 use Rattle.sip_conversation.specs.Commands.{CommandsKeepTypes, EventKeepsTypes, KeepsTypes}
 use Rattle.sip_conversation.specs.Conversation.{Carried, CarriedAfter, IsCarried, Side, Turn, peer, rounds_of}
@@ -45,7 +47,7 @@ use Rattle.sip_conversation.proofs.Carrying.{TurnHolds, each_turn, in_rounds}
 use Rattle.sip_conversation.proofs.OneTransaction.{IsFaithful, KindCame, faithful}
 use Rattle.sip_conversation.proofs.RepliesSaid.{IsFair}
 use Rattle.sip_conversation.proofs.Rounds.{ArrivalFits, OutFits, TimedFits, all_of_parts, calls_give, inputs_fit}
-use Rattle.sip_conversation.proofs.KeepsRules.{AnswerKeeps, KeepsInput, KindKeeps, StartKeeps}
+use Rattle.sip_conversation.proofs.KeepsRules.{Any, AnswerKeeps, KeepsInput, KindKeeps, StartKeeps}
 use Rattle.sip_conversation.proofs.SoundCalls.{starts_keep_rules}
 use Rattle.sip_conversation.proofs.AnswersOfCalls.{answers_keep}
 use Rattle.sip_conversation.proofs.Unchanged.{AreFine, IsFine, carried_fine, come_keeps}
@@ -53,9 +55,6 @@ use Rattle.sip_conversation.proofs.UserInputs.{EventAsks, ItemAsks, TimedAsks, i
 use Rattle.sip_conversation.proofs.Ups.{ItemCame, OutCame, TimedCame, UpCame, inputs_came}
 
 -- ---- one agent, to which only messages that keep the rules come
-
-abbrev Any : Message → Type 0
-Any message = Unit {0}
 
 -- such a message is received
 abbrev ReceivesSound : Key → Input → Type 0
@@ -120,12 +119,13 @@ module _ (alone : EachKeyAlone key_cmp transaction_machine tick_at) (config : Co
           started = λ now id call_id message to among. tt;
           answered = λ now id message among. tt;
           tried = λ now id request reply_to among is. tt;
-          acknowledged = λ now later id answered call_id invite response to reply_to among came. tt;
+          acknowledged = λ now later id answered call_id invite response to reply_to among
+              came failure. tt;
           came = λ now id message reply_to among.
               received key now id message reply_to among;
         }) key))
 
-    pub inputs_keep : AllByRecursion (λ (round : Round).
+    inputs_keep : AllByRecursion (λ (round : Round).
         AllByRecursion (EventAsks KeepsTypes) round.events) rounds → (call_id : List ℕ)
         → AllByRecursion (λ (timed : Timed CallItem). KeepsInput timed.input)
         (call_inputs_of config rounds call_id)
@@ -140,19 +140,19 @@ module _ (alone : EachKeyAlone key_cmp transaction_machine tick_at) (config : Co
 -- ---- what a call sends
 
 module _ (calls : Calls) (address : IsAddr calls.local) where
-  out_keeps : (out : CallOut) → StartKeeps out → AnswerKeeps out → KeepsRules out
+  out_keeps : (out : CallOut) → StartKeeps Any out → AnswerKeeps out → KeepsRules out
   out_keeps (call_out.Notice notice) start answer = tt
   out_keeps (call_out.Command id (command.Start key call_id message to)) start answer = start
   out_keeps (call_out.Command id (command.Answer key message)) start answer = answer
-  out_keeps (call_out.Direct to bytes) start answer = start
+  out_keeps (call_out.Direct to bytes) start answer = (start.0, start.1, start.2)
 
-  outs_keep : (call_id : List ℕ) (inputs : List (Timed CallItem))
+  outs_keep : (call_id : List ℕ) (inputs : List (Timed CallItem)) → EventsDiffer inputs
       → AllByRecursion (λ (timed : Timed CallItem). KeepsInput timed.input) inputs
       → AllByRecursion KeepsRules (outputs_from (call_machine calls) call_id None inputs)
-  outs_keep call_id inputs keeps =
-      all_both {P = StartKeeps} {Q = AnswerKeeps} {R = KeepsRules} out_keeps
+  outs_keep call_id inputs differ keeps =
+      all_both {P = StartKeeps Any} {Q = AnswerKeeps} {R = KeepsRules} out_keeps
       (outputs_from (call_machine calls) call_id None inputs)
-      (starts_keep_rules calls address call_id inputs keeps)
+      (starts_keep_rules calls address call_id inputs differ keeps)
       (answers_keep calls address call_id inputs keeps)
 
 -- ---- both sides
@@ -171,10 +171,23 @@ module _ (configs : Side → Config) (fair : IsFair configs) where
   unfolding arrival_of
   fine_arrives s (event.Datagram from bytes) fine id =
       text_fits (configs s) ReceivesSound id from fine.1 bytes fine.2 fine.3
-      (λ reply_to. come_keeps from (subst IsAddr (sym fine.0) (fair.addresses (peer s))) fine.1
-      fine.3)
+      (λ short reply_to. come_keeps from (subst IsAddr (sym fine.0) (fair.addresses (peer s)))
+      fine.1 fine.3)
   fine_arrives s (event.Failed key) fine id = tt
   fine_arrives s (event.Command c) fine id = tt
+
+  pub inputs_keep_so : (turns : List Turn) → Fine turns → CommandsKeepTypes turns → (s : Side)
+      (call_id : List ℕ) → AllByRecursion (λ (timed : Timed CallItem). KeepsInput timed.input)
+      (call_inputs_of (configs s) (rounds_of s turns) call_id)
+  inputs_keep_so turns fine types s call_id =
+      let config = configs s in
+      let sound = in_rounds (λ s e. ArrivesSound fair.transactions (configs s) [] e) s turns
+      (each_turn {P = IsFine fair.transactions configs fair.addresses}
+      {Q = λ s e. ArrivesSound fair.transactions (configs s) [] e} fine_arrives turns fine) in
+      let asks = in_rounds (λ s e. EventAsks KeepsTypes e) s turns
+      (each_turn {P = λ s e. EventKeepsTypes e} {Q = λ s e. EventAsks KeepsTypes e}
+      (λ s e. event_asks e) turns types) in
+      inputs_keep fair.transactions config (rounds_of s turns) sound asks call_id
 
   calls_keep : (turns : List Turn) → Fine turns → CommandsKeepTypes turns
       → CallsKeepRules configs turns
@@ -182,17 +195,11 @@ module _ (configs : Side → Config) (fair : IsFair configs) where
       let config = configs s in
       let rounds = rounds_of s turns in
       let call_id = says.0 in
-      let sound = in_rounds (λ s e. ArrivesSound fair.transactions (configs s) [] e) s turns
-      (each_turn {P = IsFine fair.transactions configs fair.addresses}
-      {Q = λ s e. ArrivesSound fair.transactions (configs s) [] e} fine_arrives turns fine) in
-      let asks = in_rounds (λ s e. EventAsks KeepsTypes e) s turns
-      (each_turn {P = λ s e. EventKeepsTypes e} {Q = λ s e. EventAsks KeepsTypes e}
-      (λ s e. event_asks e) turns types) in
       each_of KeepsRules (said_of_call config rounds call_id) out
       (subst (AllByRecursion KeepsRules)
       (sym (call_alone (calls_of config) (fair.calls s) [] (past_of config rounds).calls call_id))
       (outs_keep (calls_of config) (fair.addresses s) call_id (call_inputs_of config rounds call_id)
-      (inputs_keep fair.transactions config rounds sound asks call_id))) says.1
+      (events_differ config call_id rounds) (inputs_keep_so turns fine types s call_id))) says.1
 
   all_keep : (before turns : List Turn) → Fine before → CommandsKeepTypes (before ++ turns)
       → CarriedAfter configs before turns → CallsKeepRules configs (before ++ turns)

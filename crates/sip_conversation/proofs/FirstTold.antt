@@ -34,7 +34,7 @@ same_side side.One side.Other is = absurd (false≢true is)
 same_side side.Other side.One is = absurd (false≢true is)
 
 -- there is a last one, and then no rounds of that side
-record LastTurn (s : Side) (turns : List Turn) : Type 0 where
+pub record LastTurn (s : Side) (turns : List Turn) : Type 0 where
   pub before : List Turn
   pub turn : Turn
   pub after : List Turn
@@ -42,7 +42,7 @@ record LastTurn (s : Side) (turns : List Turn) : Type 0 where
   pub side_is : turn.side ≡ s
   pub no_more : rounds_of s after ≡ []
 
-last_turn : (s : Side) (turns : List Turn) → (rounds_of s turns ≡ []) ⊎ LastTurn s turns
+pub last_turn : (s : Side) (turns : List Turn) → (rounds_of s turns ≡ []) ⊎ LastTurn s turns
 last_turn s [] = inl refl
 last_turn s (turn ∷ turns) =
     ⊎_elim (λ none. by_own none (is_side s turn.side) refl)
@@ -69,6 +69,16 @@ last_turn s (turn ∷ turns) =
         inl (rounds_of-append s (turn ∷ []) turns
         ∙ (λ i. map (λ (t : Turn). t.round) (cond (is i) (turn ∷ []) []) ++ none i))
 
+-- up to its last turn a side has all its rounds
+pub last_rounds : (s : Side) (turns : List Turn) → (last : LastTurn s turns)
+    → rounds_of s turns ≡ rounds_of s (last.before ++ last.turn ∷ [])
+last_rounds s turns last =
+    let front = last.before ++ last.turn ∷ [] in
+    ap (rounds_of s) (last.turns_are ∙ sym (append_assoc last.before (last.turn ∷ []) last.after))
+    ∙ (rounds_of-append s front last.after
+    ∙ (ap (λ more. rounds_of s front ++ more) last.no_more
+    ∙ append-nil (rounds_of s front)))
+
 module _ (configs : Side → Config) where
   -- what a side said, it said up to its last turn
   said_by_last : (s : Side) (turns : List Turn) (message : Message) → (last : LastTurn s turns)
@@ -77,13 +87,8 @@ module _ (configs : Side → Config) where
       (rounds_of (last.turn).side (last.before ++ last.turn ∷ [])) message
   said_by_last s turns message last said =
       let front = last.before ++ last.turn ∷ [] in
-      let same : rounds_of s turns ≡ rounds_of s front =
-      ap (rounds_of s) (last.turns_are ∙ sym (append_assoc last.before (last.turn ∷ []) last.after))
-      ∙ (rounds_of-append s front last.after
-      ∙ (ap (λ more. rounds_of s front ++ more) last.no_more
-      ∙ append-nil (rounds_of s front))) in
       subst (λ t. IsSaid (configs t) (rounds_of t front) message) (sym last.side_is)
-      (subst (λ rounds. IsSaid (configs s) rounds message) same said)
+      (subst (λ rounds. IsSaid (configs s) rounds message) (last_rounds s turns last) said)
 
   module _ (turns : List Turn) (follow : PracksFollowResponses configs turns) (s : Side) where
     pub told_first : (response : Message) → SaidPrack (configs s) (rounds_of s turns) response

@@ -12,6 +12,7 @@ use Rattle.sip_common.specs.declared.item.CallOut.{CallOut}
 use Rattle.sip_common.specs.declared.item.CallOut.TheVariants as call_out
 use Rattle.sip_common.specs.declared.item.Item.TheVariants.{Up, User}
 use Rattle.sip_calls.specs.Call.{CallItem, call_machine}
+use Rattle.sip_calls.specs.Provisionals.{EventsDiffer}
 use Rattle.sip_calls.specs.declared.calls.Calls.{Calls}
 use Rattle.sip_conversation.specs.Commands.{KeepsTypes}
 
@@ -29,20 +30,24 @@ KeepsInput None = Unit {0}
 KeepsInput (Some (event, Up up)) = KindKeeps up.kind
 KeepsInput (Some (event, User command)) = KeepsTypes command
 
+-- nothing is required of a message
+abbrev pub Any : Message → Type 0
+Any message = Unit {0}
+
 -- a request that a transaction is started with keeps the rules; a text is that of a message that
--- does
-abbrev pub StartKeeps : CallOut → Type 0
-StartKeeps (call_out.Notice notice) = Unit {0}
-StartKeeps (call_out.Command id (order.Start key call_id message to)) = IsMessage message
-StartKeeps (call_out.Command id (order.Answer key message)) = Unit {0}
-StartKeeps (call_out.Direct to bytes) =
-    (message : Message) × (bytes ≡ written message) × IsMessage message
+-- does, and of which this is said too
+abbrev pub StartKeeps : (Message → Type 0) → CallOut → Type 0
+StartKeeps AckIs (call_out.Notice notice) = Unit {0}
+StartKeeps AckIs (call_out.Command id (order.Start key call_id message to)) = IsMessage message
+StartKeeps AckIs (call_out.Command id (order.Answer key message)) = Unit {0}
+StartKeeps AckIs (call_out.Direct to bytes) =
+    (message : Message) × (bytes ≡ written message) × IsMessage message × AckIs message
 
 -- all that a call gives, from nothing held on
 abbrev pub StartsKeepRules : Calls → Type 0
-StartsKeepRules calls = (call_id : List ℕ) (inputs : List (Timed CallItem))
+StartsKeepRules calls = (call_id : List ℕ) (inputs : List (Timed CallItem)) → EventsDiffer inputs
     → AllByRecursion (λ timed. KeepsInput timed.input) inputs
-    → AllByRecursion StartKeeps (outputs_from (call_machine calls) call_id None inputs)
+    → AllByRecursion (StartKeeps Any) (outputs_from (call_machine calls) call_id None inputs)
 
 -- an answer keeps the rules
 abbrev pub AnswerKeeps : CallOut → Type 0

@@ -39,6 +39,7 @@ pub mod PracksSaid
 pub mod OwedTold
 pub mod DialogOfReply
 pub mod RackedSteps
+pub mod HeardReplies
 pub mod RackedCalls
 pub mod ClientsSent
 pub mod ToldInLife
@@ -71,3 +72,6 @@ pub mod AnswersHeld
 pub mod AnswersServed
 pub mod AnswersOfCalls
 pub mod CallsKeep
+pub mod AckedCalls
+pub mod AcksFollow
+pub mod AcksSaid

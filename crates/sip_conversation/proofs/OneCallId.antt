@@ -329,7 +329,8 @@ module _ (config : Config)
         id of request to given =
         absurd (false≢true (sym (ap is_request_message same) ∙ asks))
     one_start_of message
-        (Acknowledges of_key other answered call_id invite response at reply_to begun heard same)
+        (Acknowledges of_key other answered call_id invite response at reply_to begun heard
+        failure same)
         asks token key is id of request to given =
         let started = started_so key id of request to given in
         absurd (no_ack message key is of request started.call_id id started.by

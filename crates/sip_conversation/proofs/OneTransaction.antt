@@ -1,9 +1,9 @@
 -- What a transaction sends is the text of a message that it was given or made. What it hands up is
 -- a message that came to it.
-use Rattle.std.proofs.Common.{◌≡◌, ℕ, Bool, true, false, cond, ◌&&◌, List, [], ◌∷◌, refl, sym, ap, ◌∙◌, codes, subst}
-use Rattle.std.specs.Prelude.{Contains, IfSome, Option, None, Some, not, option_map, option_to_list}
+use Rattle.std.proofs.Common.{◌≡◌, ◌≤◌, ℕ, Bool, true, false, cond, ◌&&◌, List, [], ◌∷◌, refl, sym, ap, ◌∙◌, codes, subst}
+use Rattle.std.specs.Prelude.{◌==◌, Contains, IfSome, Option, None, Some, nat_lt, not, option_map, option_to_list, if◌then◌else◌}
 use Rattle.std.specs.List.{AllByRecursion}
-use Rattle.std.proofs.lemmas.Bool.{false≢true}
+use Rattle.std.proofs.lemmas.Bool.{false≢true, ltb-false}
 use Rattle.std.proofs.lemmas.Option.{same_Some}
 use Rattle.sip_message.specs.declared.addr.Addr.{Addr}
 use Rattle.sip_message.specs.declared.id.Id.{Id}
@@ -42,6 +42,10 @@ use Rattle.sip_transactions.specs.Steps.Output.{handed_out, kind_of, made_bytes,
 use Rattle.sip_transactions.specs.Rows.{rows_of}
 use Rattle.sip_transactions.proofs.LawSteps.{RowFor, by_step, is_request}
 use Rattle.sip_transactions.proofs.RowFacts.{and-left, and-right, row_passes, table_passes}
+use Rattle.sip_transactions.specs.declared.trigger.Class.{Class}
+use Rattle.sip_transactions.specs.declared.trigger.Class.TheVariants as class
+use Rattle.sip_clients.specs.Clients.{status_of}
+use Rattle.sip_conversation.specs.Messages.{IsFailure}
 use Rattle.sip_common.proofs.Each.{both}
 use Rattle.sip_conversation.proofs.Among.{all_of}
 
@@ -65,17 +69,27 @@ made_fits order send.Latest = true
 made_fits order send.Trying = not order
 made_fits order send.Ack = not order
 
--- a 100 is made only for a request
-abbrev trying_fits : Trigger → Sent → Bool
-trying_fits trigger send.Nothing = true
-trying_fits trigger send.Given = true
-trying_fits trigger send.Latest = true
-trying_fits trigger send.Trying = is_request trigger
-trying_fits trigger send.Ack = true
+abbrev is_failed : Class → Bool
+is_failed class.Trying = false
+is_failed class.Provisional = false
+is_failed class.Success = false
+is_failed class.Failure = true
+
+abbrev is_failure : Trigger → Bool
+is_failure (on.Response c) = is_failed c
+is_failure _ = false
+
+-- a 100 is made only for a request, an ACK only for a response of 300 or above
+abbrev arrival_fits : Trigger → Sent → Bool
+arrival_fits trigger send.Nothing = true
+arrival_fits trigger send.Given = true
+arrival_fits trigger send.Latest = true
+arrival_fits trigger send.Trying = is_request trigger
+arrival_fits trigger send.Ack = is_failure trigger
 
 abbrev row_makes : Option State → Trigger → Step → Bool
 row_makes state trigger step =
-    made_fits (is_order trigger) step.sent && trying_fits trigger step.sent
+    made_fits (is_order trigger) step.sent && arrival_fits trigger step.sent
 
 rows_make : (r : Role) → table_passes row_makes (rows_of r) ≡ true
 rows_make role.InviteClient = refl
@@ -101,6 +115,31 @@ request_arrives : (line : StartLine) (method : List ℕ)
     → is_request (arrival_of line method) ≡ true → is_request_line line ≡ true
 request_arrives (start.Request uri) method is = refl
 request_arrives (start.Response status reason) method is = absurd (false≢true is)
+
+no_failure : (ack : Bool) → is_failure (cond ack on.Ack on.Request) ≡ false
+no_failure true = refl
+no_failure false = refl
+
+failed_status : (trying provisional success : Bool) (status : ℕ)
+    → nat_lt status 300 ≡ success
+    → is_failed (if trying then class.Trying else if provisional then class.Provisional
+    else if success then class.Success else class.Failure) ≡ true
+    → 300 ≤ status
+failed_status true provisional success status is failed = absurd (false≢true failed)
+failed_status false true success status is failed = absurd (false≢true failed)
+failed_status false false true status is failed = absurd (false≢true failed)
+failed_status false false false status is failed = ltb-false status 300 is
+
+failure_arrives : (line : StartLine) (method : List ℕ)
+    → is_failure (arrival_of line method) ≡ true
+    → (status : ℕ) × (status_of line ≡ Some status) × (300 ≤ status)
+failure_arrives (start.Request uri) method is =
+    absurd (false≢true (sym (no_failure (is_same_method method (codes "ACK"))) ∙ is))
+failure_arrives (start.Response status reason) method is = (
+  status,
+  refl,
+  failed_status (status == 100) (nat_lt status 200) (nat_lt status 300) status refl is,
+)
 
 -- ---- what is true of each output and of each input
 
@@ -138,7 +177,7 @@ module _ (all : List (Timed Input)) (Says Came : Message → Type 0) where
     pub acknowledged : (now later : ℕ) (id answered : Id) (call_id : List ℕ)
         (invite response : Message) (to reply_to : Addr)
         → Contains all (given_at now (Start id call_id invite to))
-        → Contains all (given_at later (Receive answered response reply_to))
+        → Contains all (given_at later (Receive answered response reply_to)) → IsFailure response
         → Says (ack_of invite response)
     pub came : (now : ℕ) (id : Id) (message : Message) (reply_to : Addr)
         → Contains all (given_at now (Receive id message reply_to)) → Came message
@@ -187,7 +226,7 @@ module _ (all : List (Timed Input)) (Says Came : Message → Type 0) where
     made_of_arrival : (request : Option Message) → IfSome request WasStarted → (s : Sent) (now : ℕ)
         (id : Id) (message : Message) (reply_to : Addr)
         → Contains all (given_at now (Receive id message reply_to)) → made_fits false s ≡ true
-        → trying_fits (arrival_of message.start message.cseq.method) s ≡ true
+        → arrival_fits (arrival_of message.start message.cseq.method) s ≡ true
         → IfSome (option_map written (made_of request s message)) (IsTextOf Says)
     unfolding made_of
     made_of_arrival request started send.Nothing now id message reply_to among fits trying = tt
@@ -205,14 +244,14 @@ module _ (all : List (Timed Input)) (Says Came : Message → Type 0) where
       ack_of invite message,
       refl,
       said.acknowledged started.0 now started.1 id started.2 invite message started.3 reply_to
-          started.4 among,
+          started.4 among (failure_arrives message.start message.cseq.method trying),
     )
 
     made : (request : Option Message) → IfSome request WasStarted → (s : Sent)
         (held : Option Life) (now : ℕ) (input : Option Input) (trigger : Trigger)
         → Contains all (record { moment = now; input = input })
         → trigger_of held now input ≡ Some trigger → made_fits (is_order trigger) s ≡ true
-        → trying_fits trigger s ≡ true
+        → arrival_fits trigger s ≡ true
         → IfSome (made_bytes request s (message_in input)) (IsTextOf Says)
     made request started s held now None trigger among is fits trying = tt
     made request started s held now (Some (Failed id)) trigger among is fits trying = tt
@@ -229,7 +268,7 @@ module _ (all : List (Timed Input)) (Says Came : Message → Type 0) where
         (ap (λ b. made_fits b s) (sym (arrival_orders message.start message.cseq.method)
         ∙ ap is_order (same_Some (arrival_of message.start message.cseq.method) trigger is))
         ∙ fits)
-        (ap (λ t. trying_fits t s)
+        (ap (λ t. arrival_fits t s)
         (same_Some (arrival_of message.start message.cseq.method) trigger is) ∙ trying)
 
     -- ---- what a row leaves, and what it says
@@ -334,15 +373,15 @@ module _ (all : List (Timed Input)) (Says Came : Message → Type 0) where
     acted_sound key held now input (Some context) step among sound row =
         let bytes = made_bytes context.request step.sent (message_in input) in
         let test : (made_fits (is_order row.trigger) step.sent
-        && trying_fits row.trigger step.sent) ≡ true =
+        && arrival_fits row.trigger step.sent) ≡ true =
         row_passes row_makes (rows_of (role_of key)) (rows_make (role_of key)) (state_of held)
         row.trigger step row.row in
         let text = made context.request sound.request step.sent held now input row.trigger among
         row.triggered
         (and-left (made_fits (is_order row.trigger) step.sent)
-        (trying_fits row.trigger step.sent) test)
+        (arrival_fits row.trigger step.sent) test)
         (and-right (made_fits (is_order row.trigger) step.sent)
-        (trying_fits row.trigger step.sent) test) in (
+        (arrival_fits row.trigger step.sent) test) in (
           after_sound context step now bytes (entered step.next (state_of held))
               (last_sound context bytes sound text),
           both (IsFaithful Says Came)

@@ -40,6 +40,7 @@ use Rattle.sip_served.specs.Rules.Ticks.{provisionals_tick, server_tick, success
 use Rattle.sip_served.specs.State.{ServedTaken, State}
 use Rattle.sip_served.proofs.Rseqs.{given_up_numbers, repeated_numbers}
 use Rattle.sip_conversation.specs.Answers.{IsResponseTo}
+use Rattle.sip_conversation.proofs.ToTags.{answered_to}
 use Rattle.sip_conversation.proofs.Branches.{either}
 
 -- ---- numbers among which one is, or isn't
@@ -270,22 +271,46 @@ module _ (Brought : Arrival → Type 0) (Gave : Id → ℕ → Message → Type 
     so_sent : (reliable routed : Bool) → SentSo reliable (sent_so reliable routed)
     unfolding with_content_of
     so_sent true true = record {
-      copies = record { vias = refl; from = refl; call_id = refl; cseq = refl };
+      copies = record {
+        vias = refl;
+        from = refl;
+        to = answered_to held.request respond.status held.tag;
+        call_id = refl;
+        cseq = refl;
+      };
       to = refl;
       rseq = refl;
     }
     so_sent true false = record {
-      copies = record { vias = refl; from = refl; call_id = refl; cseq = refl };
+      copies = record {
+        vias = refl;
+        from = refl;
+        to = answered_to held.request respond.status held.tag;
+        call_id = refl;
+        cseq = refl;
+      };
       to = refl;
       rseq = refl;
     }
     so_sent false true = record {
-      copies = record { vias = refl; from = refl; call_id = refl; cseq = refl };
+      copies = record {
+        vias = refl;
+        from = refl;
+        to = answered_to held.request respond.status held.tag;
+        call_id = refl;
+        cseq = refl;
+      };
       to = refl;
       rseq = refl;
     }
     so_sent false false = record {
-      copies = record { vias = refl; from = refl; call_id = refl; cseq = refl };
+      copies = record {
+        vias = refl;
+        from = refl;
+        to = answered_to held.request respond.status held.tag;
+        call_id = refl;
+        cseq = refl;
+      };
       to = refl;
       rseq = refl;
     }

@@ -195,7 +195,7 @@ module _ (Came : Message → Type 0) where
           absurd (no_rseq rseq (sym (ap (λ (m : Message). m.rseq) same)
           ∙ number_is status rseq response number))
       given_in_call response (Acknowledges key id other call_id invite answer to reply_to given heard
-          same) status rseq is number =
+          failure same) status rseq is number =
           absurd (no_rseq rseq (sym (ap (λ (m : Message). m.rseq) same)
           ∙ number_is status rseq response number))
 

@@ -34,7 +34,6 @@ use Rattle.sip_clients.specs.Client.{client_at}
 use Rattle.sip_clients.specs.Clients.{reply_name, status_of}
 use Rattle.sip_clients.specs.Owing.{asked_for}
 use Rattle.sip_clients.specs.Provisionals.{is_response, provisional_number}
-use Rattle.sip_clients.specs.ReceivedResponse.{has_dialog}
 use Rattle.sip_clients.specs.declared.client.Client.{Client}
 use Rattle.sip_clients.proofs.DialogSends.{AreNamed}
 use Rattle.sip_calls.specs.Call.{CallItem, CallTaken, call_machine, call_step, event_of, item_of_call, made_tag, new_call, received, side_of}
@@ -45,6 +44,7 @@ use Rattle.sip_calls.specs.declared.calls.Calls.{Calls}
 use Rattle.sip_calls.proofs.CallStarts.{tick_silent}
 use Rattle.sip_calls.proofs.Histories.{has_its_name}
 use Rattle.sip_calls.proofs.Owing.{owes_as_told}
+use Rattle.sip_conversation.proofs.HeardReplies.{WasHeard}
 use Rattle.sip_conversation.proofs.OwedTold.{WasAskedFor, owed_was_asked}
 use Rattle.sip_conversation.proofs.PracksOfCalls.{from_more}
 use Rattle.sip_conversation.proofs.PracksServed.{same_name}
@@ -63,7 +63,7 @@ distinct_before [] ys apart = tt
 distinct_before (x ∷ xs) ys apart =
     (all_before (λ y. is_id x y ≡ false) xs ys apart.0, distinct_before xs ys apart.1)
 
-front_differ : (front rest : List (Timed CallItem)) → EventsDiffer (front ++ rest)
+pub front_differ : (front rest : List (Timed CallItem)) → EventsDiffer (front ++ rest)
     → EventsDiffer front
 front_differ front rest differ =
     distinct_before (filter_map (λ timed. event_in timed.input) front)
@@ -71,61 +71,49 @@ front_differ front rest differ =
     (subst (IsDistinct is_id)
     (filter_map-append (λ (timed : Timed CallItem). event_in timed.input) front rest) differ)
 
+-- each held dialog has the name of its tags
+pub named_so : (calls : Calls) (front : List (Timed CallItem)) → EventsDiffer front
+    → (call : Call) → call_from calls None front ≡ Some call → AreNamed (side_of call).dialogs
+named_so calls front differ call held name dialog at =
+    has_its_name calls front differ name dialog
+    (ap (λ o. dialog_at name (side_held o).dialogs) held ∙ at)
+
 -- ---- what a response asks for
 
-record IsAsked (status : ℕ) (client : Client) (response : Message) (rseq number : ℕ) : Type 0 where
-  pub rseq_is : provisional_number (Some status) response ≡ Some rseq
-  pub number_is : client.request.cseq.number ≡ number
+-- it is a reliable provisional response with this RSeq
+abbrev pub HasRseq : ℕ → ℕ → Message → Type 0
+HasRseq rseq status response = provisional_number (Some status) response ≡ Some rseq
 
 prack_asked : (status : ℕ) (client : Client) (response : Message) (rseq number : ℕ)
     → asked_for status client response ≡ Some (Prack rseq number)
-    → IsAsked status client response rseq number
+    → HasRseq rseq status response × (client.request.cseq.number ≡ number)
 prack_asked status client response rseq number asks =
     by_success (is_success status) (provisional_number (Some status) response) refl asks
   where
     by_success : (b : Bool) (o : Option ℕ) → provisional_number (Some status) response ≡ o
         → (if b then Some (Ack client.id client.request.cseq.number)
         else option_map (λ r. Prack r client.request.cseq.number) o) ≡ Some (Prack rseq number)
-        → IsAsked status client response rseq number
+        → HasRseq rseq status response × (client.request.cseq.number ≡ number)
     by_success true o is asks = absurd cc
     by_success false None is asks = absurd cc
     by_success false (Some r) is asks =
         let one : r ≡ rseq = cc in
         let two : client.request.cseq.number ≡ number = cc in
-        record { rseq_is = is ∙ ap (λ r. Some r) one; number_is = two }
+        (is ∙ ap (λ r. Some r) one, two)
 
--- At one of these inputs a reliable provisional response with this RSeq comes up in the dialog of
--- this name, to an INVITE with this CSeq number, and the user is told of a response. The dialog is
--- held, or may be made.
-pub record WasTold (calls : Calls) (inputs : List (Timed CallItem)) (name : DialogId)
-    (rseq number : ℕ) : Type 0 where
-  pub before : List (Timed CallItem)
-  pub timed : Timed CallItem
-  pub after : List (Timed CallItem)
-  pub are : inputs ≡ before ++ timed ∷ after
-  pub call : Call
-  pub held : call_from calls None before ≡ Some call
-  pub event : Id
-  pub up : AnUp
-  pub comes : timed.input ≡ Some (event, Up up)
-  pub response : Message
-  pub kind_is : up.kind ≡ kind.Response response
-  pub client : Client
-  pub client_is : client_at up.id call.clients ≡ Some client
-  pub name_is : reply_name client.kind client response ≡ name
-  pub has : has_dialog client.kind (dialog_at name (side_of call).dialogs) ≡ true
-  pub number_is : client.request.cseq.number ≡ number
-  pub status : ℕ
-  pub status_is : status_of response.start ≡ Some status
-  pub rseq_is : provisional_number (Some status) response ≡ Some rseq
-  pub told : list_any is_response (call_step calls (Some call) timed.input timed.moment).1 ≡ true
+abbrev pub WasTold : Calls → List (Timed CallItem) → DialogId → ℕ → ℕ → Type 0
+WasTold calls inputs name rseq number = WasHeard (HasRseq rseq) calls inputs name number
 
-asked_told : (calls : Calls) (front rest : List (Timed CallItem)) (name : DialogId)
-    (rseq number : ℕ) → WasAskedFor calls front name (Prack rseq number)
-    → WasTold calls (front ++ rest) name rseq number
-asked_told calls front rest name rseq number was =
-    let asked = prack_asked was.asks.status was.asks.client was.response rseq number was.asks.asks
-    in record {
+-- what was asked for at the first inputs, by a response of which this is true
+pub asked_heard : (Is : ℕ → Message → Type 0) (calls : Calls) (front rest : List (Timed CallItem))
+    (name : DialogId) (pending : PendingRequest) (number : ℕ)
+    → ((status : ℕ) (client : Client) (response : Message)
+    → asked_for status client response ≡ Some pending
+    → Is status response × (client.request.cseq.number ≡ number))
+    → WasAskedFor calls front name pending → WasHeard Is calls (front ++ rest) name number
+asked_heard Is calls front rest name pending number so was =
+    let asked = so was.asks.status was.asks.client was.response was.asks.asks in
+    record {
       before = was.before;
       timed = was.timed;
       after = was.after ++ rest;
@@ -143,10 +131,10 @@ asked_told calls front rest name rseq number was =
       name_is = same_name (reply_name was.asks.client.kind was.asks.client was.response) name
           was.asks.named;
       has = was.asks.has;
-      number_is = asked.number_is;
+      number_is = asked.1;
       status = was.asks.status;
       status_is = was.asks.status_is;
-      rseq_is = asked.rseq_is;
+      is = asked.0;
       told = was.asks.told;
     }
 
@@ -233,12 +221,6 @@ module _ (calls : Calls) (all : List (Timed CallItem)) where
 
   -- ---- one input, after others
 
-  named_so : (front : List (Timed CallItem)) → EventsDiffer front → (call : Call)
-      → call_from calls None front ≡ Some call → AreNamed (side_of call).dialogs
-  named_so front differ call held name dialog at =
-      has_its_name calls front differ name dialog
-      (ap (λ o. dialog_at name (side_held o).dialogs) held ∙ at)
-
   module _ (front rest : List (Timed CallItem)) (differ : EventsDiffer front) where
     owed_so : (call : Call) → all ≡ front ++ rest → call_from calls None front ≡ Some call
         → PaysIn call
@@ -247,11 +229,13 @@ module _ (calls : Calls) (all : List (Timed CallItem)) where
         let owed = owes_as_told calls front differ name dialog
         (ap (λ o. dialog_at name (side_held o).dialogs) held ∙ at) in
         let own = same_name name (name_of_dialog dialog.dialog)
-        (named_so front differ call held name dialog at) in (
+        (named_so calls front differ call held name dialog at) in (
           refl,
           subst (λ name. WasTold calls all name rseq number) own
               (subst (λ inputs. WasTold calls inputs name rseq number) (sym are)
-              (asked_told calls front rest name rseq number
+              (asked_heard (HasRseq rseq) calls front rest name (Prack rseq number) number
+              (λ status client response asks.
+              prack_asked status client response rseq number asks)
               (owed_was_asked calls name front (Prack rseq number)
               (subst (λ pending. Contains pending (Prack rseq number)) owed among)))),
         )
@@ -282,7 +266,7 @@ module _ (calls : Calls) (all : List (Timed CallItem)) where
           number_is = refl;
           status = status;
           status_is = status_is;
-          rseq_is = number;
+          is = number;
           told = ap (λ k. list_any is_response
               (received call (event_of calls id now) up k).1) is ∙ told;
         },
@@ -318,7 +302,7 @@ module _ (calls : Calls) (all : List (Timed CallItem)) where
       (none_hears (received (new_call calls.local) (event_of calls id now) up up.kind)
       (new_call calls.local) refl up.id up.kind)
   step_says front rest (Some call) now (Some (id, Up up)) are held differ =
-      up_says call id now up up.kind (named_so front differ call held)
+      up_says call id now up up.kind (named_so calls front differ call held)
       (hears_so front rest call id now up are held up.kind refl)
   step_says front rest None now (Some (id, User command)) are held differ =
       first_says (new_call calls.local) id now command

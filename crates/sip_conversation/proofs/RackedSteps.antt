@@ -57,41 +57,45 @@ use Rattle.sip_clients.specs.declared.client.Cancelling.TheVariants.{NotAsked, S
 use Rattle.sip_clients.specs.declared.client.Client.{Client}
 use Rattle.sip_clients.specs.declared.event.Event.{Event}
 use Rattle.sip_clients.proofs.DialogSends.{AreNamed}
-use Rattle.sip_conversation.proofs.Among.{all_both, all_go, all_of, among_first, among_later}
+use Rattle.sip_conversation.proofs.Among.{all_both, all_go, all_of, found_among}
 use Rattle.sip_conversation.proofs.Branches.{either, found_or}
 use Rattle.sip_conversation.proofs.BranchSteps.{over_silent}
 use Rattle.sip_conversation.proofs.DialogOfReply.{Reply, dialog_named, has_so, name_so}
 use Rattle.sip_conversation.proofs.PracksServed.{same_name}
 
-found_among : {X : Type 0} (p : X → Bool) (xs : List X) (x : X) → find p xs ≡ Some x
-    → Contains xs x
-found_among p [] x is = absurd cc
-found_among p (y ∷ ys) x is = by_first (p y) is (λ later. found_among p ys x later)
-  where
-    by_first : (b : Bool) → (if b then Some y else find p ys) ≡ Some x
-        → (find p ys ≡ Some x → Contains ys x) → Contains (y ∷ ys) x
-    by_first true is rest =
-        let same : y ≡ x = cc in subst (Contains (y ∷ ys)) same (among_first y ys)
-    by_first false is rest = among_later y ys x (rest is)
+-- ---- the tags of a PRACK
 
--- a PRACK that is made in a dialog has its tags
-prack_named : (dialog : Dialog) (number : ℕ) (content : Content) (branch : List ℕ) (local : Addr)
-    → let prack = request_in dialog (codes "PRACK") number content branch local in
-    dialog_id_of_tags (tag_of prack.from) (tag_of prack.to) ≡ name_of_dialog dialog
-prack_named dialog number content branch local =
-    let name = name_of_dialog dialog in
-    let prack = request_in dialog (codes "PRACK") number content branch local in
-    let tags = dialog_id_of_tags (tag_of prack.from) (tag_of prack.to) in
-    let cseq : CSeq = record { number = number; method = codes "PRACK" } in
-    sym (same_name name tags (by_some (has_own_number prack) (is_dialog_id name tags) prack.cseq
-    cseq (made_in name name dialog (codes "PRACK") number content branch local (name_laws.refl name)
-    ∙ ap (λ b. if b then Some cseq else None) (name_laws.refl name))))
-  where
-    by_some : (numbered named : Bool) (one other : CSeq)
-        → (if numbered && named then Some one else None) ≡ Some other → named ≡ true
-    by_some true true one other is = refl
-    by_some true false one other is = absurd cc
-    by_some false named one other is = absurd cc
+party_tag : (uri : List ℕ) (tag : Option (List ℕ)) → tag_of (party_of uri tag) ≡ tag_text tag
+unfolding value_named
+party_tag uri None = refl
+party_tag uri (Some tag) = refl
+
+-- a request that is made in a dialog has its tags
+pub request_named : (dialog : Dialog) (method : List ℕ) (number : ℕ) (content : Content)
+    (branch : List ℕ) (local : Addr)
+    → let message = request_in dialog method number content branch local in
+    dialog_id_of_tags (tag_of message.from) (tag_of message.to) ≡ name_of_dialog dialog
+unfolding with_content_of
+request_named dialog method number content branch local =
+    (λ i. dialog_id_of_tags (party_tag dialog.local.uri dialog.local.tag i)
+    (party_tag dialog.remote.uri dialog.remote.tag i))
+
+-- ---- the user is still told of it after what it starts
+
+more_told : (xs ys : List CallOut) → list_any is_response xs ≡ true
+    → list_any is_response (xs ++ ys) ≡ true
+more_told xs ys told =
+    list_any-append is_response xs ys ∙ ap (λ b. b || list_any is_response ys) told
+
+pub still_told : (clients : List Client) (done : Clients × List CallOut)
+    → list_any is_response done.1 ≡ true
+    → list_any is_response (fold start done clients).1 ≡ true
+still_told [] done told = told
+still_told (client ∷ clients) done told =
+    still_told clients (start done client) (more_told done.1 _ told)
+
+abbrev pub IsToldOf : ClientTaken → Type 0
+IsToldOf taken = list_any is_response taken.1 ≡ true
 
 module _ (Fact : DialogId → RAck → Type 0) where
   -- of the dialog of its tags and of its RAck, where it has one, this is said
@@ -387,23 +391,6 @@ module _ (Fact : DialogId → RAck → Type 0) where
 
   cancel_racked : (id : Id) (invite : Client) → Racked (cancel_request id invite)
   cancel_racked id invite rack is = absurd (no_rack rack is)
-
-  -- ---- the user is still told of it after what it starts
-
-  more_told : (xs ys : List CallOut) → list_any is_response xs ≡ true
-      → list_any is_response (xs ++ ys) ≡ true
-  more_told xs ys told =
-      list_any-append is_response xs ys ∙ ap (λ b. b || list_any is_response ys) told
-
-  still_told : (clients : List Client) (done : Clients × List CallOut)
-      → list_any is_response done.1 ≡ true
-      → list_any is_response (fold start done clients).1 ≡ true
-  still_told [] done told = told
-  still_told (client ∷ clients) done told =
-      still_told clients (start done client) (more_told done.1 _ told)
-
-  abbrev pub IsToldOf : ClientTaken → Type 0
-  IsToldOf taken = list_any is_response taken.1 ≡ true
 
   response_racked : (event : Event) (id : Id) (of : List ℕ) (response : Message) (side : Side)
       (status : ℕ) (client : Client) → AreNamed side.dialogs

@@ -155,15 +155,16 @@ module _ (configs : Side → Config) (fair : IsFair configs) (before : List Turn
   Comes up = UpCame Came up
       × UpStarted (configs turn.side) (rounds_of turn.side (before ++ turn ∷ [])) up
 
-  up_said : (call_id : List ℕ) (id : Id) (k : Kind) → KindCame Came k
-      → KindStarted (configs turn.side) (rounds_of turn.side (before ++ turn ∷ [])) id call_id k
-      → KindTells Said call_id id k
-  up_said call_id id (kind.Request request reply_to) came started = tt
-  up_said call_id id (kind.Ack ack) came started = tt
-  up_said call_id id (kind.Response response) came started = λ status is.
-      let so = response_said response came status is in
+  -- and its transaction was started
+  abbrev pub told_response : (call_id : List ℕ) (id : Id) (response : Message) (status : ℕ)
+      → IsSaidSo response status
+      → IsStartedFor (configs turn.side) (rounds_of turn.side (before ++ turn ∷ [])) call_id id
+      response
+      → ToldResponse configs before turn call_id id status (tag_of response.from)
+      (tag_of response.to) response.body
+  told_response call_id id response status so started =
       let begun = subst (IsStartedFor (configs turn.side)
-      (rounds_of turn.side (before ++ turn ∷ [])) call_id id) (sym so.whole) (started status is) in
+      (rounds_of turn.side (before ++ turn ∷ [])) call_id id) (sym so.whole) started in
       let own = own_reply configs fair.calls before turn call_id id status (tag_of response.from)
       (tag_of response.to) response.body so.said begun in
       record {
@@ -172,6 +173,15 @@ module _ (configs : Side → Config) (fair : IsFair configs) (before : List Turn
         call_id_is = λ few. (own few).call;
         request_is = λ few. (own few).same;
       }
+
+  up_said : (call_id : List ℕ) (id : Id) (k : Kind) → KindCame Came k
+      → KindStarted (configs turn.side) (rounds_of turn.side (before ++ turn ∷ [])) id call_id k
+      → KindTells Said call_id id k
+  up_said call_id id (kind.Request request reply_to) came started = tt
+  up_said call_id id (kind.Ack ack) came started = tt
+  up_said call_id id (kind.Response response) came started = λ status is.
+      told_response call_id id response status (response_said response came status is)
+      (started status is)
   up_said call_id id kind.Timeout came started = tt
   up_said call_id id kind.Failed came started = tt
 

@@ -100,7 +100,7 @@ module _ (config : Config) (rounds : List Round)
       (all_of (λ (timed : Timed CallItem). InputIsAsked call_id timed.input) inputs
       (λ timed among. input_asks call_id timed.moment timed.input among)))) says.1
 
-  out_own : (out : CallOut) → (says : CallSays config rounds out)
+  pub out_own : (out : CallOut) → (says : CallSays config rounds out)
       → OutIsOwn (calls_of config) says.0 (IsOrigin config rounds says.0) out
   out_own out says =
       let call_id = says.0 in
@@ -165,7 +165,8 @@ module _ (config : Config) (rounds : List Round)
       (text.2).method text.1))
   user_asked message (Trying key id request reply_to given asks same) rules is other =
       absurd (no_request message is (ap is_request_message same))
-  user_asked message (Acknowledges key id answered of invite response to reply_to given heard same)
+  user_asked message (Acknowledges key id answered of invite response to reply_to given heard
+      failure same)
       rules is other = absurd (no_ack message other (ap (λ (m : Message). m.cseq.method) same))
 
   not_both : codes "PRACK" ≡ codes "ACK" → ⊥
@@ -188,5 +189,5 @@ module _ (config : Config) (rounds : List Round)
   user_pracked message (Trying key id request reply_to given asks same) rules is prack =
       absurd (no_request message is (ap is_request_message same))
   user_pracked message (Acknowledges key id answered of invite response to reply_to given heard
-      same) rules is prack =
+      failure same) rules is prack =
       absurd (not_both (sym prack ∙ ap (λ (m : Message). m.cseq.method) same))

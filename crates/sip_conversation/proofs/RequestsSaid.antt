@@ -1,6 +1,6 @@
 -- The other side's user asked for each request that a user is told of, and that side said each ACK
 -- and each PRACK.
-use Rattle.std.proofs.Common.{◌≡◌, ◌⊎◌, inl, inr, ℕ, Bool, true, false, ◌||◌, List, [], ◌∷◌, ◌++◌, length, refl, sym, ap, ◌∙◌, subst, arith}
+use Rattle.std.proofs.Common.{◌≡◌, ◌≤◌, ◌⊎◌, inl, inr, ℕ, Bool, true, false, ◌||◌, List, [], ◌∷◌, ◌++◌, length, refl, sym, ap, ◌∙◌, subst, arith}
 use Rattle.std.specs.Prelude.{◌==◌, Contains, Option, None, Some, codes, if◌then◌else◌}
 use Rattle.std.specs.Str.{bytes_eq}
 use Rattle.std.proofs.lemmas.Bool.{false≢true}
@@ -11,7 +11,9 @@ use Rattle.sip_message.specs.declared.id.Id.{Id}
 use Rattle.sip_message.specs.declared.message.Message.{Message}
 use Rattle.sip_message.specs.Message.{is_request_message}
 use Rattle.sip_message.specs.Party.{tag_of}
+use Rattle.sip_message.specs.Rules.{IsMessage}
 use Rattle.sip_message.specs.Source.{stamped}
+use Rattle.sip_message.specs.Written.{written}
 use Rattle.sip_model.proofs.Ordered.{by_bool}
 use Rattle.sip_transactions.specs.declared.output.Kind.{Kind}
 use Rattle.sip_transactions.specs.declared.output.Kind.TheVariants as kind
@@ -27,7 +29,6 @@ use Rattle.sip_round.specs.declared.config.Config.{Config}
 use Rattle.sip_round.specs.declared.output.Output.TheVariants as output
 use Rattle.sip_round.specs.Answers.{calls_of}
 use Rattle.sip_round.specs.Laws.{call_inputs_of}
-use Rattle.sip_conversation.specs.Acks.{AcksToldWereSaid, SaidAck}
 use Rattle.sip_conversation.specs.Conversation.{Carried, Side, Turn, given_by, peer, rounds_of}
 use Rattle.sip_conversation.specs.Messages.{CallsKeepRules, IsSaid, come_from}
 use Rattle.sip_conversation.specs.Requests.{RequestsToldWereAskedFor, SaidRequest}
@@ -109,11 +110,21 @@ module _ (configs : Side → Config) (fair : IsFair configs) (before : List Turn
   abbrev other : Side
   other = peer turn.side
 
+  -- in these turns the other side said an ACK with this body
+  pub record IsAckSaid (body : List ℕ) : Type 0 where
+    pub original : Message
+    pub said : IsSaid (configs other) (rounds_of other before) original
+    pub rules : IsMessage original
+    pub short : length (written original) ≤ 65535
+    pub is_request : is_request_message original ≡ true
+    pub method_is : original.cseq.method ≡ codes "ACK"
+    pub body_is : original.body ≡ body
+
   -- what a user is told of the requests and the ACKs of the other side
   abbrev Told : Notice → Type 0
   Told (notice.Request call_id id method local_tag remote_tag body) =
       SaidRequest configs before turn.side call_id method local_tag remote_tag body
-  Told (notice.Ack call_id id body) = SaidAck configs before turn.side body
+  Told (notice.Ack call_id id body) = IsAckSaid body
   Told (notice.Prack call_id id rseq body) =
       SaidPrackOf configs before turn.side call_id rseq body
   Told _ = Unit {0}
@@ -183,13 +194,14 @@ module _ (configs : Side → Config) (fair : IsFair configs) (before : List Turn
       }
 
   ack_said : (ack : Message) → Came configs front turn.side ack → ack.cseq.method ≡ codes "ACK"
-      → is_request_message ack ≡ true → SaidAck configs before turn.side ack.body
+      → is_request_message ack ≡ true → IsAckSaid ack.body
   ack_said ack comes method is =
       let same = came_same (configs other).local ack comes.original comes.same is in
       record {
         original = comes.original;
         said = said_before ack comes;
         rules = comes.rules;
+        short = comes.short;
         is_request = same.is_request;
         method_is = same.method ∙ method;
         body_is = same.body;
@@ -236,7 +248,10 @@ module _ (configs : Side → Config) (fair : IsFair configs) (turns : List Turn)
       (keeps_to configs turns before after turn same keep)
       (notice.Request call_id id method local_tag remote_tag body) among
 
-  pub acks_said : AcksToldWereSaid configs turns
+  pub acks_said : (before after : List Turn) (turn : Turn) → turns ≡ before ++ turn ∷ after
+      → (call_id : List ℕ) (id : Id) (body : List ℕ)
+      → Contains (given_by configs (before ++ turn ∷ []) turn.side)
+      (output.Notice (notice.Ack call_id id body)) → IsAckSaid configs fair before turn body
   acks_said before after turn same call_id id body among =
       notice_said configs fair before turn
       (carried_to configs turns before after turn same carried)

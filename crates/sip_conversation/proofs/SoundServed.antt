@@ -58,37 +58,6 @@ pub record IsSoundState (state : State) : Type 0 where
 pub empty_sound : (local : Addr) → IsAddr local → IsSoundState (empty_at local)
 empty_sound local address = record { local = address; requests = tt; dialogs = tt }
 
-abbrev pub Keep : List CallOut → Type 0
-Keep outs = AllByRecursion StartKeeps outs
-
-abbrev pub Done : ServedTaken → Type 0
-Done taken = IsSoundState taken.0 × Keep taken.1
-
--- ---- the ends of dialogs
-
-abbrev pub Ended : Dialogs × List CallOut → Type 0
-Ended ended = AreSound ended.0 × Keep ended.1
-
-ends_keep : (dialogs : List HeldDialog) → Keep (map ended_notice dialogs)
-ends_keep [] = tt
-ends_keep (held ∷ dialogs) = (tt, ends_keep dialogs)
-
-pub early_ends : (invite : Id) (dialogs : Dialogs) → AreSound dialogs
-    → Ended (early_ended invite dialogs)
-early_ends invite dialogs all = (
-  each_left IsSound _ dialogs all,
-  ends_keep (filter (is_early_of invite) (values_of dialogs)),
-)
-
-pub dialog_ends : (name : DialogId) (dialogs : Dialogs) → AreSound dialogs
-    → Ended (ended_at name dialogs)
-dialog_ends name dialogs all = (
-  each_but_one IsSound (is_dialog_id name) dialogs all,
-  found_or Keep _ (dialog_at name dialogs) [] (λ held is. (tt, tt)) (λ none. tt),
-)
-
--- ---- a request that comes up
-
 pub record IsSoundArrival (arrival : Arrival) : Type 0 where
   pub request : IsMessage arrival.request
   pub tag : IsTrue (is_token arrival.tag)
@@ -104,301 +73,335 @@ changed_done state id change keeps sound = record {
   dialogs = sound.dialogs;
 }
 
-user_done : (state : State) (call_id : List ℕ) (name : DialogId) (arrival : Arrival)
-    → IsSoundArrival arrival → IsSoundState state
-    → Done (request_for_user state call_id name arrival)
-user_done state call_id name arrival its sound =
-    let request = arrival.request in
-    let after = either Ended (has_to_tag request && is_bye request) (ended_at name state.dialogs)
-    (state.dialogs, []) (λ ends. dialog_ends name state.dialogs sound.dialogs)
-    (λ other. (sound.dialogs, tt)) in (
-      record {
+-- of each ACK that is sent as a text this is said
+module _ (AckIs : Message → Type 0) where
+  abbrev pub Keep : List CallOut → Type 0
+  Keep outs = AllByRecursion (StartKeeps AckIs) outs
+
+  abbrev pub Done : ServedTaken → Type 0
+  Done taken = IsSoundState taken.0 × Keep taken.1
+
+  -- ---- the ends of dialogs
+
+  abbrev pub Ended : Dialogs × List CallOut → Type 0
+  Ended ended = AreSound ended.0 × Keep ended.1
+
+  ends_keep : (dialogs : List HeldDialog) → Keep (map ended_notice dialogs)
+  ends_keep [] = tt
+  ends_keep (held ∷ dialogs) = (tt, ends_keep dialogs)
+
+  pub early_ends : (invite : Id) (dialogs : Dialogs) → AreSound dialogs
+      → Ended (early_ended invite dialogs)
+  early_ends invite dialogs all = (
+    each_left IsSound _ dialogs all,
+    ends_keep (filter (is_early_of invite) (values_of dialogs)),
+  )
+
+  pub dialog_ends : (name : DialogId) (dialogs : Dialogs) → AreSound dialogs
+      → Ended (ended_at name dialogs)
+  dialog_ends name dialogs all = (
+    each_but_one IsSound (is_dialog_id name) dialogs all,
+    found_or Keep _ (dialog_at name dialogs) [] (λ held is. (tt, tt)) (λ none. tt),
+  )
+
+  -- ---- a request that comes up
+
+  user_done : (state : State) (call_id : List ℕ) (name : DialogId) (arrival : Arrival)
+      → IsSoundArrival arrival → IsSoundState state
+      → Done (request_for_user state call_id name arrival)
+  user_done state call_id name arrival its sound =
+      let request = arrival.request in
+      let after = either Ended (has_to_tag request && is_bye request) (ended_at name state.dialogs)
+      (state.dialogs, []) (λ ends. dialog_ends name state.dialogs sound.dialogs)
+      (λ other. (sound.dialogs, tt)) in (
+        record {
+          local = sound.local;
+          requests = both IsSoundRequest state.requests _ sound.requests
+              (record { request = its.request; tag = its.tag }, tt);
+          dialogs = after.0;
+        },
+        (tt, after.1),
+      )
+
+  prack_done : (state : State) (call_id : List ℕ) (name : DialogId) (created_by : Id)
+      (arrival : Arrival) (rack : Option RAck) → IsSoundState state
+      → Done (prack_received state call_id name created_by arrival rack)
+  prack_done state call_id name created_by arrival None sound = (sound, (tt, tt))
+  prack_done state call_id name created_by arrival (Some rack) sound =
+      found_or Done (prack_for state call_id arrival rack)
+      (find (is_named_by rack name created_by) state.requests) (no_such_call state arrival)
+      (λ invite found. (
+        changed_done state invite.id (after_prack rack.rseq)
+            (λ held its. record { request = its.request; tag = its.tag }) sound,
+        (tt, (tt, tt)),
+      ))
+      (λ none. (sound, (tt, tt)))
+
+  dialog_done : (state : State) (call_id : List ℕ) (name : DialogId) (arrival : Arrival)
+      (held_dialog : HeldDialog) → IsSoundArrival arrival → IsSoundState state
+      → Done (request_in_dialog state call_id name arrival held_dialog)
+  dialog_done state call_id name arrival held_dialog its sound =
+      let request = arrival.request in
+      let noted : State = record state {
+        dialogs = dialog_changed name (after_request request) state.dialogs;
+      } in
+      let noted_sound : IsSoundState noted = record {
         local = sound.local;
-        requests = both IsSoundRequest state.requests _ sound.requests
-            (record { request = its.request; tag = its.tag }, tt);
-        dialogs = after.0;
-      },
-      (tt, after.1),
-    )
+        requests = sound.requests;
+        dialogs = each_changed IsSound (is_dialog_id name) (after_request request)
+            (λ held before. visited_sound request held its.request before) state.dialogs
+            sound.dialogs;
+      } in
+      let prack : ServedTaken =
+      prack_received noted call_id name held_dialog.created_by arrival request.rack in
+      let user : ServedTaken = request_for_user noted call_id name arrival in
+      either Done (not (is_above held_dialog request.cseq.number)) _
+      (if is_prack request then prack else user)
+      (λ late. (sound, (tt, tt)))
+      (λ above. either Done (is_prack request) prack user
+      (λ is. prack_done noted call_id name held_dialog.created_by arrival request.rack noted_sound)
+      (λ other. user_done noted call_id name arrival its noted_sound))
 
-prack_done : (state : State) (call_id : List ℕ) (name : DialogId) (created_by : Id)
-    (arrival : Arrival) (rack : Option RAck) → IsSoundState state
-    → Done (prack_received state call_id name created_by arrival rack)
-prack_done state call_id name created_by arrival None sound = (sound, (tt, tt))
-prack_done state call_id name created_by arrival (Some rack) sound =
-    found_or Done (prack_for state call_id arrival rack)
-    (find (is_named_by rack name created_by) state.requests) (no_such_call state arrival)
-    (λ invite found. (
-      changed_done state invite.id (after_prack rack.rseq)
-          (λ held its. record { request = its.request; tag = its.tag }) sound,
-      (tt, (tt, tt)),
-    ))
-    (λ none. (sound, (tt, tt)))
+  -- ---- a CANCEL, and an ACK
 
-dialog_done : (state : State) (call_id : List ℕ) (name : DialogId) (arrival : Arrival)
-    (held_dialog : HeldDialog) → IsSoundArrival arrival → IsSoundState state
-    → Done (request_in_dialog state call_id name arrival held_dialog)
-dialog_done state call_id name arrival held_dialog its sound =
-    let request = arrival.request in
-    let noted : State = record state {
-      dialogs = dialog_changed name (after_request request) state.dialogs;
-    } in
-    let noted_sound : IsSoundState noted = record {
+  cancel_one : (state : State) (call_id : List ℕ) (arrival : Arrival) (now : ℕ)
+      (held : HeldRequest) → IsSoundState state
+      → Done (cancel_for state call_id arrival now held)
+  cancel_one state call_id arrival now held sound =
+      let ended = early_ends held.id state.dialogs sound.dialogs in
+      either Done (not (is_invite held.request && is_none held.removal)) _ _
+      (λ late. (sound, (tt, tt)))
+      (λ still. (
+        record {
+          local = sound.local;
+          requests = first_changed IsSoundRequest (has_id held.id) (after_487 now)
+              (λ one its. record { request = its.request; tag = its.tag }) state.requests
+              sound.requests;
+          dialogs = ended.0;
+        },
+        (tt, (tt, (tt, ended.1))),
+      ))
+
+  cancel_done : (state : State) (call_id : List ℕ) (arrival : Arrival) (now : ℕ)
+      → IsSoundState state → Done (cancel_received state call_id arrival now)
+  cancel_done state call_id arrival now sound =
+      found_or Done (cancel_for state call_id arrival now)
+      (find (λ held. is_same_branch arrival.key held.key) (reverse state.requests))
+      (no_such_call state arrival)
+      (λ held found. cancel_one state call_id arrival now held sound)
+      (λ none. (sound, (tt, tt)))
+
+  ack_done : (state : State) (call_id : List ℕ) (ack : Message) → IsSoundState state
+      → Done (ack_received state call_id ack)
+  unfolding ack_received
+  ack_done state call_id ack sound =
+      found_or Done (ack_for state call_id ack) (find (awaits ack) state.requests) (state, [])
+      (λ invite found. (
+        changed_done state invite.id after_ack
+            (λ held its. record { request = its.request; tag = its.tag }) sound,
+        (tt, tt),
+      ))
+      (λ none. (sound, tt))
+
+  -- ---- any request
+
+  request_done : (state : State) (call_id : List ℕ) (arrival : Arrival) (now : ℕ)
+      → IsSoundArrival arrival → IsSoundState state
+      → Done (request_received state call_id arrival now)
+  unfolding request_received
+  request_done state call_id arrival now its sound =
+      let request = arrival.request in
+      let name = dialog_id_of request arrival.tag in
+      let outside : ServedTaken = if is_bye request || is_prack request
+      then no_such_call state arrival else request_for_user state call_id name arrival in
+      let inside : ServedTaken = option_map_or (request_in_dialog state call_id name arrival)
+      (dialog_at name state.dialogs) (no_such_call state arrival) in
+      let known : ServedTaken = if has_to_tag request then inside else outside in
+      let once : ServedTaken = if list_any is_unknown_option request.require
+      then bad_extension state arrival else known in
+      let merged : ServedTaken = (state, own_response arrival 482 (codes "Loop Detected")) in
+      let no_cancel : ServedTaken = if not (has_to_tag request)
+      && list_any (is_merged request) state.requests then merged else once in
+      either Done (is_cancel request) (cancel_received state call_id arrival now) no_cancel
+      (λ is. cancel_done state call_id arrival now sound)
+      (λ is. either Done
+      (not (has_to_tag request) && list_any (is_merged request) state.requests) merged once
+      (λ twice. (sound, (tt, tt)))
+      (λ single. either Done (list_any is_unknown_option request.require)
+      (bad_extension state arrival) known
+      (λ unknown. (sound, (tt, tt)))
+      (λ fine. either Done (has_to_tag request) inside outside
+      (λ tagged. found_or Done (request_in_dialog state call_id name arrival)
+      (dialog_at name state.dialogs) (no_such_call state arrival)
+      (λ held found. dialog_done state call_id name arrival held its sound)
+      (λ none. (sound, (tt, tt))))
+      (λ untagged. either Done (is_bye request || is_prack request) (no_such_call state arrival)
+      (request_for_user state call_id name arrival)
+      (λ odd. (sound, (tt, tt)))
+      (λ plain. user_done state call_id name arrival its sound)))))
+
+  -- the tag of the answers is that of the request, or the made one
+  local_token : (request : Message) (made : List ℕ) → IsMessage request → IsTrue (is_token made)
+      → IsTrue (is_token (local_tag_of request made))
+  local_token request made rules token =
+      either (λ tag. IsTrue (is_token tag)) (length (tag_of request.to) == 0) made
+      (tag_of request.to) (λ none. token)
+      (λ some. tag_is_token request.to.parameters some (rules.to).tag)
+
+  pub kind_done : (state : State) (made : List ℕ) (up : AnUp) (k : Kind) (now : ℕ) → KindKeeps k
+      → IsTrue (is_token made) → IsSoundState state → Done (server_received state made up k now)
+  kind_done state made up (kind.Request request reply_to) now rules token sound =
+      request_done state up.call_id _ now
+      (record { request = rules; tag = local_token request made rules token }) sound
+  kind_done state made up (kind.Ack ack) now rules token sound =
+      ack_done state up.call_id ack sound
+  kind_done state made up (kind.Response response) now rules token sound = (sound, tt)
+  kind_done state made up kind.Timeout now rules token sound = (sound, tt)
+  kind_done state made up kind.Failed now rules token sound = (sound, tt)
+
+  -- ---- an answer of the user
+
+  content_routes : (message : Message) (content : Content) → HasRoutes message → IsContent content
+      → HasRoutes (with_content_of message content)
+  unfolding with_content_of
+  content_routes message content its types = record {
+    contacts = contacts_keep message.contacts content.contacts its.contacts types.contacts;
+    record_routes = its.record_routes;
+  }
+
+  -- the headers of an answer that confirm a dialog
+  answer_routes : (local : Addr) (held : HeldRequest) (respond : Respond) → IsAddr local
+      → IsMessage held.request → IsContent respond.content
+      → HasRoutes (response_sent local held respond)
+  answer_routes local held respond address rules types =
+      let bare = response_of held.request respond.status respond.reason held.tag in
+      let routed : Message = record bare {
+        contacts = contact_of local ∷ [];
+        record_routes = held.request.record_routes;
+      } in
+      let plain : Message = if is_dialog_response held respond.status then routed else bare in
+      let reliable : Message =
+      record plain { require = codes "100rel" ∷ []; rseq = Some held.ledger.next } in
+      let of_plain : HasRoutes plain =
+      either HasRoutes (is_dialog_response held respond.status) routed bare
+      (λ in_dialog. record {
+        contacts = (contact_keeps local address, tt);
+        record_routes = rules.record_routes;
+      })
+      (λ other. record { contacts = tt; record_routes = tt }) in
+      content_routes (if is_sent_reliably held respond then reliable else plain) respond.content
+      (either HasRoutes (is_sent_reliably held respond) reliable plain
+      (λ reliably. record {
+        contacts = of_plain.contacts;
+        record_routes = of_plain.record_routes;
+      })
+      (λ other. of_plain)) types
+
+  answered_dialogs : (event : Id) (held : HeldRequest) (status : ℕ) (response : Message)
+      (dialogs : Dialogs) → HasRoutes response → IsSoundRequest held → AreSound dialogs
+      → Ended (dialogs_after event held status response dialogs)
+  answered_dialogs event held status response dialogs routes its all =
+      let request = held.request in
+      let name = dialog_id_of request held.tag in
+      either Ended (makes_dialog held status) _ _
+      (λ makes. (
+        each_inserted IsSound is_dialog_id name (dialog_by_request event held status)
+            (record {
+              dialog = by_request_sound request held.tag status its.request its.tag;
+              pending = tt;
+            }) dialogs all,
+        tt,
+      ))
+      (λ other. either Ended
+      (is_invite request && is_success status && not (has_to_tag request)) _ _
+      (λ confirms. (
+        each_changed IsSound (is_dialog_id name) (after_2xx response)
+            (λ one before. answered_sound response one routes before) dialogs all,
+        tt,
+      ))
+      (λ neither. either Ended (is_invite request && nat_le 300 status)
+      (early_ended held.id dialogs) (dialogs, []) (λ rejects. early_ends held.id dialogs all)
+      (λ none. (all, tt))))
+
+  -- the held request has the same request and tag
+  after_sound : (event : Id) (held : HeldRequest) (respond : Respond) (response : Message) (now : ℕ)
+      → IsSoundRequest held → IsSoundRequest (held_after event held respond response now)
+  after_sound event held respond response now its =
+      either IsSoundRequest (is_sent_reliably held respond) _ _
+      (λ reliably. record { request = its.request; tag = its.tag })
+      (λ other. either IsSoundRequest (is_final respond.status) _ _
+      (λ final. record { request = its.request; tag = its.tag })
+      (λ provisional. record { request = its.request; tag = its.tag }))
+
+  answer_done : (state : State) (event : Id) (respond : Respond) (now : ℕ) (held : HeldRequest)
+      → IsRespond respond → IsSoundRequest held → IsSoundState state
+      → Done (respond_to state event respond now held)
+  answer_done state event respond now held types its sound =
+      let response = response_sent state.local held respond in
+      let left = answered_dialogs event held respond.status response state.dialogs
+      (answer_routes state.local held respond sound.local its.request types.content) its
+      sound.dialogs in
+      found_or Done _ (response_refusal state.dialogs held respond) _
+      (λ refusal refused. (sound, (tt, tt)))
+      (λ none. (
+        record {
+          local = sound.local;
+          requests = first_changed IsSoundRequest (has_id respond.id)
+              (λ _. held_after event held respond response now)
+              (λ _ before. after_sound event held respond response now its) state.requests
+              sound.requests;
+          dialogs = left.0;
+        },
+        (tt, left.1),
+      ))
+
+  pub respond_done : (state : State) (event : Id) (respond : Respond) (now : ℕ) → IsRespond respond
+      → IsSoundState state → Done (respond_command state event respond now)
+  unfolding respond_command
+  respond_done state event respond now types sound =
+      found_or Done (respond_to state event respond now)
+      (find (has_id respond.id) state.requests) _
+      (λ held is. answer_done state event respond now held types
+      (found IsSoundRequest (has_id respond.id) state.requests held sound.requests is) sound)
+      (λ none. (sound, (tt, tt)))
+
+  -- ---- a tick
+
+  again_keep : (id : Id) (key : Key) (responses : List ReliableResponse)
+      → Keep (map (λ one. out.Command id (order.Answer key one.response)) responses)
+  again_keep id key [] = tt
+  again_keep id key (one ∷ responses) = (tt, again_keep id key responses)
+
+  abbrev Says : {X : Type 0} → X × List CallOut → Type 0
+  Says done = Keep done.1
+
+  provisionals_keep : (now : ℕ) (held : HeldRequest) → Keep (provisionals_tick now held).1
+  provisionals_keep now held =
+      either Says held.ledger.closed _ _ (λ closed. tt)
+      (λ still. either Says (list_any (is_late now) held.ledger.waiting) _ _ (λ late. (tt, tt))
+      (λ early. again_keep held.id held.key _))
+
+  success_keeps : (now : ℕ) (held : HeldRequest) → Keep (success_tick now held).1
+  success_keeps now held =
+      found_or Says (success_at now held) held.success (None, [])
+      (λ success is. either Says (is_none success.over && nat_le success.end now) _ _
+      (λ over. (tt, tt))
+      (λ still. either Says (is_none success.over && nat_le success.retransmission.due now) _ _
+      (λ again. (tt, tt)) (λ early. tt)))
+      (λ none. tt)
+
+  pub tick_done : (state : State) (now : ℕ) → IsSoundState state → Done (server_tick state now)
+  unfolding server_tick
+  tick_done state now sound = (
+    record {
       local = sound.local;
-      requests = sound.requests;
-      dialogs = each_changed IsSound (is_dialog_id name) (after_request request)
-          (λ held before. visited_sound request held its.request before) state.dialogs
-          sound.dialogs;
-    } in
-    let prack : ServedTaken =
-    prack_received noted call_id name held_dialog.created_by arrival request.rack in
-    let user : ServedTaken = request_for_user noted call_id name arrival in
-    either Done (not (is_above held_dialog request.cseq.number)) _
-    (if is_prack request then prack else user)
-    (λ late. (sound, (tt, tt)))
-    (λ above. either Done (is_prack request) prack user
-    (λ is. prack_done noted call_id name held_dialog.created_by arrival request.rack noted_sound)
-    (λ other. user_done noted call_id name arrival its noted_sound))
-
--- ---- a CANCEL, and an ACK
-
-cancel_one : (state : State) (call_id : List ℕ) (arrival : Arrival) (now : ℕ)
-    (held : HeldRequest) → IsSoundState state
-    → Done (cancel_for state call_id arrival now held)
-cancel_one state call_id arrival now held sound =
-    let ended = early_ends held.id state.dialogs sound.dialogs in
-    either Done (not (is_invite held.request && is_none held.removal)) _ _
-    (λ late. (sound, (tt, tt)))
-    (λ still. (
-      record {
-        local = sound.local;
-        requests = first_changed IsSoundRequest (has_id held.id) (after_487 now)
-            (λ one its. record { request = its.request; tag = its.tag }) state.requests
-            sound.requests;
-        dialogs = ended.0;
-      },
-      (tt, (tt, (tt, ended.1))),
-    ))
-
-cancel_done : (state : State) (call_id : List ℕ) (arrival : Arrival) (now : ℕ)
-    → IsSoundState state → Done (cancel_received state call_id arrival now)
-cancel_done state call_id arrival now sound =
-    found_or Done (cancel_for state call_id arrival now)
-    (find (λ held. is_same_branch arrival.key held.key) (reverse state.requests))
-    (no_such_call state arrival)
-    (λ held found. cancel_one state call_id arrival now held sound)
-    (λ none. (sound, (tt, tt)))
-
-ack_done : (state : State) (call_id : List ℕ) (ack : Message) → IsSoundState state
-    → Done (ack_received state call_id ack)
-unfolding ack_received
-ack_done state call_id ack sound =
-    found_or Done (ack_for state call_id ack) (find (awaits ack) state.requests) (state, [])
-    (λ invite found. (
-      changed_done state invite.id after_ack
-          (λ held its. record { request = its.request; tag = its.tag }) sound,
-      (tt, tt),
-    ))
-    (λ none. (sound, tt))
-
--- ---- any request
-
-request_done : (state : State) (call_id : List ℕ) (arrival : Arrival) (now : ℕ)
-    → IsSoundArrival arrival → IsSoundState state
-    → Done (request_received state call_id arrival now)
-unfolding request_received
-request_done state call_id arrival now its sound =
-    let request = arrival.request in
-    let name = dialog_id_of request arrival.tag in
-    let outside : ServedTaken = if is_bye request || is_prack request
-    then no_such_call state arrival else request_for_user state call_id name arrival in
-    let inside : ServedTaken = option_map_or (request_in_dialog state call_id name arrival)
-    (dialog_at name state.dialogs) (no_such_call state arrival) in
-    let known : ServedTaken = if has_to_tag request then inside else outside in
-    let once : ServedTaken = if list_any is_unknown_option request.require
-    then bad_extension state arrival else known in
-    let merged : ServedTaken = (state, own_response arrival 482 (codes "Loop Detected")) in
-    let no_cancel : ServedTaken = if not (has_to_tag request)
-    && list_any (is_merged request) state.requests then merged else once in
-    either Done (is_cancel request) (cancel_received state call_id arrival now) no_cancel
-    (λ is. cancel_done state call_id arrival now sound)
-    (λ is. either Done
-    (not (has_to_tag request) && list_any (is_merged request) state.requests) merged once
-    (λ twice. (sound, (tt, tt)))
-    (λ single. either Done (list_any is_unknown_option request.require)
-    (bad_extension state arrival) known
-    (λ unknown. (sound, (tt, tt)))
-    (λ fine. either Done (has_to_tag request) inside outside
-    (λ tagged. found_or Done (request_in_dialog state call_id name arrival)
-    (dialog_at name state.dialogs) (no_such_call state arrival)
-    (λ held found. dialog_done state call_id name arrival held its sound)
-    (λ none. (sound, (tt, tt))))
-    (λ untagged. either Done (is_bye request || is_prack request) (no_such_call state arrival)
-    (request_for_user state call_id name arrival)
-    (λ odd. (sound, (tt, tt)))
-    (λ plain. user_done state call_id name arrival its sound)))))
-
--- the tag of the answers is that of the request, or the made one
-local_token : (request : Message) (made : List ℕ) → IsMessage request → IsTrue (is_token made)
-    → IsTrue (is_token (local_tag_of request made))
-local_token request made rules token =
-    either (λ tag. IsTrue (is_token tag)) (length (tag_of request.to) == 0) made
-    (tag_of request.to) (λ none. token)
-    (λ some. tag_is_token request.to.parameters some (rules.to).tag)
-
-pub kind_done : (state : State) (made : List ℕ) (up : AnUp) (k : Kind) (now : ℕ) → KindKeeps k
-    → IsTrue (is_token made) → IsSoundState state → Done (server_received state made up k now)
-kind_done state made up (kind.Request request reply_to) now rules token sound =
-    request_done state up.call_id _ now
-    (record { request = rules; tag = local_token request made rules token }) sound
-kind_done state made up (kind.Ack ack) now rules token sound =
-    ack_done state up.call_id ack sound
-kind_done state made up (kind.Response response) now rules token sound = (sound, tt)
-kind_done state made up kind.Timeout now rules token sound = (sound, tt)
-kind_done state made up kind.Failed now rules token sound = (sound, tt)
-
--- ---- an answer of the user
-
-content_routes : (message : Message) (content : Content) → HasRoutes message → IsContent content
-    → HasRoutes (with_content_of message content)
-unfolding with_content_of
-content_routes message content its types = record {
-  contacts = contacts_keep message.contacts content.contacts its.contacts types.contacts;
-  record_routes = its.record_routes;
-}
-
--- the headers of an answer that confirm a dialog
-answer_routes : (local : Addr) (held : HeldRequest) (respond : Respond) → IsAddr local
-    → IsMessage held.request → IsContent respond.content
-    → HasRoutes (response_sent local held respond)
-answer_routes local held respond address rules types =
-    let bare = response_of held.request respond.status respond.reason held.tag in
-    let routed : Message = record bare {
-      contacts = contact_of local ∷ [];
-      record_routes = held.request.record_routes;
-    } in
-    let plain : Message = if is_dialog_response held respond.status then routed else bare in
-    let reliable : Message =
-    record plain { require = codes "100rel" ∷ []; rseq = Some held.ledger.next } in
-    let of_plain : HasRoutes plain =
-    either HasRoutes (is_dialog_response held respond.status) routed bare
-    (λ in_dialog. record {
-      contacts = (contact_keeps local address, tt);
-      record_routes = rules.record_routes;
-    })
-    (λ other. record { contacts = tt; record_routes = tt }) in
-    content_routes (if is_sent_reliably held respond then reliable else plain) respond.content
-    (either HasRoutes (is_sent_reliably held respond) reliable plain
-    (λ reliably. record {
-      contacts = of_plain.contacts;
-      record_routes = of_plain.record_routes;
-    })
-    (λ other. of_plain)) types
-
-answered_dialogs : (event : Id) (held : HeldRequest) (status : ℕ) (response : Message)
-    (dialogs : Dialogs) → HasRoutes response → IsSoundRequest held → AreSound dialogs
-    → Ended (dialogs_after event held status response dialogs)
-answered_dialogs event held status response dialogs routes its all =
-    let request = held.request in
-    let name = dialog_id_of request held.tag in
-    either Ended (makes_dialog held status) _ _
-    (λ makes. (
-      each_inserted IsSound is_dialog_id name (dialog_by_request event held status)
-          (record {
-            dialog = by_request_sound request held.tag status its.request its.tag;
-            pending = tt;
-          }) dialogs all,
-      tt,
-    ))
-    (λ other. either Ended
-    (is_invite request && is_success status && not (has_to_tag request)) _ _
-    (λ confirms. (
-      each_changed IsSound (is_dialog_id name) (after_2xx response)
-          (λ one before. answered_sound response one routes before) dialogs all,
-      tt,
-    ))
-    (λ neither. either Ended (is_invite request && nat_le 300 status)
-    (early_ended held.id dialogs) (dialogs, []) (λ rejects. early_ends held.id dialogs all)
-    (λ none. (all, tt))))
-
--- the held request has the same request and tag
-after_sound : (event : Id) (held : HeldRequest) (respond : Respond) (response : Message) (now : ℕ)
-    → IsSoundRequest held → IsSoundRequest (held_after event held respond response now)
-after_sound event held respond response now its =
-    either IsSoundRequest (is_sent_reliably held respond) _ _
-    (λ reliably. record { request = its.request; tag = its.tag })
-    (λ other. either IsSoundRequest (is_final respond.status) _ _
-    (λ final. record { request = its.request; tag = its.tag })
-    (λ provisional. record { request = its.request; tag = its.tag }))
-
-answer_done : (state : State) (event : Id) (respond : Respond) (now : ℕ) (held : HeldRequest)
-    → IsRespond respond → IsSoundRequest held → IsSoundState state
-    → Done (respond_to state event respond now held)
-answer_done state event respond now held types its sound =
-    let response = response_sent state.local held respond in
-    let left = answered_dialogs event held respond.status response state.dialogs
-    (answer_routes state.local held respond sound.local its.request types.content) its
-    sound.dialogs in
-    found_or Done _ (response_refusal state.dialogs held respond) _
-    (λ refusal refused. (sound, (tt, tt)))
-    (λ none. (
-      record {
-        local = sound.local;
-        requests = first_changed IsSoundRequest (has_id respond.id)
-            (λ _. held_after event held respond response now)
-            (λ _ before. after_sound event held respond response now its) state.requests
-            sound.requests;
-        dialogs = left.0;
-      },
-      (tt, left.1),
-    ))
-
-pub respond_done : (state : State) (event : Id) (respond : Respond) (now : ℕ) → IsRespond respond
-    → IsSoundState state → Done (respond_command state event respond now)
-unfolding respond_command
-respond_done state event respond now types sound =
-    found_or Done (respond_to state event respond now)
-    (find (has_id respond.id) state.requests) _
-    (λ held is. answer_done state event respond now held types
-    (found IsSoundRequest (has_id respond.id) state.requests held sound.requests is) sound)
-    (λ none. (sound, (tt, tt)))
-
--- ---- a tick
-
-again_keep : (id : Id) (key : Key) (responses : List ReliableResponse)
-    → Keep (map (λ one. out.Command id (order.Answer key one.response)) responses)
-again_keep id key [] = tt
-again_keep id key (one ∷ responses) = (tt, again_keep id key responses)
-
-abbrev Says : {X : Type 0} → X × List CallOut → Type 0
-Says done = Keep done.1
-
-provisionals_keep : (now : ℕ) (held : HeldRequest) → Keep (provisionals_tick now held).1
-provisionals_keep now held =
-    either Says held.ledger.closed _ _ (λ closed. tt)
-    (λ still. either Says (list_any (is_late now) held.ledger.waiting) _ _ (λ late. (tt, tt))
-    (λ early. again_keep held.id held.key _))
-
-success_keeps : (now : ℕ) (held : HeldRequest) → Keep (success_tick now held).1
-success_keeps now held =
-    found_or Says (success_at now held) held.success (None, [])
-    (λ success is. either Says (is_none success.over && nat_le success.end now) _ _
-    (λ over. (tt, tt))
-    (λ still. either Says (is_none success.over && nat_le success.retransmission.due now) _ _
-    (λ again. (tt, tt)) (λ early. tt)))
-    (λ none. tt)
-
-pub tick_done : (state : State) (now : ℕ) → IsSoundState state → Done (server_tick state now)
-unfolding server_tick
-tick_done state now sound = (
-  record {
-    local = sound.local;
-    requests = filtered IsSoundRequest _ _ (mapped IsSoundRequest IsSoundRequest _
-        (λ held its. record { request = its.request; tag = its.tag }) state.requests
-        sound.requests);
-    dialogs = sound.dialogs;
-  },
-  all_of_each StartKeeps (λ held. (success_tick now held).1 ++ (provisionals_tick now held).1)
-      (λ held. both StartKeeps (success_tick now held).1 (provisionals_tick now held).1
-      (success_keeps now held) (provisionals_keep now held)) state.requests,
-)
+      requests = filtered IsSoundRequest _ _ (mapped IsSoundRequest IsSoundRequest _
+          (λ held its. record { request = its.request; tag = its.tag }) state.requests
+          sound.requests);
+      dialogs = sound.dialogs;
+    },
+    all_of_each (StartKeeps AckIs)
+        (λ held. (success_tick now held).1 ++ (provisionals_tick now held).1)
+        (λ held. both (StartKeeps AckIs) (success_tick now held).1 (provisionals_tick now held).1
+        (success_keeps now held) (provisionals_keep now held)) state.requests,
+  )

@@ -111,7 +111,8 @@ module _ (config : Config) (rounds : List Round) where
         started = λ now id call_id message to among. tt;
         answered = λ now id message among. tt;
         tried = λ now id request reply_to among is. tt;
-        acknowledged = λ now later id answered call_id invite response to reply_to among came. tt;
+        acknowledged = λ now later id answered call_id invite response to reply_to among
+            came failure. tt;
         came = λ now id message reply_to among. has_key key id message reply_to (now, among);
       }) key
 

@@ -1,6 +1,6 @@
 -- The To tag of a response.
 use Rattle.std.proofs.Common.{◌≡◌, ℕ, Bool, true, false, ◌==◌, List, [], ◌∷◌, ◌++◌, refl, sym, ap, ◌∙◌, arith}
-use Rattle.std.specs.Prelude.{IsTrue, Option, None, Some, codes, find, is_some, length, unwrap_or, if◌then◌else◌}
+use Rattle.std.specs.Prelude.{IsTrue, Option, None, Some, codes, find, is_some, length, not, unwrap_or, if◌then◌else◌}
 use Rattle.std.specs.Str.{str_eq_ignore_ascii_case}
 use Rattle.std.proofs.lemmas.Bool.{false≢true}
 use Rattle.std.proofs.lemmas.Bool.Decides.{nat_tests}
@@ -9,8 +9,11 @@ use Rattle.sip_parts.specs.Parameters.{parameter_named, value_named, value_or_no
 use Rattle.sip_parts.specs.Tag.{has_good_tag, is_good_tag, is_token_value}
 use Rattle.sip_parts.specs.declared.parameter.Parameter.{Parameter}
 use Rattle.sip_message.specs.Party.{tag_of}
-use Rattle.sip_message.specs.Response.{is_tagged, tag_parameter, tagged}
+use Rattle.sip_message.specs.Response.{answering_to, is_tagged, tag_parameter, tagged}
+use Rattle.sip_message.specs.declared.message.Message.{Message}
 use Rattle.sip_message.specs.declared.party.Party.{Party}
+use Rattle.sip_common.specs.Requests.{has_to_tag}
+use Rattle.sip_conversation.proofs.Branches.{either}
 
 -- what is looked for after others that don't pass
 find_last : (p : Parameter → Bool) (parameters : List Parameter) (last : Parameter)
@@ -55,3 +58,22 @@ to_tag party made good =
     by_parameter None is good =
         ap value_or_nothing (find_last tag_is party.parameters (tag_parameter made) is refl)
     by_parameter (Some p) is good = ap value_or_nothing is ∙ by_value p.value good
+
+-- a party with a tag stays as it is
+tagged_same : (party : Party) (made : List ℕ) → not (length (tag_of party) == 0) ≡ true
+    → tagged party made ≡ party
+unfolding tagged is_tagged value_named
+tagged_same party made has =
+    by_parameter (parameter_named (codes "tag") party.parameters) has
+  where
+    by_parameter : (o : Option Parameter) → not (length (value_or_nothing o) == 0) ≡ true
+        → (if is_some o then party
+        else record party { parameters = party.parameters ++ tag_parameter made ∷ [] }) ≡ party
+    by_parameter None has = absurd (false≢true has)
+    by_parameter (Some p) has = refl
+
+pub answered_to : (request : Message) (status : ℕ) (tag : List ℕ) → has_to_tag request ≡ true
+    → answering_to request.to status tag ≡ request.to
+answered_to request status tag has =
+    either (λ to. to ≡ request.to) (status == 100) request.to (tagged request.to tag)
+    (λ trying. refl) (λ other. tagged_same request.to tag has)

@@ -171,7 +171,7 @@ module _ (calls : Calls) (inputs : List (Timed CallItem)) (name : DialogId) (rse
       (subst (λ name. Stays name
       (side_of (received was.call of was.up (kind.Response response)).0)) was.name_is
       (received_held of was.up.id was.up.call_id response (side_of was.call) was.status rseq
-      was.client was.status_is was.client_is was.rseq_is
+      was.client was.status_is was.client_is was.is
       (ap (λ name. has_dialog was.client.kind (dialog_at name (side_of was.call).dialogs))
       was.name_is ∙ was.has)))))
 
@@ -195,7 +195,7 @@ module _ (calls : Calls) (inputs : List (Timed CallItem)) (name : DialogId) (rse
       ∙ (ap (λ k. number_up invite life_now was.up.id k (side_of was.call)) was.kind_is
       ∙ (ap (option_and_then (number_for invite life_now was.up.id was.response)) was.client_is
       ∙ ((λ i. if its_invite.is i then provisional_number (was.status_is i) was.response else None)
-      ∙ was.rseq_is))) in
+      ∙ was.is))) in
       (λ i. in_life (alive i) (brings i))
 
   -- the user was told of the response in a life of that dialog
@@ -274,7 +274,7 @@ module _ (calls : Calls) (inputs : List (Timed CallItem)) (life : DialogReferenc
             number_is = refl;
             status = status;
             status_is = is;
-            rseq_is = number;
+            is = number;
             told = ap (λ call. list_any is_response
                 (call_step calls call timed.input timed.moment).1) (sym held) ∙ told;
           };

@@ -120,13 +120,14 @@ module _ (alone : EachKeyAlone key_cmp transaction_machine tick_at) where
               (sound_input key now (input.Receive id request reply_to) among),
           Trying key id request reply_to (now, among) is refl,
         );
-        acknowledged = λ now later id answered call_id invite response to reply_to among came. (
-          ack_keeps invite response
-              (sound_input key now (input.Start id call_id invite to) among).0
-              (sound_input key later (input.Receive answered response reply_to) came),
-          Acknowledges key id answered call_id invite response to reply_to (now, among)
-              (later, came) refl,
-        );
+        acknowledged = λ now later id answered call_id invite response to reply_to among came
+            failure. (
+              ack_keeps invite response
+                  (sound_input key now (input.Start id call_id invite to) among).0
+                  (sound_input key later (input.Receive answered response reply_to) came),
+              Acknowledges key id answered call_id invite response to reply_to (now, among)
+                  (later, came) failure refl,
+            );
         came = λ now id message reply_to among.
             sound_input key now (input.Receive id message reply_to) among;
       }
@@ -188,7 +189,7 @@ module _ (alone : EachKeyAlone key_cmp transaction_machine tick_at) where
     fine_sound turns s (event.Datagram from bytes) fine id =
         text_fits (configs s) (IsSoundInput (configs s) (rounds_of s turns)) id from fine.1 bytes
         fine.2 fine.3
-        (λ reply_to. come_keeps from (subst IsAddr (sym fine.0) (addresses (peer s))) fine.1
+        (λ short reply_to. come_keeps from (subst IsAddr (sym fine.0) (addresses (peer s))) fine.1
         fine.3)
     fine_sound turns s (event.Failed key) fine id = tt
     fine_sound turns s (event.Command c) fine id = tt
@@ -213,7 +214,7 @@ module _ (alone : EachKeyAlone key_cmp transaction_machine tick_at) where
     carried_fine turns fine keep s (event.Failed key) carried = tt
     carried_fine turns fine keep s (event.Command c) carried = tt
 
-    fine_after : (before turns : List Turn) → AreFine before → CarriedAfter configs before turns
+    pub fine_after : (before turns : List Turn) → AreFine before → CarriedAfter configs before turns
         → CallsKeepRules configs (before ++ turns) → AreFine (before ++ turns)
     fine_after before [] fine carried keep = subst AreFine (sym (append-nil before)) fine
     fine_after before (turn ∷ turns) fine carried keep =
@@ -246,10 +247,11 @@ module _ (alone : EachKeyAlone key_cmp transaction_machine tick_at) where
         let text = texts turns fine keep (peer s) (carried.1).0 (carried.1).1 bytes
         (carried.1).2 in
         text_fits (configs s) (IsUnchanged turns s) id from text.0 bytes text.1 (text.2).0
-        (λ reply_to. record {
+        (λ short reply_to. record {
           original = text.0;
           said = (text.2).1;
           rules = (text.2).0;
+          short = short;
           same = ap (λ source. come_from source text.0) carried.0;
         })
     carried_unchanged turns fine keep s (event.Failed key) carried id = tt
@@ -347,7 +349,8 @@ module _ (alone : EachKeyAlone key_cmp transaction_machine tick_at) where
           started = λ now id call_id message to among. tt;
           answered = λ now id message among. tt;
           tried = λ now id request reply_to among is. tt;
-          acknowledged = λ now later id answered call_id invite response to reply_to among came. tt;
+          acknowledged = λ now later id answered call_id invite response to reply_to among
+              came failure. tt;
           came = λ now id message reply_to among.
               messages_unchanged turns carried keep s key id message reply_to (now, among);
         }) key))

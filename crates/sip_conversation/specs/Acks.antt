@@ -1,16 +1,60 @@
--- An ACK that a user is told of is one that the other side said before.
-use Rattle.std.specs.Prelude.{◌≡◌, ℕ, true, List, [], ◌∷◌, ◌++◌, Contains, codes}
+-- An ACK that a user is told of is one that the other side said before, after its user was told of
+-- the 2xx that it acknowledges.
+use Rattle.std.specs.Prelude.{◌≡◌, ◌⊎◌, ℕ, true, List, [], ◌∷◌, ◌++◌, Contains, codes}
+use Rattle.sip_message.specs.declared.addr.Addr.{Addr}
 use Rattle.sip_message.specs.declared.id.Id.{Id}
+use Rattle.sip_message.specs.declared.key.Key.{Key}
 use Rattle.sip_message.specs.declared.message.Message.{Message}
+use Rattle.sip_message.specs.HopByHop.{ack_of}
 use Rattle.sip_message.specs.Message.{is_request_message}
+use Rattle.sip_message.specs.Party.{tag_of}
 use Rattle.sip_message.specs.Rules.{IsMessage}
+use Rattle.sip_message.specs.Written.{written}
+use Rattle.sip_transactions.specs.declared.input.Input.TheVariants.{Receive, Start}
+use Rattle.sip_common.specs.Requests.{dialog_id_of_tags}
+use Rattle.sip_common.specs.declared.item.CallOut.TheVariants.{Direct}
 use Rattle.sip_common.specs.declared.notice.Notice.TheVariants.{Ack}
 use Rattle.sip_round.specs.declared.config.Config.{Config}
 use Rattle.sip_round.specs.declared.output.Output.TheVariants.{Notice}
+use Rattle.sip_round.specs.declared.round.Round.{Round}
+use Rattle.sip_conversation.specs.AckedResponses.{FollowsSuccess}
 use Rattle.sip_conversation.specs.Conversation.{Side, Turn, given_by, peer, rounds_of}
-use Rattle.sip_conversation.specs.Messages.{IsSaid}
+use Rattle.sip_conversation.specs.Messages.{CallSays, IsFailure, IsGiven, IsSaid}
 
--- in these turns the other side said an ACK with this body (RFC 3261, section 13.2.2.4)
+-- Up to the end of one of these turns, which is this side's, a call of it sent the ACK as a text,
+-- and its user was told of the 2xx that the ACK acknowledges (RFC 3261, section 13.2.2.4).
+pub record IsSentByCall (configs : Side → Config) (turns : List Turn) (side : Side) (ack : Message)
+    : Type 0 where
+  pub before : List Turn
+  pub turn : Turn
+  pub after : List Turn
+  pub turns_are : turns ≡ before ++ turn ∷ after
+  pub side_is : turn.side ≡ side
+  pub to : Addr
+  pub sent : CallSays (configs turn.side) (rounds_of turn.side (before ++ turn ∷ []))
+      (Direct to (written ack))
+  pub follows : FollowsSuccess configs before turn ack.call_id
+      (dialog_id_of_tags (tag_of ack.from) (tag_of ack.to)) ack.cseq.number
+
+-- In these rounds a transaction made the ACK for a request that it was to start and a response of
+-- 300 to 699 that came to it (RFC 3261, section 17.1.1.3).
+pub record IsMadeByTransaction (config : Config) (rounds : List Round) (ack : Message) : Type 0
+  where
+    pub key : Key
+    pub id : Id
+    pub answered : Id
+    pub call_id : List ℕ
+    pub invite : Message
+    pub response : Message
+    pub to : Addr
+    pub reply_to : Addr
+    pub started : IsGiven config rounds key (Start id call_id invite to)
+    pub came : IsGiven config rounds key (Receive answered response reply_to)
+    pub failure : IsFailure response
+    pub made : ack ≡ ack_of invite response
+
+-- In these turns the other side said an ACK with this body. A call sent it for a 2xx, or a
+-- transaction made it for a response of 300 to 699.
 pub record SaidAck (configs : Side → Config) (turns : List Turn) (side : Side) (body : List ℕ)
     : Type 0 where
   pub original : Message
@@ -19,6 +63,8 @@ pub record SaidAck (configs : Side → Config) (turns : List Turn) (side : Side)
   pub is_request : is_request_message original ≡ true
   pub method_is : original.cseq.method ≡ codes "ACK"
   pub body_is : original.body ≡ body
+  pub by : IsSentByCall configs turns (peer side) original
+      ⊎ IsMadeByTransaction (configs (peer side)) (rounds_of (peer side) turns) original
 
 -- so is each ACK that the user of a turn's side is told of, up to the turn's end
 abbrev pub AcksToldWereSaid : (Side → Config) → List Turn → Type 0

@@ -4,6 +4,7 @@ use Rattle.sip_message.specs.declared.id.Id.{Id}
 use Rattle.sip_message.specs.declared.message.Message.{Message}
 use Rattle.sip_message.specs.Message.{is_request_message}
 use Rattle.sip_model.specs.Machine.{given_at}
+use Rattle.sip_common.specs.Requests.{has_to_tag}
 use Rattle.sip_common.specs.declared.command.Respond.{Respond}
 use Rattle.sip_common.specs.declared.command.UserCommand.TheVariants as user
 use Rattle.sip_common.specs.declared.item.Item.TheVariants.{User}
@@ -36,10 +37,12 @@ module _ (config : Config) (rounds : List Round) where
     ByUser : RespondsSo status body → IsAnswered status body
     ByAgent : Contains own_statuses status → body ≡ [] → IsAnswered status body
 
--- the response copies Via, From, Call-ID and CSeq of the request (RFC 3261, section 8.2.6.2)
+-- the response copies Via, From, Call-ID and CSeq of the request, and To if that has a tag (RFC
+-- 3261, section 8.2.6.2)
 pub record IsResponseTo (request response : Message) : Type 0 where
   pub vias : response.vias ≡ request.vias
   pub from : response.from ≡ request.from
+  pub to : has_to_tag request ≡ true → response.to ≡ request.to
   pub call_id : response.call_id ≡ request.call_id
   pub cseq : response.cseq ≡ request.cseq
 

@@ -8,6 +8,7 @@ pub mod Pracks
 pub mod Provisionals
 pub mod Replies
 pub mod Requests
+pub mod AckedResponses
 pub mod Acks
 pub mod ToldPracks
 pub mod Steps

@@ -1,5 +1,5 @@
 -- What a message that comes is: one that the other side said before.
-use Rattle.std.specs.Prelude.{◌≡◌, ℕ, true, List, [], ◌∷◌, ◌++◌, Contains, Option, None, Some, IfSome, if◌then◌else◌}
+use Rattle.std.specs.Prelude.{◌≡◌, ◌≤◌, ℕ, true, List, [], ◌∷◌, ◌++◌, Contains, Option, None, Some, IfSome, length, if◌then◌else◌}
 use Rattle.sip_message.specs.declared.addr.Addr.{Addr}
 use Rattle.sip_message.specs.declared.id.Id.{Id}
 use Rattle.sip_message.specs.declared.key.Key.{Key}
@@ -21,6 +21,7 @@ use Rattle.sip_transactions.specs.Steps.Output.{trying_of}
 use Rattle.sip_common.specs.declared.item.CallOut.{CallOut}
 use Rattle.sip_common.specs.declared.item.CallOut.TheVariants as call_out
 use Rattle.sip_common.specs.declared.item.Item.TheVariants as item
+use Rattle.sip_clients.specs.Clients.{status_of}
 use Rattle.sip_round.specs.declared.config.Config.{Config}
 use Rattle.sip_round.specs.declared.round.Round.{Round}
 use Rattle.sip_round.specs.Laws.{call_inputs_of, inputs_of, said_of_call}
@@ -30,6 +31,10 @@ use Rattle.sip_conversation.specs.Conversation.{Side, Turn, peer, rounds_of}
 abbrev pub message_of : Command → Message
 message_of (Start key call_id message to) = message
 message_of (Answer key message) = message
+
+-- it is a response of 300 or above; no message has a status above 699
+abbrev pub IsFailure : Message → Type 0
+IsFailure message = (status : ℕ) × (status_of message.start ≡ Some status) × (300 ≤ status)
 
 module _ (config : Config) (rounds : List Round) where
   -- in these rounds a transaction was given this input
@@ -43,8 +48,8 @@ module _ (config : Config) (rounds : List Round) where
 
   -- In these rounds an agent said this message. A call asked a transaction to send it, or sent its
   -- text outside of any transaction. Or a transaction made it: the 100 for a request that came to
-  -- it (RFC 3261, section 17.2.1), or the ACK for a request that it was to start and a message that
-  -- came to it (17.1.1.3).
+  -- it (RFC 3261, section 17.2.1), or the ACK for a request that it was to start and a response of
+  -- 300 to 699 that came to it (17.1.1.3).
   pub data IsSaid (message : Message) : Type 0 where
     Asked : (id : Id) (command : Command) → CallSays (call_out.Command id command)
         → message_of command ≡ message → IsSaid message
@@ -54,7 +59,7 @@ module _ (config : Config) (rounds : List Round) where
         → message ≡ trying_of request → IsSaid message
     Acknowledges : (key : Key) (id answered : Id) (call_id : List ℕ) (invite response : Message)
         (to reply_to : Addr) → IsGiven key (input.Start id call_id invite to)
-        → IsGiven key (input.Receive answered response reply_to)
+        → IsGiven key (input.Receive answered response reply_to) → IsFailure response
         → message ≡ ack_of invite response → IsSaid message
 
 -- a message that a call asks to send keeps the rules of messages; a text is that of such a message
@@ -75,12 +80,13 @@ come_from source message =
     if is_request_message message then stamped message source else message
 
 -- the message is one that the other side said in these turns and that keeps the rules, except for
--- the stamp
+-- the stamp; a text of more than 65535 bytes isn't read
 pub record ComesUnchanged (configs : Side → Config) (turns : List Turn) (side : Side)
     (message : Message) : Type 0 where
   pub original : Message
   pub said : IsSaid (configs (peer side)) (rounds_of (peer side) turns) original
   pub rules : IsMessage original
+  pub short : length (written original) ≤ 65535
   pub same : message ≡ come_from (configs (peer side)).local original
 
 -- so is each message that came to a side's transaction up to a turn, by the turns before it

@@ -2,6 +2,7 @@
 
 ghost use Rattle.std.specs.Prelude.{List};
 ghost use Rattle.sip_message.specs.Addr.{IsAddr};
+ghost use Rattle.sip_conversation.specs.AckedResponses.{AcksFollowResponses};
 ghost use Rattle.sip_conversation.specs.Acks.{AcksToldWereSaid};
 ghost use Rattle.sip_conversation.specs.ComeWhole.{ProvisionalsComeWhole};
 ghost use Rattle.sip_conversation.specs.Commands.{CommandsKeepTypes};
@@ -78,9 +79,9 @@ pub fn provisionals_told_were_said(one: Config, other: Config)
 /// one with that status, those tags in From and To, and that body, in the turns before. Its user
 /// gave the command to respond with that status and body, or the agent itself answered with 100,
 /// 200, 420, 481, 482, 487 or 500 and no body. The response copies Via, From, Call-ID and CSeq from
-/// a request that came to the other side, and that this side said before, except for the stamp (RFC
-/// 3261, section 8.2.6.2). A transaction with its branch and method was started under the Call-ID
-/// and the id that the user is told.
+/// a request that came to the other side, and that this side said before, except for the stamp; and
+/// To, if that has a tag (RFC 3261, section 8.2.6.2). A transaction with its branch and method was
+/// started under the Call-ID and the id that the user is told.
 ///
 /// If the rounds of the side that is told have numbers below 2^64 and fewer than 2^64 events each,
 /// of which branches are made: the response has that Call-ID. And unless it is to a CANCEL, it
@@ -106,6 +107,20 @@ pub fn pracks_follow_responses(one: Config, other: Config)
     ensures { (turns : List Turn) → Carried (of_sides one other) turns
         → CommandsKeepTypes turns
         → PracksFollowResponses (of_sides one other) turns }
+{
+    sides_are_fair(&one, &other);
+}
+
+/// In such a conversation, each text that a call sends directly is that of an ACK, which keeps the
+/// rules of messages and follows the 2xx that it acknowledges: in the same turn or before, the user
+/// was told of a 2xx under the Call-ID of the ACK. In the turns before, the other side said that
+/// response. If the rounds of the side that sends the ACK are counted as above, the response
+/// answers an INVITE with the ACK's CSeq number, and the ACK is in the dialog of the response's
+/// tags, unless that INVITE was sent in a dialog without a remote tag (RFC 3261, section 13.2.2.4).
+pub fn acks_follow_responses(one: Config, other: Config)
+    ensures { (turns : List Turn) → Carried (of_sides one other) turns
+        → CommandsKeepTypes turns
+        → AcksFollowResponses (of_sides one other) turns }
 {
     sides_are_fair(&one, &other);
 }
@@ -155,7 +170,9 @@ pub fn requests_told_were_asked_for(one: Config, other: Config)
 }
 
 /// In such a conversation, for each ACK that a user is told of in a turn, the other side said an
-/// ACK with that body in the turns before (RFC 3261, section 13.2.2.4).
+/// ACK with that body in the turns before. Either a call sent it directly, after the user of that
+/// side was told of the 2xx that it acknowledges, as in `acks_follow_responses`. Or a transaction
+/// made it for a response of 300 to 699 (RFC 3261, sections 13.2.2.4 and 17.1.1.3).
 pub fn acks_told_were_said(one: Config, other: Config)
     ensures { (turns : List Turn) → Carried (of_sides one other) turns
         → CommandsKeepTypes turns

@@ -1,0 +1,60 @@
+-- An ACK that a call sends follows the 2xx that it acknowledges: the user was told of that (RFC
+-- 3261, section 13.2.2.4).
+use Rattle.std.specs.Prelude.{◌≡◌, ◌⊎◌, ℕ, true, false, List, [], ◌∷◌, ◌++◌, Contains, codes}
+use Rattle.sip_message.specs.declared.addr.Addr.{Addr}
+use Rattle.sip_message.specs.declared.id.Id.{Id}
+use Rattle.sip_message.specs.declared.message.Message.{Message}
+use Rattle.sip_message.specs.Message.{is_request_message}
+use Rattle.sip_message.specs.Party.{tag_of}
+use Rattle.sip_message.specs.Rules.{IsMessage}
+use Rattle.sip_message.specs.Written.{written}
+use Rattle.sip_common.specs.Requests.{dialog_id_of_tags, has_to_tag, is_success}
+use Rattle.sip_common.specs.declared.held_dialog.DialogId.{DialogId}
+use Rattle.sip_common.specs.declared.item.CallOut.TheVariants.{Direct}
+use Rattle.sip_common.specs.declared.notice.Notice.TheVariants.{Response}
+use Rattle.sip_round.specs.declared.config.Config.{Config}
+use Rattle.sip_round.specs.declared.output.Output.TheVariants.{Notice}
+use Rattle.sip_conversation.specs.Conversation.{Side, Turn, given_by, rounds_of}
+use Rattle.sip_conversation.specs.Messages.{CallSays}
+use Rattle.sip_conversation.specs.Replies.{AreCounted, ToldResponse}
+
+-- Up to a turn's end the user of its side was told of a 2xx under this Call-ID. The other side said
+-- it in the turns before. If the rounds of the turn's side are counted, it answers an INVITE with
+-- this CSeq number; and this is the dialog of its tags, or the INVITE was sent in this dialog and
+-- has no To tag.
+pub record FollowsSuccess (configs : Side → Config) (before : List Turn) (turn : Turn)
+    (call_id : List ℕ) (dialog : DialogId) (number : ℕ) : Type 0 where
+  pub id : Id
+  pub status : ℕ
+  pub local_tag : List ℕ
+  pub remote_tag : List ℕ
+  pub body : List ℕ
+  pub told : Contains (given_by configs (before ++ turn ∷ []) turn.side)
+      (Notice (Response call_id id status local_tag remote_tag body))
+  pub success : is_success status ≡ true
+  pub said : ToldResponse configs before turn call_id id status local_tag remote_tag body
+  pub cseq : AreCounted (configs turn.side) (rounds_of turn.side (before ++ turn ∷ []))
+      → said.response.original.cseq ≡ record { number = number; method = codes "INVITE" }
+  pub dialog_is : AreCounted (configs turn.side) (rounds_of turn.side (before ++ turn ∷ []))
+      → (dialog_id_of_tags local_tag remote_tag ≡ dialog)
+      ⊎ ((dialog_id_of_tags (tag_of said.started.request.from) (tag_of said.started.request.to)
+      ≡ dialog) × (has_to_tag said.started.request ≡ false))
+
+-- the text is that of an ACK that keeps the rules of messages, and that follows a 2xx
+pub record IsAckOfSuccess (configs : Side → Config) (before : List Turn) (turn : Turn)
+    (text : List ℕ) : Type 0 where
+  pub ack : Message
+  pub text_is : text ≡ written ack
+  pub rules : IsMessage ack
+  pub is_request : is_request_message ack ≡ true
+  pub method : ack.cseq.method ≡ codes "ACK"
+  pub follows : FollowsSuccess configs before turn ack.call_id
+      (dialog_id_of_tags (tag_of ack.from) (tag_of ack.to)) ack.cseq.number
+
+-- so is each text that a call of a turn's side sent directly up to the turn's end
+abbrev pub AcksFollowResponses : (Side → Config) → List Turn → Type 0
+AcksFollowResponses configs turns =
+    (before after : List Turn) (turn : Turn) → turns ≡ before ++ turn ∷ after
+    → (to : Addr) (text : List ℕ)
+    → CallSays (configs turn.side) (rounds_of turn.side (before ++ turn ∷ [])) (Direct to text)
+    → IsAckOfSuccess configs before turn text
