@@ -122,8 +122,7 @@ prack_created event of name rseq cseq content without_it with_it same =
     (λ none. refl))
     (λ none. same)
 
--- of which response a provisional number is
-pub numbered : (final trying tagged : Bool) (o : Option ℕ) (rseq : ℕ)
+numbered : (final trying tagged : Bool) (o : Option ℕ) (rseq : ℕ)
     → (if final then None else if not trying && tagged then o else None) ≡ Some rseq
     → (final ≡ false) × (trying ≡ false) × (tagged ≡ true) × (o ≡ Some rseq)
 numbered true trying tagged o rseq is = absurd cc

@@ -1,6 +1,5 @@
 pub mod Addresses
 pub mod Among
-pub mod AmongInputs
 pub mod Answered
 pub mod Before
 pub mod Bridge

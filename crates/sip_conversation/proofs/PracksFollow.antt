@@ -127,9 +127,6 @@ module _ (configs : Side → Config) (fair : IsFair configs) (before : List Turn
       pub so : IsReliablySo configs fair before turn carried keep was.response rack.rseq status
       pub call : AreCounted local_config rounds_now
           → so.said.response.original.call_id ≡ call_id
-      pub request : AreCounted local_config rounds_now
-          → (so.said.response.request).request
-          ≡ come_from local_config.local was.client.request
       pub cseq : AreCounted local_config rounds_now
           → so.said.response.original.cseq.number ≡ rack.cseq
       pub from : AreCounted local_config rounds_now

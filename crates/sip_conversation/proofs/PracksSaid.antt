@@ -1,7 +1,7 @@
 -- Each reliable provisional response that a side said, its user gave to a request that came up. One
 -- with an RSeq above 1 the other side said after this side said the PRACK of the response of RSeq 1
 -- to the same INVITE.
-use Rattle.std.proofs.Common.{◌≡◌, ℕ, ◌<◌, Bool, true, false, ◌==◌, List, [], refl, sym, ap, ◌∙◌, subst}
+use Rattle.std.proofs.Common.{◌≡◌, ℕ, ◌<◌, Bool, true, false, ◌&&◌, not, ◌==◌, List, [], refl, sym, ap, ◌∙◌, subst}
 use Rattle.std.specs.Prelude.{IfSome, IsTrue, Option, None, Some, codes, if◌then◌else◌}
 use Rattle.std.specs.List.{AllByRecursion}
 use Rattle.sip_parts.specs.Tag.{has_good_tag}
@@ -26,7 +26,6 @@ use Rattle.sip_common.specs.declared.item.CallOut.TheVariants as call_out
 use Rattle.sip_common.specs.declared.item.Item.TheVariants.{Up, User}
 use Rattle.sip_clients.specs.Clients.{status_of}
 use Rattle.sip_clients.specs.Provisionals.{provisional_number}
-use Rattle.sip_clients.specs.ReceivedResponse.{rseq_of}
 use Rattle.sip_calls.specs.Call.{CallItem, call_machine}
 use Rattle.sip_calls.specs.CallShard.{call_cmp}
 use Rattle.sip_calls.specs.OwnCall.{IsInputOf}
@@ -42,7 +41,6 @@ use Rattle.sip_conversation.specs.Messages.IsSaid.{Acknowledges, Asked, Direct, 
 use Rattle.sip_conversation.specs.Provisionals.{SaidPrack}
 use Rattle.sip_conversation.proofs.AckTexts.{no_ack}
 use Rattle.sip_conversation.proofs.Among.{all_both, each_of}
-use Rattle.sip_conversation.proofs.DialogOfReply.{numbered}
 use Rattle.sip_conversation.proofs.OneCallId.{out_replies}
 use Rattle.sip_conversation.proofs.OneTransaction.{KindCame}
 use Rattle.sip_conversation.proofs.Origins.{TimedComes, inputs_come}
@@ -58,14 +56,16 @@ use Rattle.sip_conversation.proofs.Ups.{ItemCame, TimedCame, UpCame}
 pub number_is : (status rseq : ℕ) (response : Message)
     → provisional_number (Some status) response ≡ Some rseq → response.rseq ≡ Some rseq
 number_is status rseq response is =
-    by_required (requires_100rel response)
-    (numbered (is_final status) (status == 100) (has_to_tag response) (rseq_of response) rseq
-    is).3
+    by_case (is_final status) (not (status == 100) && has_to_tag response)
+    (requires_100rel response) is
   where
-    by_required : (required : Bool) → (if required then response.rseq else None) ≡ Some rseq
+    by_case : (final fits required : Bool) → (if final then None
+        else if fits then (if required then response.rseq else None) else None) ≡ Some rseq
         → response.rseq ≡ Some rseq
-    by_required true is = is
-    by_required false is = absurd cc
+    by_case true fits required is = absurd cc
+    by_case false true true is = is
+    by_case false true false is = absurd cc
+    by_case false false required is = absurd cc
 
 -- ---- a PRACK as it came, and as it was said
 

@@ -8,10 +8,10 @@ use Rattle.std.specs.List.{AllByRecursion, list_any}
 use Rattle.std.specs.Map.{lookup, remove_entry, set_value}
 use Rattle.std.specs.Option.{option_map_or}
 use Rattle.std.specs.Str.{bytes_eq}
+use Rattle.sip_parts.specs.Parameters.{value_named}
 use Rattle.sip_message.specs.Content.{Content, content_of_body, with_content_of}
-use Rattle.sip_message.specs.Party.{tag_of}
+use Rattle.sip_message.specs.Party.{party_of, tag_of}
 use Rattle.sip_message.specs.declared.addr.Addr.{Addr}
-use Rattle.sip_message.specs.declared.cseq.CSeq.{CSeq}
 use Rattle.sip_message.specs.declared.id.Id.{Id}
 use Rattle.sip_message.specs.declared.key.Key.{Key}
 use Rattle.sip_message.specs.declared.message.Message.{Message}
@@ -23,7 +23,7 @@ use Rattle.sip_common.specs.Dialogs.{Dialogs, dialog_at, ended_at, is_dialog_id,
 use Rattle.sip_common.specs.Ids.{is_id}
 use Rattle.sip_common.specs.Refusal.{first_refusal}
 use Rattle.sip_common.specs.Requests.{dialog_id_of_tags, has_to_tag, is_final, is_success, requires_100rel}
-use Rattle.sip_common.specs.Sent.{has_own_number, name_of_dialog}
+use Rattle.sip_common.specs.Sent.{name_of_dialog}
 use Rattle.sip_common.specs.declared.command.Cancel.{Cancel}
 use Rattle.sip_common.specs.declared.command.DialogBody.{DialogBody}
 use Rattle.sip_common.specs.declared.command.DialogRequest.{DialogRequest}
@@ -40,8 +40,6 @@ use Rattle.sip_common.specs.declared.pending_request.PendingRequest.TheVariants.
 use Rattle.sip_common.specs.declared.refusal.Refusal.{Refusal}
 use Rattle.sip_common.specs.declared.refusal.Refusal.TheVariants.{AlreadyFinal, BadMethod, NoSuchRequest, NothingToAck, NothingToPrack}
 use Rattle.sip_common.proofs.Each.{both}
-use Rattle.sip_common.proofs.Heard.{name_laws}
-use Rattle.sip_common.proofs.Sent.{made_in}
 use Rattle.sip_common.proofs.Starts.{ended_starts, starts}
 use Rattle.sip_clients.specs.Client.{Clients, ClientTaken, Side}
 use Rattle.sip_clients.specs.Clients.{reply_name}
@@ -61,7 +59,6 @@ use Rattle.sip_conversation.proofs.Among.{all_both, all_go, all_of, found_among}
 use Rattle.sip_conversation.proofs.Branches.{either, found_or}
 use Rattle.sip_conversation.proofs.BranchSteps.{over_silent}
 use Rattle.sip_conversation.proofs.DialogOfReply.{Reply, dialog_named, has_so, name_so}
-use Rattle.sip_conversation.proofs.PracksServed.{same_name}
 
 -- ---- the tags of a PRACK
 
@@ -136,8 +133,8 @@ module _ (Fact : DialogId → RAck → Type 0) where
       → Racked (request_with_next_number event name (codes "PRACK") (Some rack) content held)
   prack_racked event name rack content held fact other is =
       subst (λ name. Fact name other)
-      (sym (prack_named held.dialog (held.dialog.local_cseq + 1) content (branch_of event)
-      event.local))
+      (sym (request_named held.dialog (codes "PRACK") (held.dialog.local_cseq + 1) content
+      (branch_of event) event.local))
       (subst (Fact (name_of_dialog held.dialog)) (same_rack rack other is) fact)
 
   pub record IsPaid (Told : Type 0) (done : PendingOutcome) : Type 0 where

@@ -54,7 +54,7 @@ use Rattle.sip_conversation.proofs.OnceOnly.{once_only}
 use Rattle.sip_conversation.proofs.OneCallId.{IsOfStart, name_low, started_request}
 use Rattle.sip_conversation.proofs.OneTransaction.{KindCame}
 use Rattle.sip_conversation.proofs.Origins.{IsOrigin, TimedComes, counted, inputs_come, IsCounted}
-use Rattle.sip_conversation.proofs.AmongInputs.{of_first_inputs}
+use Rattle.sip_conversation.proofs.HeardReplies.{of_first_inputs}
 use Rattle.sip_conversation.proofs.PracksSaid.{OfCall, IsAlike, came_alike, given_in_call}
 use Rattle.sip_conversation.proofs.PracksServed.{same_name}
 use Rattle.sip_conversation.proofs.Provisionals.{said_reliably, IsReliablySo}
@@ -230,10 +230,7 @@ module _ (configs : Side → Config) (fair : IsFair configs) (before : List Turn
             one = early.one;
             among = subst (λ all. Contains (outputs_from (call_machine calls) call_id None all)
                 early.one) (sym at.are)
-                (of_first_inputs calls
-                (λ call timed. (call_step calls call timed.input timed.moment).1)
-                (outputs_from (call_machine calls) call_id) (λ call. refl)
-                (λ call timed inputs. refl) None at.before (at.timed ∷ at.after) early.one
+                (of_first_inputs calls call_id None at.before (at.timed ∷ at.after) early.one
                 early.among);
             starts = early.starts;
             sends = early.sends;
