@@ -431,27 +431,28 @@ fn what_is_sent_again_is_counted(rt: HostRuntime) -> Result<(), Fail> {
 /// The body of a 2xx.
 const BODY: &[u8] = b"v=0\r\n";
 
-// The moment of the round with the first datagram that has these words.
-fn moment_of(record: &[u8], words: &str) -> Result<u64, Fail> {
+// The moment of the round with the first event that begins so and has these words.
+fn moment_of(record: &[u8], begins: &str, words: &str) -> Result<u64, Fail> {
     let text = str::from_utf8(record).ok().ok_or("a text")?;
     let mut moment = 0;
     for line in text.lines() {
         if let Some(digits) = line.strip_prefix("round ") {
             moment = digits.parse::<u64>().ok().ok_or("a number")?;
         }
-        if line.starts_with("datagram ") && line.contains(words) {
+        if line.starts_with(begins) && line.contains(words) {
             return Ok(moment);
         }
     }
-    Err(Fail::from("a datagram"))
+    Err(Fail::from("an event"))
 }
 
-/// How a listener and a caller ended, and the listener's record.
+/// How a listener and a caller ended, and the record of each.
 #[derive(Drop)]
 struct Talked {
     served: Ended,
     called: Ended,
     events: Vec<u8>,
+    calls: Vec<u8>,
 }
 
 // The words of the listener, with the files for its body and its record.
@@ -463,10 +464,10 @@ fn listener_words(alloc: Global, to: Addr, body: &str, record: &str) -> Result<S
 }
 
 // The words of the caller.
-fn caller_words(alloc: Global, to: Addr) -> Result<String, AllocError> {
+fn caller_words(alloc: Global, to: Addr, record: &str) -> Result<String, AllocError> {
     format!(in alloc;
         "call --local 127.0.0.1:0 --to {to} --uri sip:b@127.0.0.1 \
-        --turns 240 --hold 300 --leave --must-answer --stats"
+        --turns 240 --hold 300 --leave --must-answer --record {record} --stats"
     )
 }
 
@@ -479,21 +480,25 @@ fn a_call_is_as_the_words_of_both_say(rt: HostRuntime) -> Result<(), Fail> {
     let record = format!(in alloc; "/tmp/ua-record-{}", to.port)?;
     fs::write(&rt, body.as_str(), BODY)?;
     let listen = listener_words(alloc, to, body.as_str(), record.as_str())?;
-    let call = caller_words(alloc, to)?;
+    let calling = format!(in alloc; "/tmp/ua-caller-{}", to.port)?;
+    let call = caller_words(alloc, to, calling.as_str())?;
     let (served, called) = thread::join(
         &rt,
         || ua_with(&rt, alloc, listen.as_str()),
         || ua_with(&rt, alloc, call.as_str()),
     );
     let events = fs::read(&rt, record.as_str())?;
+    let calls = fs::read(&rt, calling.as_str())?;
     fs::remove_file(&rt, body.as_str())?;
     fs::remove_file(&rt, record.as_str())?;
+    fs::remove_file(&rt, calling.as_str())?;
     are_as_said(
         &rt,
         &Talked {
             served: served?,
             called: called?,
             events,
+            calls,
         },
     )
 }
@@ -505,6 +510,7 @@ fn are_as_said(rt: &impl Abort, talked: &Talked) -> Result<(), Fail> {
         served,
         called,
         events,
+        calls,
     } = talked;
     assert!(rt; served.status == 0);
     assert!(rt; called.status == 0);
@@ -519,9 +525,9 @@ fn are_as_said(rt: &impl Abort, talked: &Talked) -> Result<(), Fail> {
     assert!(rt; !stand_in_order(&called.output, &[" refused "]));
     let words = [" INVITE ", "notice ua-call ack ", " BYE ", " ended "];
     assert!(rt; stand_in_order(&served.output, &words));
-    // The caller stays for 300 ms. The listener reads both moments, and may be late for the first.
-    let acknowledged = moment_of(events, "ACK ")?;
-    assert!(rt; moment_of(events, "BYE ")? >= acknowledged.saturating_add(100));
+    // The caller stays for 300 ms after the 200.
+    let answered = moment_of(calls, "datagram ", " SIP/2.0 200 ")?;
+    assert!(rt; moment_of(calls, "request ", " BYE ")? >= answered.saturating_add(300));
     let port = between(&called.errors, "ua: local 127.0.0.1:", ", ")?;
     assert!(rt; port != "0");
     let words = [
