@@ -61,15 +61,13 @@ pub mod GivenInOrder
 pub mod UserInputs
 pub mod KeepsRules
 pub mod OwnRequests
+pub mod AnswerRules
+pub mod AnswersHeld
 pub mod SoundDialogs
 pub mod SoundServed
 pub mod SoundClients
 pub mod SoundReplies
 pub mod SoundCalls
-pub mod AnswerRules
-pub mod AnswersHeld
-pub mod AnswersServed
-pub mod AnswersOfCalls
 pub mod CallsKeep
 pub mod AckedCalls
 pub mod AcksFollow
