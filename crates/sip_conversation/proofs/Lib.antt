@@ -1,5 +1,6 @@
 pub mod Addresses
 pub mod Among
+pub mod AmongInputs
 pub mod Answered
 pub mod Before
 pub mod Bridge
