@@ -89,8 +89,8 @@ module _ (Brought : Message → Type 0) where
 
 module _ (Brought : Message → Type 0) (calls : Calls) (inputs : List (Timed CallItem)) where
   -- The user gave this response with this RSeq to the request of this id. An input brought that
-  -- request up, and the response copies parts of it. The event of that input made the To tag, unless
-  -- the request has one.
+  -- request up, and the response copies parts of it. The event of that input made the To tag,
+  -- unless the request has one.
   pub record IsGiven (id : Id) (rseq : ℕ) (response : Message) : Type 0 where
     pub given : Contains (given_from calls id None inputs) (rseq, response)
     pub request : Message

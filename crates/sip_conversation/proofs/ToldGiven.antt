@@ -202,7 +202,8 @@ module _ (configs : Side → Config) (fair : IsFair configs) (before : List Turn
 
       -- what the other side said
       abbrev SaidSo : Type 0
-      SaidSo = IsReliablySo configs fair before turn carried keep reply.response rseq answer_status.0
+      SaidSo =
+          IsReliablySo configs fair before turn carried keep reply.response rseq answer_status.0
 
       so : SaidSo
       so =
