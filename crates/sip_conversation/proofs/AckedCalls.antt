@@ -53,13 +53,13 @@ use Rattle.sip_calls.proofs.OwnCall.{each_notice_is_own}
 use Rattle.sip_conversation.proofs.Branches.{either}
 use Rattle.sip_conversation.proofs.DialogOfReply.{Reply, dialog_named, has_so, name_so}
 use Rattle.sip_conversation.proofs.HeardReplies.{WasHeard}
-use Rattle.sip_conversation.proofs.KeepsRules.{KeepsInput, StartKeeps}
+use Rattle.sip_conversation.proofs.KeepsRules.{KeepsInput, KeepsRulesWith}
 use Rattle.sip_conversation.proofs.OwedTold.{owed_was_asked}
 use Rattle.sip_conversation.proofs.PracksServed.{same_name}
 use Rattle.sip_conversation.proofs.RackedCalls.{asked_heard, front_differ, named_so}
 use Rattle.sip_conversation.proofs.RackedSteps.{request_named}
 use Rattle.sip_conversation.proofs.Rounds.{all_of_parts}
-use Rattle.sip_conversation.proofs.SoundCalls.{AllPay, InputPays, KindPays, starts_keep}
+use Rattle.sip_conversation.proofs.SoundCalls.{AllPay, InputPays, KindPays, call_keeps}
 use Rattle.sip_conversation.proofs.SoundClients.{PaysIn}
 use Rattle.sip_conversation.proofs.SoundReplies.{reply_for, success_dialog}
 
@@ -286,6 +286,6 @@ module _ (calls : Calls) (call_id : List ℕ) (all : List (Timed CallItem)) wher
   pub all_acked : (key : List ℕ) → IsAddr calls.local → EventsDiffer all
       → AllByRecursion (λ timed. IsInputOf call_id timed.input) all
       → AllByRecursion (λ timed. KeepsInput timed.input) all
-      → AllByRecursion (StartKeeps IsAckOf) (outputs_from (call_machine calls) key None all)
+      → AllByRecursion (KeepsRulesWith IsAckOf) (outputs_from (call_machine calls) key None all)
   all_acked key address differ its keep =
-      starts_keep IsAckOf calls address key all (all_pay differ its) keep
+      call_keeps IsAckOf calls address key all (all_pay differ its) keep

@@ -40,7 +40,7 @@ use Rattle.sip_conversation.proofs.CallsKeep.{calls_keep_rules, inputs_keep_so}
 use Rattle.sip_conversation.proofs.Carrying.{TurnHolds}
 use Rattle.sip_conversation.proofs.Fronts.{carried_before, carried_to, keeps_before, keeps_to}
 use Rattle.sip_conversation.proofs.HeardReplies.{WasHeard, has_come, invite_answered, of_up, same_outs, told_so}
-use Rattle.sip_conversation.proofs.KeepsRules.{Any, KeepsInput, StartKeeps}
+use Rattle.sip_conversation.proofs.KeepsRules.{Any, KeepsInput, KeepsRulesWith}
 use Rattle.sip_conversation.proofs.SoundCalls.{IsSoundCall, any_pays, held_sound}
 use Rattle.sip_conversation.proofs.SoundClients.{IsNamedIn, client_found}
 use Rattle.sip_conversation.proofs.Origins.{TimedComes, inputs_come}
@@ -170,9 +170,9 @@ module _ (configs : Side → Config) (fair : IsFair configs) (before : List Turn
       let its = all_go {P = TimedComes local_config rounds_now call_id}
       {Q = λ timed. IsInputOf call_id timed.input} (λ timed comes. comes.0) (inputs call_id)
       (inputs_come local_config rounds_now call_id) in
-      let sent = each_of (StartKeeps (IsAckOf calls call_id (inputs call_id)))
+      let sent = each_of (KeepsRulesWith (IsAckOf calls call_id (inputs call_id)))
       (said_of_call local_config rounds_now call_id) (call_out.Direct to text)
-      (subst (AllByRecursion (StartKeeps (IsAckOf calls call_id (inputs call_id))))
+      (subst (AllByRecursion (KeepsRulesWith (IsAckOf calls call_id (inputs call_id))))
       (sym (same_outs local_config rounds_now (fair.calls turn.side) call_id))
       (all_acked calls call_id (inputs call_id) call_id (fair.addresses turn.side)
       (events_differ local_config call_id rounds_now) its keeps)) says.1 in

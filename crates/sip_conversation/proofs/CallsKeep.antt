@@ -27,7 +27,6 @@ use Rattle.sip_common.specs.declared.item.CallOut.TheVariants as call_out
 use Rattle.sip_common.specs.declared.item.Item.TheVariants.{Up, User}
 use Rattle.sip_common.proofs.Each.{both}
 use Rattle.sip_calls.specs.Call.{CallItem, call_machine}
-use Rattle.sip_calls.specs.declared.calls.Calls.{Calls}
 use Rattle.sip_round.specs.declared.config.Config.{Config}
 use Rattle.sip_round.specs.declared.round.Event.{Event}
 use Rattle.sip_round.specs.declared.round.Event.TheVariants as event
@@ -36,7 +35,6 @@ use Rattle.sip_round.specs.Answers.{calls_of, no_past, past_of}
 use Rattle.sip_round.specs.Arrivals.{arrival_of}
 use Rattle.sip_round.specs.Laws.{call_inputs_of, inputs_of, said_of, said_of_call}
 use Rattle.sip_round.proofs.CallEvents.{events_differ}
-use Rattle.sip_calls.specs.Provisionals.{EventsDiffer}
 use Rattle.sip_round.proofs.Said.{call_alone, transaction_alone}
 use Rattle.sip_conversation.specs.Commands.{CommandsKeepTypes, EventKeepsTypes, KeepsTypes}
 use Rattle.sip_conversation.specs.Conversation.{Carried, CarriedAfter, IsCarried, Side, Turn, peer, rounds_of}
@@ -47,9 +45,8 @@ use Rattle.sip_conversation.proofs.Carrying.{TurnHolds, each_turn, in_rounds}
 use Rattle.sip_conversation.proofs.OneTransaction.{IsFaithful, KindCame, faithful}
 use Rattle.sip_conversation.proofs.RepliesSaid.{IsFair}
 use Rattle.sip_conversation.proofs.Rounds.{ArrivalFits, OutFits, TimedFits, all_of_parts, calls_give, inputs_fit}
-use Rattle.sip_conversation.proofs.KeepsRules.{Any, AnswerKeeps, KeepsInput, KindKeeps, StartKeeps}
-use Rattle.sip_conversation.proofs.SoundCalls.{starts_keep_rules}
-use Rattle.sip_conversation.proofs.AnswersOfCalls.{answers_keep}
+use Rattle.sip_conversation.proofs.KeepsRules.{Any, KeepsInput, KeepsRulesWith, KindKeeps}
+use Rattle.sip_conversation.proofs.SoundCalls.{call_keeps_rules}
 use Rattle.sip_conversation.proofs.Unchanged.{AreFine, IsFine, carried_fine, come_keeps}
 use Rattle.sip_conversation.proofs.UserInputs.{EventAsks, ItemAsks, TimedAsks, inputs_ask}
 use Rattle.sip_conversation.proofs.Ups.{ItemCame, OutCame, TimedCame, UpCame, inputs_came}
@@ -139,21 +136,10 @@ module _ (alone : EachKeyAlone key_cmp transaction_machine tick_at) (config : Co
 
 -- ---- what a call sends
 
-module _ (calls : Calls) (address : IsAddr calls.local) where
-  out_keeps : (out : CallOut) → StartKeeps Any out → AnswerKeeps out → KeepsRules out
-  out_keeps (call_out.Notice notice) start answer = tt
-  out_keeps (call_out.Command id (command.Start key call_id message to)) start answer = start
-  out_keeps (call_out.Command id (command.Answer key message)) start answer = answer
-  out_keeps (call_out.Direct to bytes) start answer = (start.0, start.1, start.2)
-
-  outs_keep : (call_id : List ℕ) (inputs : List (Timed CallItem)) → EventsDiffer inputs
-      → AllByRecursion (λ (timed : Timed CallItem). KeepsInput timed.input) inputs
-      → AllByRecursion KeepsRules (outputs_from (call_machine calls) call_id None inputs)
-  outs_keep call_id inputs differ keeps =
-      all_both {P = StartKeeps Any} {Q = AnswerKeeps} {R = KeepsRules} out_keeps
-      (outputs_from (call_machine calls) call_id None inputs)
-      (starts_keep_rules calls address call_id inputs differ keeps)
-      (answers_keep calls address call_id inputs keeps)
+out_keeps : (out : CallOut) → KeepsRulesWith Any out → KeepsRules out
+out_keeps (call_out.Notice notice) keeps = tt
+out_keeps (call_out.Command id c) keeps = keeps
+out_keeps (call_out.Direct to bytes) keeps = (keeps.0, keeps.1, keeps.2)
 
 -- ---- both sides
 
@@ -198,8 +184,12 @@ module _ (configs : Side → Config) (fair : IsFair configs) where
       each_of KeepsRules (said_of_call config rounds call_id) out
       (subst (AllByRecursion KeepsRules)
       (sym (call_alone (calls_of config) (fair.calls s) [] (past_of config rounds).calls call_id))
-      (outs_keep (calls_of config) (fair.addresses s) call_id (call_inputs_of config rounds call_id)
-      (events_differ config call_id rounds) (inputs_keep_so turns fine types s call_id))) says.1
+      (all_go {P = KeepsRulesWith Any} {Q = KeepsRules} out_keeps
+      (outputs_from (call_machine (calls_of config)) call_id None
+      (call_inputs_of config rounds call_id))
+      (call_keeps_rules (calls_of config) (fair.addresses s) call_id
+      (call_inputs_of config rounds call_id) (events_differ config call_id rounds)
+      (inputs_keep_so turns fine types s call_id)))) says.1
 
   all_keep : (before turns : List Turn) → Fine before → CommandsKeepTypes (before ++ turns)
       → CarriedAfter configs before turns → CallsKeepRules configs (before ++ turns)

@@ -26,7 +26,7 @@ use Rattle.sip_conversation.proofs.Fronts.{carried_before, carried_to, counted_t
 use Rattle.sip_conversation.proofs.Longer.{inputs_longer, rounds_of-append}
 use Rattle.sip_conversation.proofs.PracksFollow.{pracks_follow, reply_said}
 use Rattle.sip_conversation.proofs.RepliesSaid.{IsFair}
-use Rattle.sip_conversation.proofs.ToldInLife.{of_first_inputs, told_came}
+use Rattle.sip_conversation.proofs.ToldInLife.{told_by_first, told_came}
 
 module _ (configs : Side → Config) (call_id : List ℕ) (invite : AnInvite) (life : DialogReference)
     (told : ℕ × CallOut) where
@@ -50,7 +50,7 @@ module _ (configs : Side → Config) (call_id : List ℕ) (invite : AnInvite) (l
       (call_inputs_of config rounds call_id)) told) (sym rounds)
       (subst (λ inputs. Contains (told_from (calls_of config) invite life None inputs) told)
       (sym longer.1)
-      (of_first_inputs (calls_of config) invite life None
+      (told_by_first (calls_of config) invite life
       (call_inputs_of config (rounds_of s front) call_id) longer.0 told
       (subst (λ t. Contains (told_from (calls_of (configs t)) invite life None
       (call_inputs_of (configs t) (rounds_of t front) call_id)) told) own among)))

@@ -5,7 +5,7 @@ use Rattle.std.specs.List.{AllByRecursion, cons_option}
 use Rattle.std.specs.Option.{option_map}
 use Rattle.std.proofs.lemmas.Bool.{false≢true}
 use Rattle.std.proofs.lemmas.Grind.{common_steps}
-use Rattle.std.proofs.lemmas.List.Elements.{Contains-append_left, Contains-append_right}
+use Rattle.std.proofs.lemmas.List.Elements.{Contains-append_right}
 use Rattle.std.proofs.lemmas.Option.{same_Some}
 use Rattle.sip_message.specs.declared.id.Id.{Id}
 use Rattle.sip_message.specs.declared.key.Key.{Key}
@@ -28,13 +28,13 @@ use Rattle.sip_common.specs.declared.item.CallOut.TheVariants as out
 use Rattle.sip_common.specs.declared.item.Item.TheVariants.{Up, User}
 use Rattle.sip_served.specs.declared.arrival.Arrival.{Arrival}
 use Rattle.sip_clients.specs.Name.{name_of}
-use Rattle.sip_calls.specs.declared.call.Call.{Call}
 use Rattle.sip_calls.specs.declared.calls.Calls.{Calls}
 use Rattle.sip_calls.specs.Call.{CallItem, call_machine, call_step}
 use Rattle.sip_calls.specs.HeldById.{RequestsRise}
 use Rattle.sip_calls.specs.Histories.{call_from}
 use Rattle.sip_conversation.specs.ComeWhole.{given_from, given_in, sent_reliably}
 use Rattle.sip_conversation.proofs.Among.{all_of, among_first, among_later, each_of, first_or_later, none_among}
+use Rattle.sip_conversation.proofs.AmongInputs.{of_one_input}
 use Rattle.sip_conversation.proofs.PracksCame.{GivenTo, OutGave, OutsGiven}
 use Rattle.sip_conversation.proofs.PracksOfCalls.{CommandFits, InputFits, all_given}
 use Rattle.sip_conversation.proofs.PracksServed.{KindBrought}
@@ -73,21 +73,6 @@ module _ (calls : Calls) (id : Id) where
       (id_itself id)
       ∙ ap (option_map (λ rseq. (rseq, response))) is
 
-  -- what an input gives is among all that is given
-  given_by_input : (call : Option Call) (before after : List (Timed CallItem))
-      (timed : Timed CallItem) (given : ℕ × Message)
-      → Contains (given_in calls id timed.input
-      (call_step calls (call_from calls call before) timed.input timed.moment).1) given
-      → Contains (given_from calls id call (before ++ timed ∷ after)) given
-  given_by_input call [] after timed given among =
-      Contains-append_left (given_in calls id timed.input
-      (call_step calls call timed.input timed.moment).1) _ given among
-  given_by_input call (first ∷ before) after timed given among =
-      Contains-append_right (given_in calls id first.input
-      (call_step calls call first.input first.moment).1) _ given
-      (given_by_input (call_step calls call first.input first.moment).0 before after timed given
-      among)
-
 -- a request that comes up is one of those of which this is true
 module _ (Brought : Message → Type 0) where
   abbrev pub KindBrings : Kind → Type 0
@@ -104,8 +89,8 @@ module _ (Brought : Message → Type 0) where
 
 module _ (Brought : Message → Type 0) (calls : Calls) (inputs : List (Timed CallItem)) where
   -- The user gave this response with this RSeq to the request of this id. An input brought that
-  -- request up, and the response copies parts of it. The event of that input made the To tag, unless
-  -- the request has one.
+  -- request up, and the response copies parts of it. The event of that input made the To tag,
+  -- unless the request has one.
   pub record IsGiven (id : Id) (rseq : ℕ) (response : Message) : Type 0 where
     pub given : Contains (given_from calls id None inputs) (rseq, response)
     pub request : Message
@@ -169,7 +154,11 @@ module _ (Brought : Message → Type 0) (calls : Calls) (inputs : List (Timed Ca
     out_gave now event respond same (out.Command id (order.Answer key response)) among = λ rseq is.
         let timed : Timed CallItem = given_at now (event, User (user.Respond respond)) in
         subst (λ xs. Contains (given_from calls id None xs) (rseq, response)) (sym same)
-        (given_by_input calls id None before after timed (rseq, response)
+        (of_one_input calls
+        (λ call timed. given_in calls id timed.input
+        (call_step calls call timed.input timed.moment).1)
+        (given_from calls id) (λ call. refl) (λ call timed inputs. refl) None before timed after
+        (rseq, response)
         (among_chosen (sent_reliably calls id) (says_at now timed.input)
         (out.Command id (order.Answer key response)) (rseq, response) among
         (sent_so calls id key response rseq is)))

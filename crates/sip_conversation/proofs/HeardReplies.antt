@@ -1,10 +1,10 @@
 -- The input at which a call hears a response to an INVITE, of which the user is told.
-use Rattle.std.proofs.Common.{◌≡◌, ℕ, Bool, true, false, ◌||◌, List, [], ◌∷◌, ◌++◌, refl, sym, ap, ◌∙◌, subst, ⊎_elim}
-use Rattle.std.specs.Prelude.{Contains, IfSome, Option, None, Some, codes}
+use Rattle.std.proofs.Common.{◌≡◌, ℕ, Bool, true, false, ◌||◌, List, [], ◌∷◌, ◌++◌, refl, sym, ap, ◌∙◌, subst}
+use Rattle.std.specs.Prelude.{Contains, IfSome, None, Some, codes}
 use Rattle.std.specs.List.{AllByRecursion, list_any}
 use Rattle.std.specs.Str.{bytes_eq}
 use Rattle.std.proofs.lemmas.Bool.{false≢true}
-use Rattle.std.proofs.lemmas.List.Elements.{Contains-append_cases, Contains-append_left, Contains-append_right}
+use Rattle.std.proofs.lemmas.List.Elements.{Contains-append_right}
 use Rattle.sip_message.specs.declared.id.Id.{Id}
 use Rattle.sip_message.specs.declared.message.Message.{Message}
 use Rattle.sip_message.specs.MessageKey.{key_of_message}
@@ -42,7 +42,8 @@ use Rattle.sip_round.proofs.Said.{call_alone}
 use Rattle.sip_conversation.specs.Conversation.{Carried, Side, Turn, given_by, rounds_of}
 use Rattle.sip_conversation.specs.Messages.{CallSays, CallsKeepRules, IsGiven, come_from}
 use Rattle.sip_conversation.specs.Replies.{AreCounted, IsStartedFor, SaidResponse}
-use Rattle.sip_conversation.proofs.Among.{among_first, among_later, each_of, in_all_of, kept_among, none_among}
+use Rattle.sip_conversation.proofs.Among.{among_first, among_later, each_of, in_all_of, kept_among}
+use Rattle.sip_conversation.proofs.AmongInputs.{out_of_first_inputs, out_of_one_input}
 use Rattle.sip_conversation.proofs.Branches.{Own}
 use Rattle.sip_conversation.proofs.CallBranches.{HeldOwn, InputComes, held_own}
 use Rattle.sip_conversation.proofs.DialogOfReply.{is_of_invite}
@@ -108,35 +109,6 @@ some_response (first ∷ outs) told =
         let later = rest told in
         (later.0, among_later first outs later.0 later.1, later.2)
 
-module _ (calls : Calls) (key : List ℕ) where
-  -- what one input gives is among what all give
-  pub of_one_input : (state : Option Call) (before : List (Timed CallItem)) (timed : Timed CallItem)
-      (after : List (Timed CallItem)) (out : CallOut)
-      → Contains (call_step calls (call_from calls state before) timed.input timed.moment).1 out
-      → Contains (outputs_from (call_machine calls) key state (before ++ timed ∷ after)) out
-  of_one_input state [] timed after out among =
-      let step = call_step calls state timed.input timed.moment in
-      Contains-append_left step.1 (outputs_from (call_machine calls) key step.0 after) out among
-  of_one_input state (first ∷ before) timed after out among =
-      let step = call_step calls state first.input first.moment in
-      Contains-append_right step.1
-      (outputs_from (call_machine calls) key step.0 (before ++ timed ∷ after)) out
-      (of_one_input step.0 before timed after out among)
-
-  -- so is what the first inputs give
-  pub of_first_inputs : (state : Option Call) (before after : List (Timed CallItem)) (out : CallOut)
-      → Contains (outputs_from (call_machine calls) key state before) out
-      → Contains (outputs_from (call_machine calls) key state (before ++ after)) out
-  of_first_inputs state [] after out among = absurd (none_among out among)
-  of_first_inputs state (first ∷ before) after out among =
-      let step = call_step calls state first.input first.moment in
-      let early = outputs_from (call_machine calls) key step.0 before in
-      let all = outputs_from (call_machine calls) key step.0 (before ++ after) in
-      ⊎_elim (λ here. Contains-append_left step.1 all out here)
-      (λ later. Contains-append_right step.1 all out
-      (of_first_inputs step.0 before after out later))
-      (Contains-append_cases step.1 early out among)
-
 no_cancel : codes "CANCEL" ≡ codes "INVITE" → ⊥
 no_cancel same = false≢true (ap (λ m. bytes_eq m (codes "INVITE")) same)
 
@@ -190,7 +162,7 @@ module _ (config : Config) (rounds : List Round)
             one = early.one;
             among = subst (λ all. Contains (outputs_from (call_machine calls) call_id None all)
                 early.one) (sym was.are)
-                (of_first_inputs calls call_id None was.before (was.timed ∷ was.after) early.one
+                (out_of_first_inputs calls call_id was.before (was.timed ∷ was.after) early.one
                 early.among);
             starts = early.starts;
             sends = early.sends;
@@ -221,7 +193,7 @@ module _ (config : Config) (rounds : List Round)
       of_its_input out among =
           subst (λ all. Contains (outputs_from (call_machine calls) call_id None all) out)
           (sym was.are)
-          (of_one_input calls call_id None was.before was.timed was.after out
+          (out_of_one_input calls call_id was.before was.timed was.after out
           (subst (λ state.
           Contains (call_step calls state was.timed.input was.timed.moment).1 out)
           (sym was.held) among))

@@ -5,7 +5,6 @@ use Rattle.sip_message.specs.declared.message.Message.{Message}
 use Rattle.sip_message.specs.Rules.{IsMessage}
 use Rattle.sip_message.specs.Written.{written}
 use Rattle.sip_model.specs.Machine.{Timed, outputs_from}
-use Rattle.sip_transactions.specs.declared.input.Command.TheVariants as order
 use Rattle.sip_transactions.specs.declared.output.Kind.{Kind}
 use Rattle.sip_transactions.specs.declared.output.Kind.TheVariants as kind
 use Rattle.sip_common.specs.declared.item.CallOut.{CallOut}
@@ -15,6 +14,7 @@ use Rattle.sip_calls.specs.Call.{CallItem, call_machine}
 use Rattle.sip_calls.specs.Provisionals.{EventsDiffer}
 use Rattle.sip_calls.specs.declared.calls.Calls.{Calls}
 use Rattle.sip_conversation.specs.Commands.{KeepsTypes}
+use Rattle.sip_conversation.specs.Messages.{message_of}
 
 -- a message that comes up keeps the rules of messages
 abbrev pub KindKeeps : Kind → Type 0
@@ -34,30 +34,20 @@ KeepsInput (Some (event, User command)) = KeepsTypes command
 abbrev pub Any : Message → Type 0
 Any message = Unit {0}
 
--- a request that a transaction is started with keeps the rules; a text is that of a message that
--- does, and of which this is said too
-abbrev pub StartKeeps : (Message → Type 0) → CallOut → Type 0
-StartKeeps AckIs (call_out.Notice notice) = Unit {0}
-StartKeeps AckIs (call_out.Command id (order.Start key call_id message to)) = IsMessage message
-StartKeeps AckIs (call_out.Command id (order.Answer key message)) = Unit {0}
-StartKeeps AckIs (call_out.Direct to bytes) =
+-- each message that goes out keeps the rules; a text is that of a message that does, and of which
+-- this is said too
+abbrev pub KeepsRulesWith : (Message → Type 0) → CallOut → Type 0
+KeepsRulesWith AckIs (call_out.Notice notice) = Unit {0}
+KeepsRulesWith AckIs (call_out.Command id command) = IsMessage (message_of command)
+KeepsRulesWith AckIs (call_out.Direct to bytes) =
     (message : Message) × (bytes ≡ written message) × IsMessage message × AckIs message
 
--- all that a call gives, from nothing held on
-abbrev pub StartsKeepRules : Calls → Type 0
-StartsKeepRules calls = (call_id : List ℕ) (inputs : List (Timed CallItem)) → EventsDiffer inputs
-    → AllByRecursion (λ timed. KeepsInput timed.input) inputs
-    → AllByRecursion (StartKeeps Any) (outputs_from (call_machine calls) call_id None inputs)
-
--- an answer keeps the rules
-abbrev pub AnswerKeeps : CallOut → Type 0
-AnswerKeeps (call_out.Notice notice) = Unit {0}
-AnswerKeeps (call_out.Command id (order.Start key call_id message to)) = Unit {0}
-AnswerKeeps (call_out.Command id (order.Answer key message)) = IsMessage message
-AnswerKeeps (call_out.Direct to bytes) = Unit {0}
+-- what a step gives
+abbrev pub Keep : (Message → Type 0) → List CallOut → Type 0
+Keep AckIs outs = AllByRecursion (KeepsRulesWith AckIs) outs
 
 -- all that a call gives, from nothing held on
-abbrev pub AnswersKeepRules : Calls → Type 0
-AnswersKeepRules calls = (call_id : List ℕ) (inputs : List (Timed CallItem))
+abbrev pub CallKeepsRules : Calls → Type 0
+CallKeepsRules calls = (call_id : List ℕ) (inputs : List (Timed CallItem)) → EventsDiffer inputs
     → AllByRecursion (λ timed. KeepsInput timed.input) inputs
-    → AllByRecursion AnswerKeeps (outputs_from (call_machine calls) call_id None inputs)
+    → Keep Any (outputs_from (call_machine calls) call_id None inputs)

@@ -1,5 +1,6 @@
 pub mod Addresses
 pub mod Among
+pub mod AmongInputs
 pub mod Answered
 pub mod Before
 pub mod Bridge
@@ -61,15 +62,13 @@ pub mod GivenInOrder
 pub mod UserInputs
 pub mod KeepsRules
 pub mod OwnRequests
+pub mod AnswerRules
+pub mod AnswersHeld
 pub mod SoundDialogs
 pub mod SoundServed
 pub mod SoundClients
 pub mod SoundReplies
 pub mod SoundCalls
-pub mod AnswerRules
-pub mod AnswersHeld
-pub mod AnswersServed
-pub mod AnswersOfCalls
 pub mod CallsKeep
 pub mod AckedCalls
 pub mod AcksFollow

@@ -31,6 +31,7 @@ use Rattle.sip_dialog.proofs.Requests.{ip_is_host, own_are_vias, own_uri}
 use Rattle.sip_common.proofs.Each.{both}
 use Rattle.sip_common.specs.declared.command.ProvisionalSupport.{ProvisionalSupport}
 use Rattle.sip_common.specs.declared.command.ProvisionalSupport.TheVariants as support
+use Rattle.sip_served.proofs.Names.{option_100rel}
 use Rattle.sip_clients.specs.Event.{branch_of, from_tag_of}
 use Rattle.sip_clients.specs.Name.{name_of}
 use Rattle.sip_clients.specs.Rules.Requests.{request_outside, with_100rel}
@@ -44,7 +45,7 @@ use Rattle.sip_conversation.proofs.Addresses.{octet}
 use Rattle.sip_conversation.proofs.Branches.{either}
 use Rattle.sip_conversation.proofs.Rules.{ack_keeps}
 
-abbrev IsTokenText : List ℕ → Type 0
+abbrev pub IsTokenText : List ℕ → Type 0
 IsTokenText text = IsTrue (is_token text)
 
 -- ---- constant texts
@@ -61,13 +62,9 @@ branch_token : IsTokenText (codes "branch")
 unfolding is_token is_token_byte
 branch_token = refl
 
-tag_token : IsTokenText (codes "tag")
+pub tag_token : IsTokenText (codes "tag")
 unfolding is_token is_token_byte
 tag_token = refl
-
-option_token : IsTokenText (codes "100rel")
-unfolding is_token is_token_byte
-option_token = refl
 
 pub invite_token : IsTokenText (codes "INVITE")
 unfolding is_token is_token_byte
@@ -226,7 +223,7 @@ support_keeps support.Supported message rules =
     message.others message.body rules record {
       contacts_are = rules.contacts;
       require_are = rules.require;
-      supported_are = (option_token, tt);
+      supported_are = (option_100rel, tt);
       rack_is = rules.rack;
       others_are = rules.others;
     }
@@ -234,7 +231,7 @@ support_keeps support.Required message rules =
     with_parts message message.contacts (codes "100rel" ∷ []) message.supported message.rack
     message.others message.body rules record {
       contacts_are = rules.contacts;
-      require_are = (option_token, tt);
+      require_are = (option_100rel, tt);
       supported_are = rules.supported;
       rack_is = rules.rack;
       others_are = rules.others;

@@ -1,4 +1,4 @@
--- If what a call hears keeps the rules of messages, so does what it starts and sends as text.
+-- If what a call hears keeps the rules of messages, so does what it sends.
 use Rattle.std.proofs.Common.{◌≡◌, ℕ, Bool, true, false, cond, List, [], ◌∷◌, ◌++◌, refl, sym, ◌∙◌, subst, append-nil, append_assoc}
 use Rattle.std.specs.Prelude.{Option, None, Some, IfSome}
 use Rattle.std.specs.List.{AllByRecursion}
@@ -23,13 +23,13 @@ use Rattle.sip_calls.specs.Sides.{by_clients, by_server, holds_any, side_of}
 use Rattle.sip_calls.specs.declared.call.Call.{Call}
 use Rattle.sip_calls.specs.declared.calls.Calls.{Calls}
 use Rattle.sip_conversation.specs.Commands.{KeepsTypes}
-use Rattle.sip_conversation.proofs.KeepsRules.{Any, KeepsInput, KindKeeps, StartKeeps, StartsKeepRules}
+use Rattle.sip_conversation.proofs.KeepsRules.{Any, CallKeepsRules, Keep, KeepsInput, KeepsRulesWith, KindKeeps}
 use Rattle.sip_conversation.proofs.SoundClients as clients
 use Rattle.sip_conversation.proofs.SoundClients.{AreSoundClients, IsSoundSide, Pays, PaysIn, ack_done, cancel_done, invite_done, plain_done, prack_done, request_done}
 use Rattle.sip_conversation.proofs.SoundReplies as replies
 use Rattle.sip_conversation.proofs.SoundReplies.{Hears, lost_done, received_done, reply_for}
 use Rattle.sip_conversation.proofs.SoundServed as served
-use Rattle.sip_conversation.proofs.SoundServed.{IsSoundState, Keep, empty_sound, kind_done, respond_done}
+use Rattle.sip_conversation.proofs.SoundServed.{IsSoundState, empty_sound, kind_done, respond_done}
 use Rattle.sip_message.specs.declared.message.Message.{Message}
 use Rattle.sip_message.specs.declared.addr.Addr.{Addr}
 use Rattle.std.specs.Map.{lookup}
@@ -165,7 +165,7 @@ module _ (AckIs : Message → Type 0) where
       let second = client_tick (side_of first.0) now in
       let later = by_clients_done first.0 second so.0
       (replies.tick_done AckIs (side_of first.0) now (sides_of first.0 so.0)) in
-      (later.0, both (StartKeeps AckIs) first.1 second.1 so.1 later.1)
+      (later.0, both (KeepsRulesWith AckIs) first.1 second.1 so.1 later.1)
 
   -- so is each that may be made for an input of the call that is held; and at a command the dialogs
   -- have the names of their tags
@@ -247,8 +247,8 @@ module _ (AckIs : Message → Type 0) where
           let more = from_more calls None front timed in
           let so = step_done state timed.input timed.moment keep.0 (pays front timed rest are)
           sound in
-          both (StartKeeps AckIs) step.1 (outputs_from (call_machine calls) key step.0 rest) so.1
-          (subst (λ s. Keep AckIs (outputs_from (call_machine calls) key s rest)) more
+          both (KeepsRulesWith AckIs) step.1 (outputs_from (call_machine calls) key step.0 rest)
+          so.1 (subst (λ s. Keep AckIs (outputs_from (call_machine calls) key s rest)) more
           (from_done (front ++ timed ∷ []) rest (are ∙ sym (append_assoc front (timed ∷ []) rest))
           keep.1 (subst Held (sym more) so.0)))
 
@@ -278,9 +278,9 @@ module _ (AckIs : Message → Type 0) where
           tt
 
       -- what a call sends keeps the rules, and of each ACK that it sends as a text this is said
-      pub starts_keep : AllByRecursion (λ timed. KeepsInput timed.input) all
+      pub call_keeps : AllByRecursion (λ timed. KeepsInput timed.input) all
           → Keep AckIs (outputs_from (call_machine calls) key None all)
-      starts_keep keep = from_done [] all refl keep tt
+      call_keeps keep = from_done [] all refl keep tt
 
 -- ---- where nothing more is said
 
@@ -314,6 +314,6 @@ any_pays calls inputs differ before timed after are =
     any_input calls before (front_differ before (timed ∷ after) (subst EventsDiffer are differ))
     (call_from calls None before) refl timed.input timed.moment
 
-pub starts_keep_rules : (calls : Calls) → IsAddr calls.local → StartsKeepRules calls
-starts_keep_rules calls address key inputs differ keep =
-    starts_keep Any calls address key inputs (any_pays calls inputs differ) keep
+pub call_keeps_rules : (calls : Calls) → IsAddr calls.local → CallKeepsRules calls
+call_keeps_rules calls address key inputs differ keep =
+    call_keeps Any calls address key inputs (any_pays calls inputs differ) keep

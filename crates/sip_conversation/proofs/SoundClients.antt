@@ -14,9 +14,7 @@ use Rattle.sip_message.specs.Written.{written}
 use Rattle.sip_message.specs.declared.id.Id.{Id}
 use Rattle.sip_message.specs.declared.message.Message.{Message}
 use Rattle.sip_message.specs.declared.rack.RAck.{RAck}
-use Rattle.sip_dialog.specs.Dialog.{is_early, is_ended}
 use Rattle.sip_dialog.specs.Request.{request_in}
-use Rattle.sip_dialog.specs.Route.{is_strict}
 use Rattle.sip_dialog.specs.declared.dialog.Dialog.{Dialog}
 use Rattle.sip_common.specs.Dialogs.{Dialogs, ended_at, is_dialog_id, tag_text}
 use Rattle.sip_common.specs.Ids.{is_id}
@@ -33,11 +31,11 @@ use Rattle.sip_common.specs.declared.item.CallOut.{CallOut}
 use Rattle.sip_common.specs.declared.pending_request.PendingRequest.{PendingRequest}
 use Rattle.sip_common.specs.declared.pending_request.PendingRequest.TheVariants.{Ack, Prack}
 use Rattle.sip_common.specs.declared.refusal.Refusal.{Refusal}
-use Rattle.sip_common.specs.declared.refusal.Refusal.TheVariants.{AlreadyFinal, BadMethod, DialogEnded, NoSuchRequest, NothingToAck, NothingToPrack, SequenceUsedUp, StrictRoute}
+use Rattle.sip_common.specs.declared.refusal.Refusal.TheVariants.{AlreadyFinal, BadMethod, NoSuchRequest, NothingToAck, NothingToPrack}
 use Rattle.sip_common.proofs.Each.{both, each_changed, each_inserted, each_set, filtered, found, found_one}
 use Rattle.sip_clients.specs.Client.{Clients, ClientTaken, Side}
 use Rattle.sip_clients.specs.Event.{branch_of}
-use Rattle.sip_clients.specs.Rules.Requests.{PendingOutcome, ack_command, ack_kept, cancel_command, cancel_of_request, cancel_request, has_command, invite_command, is_asked, is_callee, is_invite_kind, is_same_pending, method_of, oldest_pending, pending_by_user, pending_command, pending_outcome, pending_sent, pending_with, plain_command, prack_command, refusals_in, refuse, request_command, request_in_dialog, request_with_next_number, start, with_number}
+use Rattle.sip_clients.specs.Rules.Requests.{PendingOutcome, ack_command, ack_kept, cancel_command, cancel_of_request, cancel_request, has_command, invite_command, is_asked, is_invite_kind, is_same_pending, method_of, oldest_pending, pending_by_user, pending_command, pending_outcome, pending_sent, pending_with, plain_command, prack_command, refusals_in, refuse, request_command, request_in_dialog, request_with_next_number, start, with_number}
 use Rattle.sip_clients.specs.Rules.Responses.{kept}
 use Rattle.sip_clients.specs.declared.answers.SentAck.{SentAck}
 use Rattle.sip_clients.specs.declared.client.Cancelling.{Cancelling}
@@ -53,28 +51,15 @@ use Rattle.sip_conversation.proofs.PracksServed.{same_name}
 use Rattle.sip_conversation.proofs.RackedSteps.{request_named}
 use Rattle.sip_clients.specs.declared.event.Event.{Event}
 use Rattle.sip_conversation.specs.Commands.{IsContent, IsInvite, IsPlain}
-use Rattle.sip_conversation.proofs.KeepsRules.{StartKeeps}
-use Rattle.sip_conversation.proofs.Branches.{either, first_false, first_holds, found_or}
+use Rattle.sip_conversation.proofs.AnswersHeld.{Fails, none_holds}
+use Rattle.sip_conversation.proofs.Branches.{either, first_false, found_or}
+use Rattle.sip_conversation.proofs.KeepsRules.{Keep, KeepsRulesWith}
 use Rattle.sip_conversation.proofs.OwnRequests.{ack_token, cancel_keeps, in_dialog_keeps, invite_keeps, invite_token, plain_keeps, prack_token, with_rack}
 use Rattle.sip_conversation.proofs.Among.{found_among}
 use Rattle.sip_conversation.proofs.SoundDialogs.{AreSound, IsSound, IsSoundPending, number_sound}
-use Rattle.sip_conversation.proofs.SoundServed.{Ended, Keep, dialog_ends}
+use Rattle.sip_conversation.proofs.SoundServed.{Ended, dialog_ends}
 
 -- ---- numbers
-
--- the fourth refusal: no number is left
-fourth_fails : (one two three four : Bool) (a b c d : Refusal) (others : List (Bool × Refusal))
-    → first_refusal ((one, a) ∷ (two, b) ∷ (three, c) ∷ (four, d) ∷ others) None ≡ None
-    → four ≡ false
-fourth_fails true two three four a b c d others none = absurd cc
-fourth_fails false true three four a b c d others none = absurd cc
-fourth_fails false false true four a b c d others none = absurd cc
-fourth_fails false false false four a b c d others none = first_holds four d others none
-
-others_fail : (holds : Bool) (refusal : Refusal) (others : List (Bool × Refusal))
-    → first_refusal ((holds, refusal) ∷ others) None ≡ None → first_refusal others None ≡ None
-others_fail true refusal others none = absurd cc
-others_fail false refusal others none = none
 
 is_below : (ack : Bool) (last : ℕ) → ack ≡ false
     → (not ack && nat_le (2 ^ 31 - 1) last) ≡ false → last + 1 < 2 ^ 32
@@ -83,15 +68,9 @@ is_below false last other fails = grind (arith, nat_tests)
 
 -- a request that isn't refused, unless it is an ACK, has a next number
 next_fits : (dialog : Dialog) (method : List ℕ) → bytes_eq method (codes "ACK") ≡ false
-    → first_refusal (refusals_in dialog method) None ≡ None → dialog.local_cseq + 1 < 2 ^ 32
-next_fits dialog method other none =
-    let bad = bytes_eq method (codes "ACK") || bytes_eq method (codes "INVITE")
-    || (is_callee dialog.side && bytes_eq method (codes "BYE")) in
-    let last = nat_le (2 ^ 31 - 1) dialog.local_cseq in
-    is_below (bytes_eq method (codes "ACK")) dialog.local_cseq other
-    (fourth_fails (is_early dialog.state && bad) (is_ended dialog.state)
-    (is_strict dialog.route_set) (not (bytes_eq method (codes "ACK")) && last) BadMethod
-    DialogEnded StrictRoute SequenceUsedUp [] none)
+    → AllByRecursion Fails (refusals_in dialog method) → dialog.local_cseq + 1 < 2 ^ 32
+next_fits dialog method other fail =
+    is_below (bytes_eq method (codes "ACK")) dialog.local_cseq other fail.1.1.1.0
 
 no_ack : (method : List ℕ) → has_command method ≡ false → bytes_eq method (codes "ACK") ≡ false
 no_ack method none =
@@ -144,7 +123,7 @@ module _ (AckIs : Message → Type 0) where
       → IsSoundClient client → Started (start done client)
   start_done done client sound its = (
     each_inserted IsSoundClient is_id client.id client its done.0 sound.0,
-    both (StartKeeps AckIs) done.1 _ sound.1 (its.request, tt),
+    both (KeepsRulesWith AckIs) done.1 _ sound.1 (its.request, tt),
   )
 
   pub starts_done : (clients : List Client) (done : Clients × List CallOut) → Started done
@@ -247,7 +226,8 @@ module _ (AckIs : Message → Type 0) where
         }
     sent_paid name (Prack rseq number) content held sound fits pays types none =
         let rack : RAck = record { rseq = rseq; cseq = number; method = codes "INVITE" } in
-        let next = next_fits held.dialog (codes "PRACK") refl none in
+        let next = next_fits held.dialog (codes "PRACK") refl
+        (none_holds (refusals_in held.dialog (codes "PRACK")) none) in
         record {
           dialog = numbered held sound next;
           ack = tt;
@@ -291,10 +271,9 @@ module _ (AckIs : Message → Type 0) where
         (first_refusal ((has_command method, BadMethod) ∷ refusals_in held.dialog method) None) _
         (λ refusal refused. (sides, (tt, tt)))
         (λ none.
-        let fits = next_fits held.dialog method
-        (no_ack method
-        (first_holds (has_command method) BadMethod (refusals_in held.dialog method) none))
-        (others_fail (has_command method) BadMethod (refusals_in held.dialog method) none) in
+        let fail = none_holds ((has_command method, BadMethod) ∷ refusals_in held.dialog method)
+        none in
+        let fits = next_fits held.dialog method (no_ack method fail.0) fail.1 in
         let started = start_done (side.clients, []) _ (sides.clients, tt)
         (next_sound name method None command.content held sound token tt types fits
         (λ invite. named)) in
@@ -303,7 +282,7 @@ module _ (AckIs : Message → Type 0) where
         let ended = either (Ended AckIs) (bytes_eq method (codes "BYE")) (ended_at name dialogs)
         (dialogs, []) (λ bye. dialog_ends AckIs name dialogs all) (λ other. (all, tt)) in (
           record { dialogs = ended.0; clients = started.0 },
-          both (StartKeeps AckIs) sent.1 _ started.1 ended.1,
+          both (KeepsRulesWith AckIs) sent.1 _ started.1 ended.1,
         ))
 
     pub request_done : (command : DialogRequest) (side : Side)

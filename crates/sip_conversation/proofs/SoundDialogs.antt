@@ -51,15 +51,6 @@ AreSound dialogs = AllByRecursion (λ (entry : DialogId × HeldDialog). IsSound 
 
 -- ---- the parts of a message that a dialog takes
 
--- the headers that confirm a dialog
-pub record HasRoutes (message : Message) : Type 0 where
-  pub contacts : AllByRecursion IsNameAddr message.contacts
-  pub record_routes : AllByRecursion IsNameAddr message.record_routes
-
-pub rules_route : (message : Message) → IsMessage message → HasRoutes message
-rules_route message rules =
-    record { contacts = rules.contacts; record_routes = rules.record_routes }
-
 pub reversed : {X : Type 0} (P : X → Type 0) (xs : List X) → AllByRecursion P xs
     → AllByRecursion P (reverse xs)
 reversed P [] all = tt
@@ -73,9 +64,9 @@ first_word : (contacts : List NameAddr) → AllByRecursion IsNameAddr contacts
 first_word [] all = tt
 first_word (contact ∷ contacts) all = uri_is_word contact.uri (all.0).uri
 
-contact_word : (message : Message) → HasRoutes message
+contact_word : (message : Message) → IsMessage message
     → IfSome (contact_uri message) (λ uri. IsTrue (is_word uri))
-contact_word message its = first_word message.contacts its.contacts
+contact_word message rules = first_word message.contacts rules.contacts
 
 or_word : (o : Option (List ℕ)) (otherwise : List ℕ) → IfSome o (λ uri. IsTrue (is_word uri))
     → IsTrue (is_word otherwise) → IsTrue (is_word (unwrap_or o otherwise))
@@ -83,10 +74,10 @@ or_word None otherwise word other = other
 or_word (Some uri) otherwise word other = word
 
 -- the target of a message with a Contact, or another one
-pub target_word : (message : Message) (otherwise : List ℕ) → HasRoutes message
+pub target_word : (message : Message) (otherwise : List ℕ) → IsMessage message
     → IsTrue (is_word otherwise) → IsTrue (is_word (unwrap_or (contact_uri message) otherwise))
-target_word message otherwise its other =
-    or_word (contact_uri message) otherwise (contact_word message its) other
+target_word message otherwise rules other =
+    or_word (contact_uri message) otherwise (contact_word message rules) other
 
 token_unless_empty : (tag : List ℕ) → ((length tag == 0) ≡ false → IsTrue (is_token tag))
     → IfSome (some_unless_empty tag) (λ tag. IsTrue (is_token tag))
@@ -114,7 +105,7 @@ by_request_sound request tag status rules token = record {
   call_id = rules.call_id;
   local = record { uri_is = (rules.to).uri; tag_is = token };
   remote = end_keeps request.from.uri request.from (rules.from).uri rules.from;
-  target = target_word request request.from.uri (rules_route request rules)
+  target = target_word request request.from.uri rules
       (uri_is_word request.from.uri (rules.from).uri);
   route_set = rules.record_routes;
   number = omega arith;
@@ -126,8 +117,7 @@ by_response_sound request response rules answer = record {
   call_id = rules.call_id;
   local = end_keeps request.from.uri request.from (rules.from).uri rules.from;
   remote = end_keeps request.to.uri response.to (rules.to).uri answer.to;
-  target = target_word response (request_uri_or request.to.uri request.start)
-      (rules_route response answer)
+  target = target_word response (request_uri_or request.to.uri request.start) answer
       (line_word request.to.uri request.start (rules.to).uri rules.start);
   route_set = reversed IsNameAddr response.record_routes answer.record_routes;
   number = rules.number;
@@ -136,8 +126,8 @@ by_response_sound request response rules answer = record {
 -- ---- how it changes
 
 confirmed_sound_at : (side : Side) (dialog : Dialog) (response : Message) → IsSoundDialog dialog
-    → HasRoutes response → IsSoundDialog (confirmed_at side dialog response)
-confirmed_sound_at Callee dialog response sound its = record {
+    → IsMessage response → IsSoundDialog (confirmed_at side dialog response)
+confirmed_sound_at Callee dialog response sound rules = record {
   call_id = sound.call_id;
   local = sound.local;
   remote = sound.remote;
@@ -145,19 +135,19 @@ confirmed_sound_at Callee dialog response sound its = record {
   route_set = sound.route_set;
   number = sound.number;
 }
-confirmed_sound_at Caller dialog response sound its = record {
+confirmed_sound_at Caller dialog response sound rules = record {
   call_id = sound.call_id;
   local = sound.local;
   remote = sound.remote;
-  target = target_word response dialog.target its sound.target;
-  route_set = reversed IsNameAddr response.record_routes its.record_routes;
+  target = target_word response dialog.target rules sound.target;
+  route_set = reversed IsNameAddr response.record_routes rules.record_routes;
   number = sound.number;
 }
 
 pub confirmed_sound : (dialog : Dialog) (response : Message) → IsSoundDialog dialog
-    → HasRoutes response → IsSoundDialog (confirmed_by dialog response)
-confirmed_sound dialog response sound its =
-    confirmed_sound_at dialog.side dialog response sound its
+    → IsMessage response → IsSoundDialog (confirmed_by dialog response)
+confirmed_sound dialog response sound rules =
+    confirmed_sound_at dialog.side dialog response sound rules
 
 pub target_sound : (dialog : Dialog) (uri : List ℕ) → IsSoundDialog dialog → IsTrue (is_word uri)
     → IsSoundDialog (record dialog { target = uri })
@@ -184,30 +174,28 @@ number_sound dialog number sound fits = record {
 -- a request of the peer in it
 pub visited_sound : (request : Message) (held : HeldDialog) → IsMessage request → IsSound held
     → IsSound (after_request request held)
-visited_sound request held rules sound =
-    let its = rules_route request rules in
-    record {
-      dialog = record {
-        call_id = (sound.dialog).call_id;
-        local = (sound.dialog).local;
-        remote = (sound.dialog).remote;
-        target = or_word _ held.dialog.target
-            (either (λ (o : Option (List ℕ)). IfSome o (λ uri. IsTrue (is_word uri)))
-            (is_invite request) (contact_uri request) None
-            (λ invite. contact_word request its) (λ other. tt)) (sound.dialog).target;
-        route_set = (sound.dialog).route_set;
-        number = (sound.dialog).number;
-      };
-      pending = sound.pending;
-    }
+visited_sound request held rules sound = record {
+  dialog = record {
+    call_id = (sound.dialog).call_id;
+    local = (sound.dialog).local;
+    remote = (sound.dialog).remote;
+    target = or_word _ held.dialog.target
+        (either (λ (o : Option (List ℕ)). IfSome o (λ uri. IsTrue (is_word uri)))
+        (is_invite request) (contact_uri request) None
+        (λ invite. contact_word request rules) (λ other. tt)) (sound.dialog).target;
+    route_set = (sound.dialog).route_set;
+    number = (sound.dialog).number;
+  };
+  pending = sound.pending;
+}
 
 -- a 2xx of the user
-pub answered_sound : (response : Message) (held : HeldDialog) → HasRoutes response → IsSound held
+pub answered_sound : (response : Message) (held : HeldDialog) → IsMessage response → IsSound held
     → IsSound (after_2xx response held)
-answered_sound response held its sound =
+answered_sound response held rules sound =
     either IsSound (is_ended held.dialog.state) held
     (record held { dialog = confirmed_by held.dialog response }) (λ ended. sound)
     (λ lives. record {
-      dialog = confirmed_sound held.dialog response sound.dialog its;
+      dialog = confirmed_sound held.dialog response sound.dialog rules;
       pending = sound.pending;
     })

@@ -32,13 +32,13 @@ use Rattle.sip_clients.specs.declared.client.Client.{Client}
 use Rattle.sip_clients.specs.declared.event.Event.{Event}
 use Rattle.sip_transactions.proofs.RowFacts.{and-left, and-right}
 use Rattle.sip_conversation.specs.Commands.{IsContent}
-use Rattle.sip_conversation.proofs.KeepsRules.{StartKeeps}
 use Rattle.sip_conversation.proofs.Branches.{either, found_or}
+use Rattle.sip_conversation.proofs.KeepsRules.{Keep, KeepsRulesWith}
 use Rattle.sip_conversation.proofs.OwnRequests.{empty_keeps}
 use Rattle.sip_conversation.proofs.RackedSteps.{IsToldOf, still_told}
 use Rattle.sip_conversation.proofs.SoundClients.{AreSoundClients, IsKept, IsSoundClient, IsSoundSide, Pays, Taken, cancel_sound, client_found, dialog_found, outcome_paid, starts_done}
-use Rattle.sip_conversation.proofs.SoundDialogs.{AreSound, IsSound, IsSoundPending, by_response_sound, confirmed_sound, rules_route, target_sound, target_word}
-use Rattle.sip_conversation.proofs.SoundServed.{Ended, Keep, dialog_ends, early_ends}
+use Rattle.sip_conversation.proofs.SoundDialogs.{AreSound, IsSound, IsSoundPending, by_response_sound, confirmed_sound, target_sound, target_word}
+use Rattle.sip_conversation.proofs.SoundServed.{Ended, dialog_ends, early_ends}
 
 -- the type of what a response is with all that comes up with it
 abbrev Domain : {A B : Type 0} → (A → B) → Type 0
@@ -81,7 +81,7 @@ module _ (AckIs : Message → Type 0) where
       (ended_at reference.name early.0) (early.0, [])
       (λ over. dialog_ends AckIs reference.name early.0 so.0) (λ lives. (so.0, tt)))
       (λ none. (so.0, tt)) in
-      (own.0, both (StartKeeps AckIs) early.1 _ so.1 own.1)
+      (own.0, both (KeepsRulesWith AckIs) early.1 _ so.1 own.1)
 
   pub lost_done : (id : Id) (timed_out : Bool) (side : Side) → IsSoundSide AckIs side
       → Taken AckIs (request_is_lost id timed_out side)
@@ -106,7 +106,7 @@ module _ (AckIs : Message → Type 0) where
       dialogs = each_left IsSound _ side.dialogs sides.dialogs;
       clients = each_left (IsSoundClient AckIs) _ side.clients sides.clients;
     },
-    all_of_each (StartKeeps AckIs) (λ client. (early_ended client.id side.dialogs).1)
+    all_of_each (KeepsRulesWith AckIs) (λ client. (early_ended client.id side.dialogs).1)
         (λ client. (early_ends AckIs client.id side.dialogs sides.dialogs).1)
         (filter (is_over now) (values_of side.clients)),
   )
@@ -178,7 +178,6 @@ module _ (AckIs : Message → Type 0) where
   success_sound : (initial : Bool) (response : Message) (held : HeldDialog) → IsMessage response
       → IsSound held → IsSound (success_in initial response held)
   success_sound initial response held rules sound =
-      let routes = rules_route response rules in
       let target = unwrap_or (contact_uri response) held.dialog.target in
       let confirmed : HeldDialog = record held { dialog = confirmed_by held.dialog response } in
       let refreshed : HeldDialog =
@@ -187,12 +186,12 @@ module _ (AckIs : Message → Type 0) where
       (if initial then confirmed else refreshed) (λ ended. sound)
       (λ still. either IsSound initial confirmed refreshed
       (λ first. record {
-        dialog = confirmed_sound held.dialog response sound.dialog routes;
+        dialog = confirmed_sound held.dialog response sound.dialog rules;
         pending = sound.pending;
       })
       (λ again. record {
         dialog = target_sound held.dialog target sound.dialog
-            (target_word response held.dialog.target routes (sound.dialog).target);
+            (target_word response held.dialog.target rules (sound.dialog).target);
         pending = sound.pending;
       }))
 

@@ -1,54 +1,41 @@
--- Whatever comes to the server side of a call: its dialogs stay sound, and each held request keeps
--- the rules, with a tag for the answers to it. This side starts no transaction, and sends no text.
-use Rattle.std.proofs.Common.{ℕ, ◌||◌, ◌&&◌, not, List, [], ◌∷◌, ◌++◌, length, map}
-use Rattle.std.specs.Prelude.{Option, None, Some, IsTrue, codes, filter, find, is_none, nat_le, reverse, ◌==◌, if◌then◌else◌}
+-- Whatever comes to the server side of a call: its dialogs stay sound, each held request and the
+-- answers to it that are kept keep the rules of messages, and so does what goes out.
+use Rattle.std.proofs.Common.{ℕ, Bool, ◌||◌, ◌&&◌, not, List, [], ◌∷◌, ◌++◌, map, refl, arith}
+use Rattle.std.specs.Prelude.{Option, None, Some, IsTrue, codes, filter, find, is_none, nat_le, reverse, if◌then◌else◌}
 use Rattle.std.specs.List.{AllByRecursion, list_any}
 use Rattle.std.specs.Map.{values_of}
 use Rattle.std.specs.Option.{option_map_or}
 use Rattle.sip_text.specs.Token.{is_token}
 use Rattle.sip_message.specs.Addr.{IsAddr}
-use Rattle.sip_message.specs.Content.{Content, with_content_of}
-use Rattle.sip_message.specs.Party.{tag_of}
-use Rattle.sip_message.specs.Response.{response_of}
-use Rattle.sip_message.specs.Rules.{IsMessage}
+use Rattle.sip_message.specs.Rules.{IsMessage, IsStartLine}
 use Rattle.sip_message.specs.declared.addr.Addr.{Addr}
 use Rattle.sip_message.specs.declared.id.Id.{Id}
-use Rattle.sip_message.specs.declared.key.Key.{Key}
 use Rattle.sip_message.specs.declared.message.Message.{Message}
 use Rattle.sip_message.specs.declared.rack.RAck.{RAck}
-use Rattle.sip_dialog.specs.Request.{contact_of}
-use Rattle.sip_dialog.proofs.Tags.{tag_is_token}
-use Rattle.sip_reliable.specs.Provisional.{is_late}
-use Rattle.sip_transactions.specs.declared.input.Command.TheVariants as order
+use Rattle.sip_message.specs.declared.start_line.StartLine.TheVariants.{Response}
 use Rattle.sip_transactions.specs.declared.output.Kind.{Kind}
 use Rattle.sip_transactions.specs.declared.output.Kind.TheVariants as kind
 use Rattle.sip_transactions.specs.declared.output.Up.{Up as AnUp}
 use Rattle.sip_common.specs.Dialogs.{Dialogs, dialog_at, dialog_changed, early_ended, ended_at, ended_notice, is_dialog_id, is_early_of}
-use Rattle.sip_common.specs.Requests.{dialog_id_of, has_to_tag, is_bye, is_cancel, is_final, is_invite, is_prack, is_success, is_unknown_option, local_tag_of}
+use Rattle.sip_common.specs.Requests.{dialog_id_of, has_to_tag, is_bye, is_cancel, is_invite, is_prack, is_success, is_unknown_option}
 use Rattle.sip_common.specs.declared.command.Respond.{Respond}
 use Rattle.sip_common.specs.declared.held_dialog.DialogId.{DialogId}
 use Rattle.sip_common.specs.declared.held_dialog.HeldDialog.{HeldDialog}
 use Rattle.sip_common.specs.declared.item.CallOut.{CallOut}
-use Rattle.sip_common.specs.declared.item.CallOut.TheVariants as out
-use Rattle.sip_common.proofs.Each.{all_of_each, both, each_but_one, each_changed, each_inserted, each_left, filtered, found, mapped}
+use Rattle.sip_common.proofs.Each.{both, each_but_one, each_changed, each_inserted, each_left, filtered, flattened, found, mapped}
 use Rattle.sip_served.specs.Rules.Arrivals.{ack_for, ack_received, after_487, after_ack, after_prack, after_request, awaits, bad_extension, cancel_for, cancel_received, is_above, is_merged, is_named_by, is_same_branch, no_such_call, own_response, prack_for, prack_received, request_for_user, request_in_dialog, request_received, server_received}
-use Rattle.sip_served.specs.Rules.Responses.{after_2xx, dialog_by_request, dialogs_after, held_after, is_dialog_response, is_sent_reliably, makes_dialog, respond_command, respond_to, response_refusal, response_sent}
-use Rattle.sip_served.specs.Rules.Ticks.{provisionals_tick, server_tick, success_at, success_tick}
+use Rattle.sip_served.specs.Rules.Responses.{after_2xx, dialog_by_request, dialogs_after, held_after, makes_dialog, respond_command, respond_to, response_refusal, response_sent}
+use Rattle.sip_served.specs.Rules.Ticks.{provisionals_tick, server_tick, success_tick}
 use Rattle.sip_served.specs.State.{ServedTaken, State, changed_at, empty_at, has_id}
 use Rattle.sip_served.specs.declared.arrival.Arrival.{Arrival}
 use Rattle.sip_served.specs.declared.held_request.HeldRequest.{HeldRequest}
-use Rattle.sip_served.specs.declared.provisionals.ReliableResponse.{ReliableResponse}
 use Rattle.sip_served.proofs.FirstChanged.{first_changed}
-use Rattle.sip_conversation.specs.Commands.{IsContent, IsRespond}
-use Rattle.sip_conversation.proofs.KeepsRules.{KindKeeps, StartKeeps}
+use Rattle.sip_conversation.specs.Commands.{IsRespond}
+use Rattle.sip_conversation.proofs.AnswerRules.{extension_keeps, local_token, response_keeps}
+use Rattle.sip_conversation.proofs.AnswersHeld.{IsSoundRequest, ack_keeps, after_keeps, answer_keeps, prack_keeps, tick_gives, tick_keeps, ticked}
 use Rattle.sip_conversation.proofs.Branches.{either, found_or}
-use Rattle.sip_conversation.proofs.OwnRequests.{contact_keeps, contacts_keep}
-use Rattle.sip_conversation.proofs.SoundDialogs.{AreSound, HasRoutes, IsSound, answered_sound, by_request_sound, visited_sound}
-
--- a request that keeps the rules, and a tag for the answers to it
-pub record IsSoundRequest (held : HeldRequest) : Type 0 where
-  pub request : IsMessage held.request
-  pub tag : IsTrue (is_token held.tag)
+use Rattle.sip_conversation.proofs.KeepsRules.{Keep, KeepsRulesWith, KindKeeps}
+use Rattle.sip_conversation.proofs.SoundDialogs.{AreSound, IsSound, answered_sound, by_request_sound, reversed, visited_sound}
 
 pub record IsSoundState (state : State) : Type 0 where
   pub local : IsAddr state.local
@@ -58,35 +45,36 @@ pub record IsSoundState (state : State) : Type 0 where
 pub empty_sound : (local : Addr) → IsAddr local → IsSoundState (empty_at local)
 empty_sound local address = record { local = address; requests = tt; dialogs = tt }
 
-pub record IsSoundArrival (arrival : Arrival) : Type 0 where
+-- a request that keeps the rules, and a tag for the answers to it
+record IsSoundArrival (arrival : Arrival) : Type 0 where
   pub request : IsMessage arrival.request
   pub tag : IsTrue (is_token arrival.tag)
 
--- only the held requests change
-changed_done : (state : State) (id : Id) (change : HeldRequest → HeldRequest)
+-- a held request changes, and the dialogs
+changed_done : (state : State) (id : Id) (change : HeldRequest → HeldRequest) (dialogs : Dialogs)
     → ((held : HeldRequest) → IsSoundRequest held → IsSoundRequest (change held))
-    → IsSoundState state
-    → IsSoundState (record state { requests = changed_at id change state.requests })
-changed_done state id change keeps sound = record {
+    → AreSound dialogs → IsSoundState state
+    → IsSoundState (record state {
+      requests = changed_at id change state.requests;
+      dialogs = dialogs;
+    })
+changed_done state id change dialogs keeps all sound = record {
   local = sound.local;
   requests = first_changed IsSoundRequest (has_id id) change keeps state.requests sound.requests;
-  dialogs = sound.dialogs;
+  dialogs = all;
 }
 
 -- of each ACK that is sent as a text this is said
 module _ (AckIs : Message → Type 0) where
-  abbrev pub Keep : List CallOut → Type 0
-  Keep outs = AllByRecursion (StartKeeps AckIs) outs
-
   abbrev pub Done : ServedTaken → Type 0
-  Done taken = IsSoundState taken.0 × Keep taken.1
+  Done taken = IsSoundState taken.0 × Keep AckIs taken.1
 
   -- ---- the ends of dialogs
 
   abbrev pub Ended : Dialogs × List CallOut → Type 0
-  Ended ended = AreSound ended.0 × Keep ended.1
+  Ended ended = AreSound ended.0 × Keep AckIs ended.1
 
-  ends_keep : (dialogs : List HeldDialog) → Keep (map ended_notice dialogs)
+  ends_keep : (dialogs : List HeldDialog) → Keep AckIs (map ended_notice dialogs)
   ends_keep [] = tt
   ends_keep (held ∷ dialogs) = (tt, ends_keep dialogs)
 
@@ -101,7 +89,22 @@ module _ (AckIs : Message → Type 0) where
       → Ended (ended_at name dialogs)
   dialog_ends name dialogs all = (
     each_but_one IsSound (is_dialog_id name) dialogs all,
-    found_or Keep _ (dialog_at name dialogs) [] (λ held is. (tt, tt)) (λ none. tt),
+    found_or (Keep AckIs) _ (dialog_at name dialogs) [] (λ held is. (tt, tt)) (λ none. tt),
+  )
+
+  -- ---- the agent's own answers
+
+  own_keeps : (arrival : Arrival) (status : ℕ) (reason : List ℕ) → IsSoundArrival arrival
+      → IsStartLine (Response status reason) → Keep AckIs (own_response arrival status reason)
+  own_keeps arrival status reason its line =
+      (response_keeps arrival.request status reason arrival.tag its.request line its.tag, tt)
+
+  no_call_done : (state : State) (arrival : Arrival) → IsSoundArrival arrival → IsSoundState state
+      → Done (no_such_call state arrival)
+  no_call_done state arrival its sound = (
+    sound,
+    own_keeps arrival 481 (codes "Call/Transaction Does Not Exist") its
+        (omega arith, omega arith, refl),
   )
 
   -- ---- a request that comes up
@@ -116,26 +119,34 @@ module _ (AckIs : Message → Type 0) where
       (λ other. (sound.dialogs, tt)) in (
         record {
           local = sound.local;
-          requests = both IsSoundRequest state.requests _ sound.requests
-              (record { request = its.request; tag = its.tag }, tt);
+          requests = both IsSoundRequest state.requests _ sound.requests (
+            record {
+              request = its.request;
+              tag = its.tag;
+              provisionals = tt;
+              success = tt;
+            },
+            tt,
+          );
           dialogs = after.0;
         },
         (tt, after.1),
       )
 
   prack_done : (state : State) (call_id : List ℕ) (name : DialogId) (created_by : Id)
-      (arrival : Arrival) (rack : Option RAck) → IsSoundState state
+      (arrival : Arrival) (rack : Option RAck) → IsSoundArrival arrival → IsSoundState state
       → Done (prack_received state call_id name created_by arrival rack)
-  prack_done state call_id name created_by arrival None sound = (sound, (tt, tt))
-  prack_done state call_id name created_by arrival (Some rack) sound =
+  prack_done state call_id name created_by arrival None its sound =
+      no_call_done state arrival its sound
+  prack_done state call_id name created_by arrival (Some rack) its sound =
       found_or Done (prack_for state call_id arrival rack)
       (find (is_named_by rack name created_by) state.requests) (no_such_call state arrival)
       (λ invite found. (
-        changed_done state invite.id (after_prack rack.rseq)
-            (λ held its. record { request = its.request; tag = its.tag }) sound,
-        (tt, (tt, tt)),
+        changed_done state invite.id (after_prack rack.rseq) _ (prack_keeps rack.rseq) sound.dialogs
+            sound,
+        ((own_keeps arrival 200 (codes "OK") its (omega arith, omega arith, refl)).0, (tt, tt)),
       ))
-      (λ none. (sound, (tt, tt)))
+      (λ none. no_call_done state arrival its sound)
 
   dialog_done : (state : State) (call_id : List ℕ) (name : DialogId) (arrival : Arrival)
       (held_dialog : HeldDialog) → IsSoundArrival arrival → IsSoundState state
@@ -157,50 +168,58 @@ module _ (AckIs : Message → Type 0) where
       let user : ServedTaken = request_for_user noted call_id name arrival in
       either Done (not (is_above held_dialog request.cseq.number)) _
       (if is_prack request then prack else user)
-      (λ late. (sound, (tt, tt)))
+      (λ late. (
+        sound,
+        own_keeps arrival 500 (codes "Server Internal Error") its (omega arith, omega arith, refl),
+      ))
       (λ above. either Done (is_prack request) prack user
-      (λ is. prack_done noted call_id name held_dialog.created_by arrival request.rack noted_sound)
+      (λ is. prack_done noted call_id name held_dialog.created_by arrival request.rack its
+      noted_sound)
       (λ other. user_done noted call_id name arrival its noted_sound))
 
   -- ---- a CANCEL, and an ACK
 
   cancel_one : (state : State) (call_id : List ℕ) (arrival : Arrival) (now : ℕ)
-      (held : HeldRequest) → IsSoundState state
+      (held : HeldRequest) → IsSoundArrival arrival → IsSoundRequest held → IsSoundState state
       → Done (cancel_for state call_id arrival now held)
-  cancel_one state call_id arrival now held sound =
+  cancel_one state call_id arrival now held its one sound =
       let ended = early_ends held.id state.dialogs sound.dialogs in
+      let tagged : Arrival = record arrival { tag = held.tag } in
+      let ok = own_keeps tagged 200 (codes "OK") (record { request = its.request; tag = one.tag })
+      (omega arith, omega arith, refl) in
       either Done (not (is_invite held.request && is_none held.removal)) _ _
-      (λ late. (sound, (tt, tt)))
+      (λ late. (sound, ok))
       (λ still. (
-        record {
-          local = sound.local;
-          requests = first_changed IsSoundRequest (has_id held.id) (after_487 now)
-              (λ one its. record { request = its.request; tag = its.tag }) state.requests
-              sound.requests;
-          dialogs = ended.0;
-        },
-        (tt, (tt, (tt, ended.1))),
+        changed_done state held.id (after_487 now) _ (λ _ its. its) ended.0 sound,
+        (
+          ok.0,
+          (
+            response_keeps held.request 487 (codes "Request Terminated") held.tag one.request
+                (omega arith, omega arith, refl) one.tag,
+            (tt, ended.1),
+          ),
+        ),
       ))
 
   cancel_done : (state : State) (call_id : List ℕ) (arrival : Arrival) (now : ℕ)
-      → IsSoundState state → Done (cancel_received state call_id arrival now)
-  cancel_done state call_id arrival now sound =
-      found_or Done (cancel_for state call_id arrival now)
-      (find (λ held. is_same_branch arrival.key held.key) (reverse state.requests))
+      → IsSoundArrival arrival → IsSoundState state
+      → Done (cancel_received state call_id arrival now)
+  cancel_done state call_id arrival now its sound =
+      let is_its : HeldRequest → Bool = λ held. is_same_branch arrival.key held.key in
+      found_or Done (cancel_for state call_id arrival now) (find is_its (reverse state.requests))
       (no_such_call state arrival)
-      (λ held found. cancel_one state call_id arrival now held sound)
-      (λ none. (sound, (tt, tt)))
+      (λ held is. cancel_one state call_id arrival now held its
+      (found IsSoundRequest is_its (reverse state.requests) held
+      (reversed IsSoundRequest state.requests sound.requests) is) sound)
+      (λ none. no_call_done state arrival its sound)
 
   ack_done : (state : State) (call_id : List ℕ) (ack : Message) → IsSoundState state
       → Done (ack_received state call_id ack)
   unfolding ack_received
   ack_done state call_id ack sound =
       found_or Done (ack_for state call_id ack) (find (awaits ack) state.requests) (state, [])
-      (λ invite found. (
-        changed_done state invite.id after_ack
-            (λ held its. record { request = its.request; tag = its.tag }) sound,
-        (tt, tt),
-      ))
+      (λ invite found.
+      (changed_done state invite.id after_ack _ ack_keeps sound.dialogs sound, (tt, tt)))
       (λ none. (sound, tt))
 
   -- ---- any request
@@ -223,30 +242,25 @@ module _ (AckIs : Message → Type 0) where
       let no_cancel : ServedTaken = if not (has_to_tag request)
       && list_any (is_merged request) state.requests then merged else once in
       either Done (is_cancel request) (cancel_received state call_id arrival now) no_cancel
-      (λ is. cancel_done state call_id arrival now sound)
+      (λ is. cancel_done state call_id arrival now its sound)
       (λ is. either Done
       (not (has_to_tag request) && list_any (is_merged request) state.requests) merged once
-      (λ twice. (sound, (tt, tt)))
+      (λ twice. (
+        sound,
+        own_keeps arrival 482 (codes "Loop Detected") its (omega arith, omega arith, refl),
+      ))
       (λ single. either Done (list_any is_unknown_option request.require)
       (bad_extension state arrival) known
-      (λ unknown. (sound, (tt, tt)))
+      (λ unknown. (sound, (extension_keeps request arrival.tag its.request its.tag, tt)))
       (λ fine. either Done (has_to_tag request) inside outside
       (λ tagged. found_or Done (request_in_dialog state call_id name arrival)
       (dialog_at name state.dialogs) (no_such_call state arrival)
       (λ held found. dialog_done state call_id name arrival held its sound)
-      (λ none. (sound, (tt, tt))))
+      (λ none. no_call_done state arrival its sound))
       (λ untagged. either Done (is_bye request || is_prack request) (no_such_call state arrival)
       (request_for_user state call_id name arrival)
-      (λ odd. (sound, (tt, tt)))
+      (λ odd. no_call_done state arrival its sound)
       (λ plain. user_done state call_id name arrival its sound)))))
-
-  -- the tag of the answers is that of the request, or the made one
-  local_token : (request : Message) (made : List ℕ) → IsMessage request → IsTrue (is_token made)
-      → IsTrue (is_token (local_tag_of request made))
-  local_token request made rules token =
-      either (λ tag. IsTrue (is_token tag)) (length (tag_of request.to) == 0) made
-      (tag_of request.to) (λ none. token)
-      (λ some. tag_is_token request.to.parameters some (rules.to).tag)
 
   pub kind_done : (state : State) (made : List ℕ) (up : AnUp) (k : Kind) (now : ℕ) → KindKeeps k
       → IsTrue (is_token made) → IsSoundState state → Done (server_received state made up k now)
@@ -261,46 +275,10 @@ module _ (AckIs : Message → Type 0) where
 
   -- ---- an answer of the user
 
-  content_routes : (message : Message) (content : Content) → HasRoutes message → IsContent content
-      → HasRoutes (with_content_of message content)
-  unfolding with_content_of
-  content_routes message content its types = record {
-    contacts = contacts_keep message.contacts content.contacts its.contacts types.contacts;
-    record_routes = its.record_routes;
-  }
-
-  -- the headers of an answer that confirm a dialog
-  answer_routes : (local : Addr) (held : HeldRequest) (respond : Respond) → IsAddr local
-      → IsMessage held.request → IsContent respond.content
-      → HasRoutes (response_sent local held respond)
-  answer_routes local held respond address rules types =
-      let bare = response_of held.request respond.status respond.reason held.tag in
-      let routed : Message = record bare {
-        contacts = contact_of local ∷ [];
-        record_routes = held.request.record_routes;
-      } in
-      let plain : Message = if is_dialog_response held respond.status then routed else bare in
-      let reliable : Message =
-      record plain { require = codes "100rel" ∷ []; rseq = Some held.ledger.next } in
-      let of_plain : HasRoutes plain =
-      either HasRoutes (is_dialog_response held respond.status) routed bare
-      (λ in_dialog. record {
-        contacts = (contact_keeps local address, tt);
-        record_routes = rules.record_routes;
-      })
-      (λ other. record { contacts = tt; record_routes = tt }) in
-      content_routes (if is_sent_reliably held respond then reliable else plain) respond.content
-      (either HasRoutes (is_sent_reliably held respond) reliable plain
-      (λ reliably. record {
-        contacts = of_plain.contacts;
-        record_routes = of_plain.record_routes;
-      })
-      (λ other. of_plain)) types
-
   answered_dialogs : (event : Id) (held : HeldRequest) (status : ℕ) (response : Message)
-      (dialogs : Dialogs) → HasRoutes response → IsSoundRequest held → AreSound dialogs
+      (dialogs : Dialogs) → IsMessage response → IsSoundRequest held → AreSound dialogs
       → Ended (dialogs_after event held status response dialogs)
-  answered_dialogs event held status response dialogs routes its all =
+  answered_dialogs event held status response dialogs rules its all =
       let request = held.request in
       let name = dialog_id_of request held.tag in
       either Ended (makes_dialog held status) _ _
@@ -316,43 +294,28 @@ module _ (AckIs : Message → Type 0) where
       (is_invite request && is_success status && not (has_to_tag request)) _ _
       (λ confirms. (
         each_changed IsSound (is_dialog_id name) (after_2xx response)
-            (λ one before. answered_sound response one routes before) dialogs all,
+            (λ one before. answered_sound response one rules before) dialogs all,
         tt,
       ))
       (λ neither. either Ended (is_invite request && nat_le 300 status)
       (early_ended held.id dialogs) (dialogs, []) (λ rejects. early_ends held.id dialogs all)
       (λ none. (all, tt))))
 
-  -- the held request has the same request and tag
-  after_sound : (event : Id) (held : HeldRequest) (respond : Respond) (response : Message) (now : ℕ)
-      → IsSoundRequest held → IsSoundRequest (held_after event held respond response now)
-  after_sound event held respond response now its =
-      either IsSoundRequest (is_sent_reliably held respond) _ _
-      (λ reliably. record { request = its.request; tag = its.tag })
-      (λ other. either IsSoundRequest (is_final respond.status) _ _
-      (λ final. record { request = its.request; tag = its.tag })
-      (λ provisional. record { request = its.request; tag = its.tag }))
-
   answer_done : (state : State) (event : Id) (respond : Respond) (now : ℕ) (held : HeldRequest)
       → IsRespond respond → IsSoundRequest held → IsSoundState state
       → Done (respond_to state event respond now held)
   answer_done state event respond now held types its sound =
       let response = response_sent state.local held respond in
-      let left = answered_dialogs event held respond.status response state.dialogs
-      (answer_routes state.local held respond sound.local its.request types.content) its
-      sound.dialogs in
       found_or Done _ (response_refusal state.dialogs held respond) _
       (λ refusal refused. (sound, (tt, tt)))
-      (λ none. (
-        record {
-          local = sound.local;
-          requests = first_changed IsSoundRequest (has_id respond.id)
-              (λ _. held_after event held respond response now)
-              (λ _ before. after_sound event held respond response now its) state.requests
-              sound.requests;
-          dialogs = left.0;
-        },
-        (tt, left.1),
+      (λ accepted.
+      let rules =
+      answer_keeps state.local state.dialogs held respond sound.local types its accepted in
+      let left = answered_dialogs event held respond.status response state.dialogs rules its
+      sound.dialogs in (
+        changed_done state respond.id (λ _. held_after event held respond response now) _
+            (λ _ before. after_keeps event held respond response now rules its) left.0 sound,
+        (rules, left.1),
       ))
 
   pub respond_done : (state : State) (event : Id) (respond : Respond) (now : ℕ) → IsRespond respond
@@ -367,41 +330,17 @@ module _ (AckIs : Message → Type 0) where
 
   -- ---- a tick
 
-  again_keep : (id : Id) (key : Key) (responses : List ReliableResponse)
-      → Keep (map (λ one. out.Command id (order.Answer key one.response)) responses)
-  again_keep id key [] = tt
-  again_keep id key (one ∷ responses) = (tt, again_keep id key responses)
-
-  abbrev Says : {X : Type 0} → X × List CallOut → Type 0
-  Says done = Keep done.1
-
-  provisionals_keep : (now : ℕ) (held : HeldRequest) → Keep (provisionals_tick now held).1
-  provisionals_keep now held =
-      either Says held.ledger.closed _ _ (λ closed. tt)
-      (λ still. either Says (list_any (is_late now) held.ledger.waiting) _ _ (λ late. (tt, tt))
-      (λ early. again_keep held.id held.key _))
-
-  success_keeps : (now : ℕ) (held : HeldRequest) → Keep (success_tick now held).1
-  success_keeps now held =
-      found_or Says (success_at now held) held.success (None, [])
-      (λ success is. either Says (is_none success.over && nat_le success.end now) _ _
-      (λ over. (tt, tt))
-      (λ still. either Says (is_none success.over && nat_le success.retransmission.due now) _ _
-      (λ again. (tt, tt)) (λ early. tt)))
-      (λ none. tt)
-
   pub tick_done : (state : State) (now : ℕ) → IsSoundState state → Done (server_tick state now)
   unfolding server_tick
   tick_done state now sound = (
     record {
       local = sound.local;
-      requests = filtered IsSoundRequest _ _ (mapped IsSoundRequest IsSoundRequest _
-          (λ held its. record { request = its.request; tag = its.tag }) state.requests
+      requests = filtered IsSoundRequest _ (map (ticked now) state.requests)
+          (mapped IsSoundRequest IsSoundRequest (ticked now) (tick_keeps AckIs now) state.requests
           sound.requests);
       dialogs = sound.dialogs;
     },
-    all_of_each (StartKeeps AckIs)
-        (λ held. (success_tick now held).1 ++ (provisionals_tick now held).1)
-        (λ held. both (StartKeeps AckIs) (success_tick now held).1 (provisionals_tick now held).1
-        (success_keeps now held) (provisionals_keep now held)) state.requests,
+    flattened IsSoundRequest (KeepsRulesWith AckIs)
+        (λ held. (success_tick now held).1 ++ (provisionals_tick now held).1) (tick_gives AckIs now)
+        state.requests sound.requests,
   )

@@ -45,6 +45,7 @@ use Rattle.sip_conversation.specs.Conversation.{Carried, Side, Turn, peer, round
 use Rattle.sip_conversation.specs.Messages.{CallSays, CallsKeepRules, ComesUnchanged, IsGiven as WasGiven, come_from}
 use Rattle.sip_conversation.specs.Replies.{AreCounted, IsStartedFor}
 use Rattle.sip_conversation.proofs.Among.{among_first, each_of}
+use Rattle.sip_conversation.proofs.AmongInputs.{out_of_first_inputs}
 use Rattle.sip_conversation.proofs.Branches.{Own}
 use Rattle.sip_conversation.proofs.CallBranches.{InputComes, held_own, HeldOwn}
 use Rattle.sip_conversation.proofs.CallOuts.{InputFits, KindTells, OutFits, step_fits, ResponseTells}
@@ -54,7 +55,6 @@ use Rattle.sip_conversation.proofs.OnceOnly.{once_only}
 use Rattle.sip_conversation.proofs.OneCallId.{IsOfStart, name_low, started_request}
 use Rattle.sip_conversation.proofs.OneTransaction.{KindCame}
 use Rattle.sip_conversation.proofs.Origins.{IsOrigin, TimedComes, counted, inputs_come, IsCounted}
-use Rattle.sip_conversation.proofs.HeardReplies.{of_first_inputs}
 use Rattle.sip_conversation.proofs.PracksSaid.{OfCall, IsAlike, came_alike, given_in_call}
 use Rattle.sip_conversation.proofs.PracksServed.{same_name}
 use Rattle.sip_conversation.proofs.Provisionals.{said_reliably, IsReliablySo}
@@ -202,7 +202,8 @@ module _ (configs : Side → Config) (fair : IsFair configs) (before : List Turn
 
       -- what the other side said
       abbrev SaidSo : Type 0
-      SaidSo = IsReliablySo configs fair before turn carried keep reply.response rseq answer_status.0
+      SaidSo =
+          IsReliablySo configs fair before turn carried keep reply.response rseq answer_status.0
 
       so : SaidSo
       so =
@@ -230,7 +231,7 @@ module _ (configs : Side → Config) (fair : IsFair configs) (before : List Turn
             one = early.one;
             among = subst (λ all. Contains (outputs_from (call_machine calls) call_id None all)
                 early.one) (sym at.are)
-                (of_first_inputs calls call_id None at.before (at.timed ∷ at.after) early.one
+                (out_of_first_inputs calls call_id at.before (at.timed ∷ at.after) early.one
                 early.among);
             starts = early.starts;
             sends = early.sends;

@@ -5,7 +5,7 @@ use Rattle.std.specs.Prelude.{Contains, Option, None, Some, filter, if◌then◌
 use Rattle.std.specs.List.{list_any}
 use Rattle.std.specs.Option.{option_and_then, option_map_or}
 use Rattle.std.proofs.lemmas.Bool.{false≢true}
-use Rattle.std.proofs.lemmas.List.Elements.{Contains-append_cases, Contains-append_left, Contains-append_right}
+use Rattle.std.proofs.lemmas.List.Elements.{Contains-append_cases}
 use Rattle.sip_message.specs.declared.id.Id.{Id}
 use Rattle.sip_message.specs.declared.message.Message.{Message}
 use Rattle.sip_model.specs.Machine.{Timed}
@@ -36,6 +36,7 @@ use Rattle.sip_calls.specs.declared.calls.Calls.{Calls}
 use Rattle.sip_calls.proofs.KeptSides.{kept_side}
 use Rattle.sip_conversation.specs.Provisionals.{told_from, told_with}
 use Rattle.sip_conversation.proofs.Among.{among_kept, among_mapped, first_or_later, kept_among, mapped_among, none_among}
+use Rattle.sip_conversation.proofs.AmongInputs.{of_first_inputs, of_one_input}
 use Rattle.sip_conversation.proofs.DialogOfReply.{IsHeldFor, received_held}
 use Rattle.sip_conversation.proofs.PracksOfCalls.{from_more}
 use Rattle.sip_conversation.proofs.PracksServed.{same_name}
@@ -87,32 +88,12 @@ module _ (calls : Calls) (invite : AnInvite) (life : DialogReference) where
   abbrev tell_from : Option Call → List (Timed CallItem) → List (ℕ × CallOut)
   tell_from call inputs = told_from calls invite life call inputs
 
-  -- what the user is told by one input is among what he is told by all
-  of_one_input : (call : Option Call) (before : List (Timed CallItem)) (timed : Timed CallItem)
-      (after : List (Timed CallItem)) (told : ℕ × CallOut)
-      → Contains (told_at (call_from calls call before) timed) told
-      → Contains (tell_from call (before ++ timed ∷ after)) told
-  of_one_input call [] timed after told among =
-      Contains-append_left (told_at call timed)
-      (tell_from (done calls invite life call timed).0 after) told among
-  of_one_input call (first ∷ before) timed after told among =
-      let next = (done calls invite life call first).0 in
-      Contains-append_right (told_at call first) (tell_from next (before ++ timed ∷ after)) told
-      (of_one_input next before timed after told among)
-
-  -- so is what he is told by the first inputs
-  pub of_first_inputs : (call : Option Call) (before after : List (Timed CallItem))
-      (told : ℕ × CallOut) → Contains (tell_from call before) told
-      → Contains (tell_from call (before ++ after)) told
-  of_first_inputs call [] after told among = absurd (none_among told among)
-  of_first_inputs call (first ∷ before) after told among =
-      let next = (done calls invite life call first).0 in
-      ⊎_elim
-      (λ here. Contains-append_left (told_at call first) (tell_from next (before ++ after)) told
-      here)
-      (λ later. Contains-append_right (told_at call first) (tell_from next (before ++ after)) told
-      (of_first_inputs next before after told later))
-      (Contains-append_cases (told_at call first) (tell_from next before) told among)
+  -- what the user is told by the first inputs is among what he is told by all
+  pub told_by_first : (before after : List (Timed CallItem)) (told : ℕ × CallOut)
+      → Contains (tell_from None before) told → Contains (tell_from None (before ++ after)) told
+  told_by_first before after told among =
+      of_first_inputs calls told_at tell_from (λ call. refl) (λ call timed inputs. refl) None before
+      after told among
 
   -- one of these inputs brings the response, and the user is told of it
   record ComesIn (inputs : List (Timed CallItem)) (told : ℕ × CallOut) : Type 0 where
@@ -236,7 +217,9 @@ module _ (calls : Calls) (inputs : List (Timed CallItem)) (name : DialogId) (rse
         life_is = refl;
         among = subst (λ inputs. Contains (told_from calls invite life_now None inputs) (rseq, out))
             (sym was.are)
-            (of_one_input calls invite life_now None was.before was.timed was.after (rseq, out)
+            (of_one_input calls (told_at calls invite life_now)
+            (told_from calls invite life_now) (λ call. refl) (λ call timed inputs. refl) None
+            was.before was.timed was.after (rseq, out)
             (subst (λ call. Contains (outs call) (rseq, out)) (sym was.held)
             (with_told rseq (number_in_life calls invite life_now (Some was.call) was.timed)
             (call_step calls (Some was.call) was.timed.input was.timed.moment).1 out number_so among
