@@ -113,8 +113,10 @@ like_content message content = record { to = refl; branch = refl; call = refl; m
 like_support : (asked_for : ProvisionalSupport) (message : Message)
     → IsLike (with_100rel asked_for message) message
 like_support support.None message = record { to = refl; branch = refl; call = refl; method = refl }
-like_support support.Supported message = record { to = refl; branch = refl; call = refl; method = refl }
-like_support support.Required message = record { to = refl; branch = refl; call = refl; method = refl }
+like_support support.Supported message =
+    record { to = refl; branch = refl; call = refl; method = refl }
+like_support support.Required message =
+    record { to = refl; branch = refl; call = refl; method = refl }
 
 like_untagged : {one other : Message} → IsLike one other → has_to_tag other ≡ false
     → has_to_tag one ≡ false

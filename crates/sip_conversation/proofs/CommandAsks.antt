@@ -210,7 +210,8 @@ module _ (Pracks : List ℕ → Type 0) (empty : Pracks []) where
       let final = is_final reply.status in
       let answer = lookup (is_dialog_id reply.name) client.answers in
       let told : Outcome = kept_outcome client dialogs (notice_of reply ∷ []) in
-      let late : Outcome = kept_outcome (accepted reply client None) dialogs (notice_of reply ∷ []) in
+      let late : Outcome = kept_outcome (accepted reply client None) dialogs (notice_of reply ∷ [])
+      in
       let is_told = not (has_dialog client dialogs && not (reply.status == 100)
       && has_to_tag reply.response) in
       let fifth : Outcome = if is_told then told else dialog_response reply client dialogs in

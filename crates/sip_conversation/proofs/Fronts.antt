@@ -62,7 +62,8 @@ module _ (configs : Side → Config) where
 
 -- ---- counted rounds
 
-pub counted_front : (config : Config) (rounds more : List Round) → AreCounted config (rounds ++ more)
+pub counted_front : (config : Config) (rounds more : List Round)
+    → AreCounted config (rounds ++ more)
     → AreCounted config rounds
 counted_front config rounds more few = record {
   numbers = omega (arith, length-append rounds more, few.numbers);

@@ -100,8 +100,8 @@ module _ (Tells : Notice → Type 0) (others : (told : Notice) → IsOther told 
 
   -- ---- a request that comes up
 
-  -- this is true of a request that comes up under a Call-ID and an id, for the user or as a PRACK; a
-  -- tag may be made for one without a tag in To
+  -- this is true of a request that comes up under a Call-ID and an id, for the user or as a PRACK;
+  -- a tag may be made for one without a tag in To
   pub record RequestTells (call_id : List ℕ) (id : Id) (request : Message) : Type 0 where
     pub for_user : (made : List ℕ) → is_cancel request ≡ false → is_prack request ≡ false
         → Tells (notice.Request call_id id request.cseq.method (local_tag_of request made)

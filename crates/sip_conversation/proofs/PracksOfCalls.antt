@@ -1,5 +1,5 @@
--- A call gives only reliable responses that its user gave, and one with an RSeq above 1 only after a
--- PRACK came to it whose RAck has RSeq 1 and the CSeq of that answer.
+-- A call gives only reliable responses that its user gave, and one with an RSeq above 1 only after
+-- a PRACK came to it whose RAck has RSeq 1 and the CSeq of that answer.
 use Rattle.std.proofs.Common.{◌≡◌, ⊎_elim, ℕ, Bool, true, false, cond, List, [], ◌∷◌, ◌++◌, map, refl, sym, ap, ◌∙◌, subst, append_assoc, arith}
 use Rattle.std.specs.Prelude.{Contains, Option, None, Some, filter_map}
 use Rattle.std.specs.List.{AllByRecursion}
@@ -161,10 +161,12 @@ module _ (Brought : Arrival → Type 0) (Gave : Id → ℕ → Message → Type 
       (lost_same id timed_out (side_of call))
       (lost_told (OutGiven Brought Gave) allows id timed_out (side_of call))
 
-  up_given : (call : Call) (event : Event) (up : AnUp) (k : Kind) → KindBrought Brought Gave (made_tag event) up k
+  up_given : (call : Call) (event : Event) (up : AnUp) (k : Kind)
+      → KindBrought Brought Gave (made_tag event) up k
       → Apart (call.served).requests → HoldsCall call → Done (received call event up k)
   up_given call event up (kind.Request request reply_to) brought apart holds =
-      let so = kind_done Brought Gave call.served (made_tag event) up (kind.Request request reply_to)
+      let so = kind_done Brought Gave call.served (made_tag event) up
+      (kind.Request request reply_to)
       event.moment brought apart holds in
       (so.requests, so.outs)
   up_given call event up (kind.Ack ack) brought apart holds =

@@ -1,5 +1,5 @@
--- A request that an agent says is an ACK, a CANCEL, or one for which its user asked; a PRACK may also
--- be the agent's own, without a body.
+-- A request that an agent says is an ACK, a CANCEL, or one for which its user asked; a PRACK may
+-- also be the agent's own, without a body.
 use Rattle.std.proofs.Common.{◌≡◌, ℕ, true, false, List, [], refl, sym, ap, ◌∙◌, subst}
 use Rattle.std.specs.Prelude.{Contains, None, Option, Some, codes}
 use Rattle.std.specs.List.{AllByRecursion}

@@ -1,5 +1,5 @@
--- Each reliable provisional response that a user is told of comes up at one of the call's inputs, to
--- a held INVITE.
+-- Each reliable provisional response that a user is told of comes up at one of the call's inputs,
+-- to a held INVITE.
 use Rattle.std.proofs.Common.{◌≡◌, ℕ, Bool, true, false, List, [], ◌∷◌, ◌++◌, refl, sym, ◌∙◌, subst, append_assoc}
 use Rattle.std.specs.Prelude.{Contains, Option, None, Some, filter, if◌then◌else◌}
 use Rattle.std.specs.List.{AllByRecursion}
@@ -78,7 +78,8 @@ module _ (calls : Calls) (invite : AnInvite) (life : DialogReference)
       (told_with (number_in_life calls invite life state timed) after.1)
       (told_from calls invite life after.0 rest)
       (at_input front timed rest are (number_in_life calls invite life state timed) refl)
-      (subst (λ s. AreToldAt (told_from calls invite life s rest)) (from_more calls None front timed)
+      (subst (λ s. AreToldAt (told_from calls invite life s rest))
+      (from_more calls None front timed)
       (from_front (front ++ timed ∷ []) rest (are ∙ sym (append_assoc front (timed ∷ []) rest))))
 
   pub told_at : AreToldAt (told_from calls invite life None inputs)

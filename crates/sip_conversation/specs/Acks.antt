@@ -1,5 +1,5 @@
--- An ACK that a user is told of is one that the other side said before: a call of it, whose user was
--- told of the 2xx that it acknowledges, or a transaction of it, for a response of 300 to 699.
+-- An ACK that a user is told of is one that the other side said before: a call of it, whose user
+-- was told of the 2xx that it acknowledges, or a transaction of it, for a response of 300 to 699.
 use Rattle.std.specs.Prelude.{◌≡◌, ◌⊎◌, ℕ, true, List, [], ◌∷◌, ◌++◌, Contains, codes}
 use Rattle.sip_message.specs.declared.addr.Addr.{Addr}
 use Rattle.sip_message.specs.declared.id.Id.{Id}
