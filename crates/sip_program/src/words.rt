@@ -389,37 +389,25 @@ fn ladder_command<'a>(alloc: Global) -> Result<Command<'a>, AllocError> {
 }
 
 fn listen_command<'a>(alloc: Global) -> Result<Command<'a>, AllocError> {
-    let ring = Arg::new(alloc, "ring")
-        .long("ring")
-        .value_name("MS")
-        .value_parser(value_parser!(u32))
-        .help("Send 180, and the final response MS milliseconds later, unless the caller cancels");
-    let reliable = Arg::new(alloc, "reliable")
-        .long("reliable")
-        .action(ArgAction::SetTrue)
-        .help(
-            "First send a 183 reliably, if the caller supports that, and the other responses \
-            after its PRACK",
-        );
-    let answer = Arg::new(alloc, "answer")
-        .long("answer")
-        .value_name("STATUS")
-        .value_parser(value_parser!(u16).range(200..=699))
-        .default_value("200")
-        .help(
-            "The status of the final response to an INVITE, from 200 to 699. 3xx needs \
-            --contact. 401, 405, 407, 420 to 423 and 494 are refused, since they need other \
-            headers",
-        );
-    let contact = Arg::new(alloc, "contact")
-        .long("contact")
-        .value_name("URI")
-        .help("The Contact of a response from 300 to 399, such as sip:bob@192.0.2.9");
-    let no_body = Arg::new(alloc, "no-body")
-        .long("no-body")
-        .action(ArgAction::SetTrue)
-        .conflicts_with("body")?
-        .help("Send no body in a 2xx to an INVITE");
+    let no_body = no_body_argument(alloc)?;
+    let arguments = vec![in alloc;
+        local_argument(alloc),
+        turns_argument(alloc),
+        seconds_argument(alloc),
+        ring_argument(alloc),
+        reliable_answer_argument(alloc),
+        answer_argument(alloc),
+        contact_argument(alloc),
+        body_argument(
+            alloc,
+            "A file with the SDP of a 2xx to an INVITE; by default an SDP with inactive streams, \
+            since there is no media",
+        ),
+        no_body,
+        drops_argument(alloc),
+        record_argument(alloc),
+        stats_argument(alloc),
+    ]?;
     Command::new(alloc, "listen")
         .about(
             "Answers calls over UDP: 200 (or --answer) to INVITE, 200 to BYE and OPTIONS, 501 to \
@@ -428,64 +416,72 @@ fn listen_command<'a>(alloc: Global) -> Result<Command<'a>, AllocError> {
             start, is ignored. Through bin/ua, Ctrl-C ends the input",
         )
         .after_help(LISTEN_EXAMPLE)
-        .arg(local_argument(alloc))?
-        .arg(turns_argument(alloc))?
-        .arg(seconds_argument(alloc))?
-        .arg(ring)?
-        .arg(reliable)?
-        .arg(answer)?
-        .arg(contact)?
-        .arg(body_argument(
-            alloc,
-            "A file with the SDP of a 2xx to an INVITE; by default an SDP with inactive streams, \
-            since there is no media",
-        ))?
-        .arg(no_body)?
-        .arg(drops_argument(alloc))?
-        .arg(record_argument(alloc))?
-        .arg(stats_argument(alloc))
+        .args(arguments)
+}
+
+fn ring_argument<'a>(alloc: Global) -> Arg<'a> {
+    Arg::new(alloc, "ring")
+        .long("ring")
+        .value_name("MS")
+        .value_parser(value_parser!(u32))
+        .help("Send 180, and the final response MS milliseconds later, unless the caller cancels")
+}
+
+fn reliable_answer_argument<'a>(alloc: Global) -> Arg<'a> {
+    Arg::new(alloc, "reliable")
+        .long("reliable")
+        .action(ArgAction::SetTrue)
+        .help(
+            "First send a 183 reliably, if the caller supports that, and the other responses \
+            after its PRACK",
+        )
+}
+
+fn answer_argument<'a>(alloc: Global) -> Arg<'a> {
+    Arg::new(alloc, "answer")
+        .long("answer")
+        .value_name("STATUS")
+        .value_parser(value_parser!(u16).range(200..=699))
+        .default_value("200")
+        .help(
+            "The status of the final response to an INVITE, from 200 to 699. 3xx needs \
+            --contact. 401, 405, 407, 420 to 423 and 494 are refused, since they need other \
+            headers",
+        )
+}
+
+fn contact_argument<'a>(alloc: Global) -> Arg<'a> {
+    Arg::new(alloc, "contact")
+        .long("contact")
+        .value_name("URI")
+        .help("The Contact of a response from 300 to 399, such as sip:bob@192.0.2.9")
+}
+
+fn no_body_argument<'a>(alloc: Global) -> Result<Arg<'a>, AllocError> {
+    let argument = Arg::new(alloc, "no-body")
+        .long("no-body")
+        .action(ArgAction::SetTrue)
+        .help("Send no body in a 2xx to an INVITE");
+    argument.conflicts_with("body")
 }
 
 fn call_command<'a>(alloc: Global) -> Result<Command<'a>, AllocError> {
-    let to = Arg::new(alloc, "to")
-        .long("to")
-        .value_name("ADDR")
-        .required(true)
-        .help("The address to send the INVITE to, such as 192.0.2.9:5060");
-    let uri = Arg::new(alloc, "uri")
-        .long("uri")
-        .value_name("URI")
-        .required(true)
-        .help("The URI to call, such as sip:bob@192.0.2.9");
-    let call_id = Arg::new(alloc, "call-id")
-        .long("call-id")
-        .value_name("TEXT")
-        .default_value("ua-call")
-        .help("The Call-ID; choose another one for each call");
-    let leave = Arg::new(alloc, "leave")
-        .long("leave")
-        .action(ArgAction::SetTrue)
-        .help(
-            "In the last second of --turns or --seconds, send CANCEL for a call that isn't \
-            answered, or BYE for one that is up. Exit as soon as no call and no transaction is \
-            left. The end of standard input does the same, also without --leave",
-        );
-    let hold = Arg::new(alloc, "hold")
-        .long("hold")
-        .value_name("MS")
-        .value_parser(value_parser!(u32))
-        .help(
-            "Hang up MS milliseconds after the answer (this doesn't put the call on hold); by \
-            default at once",
-        );
-    let reliable = Arg::new(alloc, "reliable")
-        .long("reliable")
-        .action(ArgAction::SetTrue)
-        .help("Support reliable provisional responses, and acknowledge them by PRACK");
-    let must_answer = Arg::new(alloc, "must-answer")
-        .long("must-answer")
-        .action(ArgAction::SetTrue)
-        .help("Exit with status 6 if the call isn't answered");
+    let arguments = vec![in alloc;
+        local_argument(alloc),
+        to_argument(alloc),
+        uri_argument(alloc),
+        turns_argument(alloc),
+        seconds_argument(alloc),
+        call_id_argument(alloc),
+        leave_argument(alloc),
+        hold_argument(alloc),
+        must_answer_argument(alloc),
+        reliable_call_argument(alloc),
+        body_argument(alloc, "The body of the INVITE, an SDP text"),
+        drops_argument(alloc),
+        record_argument(alloc),
+        stats_argument(alloc),
+    ]?;
     Command::new(alloc, "call")
         .about(
             "Calls a URI over UDP, hangs up after the answer, and exits after --turns or \
@@ -495,24 +491,90 @@ fn call_command<'a>(alloc: Global) -> Result<Command<'a>, AllocError> {
             ignored. Through bin/ua, Ctrl-C ends the input",
         )
         .after_help(CALL_EXAMPLE)
-        .arg(local_argument(alloc))?
-        .arg(to)?
-        .arg(uri)?
-        .arg(turns_argument(alloc))?
-        .arg(seconds_argument(alloc))?
-        .arg(call_id)?
-        .arg(leave)?
-        .arg(hold)?
-        .arg(must_answer)?
-        .arg(reliable)?
-        .arg(body_argument(alloc, "The body of the INVITE, an SDP text"))?
-        .arg(drops_argument(alloc))?
-        .arg(record_argument(alloc))?
-        .arg(stats_argument(alloc))
+        .args(arguments)
+}
+
+fn to_argument<'a>(alloc: Global) -> Arg<'a> {
+    Arg::new(alloc, "to")
+        .long("to")
+        .value_name("ADDR")
+        .required(true)
+        .help("The address to send the INVITE to, such as 192.0.2.9:5060")
+}
+
+fn uri_argument<'a>(alloc: Global) -> Arg<'a> {
+    Arg::new(alloc, "uri")
+        .long("uri")
+        .value_name("URI")
+        .required(true)
+        .help("The URI to call, such as sip:bob@192.0.2.9")
+}
+
+fn call_id_argument<'a>(alloc: Global) -> Arg<'a> {
+    Arg::new(alloc, "call-id")
+        .long("call-id")
+        .value_name("TEXT")
+        .default_value("ua-call")
+        .help("The Call-ID; choose another one for each call")
+}
+
+fn leave_argument<'a>(alloc: Global) -> Arg<'a> {
+    Arg::new(alloc, "leave")
+        .long("leave")
+        .action(ArgAction::SetTrue)
+        .help(
+            "In the last second of --turns or --seconds, send CANCEL for a call that isn't \
+            answered, or BYE for one that is up. Exit as soon as no call and no transaction is \
+            left. The end of standard input does the same, also without --leave",
+        )
+}
+
+fn hold_argument<'a>(alloc: Global) -> Arg<'a> {
+    Arg::new(alloc, "hold")
+        .long("hold")
+        .value_name("MS")
+        .value_parser(value_parser!(u32))
+        .help(
+            "Hang up MS milliseconds after the answer (this doesn't put the call on hold); by \
+            default at once",
+        )
+}
+
+fn must_answer_argument<'a>(alloc: Global) -> Arg<'a> {
+    Arg::new(alloc, "must-answer")
+        .long("must-answer")
+        .action(ArgAction::SetTrue)
+        .help("Exit with status 6 if the call isn't answered")
+}
+
+fn reliable_call_argument<'a>(alloc: Global) -> Arg<'a> {
+    Arg::new(alloc, "reliable")
+        .long("reliable")
+        .action(ArgAction::SetTrue)
+        .help("Support reliable provisional responses, and acknowledge them by PRACK")
 }
 
 fn agent_command<'a>(alloc: Global) -> Result<Command<'a>, AllocError> {
-    let linger = Arg::new(alloc, "linger")
+    let arguments = vec![in alloc;
+        local_argument(alloc),
+        linger_argument(alloc),
+        shards_argument(alloc, "4"),
+        workers_argument(alloc, "2"),
+        headers_argument(alloc),
+        record_argument(alloc),
+        stats_argument(alloc),
+    ]?;
+    Command::new(alloc, "agent")
+        .about(
+            "Runs commands over UDP, one on each line of standard input, written as in an event \
+            file. Prints a line for each notice and each drop",
+        )
+        .after_help(AGENT_EXAMPLE)
+        .args(arguments)
+}
+
+fn linger_argument<'a>(alloc: Global) -> Arg<'a> {
+    Arg::new(alloc, "linger")
         .long("linger")
         .value_name("MS")
         .value_parser(value_parser!(u32))
@@ -520,28 +582,18 @@ fn agent_command<'a>(alloc: Global) -> Result<Command<'a>, AllocError> {
         .help(
             "After the end of the input, wait up to MS milliseconds for calls and transactions \
             to end",
-        );
-    let headers = Arg::new(alloc, "headers")
+        )
+}
+
+fn headers_argument<'a>(alloc: Global) -> Arg<'a> {
+    Arg::new(alloc, "headers")
         .long("headers")
         .action(ArgAction::SetTrue)
         .help(
             "Take header lines before a command, each a space and `Name: value`, and print those \
             of a message before its notice. The record is then a session file, for `ua replay \
             --session`",
-        );
-    Command::new(alloc, "agent")
-        .about(
-            "Runs commands over UDP, one on each line of standard input, written as in an event \
-            file. Prints a line for each notice and each drop",
         )
-        .after_help(AGENT_EXAMPLE)
-        .arg(local_argument(alloc))?
-        .arg(linger)?
-        .arg(shards_argument(alloc, "4"))?
-        .arg(workers_argument(alloc, "2"))?
-        .arg(headers)?
-        .arg(record_argument(alloc))?
-        .arg(stats_argument(alloc))
 }
 
 fn session_argument<'a>(alloc: Global) -> Arg<'a> {
@@ -631,7 +683,23 @@ fn workers_argument<'a>(alloc: Global, usual: &'a str) -> Arg<'a> {
 }
 
 fn replay_command<'a>(alloc: Global) -> Result<Command<'a>, AllocError> {
-    let cut = Arg::new(alloc, "cut")
+    let arguments = vec![in alloc;
+        session_argument(alloc),
+        shards_argument(alloc, "1"),
+        workers_argument(alloc, "1"),
+        cut_argument(alloc),
+        repair_argument(alloc),
+    ]?;
+    Command::new(alloc, "replay")
+        .about(
+            "Runs an event file from standard input, and writes the output file to standard output",
+        )
+        .after_help(REPLAY_EXAMPLE)
+        .args(arguments)
+}
+
+fn cut_argument<'a>(alloc: Global) -> Arg<'a> {
+    Arg::new(alloc, "cut")
         .long("cut")
         .value_name("CUT")
         .value_parser(["spread", "first"].as_slice())
@@ -639,24 +707,17 @@ fn replay_command<'a>(alloc: Global) -> Result<Command<'a>, AllocError> {
         .help(
             "How to split transactions and calls among the shards. spread: by the sum of the \
             bytes of a branch or a Call-ID. first: everything into the first shard",
-        );
-    let repair = Arg::new(alloc, "repair")
+        )
+}
+
+fn repair_argument<'a>(alloc: Global) -> Arg<'a> {
+    Arg::new(alloc, "repair")
         .long("repair")
         .action(ArgAction::SetTrue)
         .help(
             "If the file was cut off, run it up to its last whole line, and say on standard error \
             how many bytes were left out",
-        );
-    Command::new(alloc, "replay")
-        .about(
-            "Runs an event file from standard input, and writes the output file to standard output",
         )
-        .after_help(REPLAY_EXAMPLE)
-        .arg(session_argument(alloc))?
-        .arg(shards_argument(alloc, "1"))?
-        .arg(workers_argument(alloc, "1"))?
-        .arg(cut)?
-        .arg(repair)
 }
 
 // The number of an option. `clap` has checked that it is in its range.

@@ -1,9 +1,6 @@
 //! Readers, writers and outlets that fail at one of their calls, at each one in turn.
 
-use crate::open::Open;
-use crate::script::{LONG, SHORT, Script};
-use crate::stop::{Stop, check, expect};
-use crate::tally::tell;
+use sip_core_trials::{LONG, Open, SHORT, Script, Stop, check, expect, tell};
 use sip_message::{Addr, Spread};
 use sip_program::{Host, ua};
 use sip_round::{Agent, Event, Round};

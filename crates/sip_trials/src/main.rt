@@ -4,27 +4,15 @@
 #![tactic(auto)]
 
 mod cases;
-mod cuts;
 mod devices;
-mod digits;
-mod examples;
-mod load;
-mod messages;
-mod open;
-mod options;
-mod refusals;
-mod script;
-mod sizes;
-mod stop;
-mod tally;
 mod words;
 mod work;
 
+use sip_core_trials::Stop;
 use sip_program::{Host, given_words};
 use std::convert::AsStr;
 use std::process::ExitCode;
 use std::thread::Threads;
-use stop::Stop;
 use words::asked_by;
 use work::done;
 

@@ -1,17 +1,12 @@
 //! What each task does.
 
 use crate::cases::run_cases;
-use crate::cuts::cuts_of;
 use crate::devices::run_devices;
-use crate::examples::{run_example, run_examples};
-use crate::load::Load;
-use crate::messages::{answer_often, read_often};
-use crate::refusals::round_by_round;
-use crate::script::{LONG, Script};
-use crate::sizes::sizes_of;
-use crate::stop::{Stop, expect};
-use crate::tally::tell;
 use crate::words::{Asked, Task};
+use sip_core_trials::{
+    LONG, Load, Script, Stop, answer_often, cuts_of, expect, read_often, round_by_round,
+    run_example, run_examples, sizes_of, tell,
+};
 use sip_program::Host;
 use std::alloc::Global;
 use std::fs;

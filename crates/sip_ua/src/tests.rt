@@ -1,23 +1,14 @@
-//! Runs of the whole program in memory.
+//! Runs of the whole program.
 
-mod desk;
-mod dialog;
 mod examples;
-mod files;
-mod loopback;
-mod notices;
-mod recorded;
-mod reliable;
-mod shards;
-mod two_agents;
-mod udp;
-mod workers;
+mod talks;
 
+use sip_message::Addr;
 use sip_program::{Host, given_words, no_words, ua};
-use sip_round::Gate;
 use std::alloc::Global;
 use std::env::FillError;
-use std::io::{self, Read, Write};
+use std::io::{self, BufWriter, Read, Write};
+use std::net::{Ipv4Addr, Net, UdpSocket};
 use std::rt::Env;
 use std::test::Fail;
 use std::thread::Threads;
@@ -39,13 +30,6 @@ impl Ended {
     }
 }
 
-/// A gate that holds up no piece of work.
-struct Open;
-
-impl Gate for Open {
-    fn begin(&self, _shard: usize) {}
-}
-
 // The program, with these words and this input. Its notices stand behind its output.
 fn run_on<T: Threads + Host, R: Read>(
     rt: &T,
@@ -63,6 +47,20 @@ fn run_on<T: Threads + Host, R: Read>(
         output,
         errors,
     })
+}
+
+// The program with these words, which stand with a space between each two.
+fn ua_with<T: Threads + Host>(rt: &T, alloc: Global, words: &str) -> io::Result<Ended> {
+    let words: Vec<&str> = words.split(' ').collect(alloc)?;
+    run_on(rt, alloc, words.as_slice(), &mut b"".as_slice())
+}
+
+// A socket on loopback, and its address.
+fn bound<R: Net>(rt: &R) -> io::Result<(UdpSocket, Addr)> {
+    let socket = UdpSocket::bind(rt, (Ipv4Addr::LOCALHOST, 0))?;
+    let port = socket.local_addr()?.port();
+    let ip = [127, 0, 0, 1];
+    Ok((socket, Addr { ip, port }))
 }
 
 // A run with an event file whose rounds begin this way, and whose last round has `events` events.
@@ -135,59 +133,44 @@ fn a_text_of_more_than_an_event_file_has(rt: HostRuntime) -> Result<(), Fail> {
     Ok(())
 }
 
-/// A writer that has to be flushed after writes, and whose flushes may fail.
+/// A writer whose flushes fail.
 #[derive(Drop)]
-struct Flushed {
-    bytes: Vec<u8>,
-    flushed: usize,
-    fails: bool,
-}
+struct Unflushed;
 
-impl Flushed {
-    fn new(alloc: Global, fails: bool) -> Flushed {
-        Flushed {
-            bytes: Vec::new(alloc),
-            flushed: 0,
-            fails,
-        }
-    }
-}
-
-impl Write for Flushed {
+impl Write for Unflushed {
     fn write(&mut self, buf: &[u8]) -> io::Result<usize> {
-        self.bytes.extend_from_slice(buf)?;
         Ok(buf.len())
     }
 
     fn flush(&mut self) -> io::Result<()> {
-        if self.fails {
-            return Err(io::Error::from(io::ErrorKind::Other));
-        }
-        self.flushed = self.bytes.len();
-        Ok(())
+        Err(io::Error::from(io::ErrorKind::Other))
     }
 }
 
+// The status of a replay of an event file without rounds.
+fn replays<T: Threads + Host, W: Write>(rt: &T, alloc: Global, output: &mut W) -> u8 {
+    let words = ["replay"];
+    let mut input = b"sip-events 1\nlocal 192.0.2.1:5060\n".as_slice();
+    let (notices, mut errors) = (Vec::new(alloc), Vec::new(alloc));
+    ua(
+        rt,
+        alloc,
+        words.as_slice(),
+        &mut input,
+        output,
+        notices,
+        &mut errors,
+    )
+}
+
 #[test]
-fn a_replay_flushes_its_output(rt: HostRuntime) {
+fn a_replay_flushes_its_output(rt: HostRuntime) -> Result<(), Fail> {
     let alloc = rt.alloc();
-    for (fails, expected, told) in [(false, 0, ""), (true, 4, "ua: output failed\n")] {
-        let mut writer = Flushed::new(alloc, fails);
-        let mut errors = Vec::new(alloc);
-        let status = ua(
-            &rt,
-            alloc,
-            ["replay"].as_slice(),
-            &mut b"sip-events 1\nlocal 192.0.2.1:5060\n".as_slice(),
-            &mut writer,
-            Vec::new(alloc),
-            &mut errors,
-        );
-        assert!(rt; status == expected);
-        assert!(rt; writer.bytes.as_slice() == b"sip-outputs 1\n".as_slice());
-        assert!(rt; fails || writer.flushed == writer.bytes.len());
-        assert!(rt; errors.as_slice() == told.as_bytes());
-    }
+    let mut output = BufWriter::new(alloc, Vec::new(alloc))?;
+    assert!(rt; replays(&rt, alloc, &mut output) == 0);
+    assert!(rt; output.get_ref().as_slice() == b"sip-outputs 1\n".as_slice());
+    assert!(rt; replays(&rt, alloc, &mut Unflushed) == 4);
+    Ok(())
 }
 
 /// The words of a program: its name, and this one.

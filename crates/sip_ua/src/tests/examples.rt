@@ -1,21 +1,13 @@
 //! The examples in the help texts: what they show is what the program prints.
 
-use super::loopback::bound;
-use super::{Ended, run_on};
+use super::{bound, ua_with};
 use sip_program::Host;
 use std::alloc::Global;
-use std::io;
 use std::test::Fail;
 use std::thread::{self, Threads};
 
 /// The minimum length of a tag that the program makes.
 const TAG_LENGTH: usize = 41;
-
-// The program with these words, which stand with a space between each two.
-fn ua_with<T: Threads + Host>(rt: &T, alloc: Global, words: &str) -> io::Result<Ended> {
-    let words: Vec<&str> = words.split(' ').collect(alloc)?;
-    run_on(rt, alloc, words.as_slice(), &mut b"".as_slice())
-}
 
 // A word of a notice; all ids become alike, all tags, and all session descriptions.
 fn alike(word: &str) -> &str {

@@ -1,11 +1,10 @@
 //! Runs over UDP that are recorded. The replay of a record sends and tells what the run did.
 
 use super::loopback::{Answers, Calls, bound, called, listened, stand_in_order};
-use super::run_on;
-use sip_files::FileKind;
-use sip_message::Addr;
-use sip_program::Host;
+use sip_files::{FileKind, ReplayFault, replay};
+use sip_message::{Addr, Spread};
 use sip_udp::{Endpoint, agent};
+use sip_workers::Gate;
 use std::alloc::{AllocError, Global};
 use std::io::{self, BufRead, BufReader, PipeReader, PipeWriter, Read, Write};
 use std::net::{Ipv4Addr, Net, SocketAddrV4, UdpSocket};
@@ -30,25 +29,33 @@ fn lines(text: &[u8]) -> usize {
     text.iter().filter(|byte| **byte == b'\n').count()
 }
 
-// What `ua replay` answers for a record.
-fn replayed<T: Threads + Host>(rt: &T, alloc: Global, record: &[u8]) -> Result<Vec<u8>, Fail> {
-    replayed_by(rt, alloc, ["replay"].as_slice(), record)
+/// A gate that holds up no piece of work.
+struct Open;
+
+impl Gate for Open {
+    fn begin(&self, _shard: usize) {}
 }
 
-// What `ua` answers for a record, with these words.
-fn replayed_by<T: Threads + Host>(
+// The output file of a record.
+fn replayed<T: Threads + Sync>(
     rt: &T,
     alloc: Global,
-    words: &[&str],
-    record: &[u8],
-) -> Result<Vec<u8>, Fail> {
-    let mut input = record;
-    let ended = run_on(rt, alloc, words, &mut input)?;
-    if ended.status == 0 {
-        Ok(ended.output)
-    } else {
-        Err(Fail::from("a replay"))
-    }
+    kind: FileKind,
+    mut record: &[u8],
+) -> Result<Vec<u8>, ReplayFault> {
+    let mut output = Vec::new(alloc);
+    replay(
+        rt,
+        alloc,
+        kind,
+        &mut record,
+        &mut output,
+        1,
+        1,
+        Spread,
+        &Open,
+    )?;
+    Ok(output)
 }
 
 // Whether two texts have the same lines with this beginning.
@@ -87,8 +94,8 @@ fn a_recorded_call_is_replayed_as_it_was(rt: HostRuntime) -> Result<(), Fail> {
     let told = told?;
     assert!(rt; heard.ended.is_ok());
     assert!(rt; told.ended.is_ok());
-    let served = replayed(&rt, alloc, &heard.record)?;
-    let asked = replayed(&rt, alloc, &told.record)?;
+    let served = replayed(&rt, alloc, FileKind::Events, &heard.record)?;
+    let asked = replayed(&rt, alloc, FileKind::Events, &told.record)?;
     assert!(rt; !heard.notices.bytes.is_empty());
     assert!(rt; have_same_lines(alloc, "notice ", &heard.notices.bytes, &served)?);
     assert!(rt; have_same_lines(alloc, "notice ", &told.notices.bytes, &asked)?);
@@ -353,7 +360,7 @@ fn an_agent_on_a_pipe_is_replayed_as_it_was(rt: HostRuntime) -> Result<(), Fail>
     );
     let heard = heard?;
     let run = run.ok_or("an agent that ends")?;
-    let output = replayed(&rt, alloc, &run.record)?;
+    let output = replayed(&rt, alloc, FileKind::Events, &run.record)?;
     assert!(rt; have_same_lines(alloc, "notice ", &heard.told, &output)?);
     let drops = lines_after(alloc, &heard.told, "drop ")?;
     let replayed_drops = lines_after(alloc, &output, "drop ")?;
@@ -428,17 +435,8 @@ fn headers_on_a_pipe_are_recorded_as_a_session(rt: HostRuntime) -> Result<(), Fa
         ";tag=z\n Call-ID: c1\n CSeq: 1 MESSAGE\nnotice c1 response 0.1 200 ",
     ];
     assert!(rt; stand_in_order(&heard.told, &words));
-    assert!(rt;
-        run_on(
-            &rt,
-            alloc,
-            ["replay"].as_slice(),
-            &mut run.record.as_slice()
-        )?
-        .status
-            == 1
-    );
-    let output = replayed_by(&rt, alloc, ["replay", "--session"].as_slice(), &run.record)?;
+    assert!(rt; replayed(&rt, alloc, FileKind::Events, &run.record).is_err());
+    let output = replayed(&rt, alloc, FileKind::Session, &run.record)?;
     let sends = format!(in alloc; "send {to} ")?;
     assert!(rt; lines_after(alloc, &output, sends.as_str())?.starts_with(heard.came.as_slice()));
     assert!(rt; have_same_lines(alloc, "notice ", &heard.told, &output)?);

@@ -1,15 +1,47 @@
 //! Agents on loopback: what they tell, how they end, and what they record.
 
-use super::Flushed;
 use sip_message::{Addr, CallId, Uri};
 use sip_text::Text;
 use sip_udp::{CallPlan, Endpoint, ListenPlan, UaFault, call_from, listen_at};
 use std::alloc::Global;
-use std::io;
+use std::io::{self, Write};
 use std::net::{Ipv4Addr, Net, UdpSocket};
 use std::test::Fail;
 use std::thread::Threads;
 use std::time::{Clock, Duration};
+
+/// A writer that has to be flushed after writes, and whose flushes may fail.
+#[derive(Drop)]
+pub(super) struct Flushed {
+    pub(super) bytes: Vec<u8>,
+    pub(super) flushed: usize,
+    fails: bool,
+}
+
+impl Flushed {
+    fn new(alloc: Global, fails: bool) -> Flushed {
+        Flushed {
+            bytes: Vec::new(alloc),
+            flushed: 0,
+            fails,
+        }
+    }
+}
+
+impl Write for Flushed {
+    fn write(&mut self, buf: &[u8]) -> io::Result<usize> {
+        self.bytes.extend_from_slice(buf)?;
+        Ok(buf.len())
+    }
+
+    fn flush(&mut self) -> io::Result<()> {
+        if self.fails {
+            return Err(io::Error::from(io::ErrorKind::Other));
+        }
+        self.flushed = self.bytes.len();
+        Ok(())
+    }
+}
 
 /// What a run told, what it recorded, and how it ended.
 #[derive(Drop)]

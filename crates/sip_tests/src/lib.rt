@@ -1,0 +1,5 @@
+//! Tests of the layers below the network.
+#![tactic(auto)]
+
+#[cfg(test)]
+mod tests;
