@@ -281,12 +281,18 @@ pub(crate) fn parse<'a, S: AsStr>(alloc: Global, words: &'a [S]) -> Result<ArgMa
         .bin_name("ua")?
         .no_binary_name(true)
         .subcommand_required(true)
-        .subcommand(replay_command(alloc)?)?
-        .subcommand(ladder_command(alloc)?)?
-        .subcommand(listen_command(alloc)?)?
-        .subcommand(call_command(alloc)?)?
-        .subcommand(agent_command(alloc)?)?;
+        .subcommands(commands(alloc)?)?;
     command.try_get_matches_from(words)
+}
+
+fn commands<'a>(alloc: Global) -> Result<Vec<Command<'a>>, AllocError> {
+    let mut commands = Vec::new(alloc);
+    commands.push(replay_command(alloc)?)?;
+    commands.push(ladder_command(alloc)?)?;
+    commands.push(listen_command(alloc)?)?;
+    commands.push(call_command(alloc)?)?;
+    commands.push(agent_command(alloc)?)?;
+    Ok(commands)
 }
 
 /// The words of `ua replay`.

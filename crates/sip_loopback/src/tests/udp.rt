@@ -1,16 +1,12 @@
-//! The agent over UDP: outlets and inlets that fail, and calls on loopback.
-
-ghost use Rattle.std.specs.Prelude.{Some};
+//! The agent over UDP: inlets that fail, and calls on loopback.
 
 use super::loopback::{Answers, Calls, bound, called, listened, names, stand_in_order};
 use sip_desk::{Desk, NoMemory, Poster, open};
-use sip_message::{Addr, Key, Token};
-use sip_round::{Event, Output, PlacedOutput};
-use sip_text::{Series, Text};
-use sip_transactions::DropReason;
+use sip_message::Addr;
+use sip_round::Event;
 use sip_udp::{
-    Asked, CallPlan, Endpoint, Flags, Inlet, InputEnd, ListenPlan, Outlet, Received, UaFault, call,
-    call_from, hear, listen, listen_at, send_all,
+    CallPlan, Endpoint, Flags, Inlet, InputEnd, ListenPlan, Received, UaFault, call, call_from,
+    hear, listen, listen_at,
 };
 use std::alloc::Global;
 use std::io::{self, PipeReader, PipeWriter};
@@ -26,99 +22,6 @@ const PEER: Addr = Addr {
     ip: [192, 0, 2, 9],
     port: 5060,
 };
-
-/// An outlet in memory that tells what it was asked to send. One of its calls fails.
-#[derive(Drop)]
-struct Told<'a, R: Abort> {
-    rt: &'a R,
-    alloc: Global,
-    asked: Series<Asked>,
-    fails_at: usize,
-}
-
-impl<'a, R: Abort> Outlet for Told<'a, R> {
-    ghost asked = { λ told. Some told.asked };
-
-    fn send(&mut self, to: Addr, bytes: &[u8]) -> bool {
-        let is_sent = self.asked.len() != self.fails_at;
-        let bytes = Text::copy_of(self.alloc, bytes).expect(self.rt, "memory");
-        let asked = Asked { to, bytes, is_sent };
-        self.asked.push(asked).expect(self.rt, "memory");
-        is_sent
-    }
-}
-
-// A Send of these bytes; its key has this branch, and is missing if the branch is empty.
-fn output(alloc: Global, branch: &[u8], bytes: &[u8]) -> Result<PlacedOutput, Fail> {
-    let options = Token::new(Text::copy_of(alloc, b"OPTIONS")?).ok_or("a method")?;
-    let key = Key::client(alloc, branch, options)?;
-    let output = Output::Send {
-        key: if branch.is_empty() { None } else { Some(key) },
-        to: PEER,
-        bytes: Text::copy_of(alloc, bytes)?,
-    };
-    Ok(PlacedOutput { place: 1, output })
-}
-
-// The branches of failed client transactions, with a space after each.
-fn branches(alloc: Global, failed: &[Event]) -> Result<Vec<u8>, Fail> {
-    let mut branches = Vec::new(alloc);
-    for event in failed {
-        if let Event::Failed(key) = event {
-            branches.extend_from_slice(key.get().branch())?;
-            branches.push(b' ')?;
-        }
-    }
-    Ok(branches)
-}
-
-// All that an outlet was asked to send, with `+` before what was sent and `-` before what wasn't.
-fn asked_text(alloc: Global, asked: &[Asked]) -> Result<Vec<u8>, Fail> {
-    let mut text = Vec::new(alloc);
-    for one in asked {
-        text.push(if one.is_sent { b'+' } else { b'-' })?;
-        text.extend_from_slice(one.bytes.as_slice())?;
-    }
-    Ok(text)
-}
-
-// Each Send is asked for once, in order, even after one failed. Nobody is told of a failure without
-// a key.
-#[test]
-fn an_outlet_that_fails_each_of_its_sends(rt: HostRuntime) -> Result<(), Fail> {
-    let alloc = rt.alloc();
-    let reason = DropReason::NotOurs;
-    let mut outputs = Vec::new(alloc);
-    outputs.push(output(alloc, b"a", b"1")?)?;
-    outputs.push(PlacedOutput {
-        place: 1,
-        output: Output::Dropped { place: 1, reason },
-    })?;
-    outputs.push(output(alloc, b"", b"2")?)?;
-    outputs.push(output(alloc, b"c", b"3")?)?;
-    let cases = [
-        (0, b"-1+2+3".as_slice(), b"a ".as_slice()),
-        (1, b"+1-2+3".as_slice(), b"".as_slice()),
-        (2, b"+1+2-3".as_slice(), b"c ".as_slice()),
-        (3, b"+1+2+3".as_slice(), b"".as_slice()),
-    ];
-    for (fails_at, asked, failed) in cases {
-        let mut outlet = Told {
-            rt: &rt,
-            alloc,
-            asked: Series::new(alloc),
-            fails_at,
-        };
-        let failures = send_all(alloc, &mut outlet, outputs.as_slice())?;
-        assert!(rt;
-            branches(alloc, &failures)?.as_slice() == failed,
-            "at {fails_at}"
-        );
-        let told = asked_text(alloc, outlet.asked.as_slice())?;
-        assert!(rt; told.as_slice() == asked, "at {fails_at}");
-    }
-    Ok(())
-}
 
 /// An inlet that fails this often in a row before each of its results, and then only fails.
 #[derive(Drop)]
