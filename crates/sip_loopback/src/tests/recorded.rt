@@ -1,6 +1,6 @@
 //! Runs over UDP that are recorded. The replay of a record sends and tells what the run did.
 
-use super::loopback::{Answers, Calls, bound, called, listened, stand_in_order};
+use super::loopback::{Answers, Calls, Run, bound, called, listened, stand_in_order};
 use sip_files::{FileKind, ReplayFault, replay};
 use sip_message::{Addr, Spread};
 use sip_udp::{Endpoint, agent};
@@ -8,6 +8,7 @@ use sip_workers::Gate;
 use std::alloc::{AllocError, Global};
 use std::io::{self, BufRead, BufReader, PipeReader, PipeWriter, Read, Write};
 use std::net::{Ipv4Addr, Net, SocketAddrV4, UdpSocket};
+use std::process::Abort;
 use std::test::Fail;
 use std::thread::{self, Threads};
 use std::time::Clock;
@@ -80,6 +81,17 @@ fn comes_as_it_was_sent(
     Ok(arrived.len() > 1000 && sent.starts_with(arrived.as_slice()))
 }
 
+// Whether a replay of its record tells what an agent told. Gives the output file.
+fn replays<T: Threads + Sync>(rt: &T, alloc: Global, run: &Run) -> Result<Vec<u8>, Fail> {
+    let output = replayed(rt, alloc, FileKind::Events, &run.record)?;
+    let told = &run.notices.bytes;
+    if run.ended.is_ok() && !told.is_empty() && have_same_lines(alloc, "notice ", told, &output)? {
+        Ok(output)
+    } else {
+        Err(Fail::from("what is told"))
+    }
+}
+
 // Each agent told what its replay tells, and got what the other's replay sends.
 #[test]
 fn a_recorded_call_is_replayed_as_it_was(rt: HostRuntime) -> Result<(), Fail> {
@@ -91,14 +103,19 @@ fn a_recorded_call_is_replayed_as_it_was(rt: HostRuntime) -> Result<(), Fail> {
         || listened(&rt, alloc, theirs, to, Answers::Rings(200), 300, false),
         || called(&rt, alloc, own, from, to, Calls::Holds(300), 200),
     );
-    let told = told?;
-    assert!(rt; heard.ended.is_ok());
-    assert!(rt; told.ended.is_ok());
-    let served = replayed(&rt, alloc, FileKind::Events, &heard.record)?;
-    let asked = replayed(&rt, alloc, FileKind::Events, &told.record)?;
-    assert!(rt; !heard.notices.bytes.is_empty());
-    assert!(rt; have_same_lines(alloc, "notice ", &heard.notices.bytes, &served)?);
-    assert!(rt; have_same_lines(alloc, "notice ", &told.notices.bytes, &asked)?);
+    is_replayed(&rt, alloc, &heard, from, &told?, to)
+}
+
+fn is_replayed<R: Threads + Sync + Abort>(
+    rt: &R,
+    alloc: Global,
+    heard: &Run,
+    from: Addr,
+    told: &Run,
+    to: Addr,
+) -> Result<(), Fail> {
+    let served = replays(rt, alloc, heard)?;
+    let asked = replays(rt, alloc, told)?;
     assert!(rt; comes_as_it_was_sent(alloc, from, to, &asked, &heard.record)?);
     assert!(rt; comes_as_it_was_sent(alloc, to, from, &served, &told.record)?);
     let words = [" 180 ", " response 0.1 200 ", " ended ", " 200 "];
@@ -177,12 +194,32 @@ impl Script {
         Ok(())
     }
 
+    // Asks the agent for a request outside of dialogs, other than INVITE.
+    fn plain(
+        &mut self,
+        alloc: Global,
+        call: &str,
+        to: Addr,
+        method: &str,
+        body: &str,
+    ) -> io::Result<()> {
+        let line = format!(in alloc;
+            "plain {call} {to} {method} sip:b@{to} sip:a@127.0.0.1 sip:b@{to} {body}"
+        )?;
+        self.command(line.as_str())
+    }
+
+    // Asks the agent for an INVITE.
+    fn invite(&mut self, alloc: Global, call: &str, to: Addr, support: &str) -> io::Result<()> {
+        let line = format!(in alloc;
+            "invite {call} {to} sip:b@{to} sip:a@127.0.0.1 sip:b@{to} {support} -"
+        )?;
+        self.command(line.as_str())
+    }
+
     // Makes the agent call this address, and gives its INVITE.
     fn invited(&mut self, alloc: Global, call: &str, to: Addr) -> Result<Vec<u8>, Fail> {
-        let line = format!(in alloc;
-            "invite {call} {to} sip:b@{to} sip:a@127.0.0.1 sip:b@{to} none -"
-        )?;
-        self.command(line.as_str())?;
+        self.invite(alloc, call, to, "none")?;
         self.datagram(alloc, "INVITE ")
     }
 
@@ -301,20 +338,60 @@ struct PipedRun {
     errors: Vec<u8>,
 }
 
-// An agent on a pipe, whose first tag is known.
-fn piped<R: Threads + Clock + Net + Sync>(
-    rt: &R,
-    alloc: Global,
+/// An agent that is to run on a pipe.
+#[derive(Drop)]
+struct PipedAgent {
     socket: UdpSocket,
     local: Addr,
     kind: FileKind,
     commands: PipeReader,
-    mut notices: PipeWriter,
+    notices: PipeWriter,
+}
+
+// An agent, its other side, and the address of that one.
+fn pipe(
+    rt: &HostRuntime,
+    alloc: Global,
+    kind: FileKind,
+) -> Result<(PipedAgent, Script, Addr), Fail> {
+    let (socket, local) = bound(rt)?;
+    let (theirs, to) = bound(rt)?;
+    let (commands, writer) = io::pipe(rt)?;
+    let (reader, notices) = io::pipe(rt)?;
+    let script = Script {
+        commands: writer,
+        notices: BufReader::new(alloc, reader)?,
+        socket: theirs,
+        told: Vec::new(alloc),
+        came: Vec::new(alloc),
+    };
+    let agent = PipedAgent {
+        socket,
+        local,
+        kind,
+        commands,
+        notices,
+    };
+    Ok((agent, script, to))
+}
+
+// An agent on a pipe, whose first tag is known.
+fn piped<R: Threads + Clock + Net + Sync>(
+    rt: &R,
+    alloc: Global,
+    it: PipedAgent,
 ) -> Option<PipedRun> {
     let mut run = PipedRun {
         record: Vec::new(alloc),
         errors: Vec::new(alloc),
     };
+    let PipedAgent {
+        socket,
+        local,
+        kind,
+        commands,
+        mut notices,
+    } = it;
     let mut endpoint = Endpoint::new(socket, local, [0; 32], Some(&mut run.record));
     endpoint.kind = kind;
     let input = BufReader::new(alloc, commands).ok()?;
@@ -331,43 +408,41 @@ fn piped<R: Threads + Clock + Net + Sync>(
     Some(run)
 }
 
+// Whether a replay tells what the other side of an agent was told, and first sends it what came.
+fn is_heard(alloc: Global, heard: &Heard, output: &[u8], to: Addr) -> Result<bool, Fail> {
+    let sends = format!(in alloc; "send {to} ")?;
+    let sent = lines_after(alloc, output, sends.as_str())?;
+    Ok(
+        sent.starts_with(heard.came.as_slice())
+            && have_same_lines(alloc, "notice ", &heard.told, output)?,
+    )
+}
+
 #[test]
 fn an_agent_on_a_pipe_is_replayed_as_it_was(rt: HostRuntime) -> Result<(), Fail> {
     let alloc = rt.alloc();
-    let (socket, local) = bound(&rt)?;
-    let (theirs, to) = bound(&rt)?;
-    let (commands, writer) = io::pipe(&rt)?;
-    let (reader, notices) = io::pipe(&rt)?;
-    let script = Script {
-        commands: writer,
-        notices: BufReader::new(alloc, reader)?,
-        socket: theirs,
-        told: Vec::new(alloc),
-        came: Vec::new(alloc),
-    };
+    let (agent, script, to) = pipe(&rt, alloc, FileKind::Events)?;
+    let local = agent.local;
     let (run, heard) = thread::join(
         &rt,
-        || piped(
-            &rt,
-            alloc,
-            socket,
-            local,
-            FileKind::Events,
-            commands,
-            notices,
-        ),
+        || piped(&rt, alloc, agent),
         || forked_and_cancelled(alloc, script, local, to),
     );
     let heard = heard?;
-    let run = run.ok_or("an agent that ends")?;
-    let output = replayed(&rt, alloc, FileKind::Events, &run.record)?;
-    assert!(rt; have_same_lines(alloc, "notice ", &heard.told, &output)?);
+    is_of_a_fork(&rt, alloc, &run.ok_or("an agent that ends")?, &heard, to)
+}
+
+fn is_of_a_fork<R: Threads + Sync + Abort>(
+    rt: &R,
+    alloc: Global,
+    run: &PipedRun,
+    heard: &Heard,
+    to: Addr,
+) -> Result<(), Fail> {
+    let output = replayed(rt, alloc, FileKind::Events, &run.record)?;
+    assert!(rt; is_heard(alloc, heard, &output, to)?);
     let drops = lines_after(alloc, &heard.told, "drop ")?;
-    let replayed_drops = lines_after(alloc, &output, "drop ")?;
-    assert!(rt; lines(&drops) == lines(&replayed_drops));
-    let sends = format!(in alloc; "send {to} ")?;
-    let sent = lines_after(alloc, &output, sends.as_str())?;
-    assert!(rt; sent.starts_with(heard.came.as_slice()));
+    assert!(rt; lines(&drops) == lines(&lines_after(alloc, &output, "drop ")?));
     let words = [" ended ", " y\n", " response ", " 487 ", "notice c2 ended "];
     assert!(rt; stand_in_order(&heard.told, &words));
     let told = "ua: line 2 is no command\nua: line 2, word 1: expected invite, plain, request, \
@@ -378,50 +453,44 @@ fn an_agent_on_a_pipe_is_replayed_as_it_was(rt: HostRuntime) -> Result<(), Fail>
 
 // A MESSAGE with headers, which is answered, and lines that have no part in a command.
 fn headed(alloc: Global, mut script: Script, from: Addr, to: Addr) -> Result<Heard, Fail> {
-    let uris = format!(in alloc; "sip:b@{to} sip:a@127.0.0.1 sip:b@{to}")?;
+    is_headed(alloc, &mut script, from, to)?;
+    script.finish()
+}
+
+fn is_headed(alloc: Global, script: &mut Script, from: Addr, to: Addr) -> Result<(), Fail> {
     script.command("# A message.\n Subject: lunch\n\n Content-Type: text/plain\r")?;
-    let message = format!(in alloc; "plain c1 {to} MESSAGE {uris} hello")?;
-    script.command(message.as_str())?;
+    script.plain(alloc, "c1", to, "MESSAGE", "hello")?;
     script.command(" Via: none of the user's")?;
-    let options = format!(in alloc; "plain c2 {to} OPTIONS {uris} -")?;
-    script.command(options.as_str())?;
+    script.plain(alloc, "c2", to, "OPTIONS", "-")?;
     script.command(" Subject: tea\ncancel c1 0.1\n Subject: dinner")?;
     let request = script.datagram(alloc, "MESSAGE ")?;
     script.answer(alloc, from, &request, "200 OK", "z")?;
     script.notice(alloc, " 200 ")?;
-    script.finish()
+    Ok(())
 }
 
 // A command takes all its header lines or isn't asked for, and the record is a session.
 #[test]
 fn headers_on_a_pipe_are_recorded_as_a_session(rt: HostRuntime) -> Result<(), Fail> {
     let alloc = rt.alloc();
-    let (socket, local) = bound(&rt)?;
-    let (theirs, to) = bound(&rt)?;
-    let (commands, writer) = io::pipe(&rt)?;
-    let (reader, notices) = io::pipe(&rt)?;
-    let script = Script {
-        commands: writer,
-        notices: BufReader::new(alloc, reader)?,
-        socket: theirs,
-        told: Vec::new(alloc),
-        came: Vec::new(alloc),
-    };
+    let (agent, script, to) = pipe(&rt, alloc, FileKind::Session)?;
+    let local = agent.local;
     let (run, heard) = thread::join(
         &rt,
-        || piped(
-            &rt,
-            alloc,
-            socket,
-            local,
-            FileKind::Session,
-            commands,
-            notices,
-        ),
+        || piped(&rt, alloc, agent),
         || headed(alloc, script, local, to),
     );
     let heard = heard?;
-    let run = run.ok_or("an agent that ends")?;
+    is_a_session(&rt, alloc, &run.ok_or("an agent that ends")?, &heard, to)
+}
+
+fn is_a_session<R: Threads + Sync + Abort>(
+    rt: &R,
+    alloc: Global,
+    run: &PipedRun,
+    heard: &Heard,
+    to: Addr,
+) -> Result<(), Fail> {
     assert!(rt; run.record.starts_with(b"sip-session 1\n"));
     let words = [
         " Subject: lunch\n Content-Type: text/plain\nplain c1 ",
@@ -435,11 +504,9 @@ fn headers_on_a_pipe_are_recorded_as_a_session(rt: HostRuntime) -> Result<(), Fa
         ";tag=z\n Call-ID: c1\n CSeq: 1 MESSAGE\nnotice c1 response 0.1 200 ",
     ];
     assert!(rt; stand_in_order(&heard.told, &words));
-    assert!(rt; replayed(&rt, alloc, FileKind::Events, &run.record).is_err());
-    let output = replayed(&rt, alloc, FileKind::Session, &run.record)?;
-    let sends = format!(in alloc; "send {to} ")?;
-    assert!(rt; lines_after(alloc, &output, sends.as_str())?.starts_with(heard.came.as_slice()));
-    assert!(rt; have_same_lines(alloc, "notice ", &heard.told, &output)?);
+    assert!(rt; replayed(rt, alloc, FileKind::Events, &run.record).is_err());
+    let output = replayed(rt, alloc, FileKind::Session, &run.record)?;
+    assert!(rt; is_heard(alloc, heard, &output, to)?);
     let told = lines_after(alloc, &run.errors, "ua: line ")?;
     let expected = b"\
         6 is no command\n6: expected a header line of a user\n7 is no command\n8 is no command\n\
@@ -455,12 +522,9 @@ fn asked(alloc: Global, mut script: Script, to: Addr) -> Result<Heard, Fail> {
 }
 
 fn is_asked(alloc: Global, script: &mut Script, to: Addr) -> Result<(), Fail> {
-    let uris = format!(in alloc; "sip:b@{to} sip:a@127.0.0.1 sip:b@{to}")?;
-    let invite = format!(in alloc; "invite c1 {to} {uris} supported -")?;
-    script.command(invite.as_str())?;
+    script.invite(alloc, "c1", to, "supported")?;
     script.notice(alloc, " ended ")?;
-    let options = format!(in alloc; "plain c2 {to} OPTIONS {uris} -")?;
-    script.command(options.as_str())?;
+    script.plain(alloc, "c2", to, "OPTIONS", "-")?;
     script.notice(alloc, "notice c2 response ")?;
     Ok(())
 }
@@ -469,46 +533,28 @@ fn is_asked(alloc: Global, script: &mut Script, to: Addr) -> Result<(), Fail> {
 #[test]
 fn a_listener_answers_reliably_and_as_it_is_told(rt: HostRuntime) -> Result<(), Fail> {
     let alloc = rt.alloc();
-    let (socket, local) = bound(&rt)?;
-    let (theirs, to) = bound(&rt)?;
-    let (commands, writer) = io::pipe(&rt)?;
-    let (reader, notices) = io::pipe(&rt)?;
-    let script = Script {
-        commands: writer,
-        notices: BufReader::new(alloc, reader)?,
-        socket: theirs.try_clone()?,
-        told: Vec::new(alloc),
-        came: Vec::new(alloc),
-    };
+    let (agent, script, to) = pipe(&rt, alloc, FileKind::Events)?;
+    let theirs = script.socket.try_clone()?;
     let (served, (run, heard)) = thread::join(
         &rt,
         || listened(&rt, alloc, theirs, to, Answers::Busy, 200, false),
         || {
             thread::join(
                 &rt,
-                || piped(
-                    &rt,
-                    alloc,
-                    socket,
-                    local,
-                    FileKind::Events,
-                    commands,
-                    notices,
-                ),
+                || piped(&rt, alloc, agent),
                 || asked(alloc, script, to),
             )
         },
     );
-    let heard = heard?;
     assert!(rt; run.is_some());
+    is_busy(&rt, &heard?, &served)
+}
+
+fn is_busy(rt: &impl Abort, heard: &Heard, served: &Run) -> Result<(), Fail> {
     let words = [" 183 ", " 486 ", " ended ", "notice c2 response ", " 200 "];
     assert!(rt; stand_in_order(&heard.told, &words));
     assert!(rt; served.ended.is_ok());
-    assert!(rt;
-        stand_in_order(
-            &served.notices.bytes,
-            &[" INVITE ", "notice c1 prack ", " OPTIONS "]
-        )
-    );
+    let words = [" INVITE ", "notice c1 prack ", " OPTIONS "];
+    assert!(rt; stand_in_order(&served.notices.bytes, &words));
     Ok(())
 }
