@@ -1,4 +1,4 @@
-//! Tests of the layers below the network.
+//! Tests of the layers below rounds.
 #![tactic(auto)]
 
 #[cfg(test)]

@@ -1,0 +1,5 @@
+//! Tests of rounds, of two agents and of event files.
+#![tactic(auto)]
+
+#[cfg(test)]
+mod tests;
