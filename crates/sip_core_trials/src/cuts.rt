@@ -1,9 +1,8 @@
 //! A script in many numbers of shards and workers, by both cuts, with and without moves between
 //! rounds.
 
-use crate::open::Open;
 use crate::script::Script;
-use crate::stop::Stop;
+use sip_examples::{Open, Stop};
 use sip_files::write_outputs;
 use sip_message::{Cut, First, Spread};
 use sip_round::{Agent, Config, Output, Round, RoundFault};

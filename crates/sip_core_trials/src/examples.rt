@@ -4,24 +4,18 @@
 //! should be. If a call that ran out of memory changes nothing, the example makes it again.
 
 mod calls;
-mod dialogs;
 mod files;
 mod heads;
-mod lines;
-mod messages;
-mod pieces;
-mod queues;
 mod rounds;
 mod server_side;
-mod texts;
-mod transactions;
 mod worked;
 
 use crate::refusals::SHARDS;
-use crate::stop::{Stop, expect};
-use crate::tally::tell;
 use files::FirstFails;
 use sip_calls::CallShard;
+use sip_examples::{
+    LOCAL, Stop, dialogs, expect, lines, messages, pieces, queues, tell, texts, transactions,
+};
 use sip_message::Spread;
 use sip_round::Agent;
 use sip_served::Served;
@@ -30,7 +24,7 @@ use sip_timers::Queue;
 use sip_transactions::Shard;
 use std::alloc::Global;
 use std::thread::Threads;
-use worked::{CONFIG, LOCAL, SEED};
+use worked::{CONFIG, SEED};
 
 /// The names of the examples, in the order of their numbers.
 const NAMES: [&str; 49] = [

@@ -1,8 +1,7 @@
 //! The script when memory may run out: the answer is right, or says that memory ran out.
 
-use crate::open::Open;
 use crate::script::Script;
-use crate::stop::{Stop, broken_where, check};
+use sip_examples::{Open, Stop, broken_where, check};
 use sip_files::write_outputs;
 use sip_message::Spread;
 use sip_round::{Agent, Output, Round, RoundFault};

@@ -1,6 +1,7 @@
 //! An event file, and the output file that it gives.
 
-use crate::stop::Stop;
+use crate::faults::of_events;
+use sip_examples::Stop;
 use sip_files::read_events;
 use sip_round::{Config, Round};
 use sip_text::Series;
@@ -41,6 +42,6 @@ impl Script {
     ///
     /// `Script` if the text isn't an event file, or memory ran out.
     pub fn rounds(&self, alloc: Global) -> Result<(Config, Series<Round>), Stop> {
-        Ok(read_events(alloc, &self.events)?)
+        read_events(alloc, &self.events).map_err(of_events)
     }
 }

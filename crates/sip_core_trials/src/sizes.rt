@@ -1,9 +1,7 @@
 //! Large numbers: of what one shard holds, of shards, of workers, and of events in a round.
 
-use crate::load::{CONFIG, Load, MOST_SHARDS, MOST_WORKERS};
-use crate::open::Open;
-use crate::options::options_of;
-use crate::stop::{Stop, expect};
+use crate::faults::of_events;
+use sip_examples::{CONFIG, Load, MOST_SHARDS, MOST_WORKERS, Open, Stop, expect, options_of};
 use sip_files::read_events;
 use sip_message::Spread;
 use sip_round::{Agent, Event, Output, Round};
@@ -95,7 +93,7 @@ fn round_of(alloc: Global, number: u64) -> Result<Series<Round>, Stop> {
         Call-ID: c{number}\\r\\nCSeq: 7 OPTIONS\\r\\n\\r\\n\n\
         respond c{number} {number}.1 200 plain - OK\n"
     )?;
-    let (_, rounds) = read_events(alloc, text.as_bytes())?;
+    let (_, rounds) = read_events(alloc, text.as_bytes()).map_err(of_events)?;
     Ok(rounds)
 }
 

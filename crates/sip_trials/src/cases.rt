@@ -1,6 +1,6 @@
 //! Stored cases: the input of `ua`, and what it has to write.
 
-use sip_core_trials::{Stop, expect, tell};
+use sip_examples::{Stop, expect, tell};
 use sip_program::{Host, ua};
 use std::alloc::{AllocError, Global};
 use std::fs::{self, DirEntry};

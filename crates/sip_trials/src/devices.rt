@@ -1,6 +1,7 @@
 //! Readers, writers and outlets that fail at one of their calls, at each one in turn.
 
-use sip_core_trials::{LONG, Open, SHORT, Script, Stop, check, expect, tell};
+use sip_core_trials::{LONG, SHORT, Script};
+use sip_examples::{Open, Stop, check, expect, tell};
 use sip_message::{Addr, Spread};
 use sip_program::{Host, ua};
 use sip_round::{Agent, Event, Round};

@@ -8,7 +8,7 @@ mod devices;
 mod words;
 mod work;
 
-use sip_core_trials::Stop;
+use sip_examples::Stop;
 use sip_program::{Host, given_words};
 use std::convert::AsStr;
 use std::process::ExitCode;

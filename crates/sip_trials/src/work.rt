@@ -3,10 +3,8 @@
 use crate::cases::run_cases;
 use crate::devices::run_devices;
 use crate::words::{Asked, Task};
-use sip_core_trials::{
-    LONG, Load, Script, Stop, answer_often, cuts_of, expect, read_often, round_by_round,
-    run_example, run_examples, sizes_of, tell,
-};
+use sip_core_trials::{LONG, Script, cuts_of, round_by_round, run_example, run_examples, sizes_of};
+use sip_examples::{Load, Stop, answer_often, expect, read_often, tell};
 use sip_program::Host;
 use std::alloc::Global;
 use std::fs;

@@ -2,9 +2,9 @@
 
 ghost use Rattle.std.specs.Prelude.{◌≤◌, ◌^◌};
 
-use crate::examples::worked::{ID, OPTIONS, PEER, RESPOND, TOLD, asked, is_line, up};
-use crate::stop::{Stop, broken_where, check};
+use crate::examples::worked::{RESPOND, TOLD, asked, is_line, up};
 use sip_calls::CallShard;
+use sip_examples::{ID, OPTIONS, PEER, Stop, broken_where, check};
 use sip_message::Id;
 use sip_served::{CallOut, Item};
 use sip_transactions::{Command, ShardFault};

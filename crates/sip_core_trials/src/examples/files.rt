@@ -1,9 +1,8 @@
 //! Event files, output files, and what is sent.
 
-use crate::examples::worked::{CONFIG, EVENTS, OUTPUTS, PEER};
-use crate::messages::token;
-use crate::open::Open;
-use crate::stop::{Stop, check};
+use crate::examples::worked::{CONFIG, EVENTS, OUTPUTS};
+use crate::faults::{of_events, of_replay};
+use sip_examples::{Open, PEER, Stop, check, token};
 use sip_files::{FileKind, read_command_line, read_events, replay, write_head, write_round};
 use sip_message::{Addr, Key, Spread};
 use sip_round::{Event, Output, PlacedOutput, Round};
@@ -36,14 +35,14 @@ pub fn a_file_is_replayed<R: Threads + Sync>(rt: &R, alloc: Global) -> Result<()
         &Open,
     );
     check(end.is_ok() || output.is_empty())?;
-    end?;
+    end.map_err(of_replay)?;
     check(output.as_slice() == OUTPUTS)
 }
 
 // What was read is written again as it stood.
 pub fn a_round_is_written(alloc: Global) -> Result<(), Stop> {
     check(write_head(alloc, &CONFIG)?.as_slice() == HEAD)?;
-    let (_, rounds) = read_events(alloc, EVENTS)?;
+    let (_, rounds) = read_events(alloc, EVENTS).map_err(of_events)?;
     let text = text_of(alloc, rounds.as_slice())?;
     check(EVENTS.ends_with(text.as_slice()) && text.len() > 200)
 }

@@ -1,7 +1,8 @@
 //! The heads of texts, whether they spell a message or not, and what a host reads from a datagram.
 
-use crate::examples::worked::{CONFIG, PEER};
-use crate::stop::{Stop, broken_where, check};
+use crate::examples::worked::CONFIG;
+use crate::faults::of_host;
+use sip_examples::{PEER, Stop, broken_where, check};
 use sip_files::write_header_line;
 use sip_host::{Host, HostFault};
 use sip_message::{Id, Token};
@@ -71,7 +72,7 @@ fn are_all_three(alloc: Global, headers: &[HeaderLine]) -> Result<(), Stop> {
 pub fn a_host_reads_a_datagram(alloc: Global) -> Result<(), Stop> {
     let mut host = Host::new(alloc, CONFIG, SHARDS)?;
     check(host.last_id().is_none() && host.event(1).is_none())?;
-    host.datagram(PEER, TEXT)?;
+    host.datagram(PEER, TEXT).map_err(of_host)?;
     check(host.last_id().is_some_and(is_first))?;
     runs(&mut host)?;
     check(keeps_the_datagram(&host))?;
@@ -105,7 +106,9 @@ fn reads_the_headers(alloc: Global, host: &Host) -> Result<(), Stop> {
 fn runs(host: &mut Host) -> Result<(), Stop> {
     match host.run(MOMENT) {
         Ok(()) => Ok(()),
-        Err(HostFault::Round(RoundFault::NoMemory { broken: false })) => Ok(host.run(MOMENT)?),
+        Err(HostFault::Round(RoundFault::NoMemory { broken: false })) => host
+            .run(MOMENT)
+            .map_err(of_host),
         Err(HostFault::Round(RoundFault::NoMemory { broken: true })) => {
             Err(broken_where(host.next_due().is_none()))
         }

@@ -2,10 +2,10 @@
 
 ghost use Rattle.std.specs.Prelude.{◌<◌, ◌≤◌};
 
-use crate::examples::worked::{EVENTS, OPTIONS, OUTPUTS, PEER};
-use crate::open::Open;
+use crate::examples::worked::{EVENTS, OUTPUTS};
+use crate::faults::of_events;
 use crate::refusals::{SHARDS, WORKERS, has_left, outputs_of};
-use crate::stop::{Stop, broken_where, check};
+use sip_examples::{OPTIONS, Open, PEER, Stop, broken_where, check};
 use sip_files::{read_events, write_outputs};
 use sip_message::Spread;
 use sip_round::{Agent, Event, Output, PlacedOutput, Round, RoundFault, run};
@@ -36,7 +36,7 @@ const NO_MESSAGE: &[u8] = b"none";
 const REPEATS: [u64; 6] = [500, 1_500, 3_500, 7_500, 15_500, 31_500];
 
 pub fn rounds_are_run<R: Threads + Sync>(rt: &R, alloc: Global) -> Result<(), Stop> {
-    let (config, rounds) = read_events(alloc, EVENTS)?;
+    let (config, rounds) = read_events(alloc, EVENTS).map_err(of_events)?;
     let rounds = rounds.as_slice();
     match run(rt, alloc, config, SHARDS, WORKERS, Spread, &Open, rounds) {
         Ok(made) => are_written(alloc, rounds, made),
@@ -119,7 +119,7 @@ pub fn moved_while_a_timer_runs<R: Threads + Sync>(
     alloc: Global,
     agent: &mut Agent<Spread>,
 ) -> Result<(), Stop> {
-    let (_, rounds) = read_events(alloc, INVITE)?;
+    let (_, rounds) = read_events(alloc, INVITE).map_err(of_events)?;
     times_out(rt, alloc, agent, rounds.first().ok_or(Stop::Different)?)
 }
 
@@ -154,7 +154,7 @@ pub fn a_failed_client_is_gone<R: Threads + Sync>(
     alloc: Global,
     agent: &mut Agent<Spread>,
 ) -> Result<(), Stop> {
-    let (_, rounds) = read_events(alloc, UNSENT)?;
+    let (_, rounds) = read_events(alloc, UNSENT).map_err(of_events)?;
     for round in rounds.as_slice() {
         check(outputs_of(rt, agent, round)?.len() == 1)?;
     }

@@ -2,9 +2,8 @@
 
 ghost use Rattle.std.specs.Prelude.{◌≤◌, ◌^◌};
 
-use crate::examples::worked::{ID, OPTIONS, RESPOND, TOLD, asked, is_line, up};
-use crate::messages::{TAG, token};
-use crate::stop::{Stop, broken_where, check};
+use crate::examples::worked::{RESPOND, TOLD, asked, is_line, up};
+use sip_examples::{ID, OPTIONS, Stop, TAG, broken_where, check, token};
 use sip_served::{CallOut, Item, Served};
 use sip_transactions::ShardFault;
 use std::alloc::Global;

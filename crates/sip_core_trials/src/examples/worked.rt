@@ -1,24 +1,14 @@
-//! Messages, addresses and parts that several examples use.
+//! Event files and parts that several examples use.
 
-use crate::messages::message;
-use crate::stop::{Stop, check};
+use crate::faults::of_events;
+use sip_examples::{ID, LOCAL, PEER, Stop, check, message};
 use sip_files::{read_command_line, write_output};
-use sip_message::{Addr, Id, Message, SharedKey, key_of};
+use sip_message::{Message, key_of};
 use sip_round::{Config, Output};
 use sip_served::{CallOut, Item};
 use sip_text::Boxed;
 use sip_transactions::{Kind, Up};
 use std::alloc::Global;
-
-pub const LOCAL: Addr = Addr {
-    ip: [192, 0, 2, 1],
-    port: 5060,
-};
-
-pub const PEER: Addr = Addr {
-    ip: [192, 0, 2, 9],
-    port: 5060,
-};
 
 pub const SEED: [u8; 32] = [0; 32];
 
@@ -27,30 +17,6 @@ pub const CONFIG: Config = Config {
     seed: SEED,
     first: 0,
 };
-
-/// The first event of the first round.
-pub const ID: Id = Id { round: 0, place: 1 };
-
-/// A request that comes to the agent.
-pub const OPTIONS: &[u8] = b"OPTIONS sip:192.0.2.1 SIP/2.0\r
-Via: SIP/2.0/UDP 192.0.2.9;branch=z9hG4bKa1\r
-From: <sip:a@192.0.2.9>;tag=f1\r
-To: <sip:192.0.2.1>\r
-Call-ID: c1\r
-CSeq: 7 OPTIONS\r
-\r
-";
-
-/// Its answer.
-pub const OK: &[u8] = b"SIP/2.0 200 OK\r
-Via: SIP/2.0/UDP 192.0.2.9;branch=z9hG4bKa1\r
-From: <sip:a@192.0.2.9>;tag=f1\r
-To: <sip:192.0.2.1>;tag=000000000000000000000000000000010bee7079f\r
-Call-ID: c1\r
-CSeq: 7 OPTIONS\r
-Content-Length: 0\r
-\r
-";
 
 /// The line of an output file that tells the user of it.
 pub const TOLD: &[u8] =
@@ -80,11 +46,6 @@ From: <sip:a@192.0.2.9>;tag=f1\\r\\n\
 To: <sip:192.0.2.1>;tag=000000000000000000000000000000010bee7079f\\r\\n\
 Call-ID: c1\\r\\nCSeq: 7 OPTIONS\\r\\nContent-Length: 0\\r\\n\\r\\n
 ";
-
-/// The key of the message that a text spells.
-pub fn key_in(alloc: Global, text: &[u8]) -> Result<SharedKey, Stop> {
-    Ok(key_of(alloc, &message(alloc, text)?)?)
-}
 
 /// What a transaction of the first event hands up: a request or a response.
 pub fn up(alloc: Global, text: &[u8]) -> Result<Item, Stop> {

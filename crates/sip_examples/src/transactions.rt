@@ -2,9 +2,9 @@
 
 ghost use Rattle.std.specs.Prelude.{◌≤◌, ◌^◌};
 
-use crate::examples::worked::{ID, OK, OPTIONS, PEER, key_in};
-use crate::messages::{message, token};
+use crate::often::{message, token};
 use crate::stop::{Stop, broken_where, check};
+use crate::worked::{ID, OK, OPTIONS, PEER, key_in};
 use sip_message::{Key, SharedKey};
 use sip_text::Boxed;
 use sip_transactions::{Command, Kind, Out, Shard, ShardFault, State, Up};

@@ -2,8 +2,6 @@
 
 use sip_desk::Unfinished;
 use sip_dialog::DialogFault;
-use sip_files::{EventsFault, ReplayFault};
-use sip_host::HostFault;
 use sip_message::ReadFault;
 use sip_round::RoundFault;
 use sip_text::TextFault;
@@ -134,20 +132,6 @@ impl<T: Drop> From<AllocFailed<T>> for Stop {
     }
 }
 
-impl From<HostFault> for Stop {
-    fn from(fault: HostFault) -> Stop {
-        match fault {
-            HostFault::NoMemory => Stop::NoMemory,
-            HostFault::Round(fault) => Stop::from(fault),
-            HostFault::BadLine
-            | HostFault::BadField(_)
-            | HostFault::TooManyEvents
-            | HostFault::NoSend
-            | HostFault::OutputsLeft => Stop::Different,
-        }
-    }
-}
-
 impl From<sip_timers::NoMemory> for Stop {
     fn from(_error: sip_timers::NoMemory) -> Stop {
         Stop::NoMemory
@@ -204,26 +188,6 @@ impl From<RoundFault> for Stop {
         match fault {
             RoundFault::NoMemory { .. } => Stop::NoMemory,
             _ => Stop::Round(fault),
-        }
-    }
-}
-
-impl From<EventsFault> for Stop {
-    fn from(fault: EventsFault) -> Stop {
-        match fault {
-            EventsFault::NoMemory => Stop::NoMemory,
-            _ => Stop::Script,
-        }
-    }
-}
-
-impl From<ReplayFault> for Stop {
-    fn from(fault: ReplayFault) -> Stop {
-        match fault {
-            ReplayFault::NoMemory
-            | ReplayFault::Events(EventsFault::NoMemory)
-            | ReplayFault::Round(_, RoundFault::NoMemory { .. }) => Stop::NoMemory,
-            _ => Stop::Different,
         }
     }
 }

@@ -1,9 +1,9 @@
 //! Dialogs of both sides, and the messages made in them.
 
-use crate::examples::messages::is_written;
-use crate::examples::worked::{LOCAL, PEER};
-use crate::messages::{message, token};
+use crate::messages::is_written;
+use crate::often::{message, token};
 use crate::stop::{Stop, check};
+use crate::worked::{LOCAL, PEER};
 use sip_dialog::{Branch, Dialog, DialogFault, DialogState};
 use sip_message::{Addr, Content, Message, StatusCode, Uri};
 use sip_text::Text;

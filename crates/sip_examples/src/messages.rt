@@ -1,8 +1,8 @@
 //! Messages: what is made from them, and their text.
 
-use crate::examples::worked::{OK, OPTIONS, key_in};
-use crate::messages::{TAG, message, success_to, token};
+use crate::often::{TAG, message, success_to, token};
 use crate::stop::{Stop, check};
+use crate::worked::{OK, OPTIONS, key_in};
 use sip_message::{
     Addr, Content, ContentHeaders, Cut, First, Header, Key, Message, SharedKey, Spread, Token,
     ack_for, cancel_for, stamp_source, write,
