@@ -29,9 +29,6 @@ round 10
 failed client z9hG4bK000000000000000000000000000000010bee7079f INVITE
 ";
 
-/// A datagram that isn't a message.
-const NO_MESSAGE: &[u8] = b"none";
-
 /// The moments at which the INVITE is retransmitted.
 const REPEATS: [u64; 6] = [500, 1_500, 3_500, 7_500, 15_500, 31_500];
 
@@ -178,43 +175,22 @@ fn placed<R: Threads + Sync>(
     }
 }
 
-// A round with these datagrams.
-fn round_of(alloc: Global, moment: u64, texts: &[&[u8]]) -> Result<Round, Stop> {
-    let mut events = Series::new(alloc);
-    for text in texts {
-        let bytes = Text::copy_of(alloc, text)?;
-        events.push(Event::Datagram { from: PEER, bytes })?;
-    }
-    Ok(Round { moment, events })
-}
-
 // A datagram that isn't a message is the first event, and a request is the second.
 pub fn outputs_have_the_places_of_their_events<R: Threads + Sync>(
     rt: &R,
     alloc: Global,
     agent: &mut Agent<Spread>,
 ) -> Result<(), Stop> {
+    let mut events = Series::new(alloc);
+    for text in [b"none".as_slice(), OPTIONS] {
+        let bytes = Text::copy_of(alloc, text)?;
+        events.push(Event::Datagram { from: PEER, bytes })?;
+    }
     check(agent.next_round() == 0)?;
-    let round = round_of(alloc, 0, &[NO_MESSAGE, OPTIONS])?;
-    let outputs = placed(rt, agent, &round)?;
+    let outputs = placed(rt, agent, &Round { moment: 0, events })?;
     check(are_a_drop_and_a_notice(&outputs) && agent.next_round() == 1)?;
-    a_drop_in_turn(alloc, agent)
-}
-
-// The same without threads, with places and without.
-fn a_drop_in_turn(alloc: Global, agent: &mut Agent<Spread>) -> Result<(), Stop> {
-    let round = round_of(alloc, 10, &[NO_MESSAGE])?;
-    let outputs = agent.run_round_in_turn_with_places(&round)?;
-    check(matches!(
-        outputs.as_slice(),
-        [PlacedOutput {
-            place: 1,
-            output: Output::Dropped { .. }
-        }]
-    ))?;
-    let round = round_of(alloc, 20, &[NO_MESSAGE])?;
-    let outputs = agent.run_round_in_turn(&round)?;
-    check(matches!(outputs.as_slice(), [Output::Dropped { .. }]))
+    let quiet = agent.run_round_in_turn_with_places(&quiet(alloc, 10))?;
+    check(quiet.is_empty())
 }
 
 fn are_a_drop_and_a_notice(outputs: &[PlacedOutput]) -> bool {
