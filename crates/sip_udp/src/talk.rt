@@ -13,7 +13,7 @@ use crate::limit::Limit;
 use crate::listen_plan::ListenPlan;
 use crate::listener::{Flags, Heard, hear};
 use crate::outlet::CountedSocket;
-use crate::pipe::feed;
+use crate::pipe::{PipeLine, feed};
 use crate::piped::Piped;
 use crate::record::Record;
 use crate::turns::{LINE_CAPACITY, Turns};
@@ -148,11 +148,10 @@ pub fn agent<
     notices: &mut W,
     errors: &mut E,
 ) -> Result<(), UaFault> {
-    let (pipe, mut line) = one_line(alloc)?;
     let bell = bell_of(rt, alloc)?;
     let flags = flags_with(alloc, Some(bell.clone()?))?;
     let their_flags = flags.clone()?;
-    let user = Piped::new(alloc, pipe, flags.clone()?, linger);
+    let (user, mut line) = piped(alloc, &flags, linger)?;
     let kind = endpoint.kind;
     let Ok(feeder) = thread::spawn(rt, move || {
         feed(alloc, kind, input, &mut line, their_flags)
@@ -165,6 +164,17 @@ pub fn agent<
     end?;
     feeder.join(rt)?;
     Ok(())
+}
+
+// The user at the line of a pipe, and the poster of that line.
+fn piped(
+    alloc: Global,
+    flags: &Arc<Flags>,
+    linger: u32,
+) -> Result<(Piped, Poster<PipeLine>), UaFault> {
+    let flags = flags.clone()?;
+    let (pipe, line) = one_line(alloc)?;
+    Ok((Piped::new(alloc, pipe, flags, linger), line))
 }
 
 // `sip:ua@` and the local IP.
@@ -200,17 +210,49 @@ fn flags_with(alloc: Global, bell: Option<Arc<Bell>>) -> Result<Arc<Flags>, UaFa
     }
 }
 
-// Starts the listener, takes the turns, and joins and settles the listener.
-fn talk<R: Threads + Clock + Sync, U: User, F: Write + Drop, W: Write, E: Write>(
+// What the thread of the listener gets.
+#[derive(Drop)]
+struct Ears {
+    socket: UdpSocket,
+    buffer: Vec<u8>,
+    line: Poster<Event>,
+    flags: Arc<Flags>,
+}
+
+impl Ears {
+    // The line of the listener, and what its thread gets.
+    fn open(
+        alloc: Global,
+        socket: &UdpSocket,
+        flags: &Arc<Flags>,
+    ) -> Result<(Desk<Event>, Ears), UaFault>
+        ensures { IfOk result (λ made. IsPosterOf made.0 made.1.line) }
+    {
+        let Ok(socket) = listening(socket) else {
+            return Err(UaFault::Socket);
+        };
+        let flags = flags.clone()?;
+        let buffer = vec![in alloc; 0u8; BUFFER]?;
+        let (desk, line) = one_line(alloc)?;
+        let ears = Ears {
+            socket,
+            buffer,
+            line,
+            flags,
+        };
+        Ok((desk, ears))
+    }
+}
+
+// The turns at an endpoint, and its socket.
+fn turns_at<R: Clock, U: User, F: Write + Drop, E: Write>(
     rt: &R,
     alloc: Global,
     endpoint: Endpoint<F>,
     user: U,
     bell: Option<Arc<Bell>>,
-    turns: u64,
-    notices: &mut W,
     errors: &mut E,
-) -> Result<(), UaFault> {
+) -> Result<(Turns<U, F>, UdpSocket), UaFault> {
     let Endpoint {
         socket,
         config,
@@ -222,22 +264,38 @@ fn talk<R: Threads + Clock + Sync, U: User, F: Write + Drop, W: Write, E: Write>
         seconds,
         input,
     } = endpoint;
-    let Ok(theirs) = listening(&socket) else {
-        return Err(UaFault::Socket);
-    };
-    let flags = flags_with(alloc, bell.clone()?)?;
     let record = Record::new(kind, record);
     let limit = Limit::new(seconds, input);
     let drops = tells_drops || user.is_eager();
-    let mut own = Turns::new(
+    let turns = Turns::new(
         rt, alloc, config, division, record, limit, drops, is_counted, user, bell, errors,
     )?;
-    let (mut desk, line) = one_line(alloc)?;
-    let buffer = vec![in alloc; 0u8; BUFFER]?;
-    let their_flags = flags.clone()?;
-    let of_line = OfLine(Snapshot::of(&line));
+    Ok((turns, socket))
+}
+
+// Starts the listener, takes the turns, and joins and settles the listener.
+fn talk<R: Threads + Clock + Sync, U: User, F: Write + Drop, W: Write, E: Write>(
+    rt: &R,
+    alloc: Global,
+    endpoint: Endpoint<F>,
+    user: U,
+    bell: Option<Arc<Bell>>,
+    turns: u64,
+    notices: &mut W,
+    errors: &mut E,
+) -> Result<(), UaFault> {
+    let flags = flags_with(alloc, bell.clone()?)?;
+    let (mut desk, ears) = Ears::open(alloc, &endpoint.socket, &flags)?;
+    let (mut own, socket) = turns_at(rt, alloc, endpoint, user, bell, errors)?;
+    let of_line = OfLine(Snapshot::of(&ears.line));
     let Ok(listener) = thread::spawn_with(rt, of_line, move || {
-        hear(alloc, theirs, buffer, line, their_flags)
+        let Ears {
+            socket,
+            buffer,
+            line,
+            flags,
+        } = ears;
+        hear(alloc, socket, buffer, line, flags)
     }) else {
         return Err(UaFault::Socket);
     };

@@ -6,7 +6,7 @@ use Rattle.sip_udp.proofs.talk.talk.Goals as goal
 
 pub settle-requires : goal.settle-requires
 settle-requires g c =
-    let ends : IfSome c.join-heard.result.end (λ end. IsEndOfLine c.in_ok-desk.line end) =
+    let ends : IfSome c.join-heard.result.end (λ end. IsEndOfLine c.in_ok-desk.ears.line end) =
     search rules in
-    end_of_desk c.in_ok-desk.desk c.take-end.new.desk c.in_ok-desk.line c.join-heard.result.end ends
+    end_of_desk c.in_ok-desk.desk c.take-end.new.desk c.in_ok-desk.ears.line c.join-heard.result.end ends
     c.in_ok-desk.ensures c.take-end.ensures
