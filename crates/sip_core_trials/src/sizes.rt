@@ -1,6 +1,7 @@
 //! Large numbers: of what one shard holds, of shards, of workers, and of events in a round.
 
 use crate::faults::of_events;
+use crate::loads::LIFE;
 use sip_examples::{CONFIG, Load, MOST_SHARDS, MOST_WORKERS, Open, Stop, expect, options_of};
 use sip_files::read_events;
 use sip_message::Spread;
@@ -11,9 +12,6 @@ use std::thread::Threads;
 
 /// How many transactions, and as many calls, are held in one shard.
 const HELD: u64 = 5_000;
-
-/// How long a transaction is held after it is answered, in ms: 64 T1.
-const LIFE: u64 = 32_000;
 
 /// How many requests come in a round with the most shards and workers.
 const REQUESTS: u64 = 1_000;

@@ -1,11 +1,11 @@
 //! Stored cases: the input of `ua`, and what it has to write.
 
+use sip_core_trials::case_names;
 use sip_examples::{Stop, expect, tell};
 use sip_program::{Host, ua};
 use std::alloc::{AllocError, Global};
-use std::fs::{self, DirEntry};
-use std::io;
 use std::thread::Threads;
+use std::{fs, io};
 
 /// The line before the output of a run that doesn't end well.
 const WRITTEN: &[u8] = b"and writes\n";
@@ -30,43 +30,6 @@ pub fn run_cases<T: Threads + Host>(
     }
     tell(rt, &[(names.len() as u64, "cases"), (differ, "differ")])?;
     expect("cases that differ", 0, differ)
-}
-
-// The names of all cases, TOPIC/NAME, in order.
-fn case_names(rt: &HostRuntime, folder: &str) -> io::Result<Vec<String>> {
-    let mut names = Vec::new(rt.alloc());
-    for topic in fs::read_dir(rt, folder)? {
-        push_topic(rt, &topic?, &mut names)?;
-    }
-    names.sort()?;
-    Ok(names)
-}
-
-// Adds the names of the cases of a topic, if it is a folder.
-fn push_topic(
-    rt: &HostRuntime,
-    topic: &DirEntry<HostRuntime>,
-    names: &mut Vec<String>,
-) -> io::Result<()> {
-    if topic.file_type()?.is_dir() {
-        for file in fs::read_dir(rt, topic.path())? {
-            push_name(rt.alloc(), topic.file_name(), file?.file_name(), names)?;
-        }
-    }
-    Ok(())
-}
-
-// Adds the name of the case that has this file as its input.
-fn push_name(
-    alloc: Global,
-    topic: &str,
-    file: &str,
-    names: &mut Vec<String>,
-) -> Result<(), AllocError> {
-    match file.strip_suffix(".events") {
-        Some(name) => Ok(names.push(format!(in alloc; "{topic}/{name}")?)?),
-        None => Ok(()),
-    }
 }
 
 // Whether a case writes what it should; if not, says where it first differs.

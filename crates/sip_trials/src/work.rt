@@ -3,23 +3,14 @@
 use crate::cases::run_cases;
 use crate::devices::run_devices;
 use crate::words::{Asked, Task};
-use sip_core_trials::{LONG, Script, cuts_of, round_by_round, run_example, run_examples, sizes_of};
+use sip_core_trials::{
+    LONG, Script, cuts_of, idle_rounds, large_rounds, round_by_round, run_example, run_examples,
+    sizes_of, transactions,
+};
 use sip_examples::{Load, Stop, answer_often, expect, read_often, tell};
 use sip_program::Host;
-use std::alloc::Global;
 use std::fs;
 use std::thread::Threads;
-
-/// How long a transaction is held after it is answered, in ms: 64 T1.
-const LIFE: u64 = 32_000;
-
-/// How many requests come in a round before the idle ones.
-const REQUESTS_AT_ONCE: u64 = 100;
-
-/// How many requests a large round has, and how many large rounds there may be.
-const REQUESTS_OF_ROUND: u64 = 10_000;
-
-const MOST_ROUNDS: u64 = 999;
 
 /// Does a task, and writes its counts; for cases that differ, also how they differ.
 ///
@@ -37,13 +28,14 @@ pub fn done<T: Threads + Host>(
         Task::Examples => run_examples(rt, threads),
         Task::Example => run_example(rt, threads, asked.text),
         Task::Read | Task::Answer => often(rt, asked.task, asked.text, first),
-        Task::RoundByRound | Task::Cuts => {
-            let script = &Script::read(rt, asked.text, LONG)?;
-            of_script(rt, threads, asked.task, script, first)
+        Task::RoundByRound => {
+            round_by_round(threads, rt.alloc(), &Script::read(rt, asked.text, LONG)?)?;
+            Ok(println!(rt; "right")?)
         }
+        Task::Cuts => cut(rt, threads, asked.text, first),
         Task::Devices => run_devices(rt, threads, asked.text),
         Task::Transactions => served(rt, transactions(threads, rt.alloc(), first, second)?),
-        Task::Idle => served(rt, idle(threads, rt.alloc(), first, second)?),
+        Task::Idle => served(rt, idle_rounds(threads, rt.alloc(), first, second)?),
         Task::Rounds => {
             let load = Load::new(rt.alloc(), size_of(second), size_of(third))?;
             served(rt, large_rounds(threads, load, first)?)
@@ -78,25 +70,17 @@ fn often(rt: &HostRuntime, task: Task, file: &str, times: u64) -> Result<(), Sto
     Ok(tell(rt, &[(count, what), (bytes, "bytes each")])?)
 }
 
-// What is done with a script.
-fn of_script<T: Threads + Host>(
+// Runs the script of a folder in many shards.
+fn cut<R: Threads + Sync>(
     rt: &HostRuntime,
-    threads: &T,
-    task: Task,
-    script: &Script,
+    threads: &R,
+    folder: &str,
     times: u64,
 ) -> Result<(), Stop> {
-    match task {
-        Task::Cuts => {
-            let [runs, differ] = cuts_of(threads, rt.alloc(), script, times)?;
-            tell(rt, &[(runs, "runs of a script"), (differ, "differ")])?;
-            expect("runs that differ", 0, differ)
-        }
-        _ => {
-            round_by_round(threads, rt.alloc(), script)?;
-            Ok(println!(rt; "right")?)
-        }
-    }
+    let script = Script::read(rt, folder, LONG)?;
+    let [runs, differ] = cuts_of(threads, rt.alloc(), &script, times)?;
+    tell(rt, &[(runs, "runs of a script"), (differ, "differ")])?;
+    expect("runs that differ", 0, differ)
 }
 
 // Writes what happened to requests.
@@ -112,64 +96,4 @@ fn served(rt: &HostRuntime, counts: [u64; 5]) -> Result<(), Stop> {
             (rounds, "rounds"),
         ],
     )?)
-}
-
-// One request comes in each round, so fast that `held` are held when the first ends. Then come
-// `more` more, and all end.
-fn transactions<R: Threads + Sync>(
-    rt: &R,
-    alloc: Global,
-    held: u64,
-    more: u64,
-) -> Result<[u64; 5], Stop> {
-    let mut load = Load::new(alloc, 1, 1)?;
-    let count = held.saturating_add(more);
-    for number in 0..count {
-        load.round(rt, moment_of(number, held), 1)?;
-    }
-    let end = moment_of(count, held);
-    load.round(rt, end, 0)?;
-    load.round(rt, end.saturating_add(LIFE), 0)?;
-    load.served(0)
-}
-
-// When the request with this number comes, if `held` requests come while each is held.
-fn moment_of(number: u64, held: u64) -> u64 {
-    number
-        .saturating_mul(LIFE)
-        .checked_div(held)
-        .unwrap_or(u64::MAX)
-}
-
-// `held` requests are answered, and rounds without events pass while they are held.
-fn idle<R: Threads + Sync>(
-    rt: &R,
-    alloc: Global,
-    held: u64,
-    rounds: u64,
-) -> Result<[u64; 5], Stop> {
-    let mut load = Load::new(alloc, 1, 1)?;
-    for _ in 0..held / REQUESTS_AT_ONCE {
-        load.round(rt, 0, REQUESTS_AT_ONCE)?;
-    }
-    load.round(rt, 0, held % REQUESTS_AT_ONCE)?;
-    load.round(rt, 0, 0)?;
-    for number in 0..rounds {
-        load.idle_round(rt, number % LIFE)?;
-    }
-    load.served(held)
-}
-
-// Large rounds. Each ends what the last but one began.
-fn large_rounds<R: Threads + Sync>(rt: &R, mut load: Load, rounds: u64) -> Result<[u64; 5], Stop> {
-    if rounds > MOST_ROUNDS {
-        return Err(Stop::Words);
-    }
-    for number in 0..rounds {
-        load.round(rt, number.saturating_mul(LIFE), REQUESTS_OF_ROUND)?;
-    }
-    let end = rounds.saturating_mul(LIFE);
-    load.round(rt, end, 0)?;
-    load.round(rt, end.saturating_add(LIFE), 0)?;
-    load.served(0)
 }
