@@ -4,7 +4,7 @@ use sip_examples::{Stop, expect};
 use std::alloc::Global;
 use std::io::{self, Read, Write};
 
-/// How often a device is made at most.
+/// How many devices, or outlets, are made at most, of which each fails at a later call.
 pub const MOST_TURNS: u64 = 100_000;
 
 /// A reader and writer of at most `most` bytes at once. Its call with this number, from 0, fails,

@@ -1,7 +1,7 @@
 //! Large numbers: of what one shard holds, of shards, of workers, and of events in a round.
 
 use crate::faults::of_events;
-use crate::loads::LIFE;
+use sip_examples::loads::LIFE;
 use sip_examples::{CONFIG, Load, MOST_SHARDS, MOST_WORKERS, Open, Stop, expect, options_of};
 use sip_files::read_events;
 use sip_message::Spread;

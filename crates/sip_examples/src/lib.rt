@@ -1,12 +1,13 @@
 //! Examples of the layers up to rounds: public calls that take memory, each made once, with its
 //! answer compared. Each example ends as it should, or says that memory ran out and then left
-//! everything as it should be.
+//! everything as it should be. Also messages that are read often, and loads of requests.
 #![tactic(auto)]
 
 pub mod dialogs;
 mod digits;
 pub mod lines;
 mod load;
+pub mod loads;
 pub mod messages;
 mod often;
 mod open;

@@ -3,10 +3,8 @@
 use crate::cases::run_cases;
 use crate::devices::run_devices;
 use crate::words::{Asked, Task};
-use sip_core_trials::{
-    LONG, Script, cuts_of, idle_rounds, large_rounds, round_by_round, run_example, run_examples,
-    sizes_of, transactions,
-};
+use sip_core_trials::{LONG, Script, cuts_of, round_by_round, run_example, run_examples, sizes_of};
+use sip_examples::loads::{idle_rounds, large_rounds, transactions};
 use sip_examples::{Load, Stop, answer_often, expect, read_often, tell};
 use sip_program::Host;
 use std::fs;

@@ -1,7 +1,8 @@
 //! Loads of requests that come in and are answered: one a round, none while some are held, many in
 //! each round.
 
-use sip_examples::{Load, Stop};
+use crate::load::Load;
+use crate::stop::Stop;
 use std::alloc::Global;
 use std::thread::Threads;
 
