@@ -20,10 +20,10 @@ use Rattle.sip_host.specs.declared.holdings.Holdings.{Holdings}
 use Rattle.sip_host.specs.declared.next_output.NextOutput.{NextOutput}
 use Rattle.sip_host.specs.declared.start_length.StartLength.{StartLength}
 use Rattle.sip_host.specs.declared.start_length.StartLength.TheVariants as start
-use Rattle.sip_common.specs.declared.command.ProvisionalSupport.{ProvisionalSupport}
-use Rattle.sip_common.specs.declared.command.ProvisionalSupport.TheVariants as support
-use Rattle.sip_common.specs.declared.command.Reliability.{Reliability}
-use Rattle.sip_common.specs.declared.command.Reliability.TheVariants as reliability
+use Rattle.sip_user.specs.declared.command.ProvisionalSupport.{ProvisionalSupport}
+use Rattle.sip_user.specs.declared.command.ProvisionalSupport.TheVariants as support
+use Rattle.sip_user.specs.declared.command.Reliability.{Reliability}
+use Rattle.sip_user.specs.declared.command.Reliability.TheVariants as reliability
 use Rattle.sip_c.specs.Status.{number_of_answer, number_of_field}
 use Rattle.sip_c.specs.declared.values.Address.{Address}
 use Rattle.sip_c.specs.declared.values.Asked.{Asked}

@@ -1,17 +1,17 @@
 -- An output as C gets it in fields: numbers, and texts one after another.
 use Rattle.std.specs.Prelude.{◌≡◌, ◌⊎◌, ℕ, List, [], ◌++◌, Option, None, Some, IsSomeAnd, length, nat_lt, if◌then◌else◌}
 use Rattle.std.specs.List.{slice_get}
-use Rattle.sip_parts.specs.declared.header_name.HeaderName.{HeaderName}
-use Rattle.sip_parts.specs.declared.header_name.HeaderName.TheVariants as name
+use Rattle.sip_grammar.specs.declared.header_name.HeaderName.{HeaderName}
+use Rattle.sip_grammar.specs.declared.header_name.HeaderName.TheVariants as name
 use Rattle.sip_message.specs.declared.fault.ReadFault.{ReadFault}
 use Rattle.sip_message.specs.declared.fault.ReadFault.TheVariants as read
 use Rattle.sip_message.specs.declared.id.Id.{Id}
 use Rattle.sip_transactions.specs.declared.output.DropReason.{DropReason}
 use Rattle.sip_transactions.specs.declared.output.DropReason.TheVariants.{NotOurs, NoTransaction, Unreadable}
-use Rattle.sip_common.specs.declared.notice.Notice.{Notice}
-use Rattle.sip_common.specs.declared.notice.Notice.TheVariants as notice
-use Rattle.sip_common.specs.OwnCall.{call_of_notice}
-use Rattle.sip_common.specs.Refusal as refusal
+use Rattle.sip_user.specs.declared.notice.Notice.{Notice}
+use Rattle.sip_user.specs.declared.notice.Notice.TheVariants as notice
+use Rattle.sip_user.specs.OwnCall.{call_of_notice}
+use Rattle.sip_user.specs.Refusal as refusal
 use Rattle.sip_round.specs.declared.output.Output.{Output}
 use Rattle.sip_round.specs.declared.output.Output.TheVariants.{Send, Dropped, Notice as Noticed}
 use Rattle.sip_round.specs.declared.output.PlacedOutput.{PlacedOutput}

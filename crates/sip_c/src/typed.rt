@@ -1,14 +1,14 @@
 //! An output as fields: numbers, and texts one after another.
 
 ghost use Rattle.std.specs.Prelude.{◌≡◌, IfOk};
-ghost use Rattle.sip_common.specs.OwnCall.{call_of_notice};
+ghost use Rattle.sip_user.specs.OwnCall.{call_of_notice};
 ghost use Rattle.sip_c.specs.Typed as spec;
 
 use crate::values::{Address, EventId, address_of, id_of};
 use sip_message::{CallId, HeaderName, Id, ReadFault};
 use sip_round::{Output, PlacedOutput};
-use sip_served::Notice;
 use sip_transactions::DropReason;
+use sip_user::Notice;
 use std::alloc::{AllocError, Global};
 
 /// An output: what `Told` says, and the fields that an output of its kind has; all others are zero.

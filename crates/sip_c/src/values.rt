@@ -7,7 +7,7 @@ use crate::status::number_of_field;
 use sip_host::{Holdings, HostFault, NextOutput, StartLength};
 use sip_message::{Addr, Id};
 use sip_round::Config;
-use sip_served::{ProvisionalSupport, Reliability};
+use sip_user::{ProvisionalSupport, Reliability};
 
 /// An IPv4 address and a port.
 #[repr(C)]

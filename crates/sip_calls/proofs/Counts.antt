@@ -10,18 +10,18 @@ use Rattle.sip_message.specs.declared.message.Message.{Message}
 use Rattle.sip_dialog.specs.Fault.{ended_fault}
 use Rattle.sip_dialog.specs.Life.{Accepts, Confirms, Happening, Refreshes, Requests, takes_number}
 use Rattle.sip_dialog.specs.Opening.{contact_uri}
-use Rattle.sip_transactions.specs.declared.output.Kind.{Kind}
-use Rattle.sip_transactions.specs.declared.output.Kind.TheVariants as kind
-use Rattle.sip_common.specs.declared.command.UserCommand.{UserCommand}
-use Rattle.sip_common.specs.declared.command.UserCommand.TheVariants.{Invite, Plain, Request, Respond, Ack, Prack, Cancel}
-use Rattle.sip_common.specs.declared.held_dialog.DialogId.{DialogId}
-use Rattle.sip_common.specs.declared.held_dialog.HeldDialog.{HeldDialog}
-use Rattle.sip_common.specs.declared.item.CallOut.{CallOut}
-use Rattle.sip_common.specs.declared.item.Item.{Item}
-use Rattle.sip_common.specs.declared.item.Item.TheVariants.{Up, User}
-use Rattle.sip_common.specs.Dialogs.{confirms, numbers, refreshes, retargets, takes, happenings_by_request}
-use Rattle.sip_common.specs.Requests.{is_invite}
-use Rattle.sip_common.specs.Sent.{cseqs_in, requests_made, responses_out, sent_in}
+use Rattle.sip_transactions.specs.declared.output.UpKind.{UpKind}
+use Rattle.sip_transactions.specs.declared.output.UpKind.TheVariants as kind
+use Rattle.sip_user.specs.declared.command.UserCommand.{UserCommand}
+use Rattle.sip_user.specs.declared.command.UserCommand.TheVariants.{Invite, Plain, Request, Respond, Ack, Prack, Cancel}
+use Rattle.sip_held_dialogs.specs.declared.held_dialog.DialogId.{DialogId}
+use Rattle.sip_held_dialogs.specs.declared.held_dialog.HeldDialog.{HeldDialog}
+use Rattle.sip_user.specs.declared.item.CallOut.{CallOut}
+use Rattle.sip_user.specs.declared.item.Item.{Item}
+use Rattle.sip_user.specs.declared.item.Item.TheVariants.{Up, User}
+use Rattle.sip_held_dialogs.specs.Dialogs.{confirms, numbers, refreshes, retargets, takes, happenings_by_request}
+use Rattle.sip_held_dialogs.specs.Requests.{is_invite}
+use Rattle.sip_held_dialogs.specs.Sent.{cseqs_in, requests_made, responses_out, sent_in}
 use Rattle.sip_served.specs.declared.held_request.HeldRequest.{HeldRequest}
 use Rattle.sip_served.specs.Happenings.{success_confirms}
 use Rattle.sip_served.specs.State.{has_id}
@@ -128,7 +128,7 @@ reply_none response name held None (Some client) = refl
 reply_none response name held (Some status) (Some client) =
     none_if _ (success_brings client.kind response held) (success_none client.kind response held)
 
-kind_none : (call : Call) (id : Id) (k : Kind) (name : DialogId) (held : HeldDialog)
+kind_none : (call : Call) (id : Id) (k : UpKind) (name : DialogId) (held : HeldDialog)
     → how_many (brought_by_kind call id k name held) ≡ 0
 kind_none call id (kind.Request request reply_to) name held =
     none_if _ (happenings_by_request request held) (visits_none request held)

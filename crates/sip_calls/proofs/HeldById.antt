@@ -4,15 +4,15 @@ use Rattle.std.specs.Prelude.{Option, None, Some, filter, filter_map}
 use Rattle.std.specs.List.{AllByRecursion, cons_option}
 use Rattle.std.specs.List.Sorted.{IsStrictlySortedBy}
 use Rattle.std.specs.declared.cmp.Ordering.TheVariants.{Less}
-use Rattle.sip_model.specs.Machine.{Timed}
+use Rattle.keyed_machine.specs.Machine.{Timed}
 use Rattle.sip_message.specs.declared.id.Id.{Id}
 use Rattle.sip_transactions.specs.Ids.{IdsRise, id_cmp}
-use Rattle.sip_transactions.specs.declared.output.Kind.{Kind}
-use Rattle.sip_transactions.specs.declared.output.Kind.TheVariants as kind
+use Rattle.sip_transactions.specs.declared.output.UpKind.{UpKind}
+use Rattle.sip_transactions.specs.declared.output.UpKind.TheVariants as kind
 use Rattle.sip_transactions.specs.declared.output.Up.{Up as AnUp}
-use Rattle.sip_common.specs.declared.command.UserCommand.{UserCommand}
-use Rattle.sip_common.specs.declared.command.UserCommand.TheVariants.{Invite, Plain as PlainCommand, Request, Respond, Ack, Prack, Cancel}
-use Rattle.sip_common.specs.declared.item.Item.TheVariants.{Up, User}
+use Rattle.sip_user.specs.declared.command.UserCommand.{UserCommand}
+use Rattle.sip_user.specs.declared.command.UserCommand.TheVariants.{Invite, Plain as PlainCommand, Request, Respond, Ack, Prack, Cancel}
+use Rattle.sip_user.specs.declared.item.Item.TheVariants.{Up, User}
 use Rattle.sip_served.specs.declared.held_request.HeldRequest.{HeldRequest}
 use Rattle.sip_served.specs.Arrival.{arrival_of}
 use Rattle.sip_served.specs.Tick.{is_kept_at, request_ticked}
@@ -105,7 +105,7 @@ module _ (now : ℕ) (coming : List Id) where
 -- ---- one input
 
 module _ (calls : Calls) (call : Call) (coming : List Id) where
-  up_rises : (id : Id) (now : ℕ) (up : AnUp) (k : Kind)
+  up_rises : (id : Id) (now : ℕ) (up : AnUp) (k : UpKind)
       → Rises (requests_of call) (cons_option (id_of_kind up.id k) coming)
       → Rises (requests_of (up_taken call (event_of calls id now) up k).0) coming
   up_rises id now up (kind.Request request reply_to) rise =

@@ -1,27 +1,27 @@
 -- Each input of a call: which dialogs it opens and ends, and that each end is told once.
 use Rattle.std.proofs.Common.{◌≡◌, inl, inr, ℕ, ◌+◌, ◌≤◌, Bool, true, false, not, ◌&&◌, ◌||◌, List, [], ◌∷◌, refl, sym, ap, subst, ◌∙◌, arith}
 use Rattle.std.specs.Prelude.{Option, None, Some, is_some}
-use Rattle.sip_model.specs.Machine.{Timed}
+use Rattle.keyed_machine.specs.Machine.{Timed}
 use Rattle.sip_message.specs.declared.id.Id.{Id}
 use Rattle.sip_dialog.specs.Life.{Happening}
 use Rattle.sip_dialog.specs.Opening.{Opening, opened}
-use Rattle.sip_transactions.specs.declared.output.Kind.{Kind}
-use Rattle.sip_transactions.specs.declared.output.Kind.TheVariants as kind
+use Rattle.sip_transactions.specs.declared.output.UpKind.{UpKind}
+use Rattle.sip_transactions.specs.declared.output.UpKind.TheVariants as kind
 use Rattle.sip_transactions.specs.declared.output.Up.{Up as AnUp}
-use Rattle.sip_common.specs.declared.command.UserCommand.{UserCommand}
-use Rattle.sip_common.specs.declared.command.UserCommand.TheVariants.{Invite, Plain as PlainCommand, Request, Respond, Ack, Prack, Cancel}
-use Rattle.sip_common.specs.declared.held_dialog.DialogId.{DialogId}
-use Rattle.sip_common.specs.declared.held_dialog.HeldDialog.{HeldDialog}
-use Rattle.sip_common.specs.declared.item.CallOut.{CallOut}
-use Rattle.sip_common.specs.declared.item.CallOut.TheVariants.{Notice as Tells}
-use Rattle.sip_common.specs.declared.item.Item.TheVariants.{Up, User}
-use Rattle.sip_common.specs.declared.notice.Notice.TheVariants as notice
-use Rattle.sip_common.specs.Dialogs.{Dialogs, dialog_at, is_dialog_id}
-use Rattle.sip_common.specs.Ids.{is_id}
-use Rattle.sip_common.specs.Sent.{name_of_dialog, sent_in}
-use Rattle.sip_common.proofs.EndedDialogs.{Goes, Which, ended_of, goes_as, goes_before, goes_same, left_of, lived_name, names_ended, no_name, none_ends, once}
-use Rattle.sip_common.proofs.Entries.{none_apart}
-use Rattle.sip_common.proofs.Heard.{AreApart, Goes as Went, Life, OpensBy}
+use Rattle.sip_user.specs.declared.command.UserCommand.{UserCommand}
+use Rattle.sip_user.specs.declared.command.UserCommand.TheVariants.{Invite, Plain as PlainCommand, Request, Respond, Ack, Prack, Cancel}
+use Rattle.sip_held_dialogs.specs.declared.held_dialog.DialogId.{DialogId}
+use Rattle.sip_held_dialogs.specs.declared.held_dialog.HeldDialog.{HeldDialog}
+use Rattle.sip_user.specs.declared.item.CallOut.{CallOut}
+use Rattle.sip_user.specs.declared.item.CallOut.TheVariants.{Notice as Tells}
+use Rattle.sip_user.specs.declared.item.Item.TheVariants.{Up, User}
+use Rattle.sip_user.specs.declared.notice.Notice.TheVariants as notice
+use Rattle.sip_held_dialogs.specs.Dialogs.{Dialogs, dialog_at, is_dialog_id}
+use Rattle.sip_held_dialogs.specs.Ids.{is_id}
+use Rattle.sip_held_dialogs.specs.Sent.{name_of_dialog, sent_in}
+use Rattle.sip_held_dialogs.proofs.EndedDialogs.{Goes, Which, ended_of, goes_as, goes_before, goes_same, left_of, lived_name, names_ended, no_name, none_ends, once}
+use Rattle.sip_held_dialogs.proofs.Entries.{none_apart}
+use Rattle.sip_held_dialogs.proofs.Heard.{AreApart, Goes as Went, Life, OpensBy}
 use Rattle.sip_served.specs.Tick.{tick_taken}
 use Rattle.sip_served.proofs.Endings.{ack_goes as server_ack, request_goes as server_request, respond_goes, tick_silent}
 use Rattle.sip_clients.specs.Client.{Side, client_at}
@@ -50,7 +50,7 @@ Step opening ending call taken =
 
 -- ---- what comes up
 
-up_step : (call : Call) (calls : Calls) (id : Id) (now : ℕ) (up : AnUp) (k : Kind)
+up_step : (call : Call) (calls : Calls) (id : Id) (now : ℕ) (up : AnUp) (k : UpKind)
     → AreApart (dialogs_of call) → AreNamed (dialogs_of call)
     → Step (opened_by_kind call up.id k) (ended_by_kind call up.id up.key k) call
     (up_taken call (event_of calls id now) up k)
@@ -72,7 +72,7 @@ up_step call calls id now up kind.Failed apart named =
     (Tells (notice.Failed up.call_id up.id) ∷ []) done.1 refl
     (lost_goes up.id false (client_at up.id call.clients) (side_of call) apart named)
 
-up_sound : (call : Call) (calls : Calls) (id : Id) (now : ℕ) (up : AnUp) (k : Kind)
+up_sound : (call : Call) (calls : Calls) (id : Id) (now : ℕ) (up : AnUp) (k : UpKind)
     → AreSound call.clients
     → AreSound ((up_taken call (event_of calls id now) up k).0).clients
 up_sound call calls id now up (kind.Request request reply_to) sound = sound
@@ -154,7 +154,7 @@ first_sound calls id now (Ack ack) sound = sound
 first_sound calls id now (Prack prack) sound = sound
 first_sound calls id now (Cancel cancel) sound = sound
 
-no_opening : (local : Calls) (id : Id) (k : Kind) (name : DialogId)
+no_opening : (local : Calls) (id : Id) (k : UpKind) (name : DialogId)
     → opened_by_kind (new_call local.local) id k name ≡ false
 no_opening local id (kind.Request request reply_to) name = refl
 no_opening local id (kind.Ack ack) name = refl

@@ -2,8 +2,8 @@
 use Rattle.std.proofs.Common.{◌≡◌, Bool, true, false, not, ◌||◌, ◌==◌, List, [], ◌∷◌, length, nat_lt, refl, sym, ap, ◌∙◌, arith}
 use Rattle.std.specs.Prelude.{None, Some, if◌then◌else◌}
 use Rattle.std.proofs.lemmas.Grind.{common_steps}
-use Rattle.sip_model.proofs.Ordered.{by_bool}
-use Rattle.sip_common.specs.Dialogs.{Dialogs}
+use Rattle.keyed_machine.proofs.Ordered.{by_bool}
+use Rattle.sip_held_dialogs.specs.Dialogs.{Dialogs}
 use Rattle.sip_clients.specs.Client.{Clients}
 use Rattle.sip_calls.specs.declared.call.Call.{Call}
 use Rattle.sip_calls.specs.Call.{kept_call}

@@ -4,22 +4,22 @@ use Rattle.std.proofs.Common.{◌≡◌, ℕ, Bool, true, false, not, List, [], 
 use Rattle.std.specs.Prelude.{Option, None, Some}
 use Rattle.sip_message.specs.declared.id.Id.{Id}
 use Rattle.sip_dialog.specs.Opening.{Opening}
-use Rattle.sip_transactions.specs.declared.output.Kind.{Kind}
-use Rattle.sip_transactions.specs.declared.output.Kind.TheVariants as kind
+use Rattle.sip_transactions.specs.declared.output.UpKind.{UpKind}
+use Rattle.sip_transactions.specs.declared.output.UpKind.TheVariants as kind
 use Rattle.sip_transactions.specs.declared.output.Up.{Up as AnUp}
-use Rattle.sip_common.specs.declared.command.UserCommand.{UserCommand}
-use Rattle.sip_common.specs.declared.command.UserCommand.TheVariants.{Invite, Plain as PlainCommand, Request, Respond, Ack, Prack, Cancel}
-use Rattle.sip_common.specs.declared.held_dialog.DialogId.{DialogId}
-use Rattle.sip_common.specs.declared.held_dialog.HeldDialog.{HeldDialog}
-use Rattle.sip_common.specs.declared.item.CallOut.{CallOut}
-use Rattle.sip_common.specs.declared.item.Item.TheVariants.{Up, User}
-use Rattle.sip_common.specs.declared.notice.Notice.{Notice}
-use Rattle.sip_common.specs.declared.notice.Notice.TheVariants as notice
-use Rattle.sip_common.specs.Dialogs.{Dialogs, dialog_at, is_dialog_id}
-use Rattle.sip_common.specs.Sent.{cseqs_in, number_before, sent_in}
-use Rattle.sip_common.proofs.Entries.{none_apart}
-use Rattle.sip_common.proofs.Heard.{AreApart, Leads, Lives, Moves, leads_filtered, leads_same, moves_as, moves_led, none_came, quiet}
-use Rattle.sip_common.proofs.Starts.{none_sent, numbered_silent, starts}
+use Rattle.sip_user.specs.declared.command.UserCommand.{UserCommand}
+use Rattle.sip_user.specs.declared.command.UserCommand.TheVariants.{Invite, Plain as PlainCommand, Request, Respond, Ack, Prack, Cancel}
+use Rattle.sip_held_dialogs.specs.declared.held_dialog.DialogId.{DialogId}
+use Rattle.sip_held_dialogs.specs.declared.held_dialog.HeldDialog.{HeldDialog}
+use Rattle.sip_user.specs.declared.item.CallOut.{CallOut}
+use Rattle.sip_user.specs.declared.item.Item.TheVariants.{Up, User}
+use Rattle.sip_user.specs.declared.notice.Notice.{Notice}
+use Rattle.sip_user.specs.declared.notice.Notice.TheVariants as notice
+use Rattle.sip_held_dialogs.specs.Dialogs.{Dialogs, dialog_at, is_dialog_id}
+use Rattle.sip_held_dialogs.specs.Sent.{cseqs_in, number_before, sent_in}
+use Rattle.sip_held_dialogs.proofs.Entries.{none_apart}
+use Rattle.sip_held_dialogs.proofs.Heard.{AreApart, Leads, Lives, Moves, leads_filtered, leads_same, moves_as, moves_led, none_came, quiet}
+use Rattle.sip_held_dialogs.proofs.Starts.{none_sent, numbered_silent, starts}
 use Rattle.sip_served.specs.Happenings.{accepts, answer_confirms, answer_opens}
 use Rattle.sip_served.proofs.DialogSteps.{ack_leads as server_ack, request_leads as server_request, respond_moves}
 use Rattle.sip_served.proofs.NoStarts.{kind_starts, respond_starts}
@@ -89,7 +89,7 @@ lost_step call id notice timed_out apart =
     led None (with_outs quiet taken.1) taken.1 (dialogs_of call) (dialogs_of taken.0) sends.leads
     sends.numbered
 
-up_step : (call : Call) (calls : Calls) (id : Id) (now : ℕ) (up : AnUp) (k : Kind)
+up_step : (call : Call) (calls : Calls) (id : Id) (now : ℕ) (up : AnUp) (k : UpKind)
     → AreApart (dialogs_of call) → AreNamed (dialogs_of call)
     → Step (event_of_kind id k) (opening_by_kind call up.id k) (brought_by_kind call up.id k) call
     (up_taken call (event_of calls id now) up k)
@@ -181,7 +181,7 @@ none_held event lives outs =
     led event lives outs [] [] record { apart = none_apart is_dialog_id; stays = λ name. tt }
     (λ name. tt)
 
-no_opening : (local : Calls) (id : Id) (k : Kind)
+no_opening : (local : Calls) (id : Id) (k : UpKind)
     → opening_by_kind (new_call local.local) id k ≡ None
 no_opening local id (kind.Request request reply_to) = refl
 no_opening local id (kind.Ack ack) = refl

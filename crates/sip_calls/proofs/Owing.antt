@@ -2,22 +2,22 @@
 use Rattle.std.proofs.Common.{◌≡◌, inl, inr, ℕ, Bool, true, false, not, List, [], ◌∷◌, refl, sym, ap, subst, ◌∙◌, append-nil}
 use Rattle.std.specs.Prelude.{Option, None, Some, IfSome, if◌then◌else◌}
 use Rattle.std.specs.List.{IsDistinct, cons_option}
-use Rattle.sip_model.specs.Machine.{Timed}
+use Rattle.keyed_machine.specs.Machine.{Timed}
 use Rattle.sip_message.specs.declared.id.Id.{Id}
-use Rattle.sip_transactions.specs.declared.output.Kind.{Kind}
-use Rattle.sip_transactions.specs.declared.output.Kind.TheVariants as kind
+use Rattle.sip_transactions.specs.declared.output.UpKind.{UpKind}
+use Rattle.sip_transactions.specs.declared.output.UpKind.TheVariants as kind
 use Rattle.sip_transactions.specs.declared.output.Up.{Up as AnUp}
-use Rattle.sip_common.specs.declared.command.UserCommand.{UserCommand}
-use Rattle.sip_common.specs.declared.command.UserCommand.TheVariants.{Invite, Plain as PlainCommand, Request, Respond, Ack, Prack, Cancel}
-use Rattle.sip_common.specs.declared.pending_request.PendingRequest.{PendingRequest}
-use Rattle.sip_common.specs.declared.held_dialog.DialogId.{DialogId}
-use Rattle.sip_common.specs.declared.held_dialog.HeldDialog.{HeldDialog}
-use Rattle.sip_common.specs.declared.item.CallOut.{CallOut}
-use Rattle.sip_common.specs.declared.item.Item.TheVariants.{Up, User}
-use Rattle.sip_common.specs.Dialogs.{Dialogs, dialog_at}
-use Rattle.sip_common.specs.Ids.{is_id}
-use Rattle.sip_common.proofs.Heard.{AreApart, id_laws}
-use Rattle.sip_common.proofs.Owing.{OweSame, Owes, filtered_same, owes_as, same_owed, unchanged}
+use Rattle.sip_user.specs.declared.command.UserCommand.{UserCommand}
+use Rattle.sip_user.specs.declared.command.UserCommand.TheVariants.{Invite, Plain as PlainCommand, Request, Respond, Ack, Prack, Cancel}
+use Rattle.sip_held_dialogs.specs.declared.pending_request.PendingRequest.{PendingRequest}
+use Rattle.sip_held_dialogs.specs.declared.held_dialog.DialogId.{DialogId}
+use Rattle.sip_held_dialogs.specs.declared.held_dialog.HeldDialog.{HeldDialog}
+use Rattle.sip_user.specs.declared.item.CallOut.{CallOut}
+use Rattle.sip_user.specs.declared.item.Item.TheVariants.{Up, User}
+use Rattle.sip_held_dialogs.specs.Dialogs.{Dialogs, dialog_at}
+use Rattle.sip_held_dialogs.specs.Ids.{is_id}
+use Rattle.sip_held_dialogs.proofs.Heard.{AreApart, id_laws}
+use Rattle.sip_held_dialogs.proofs.Owing.{OweSame, Owes, filtered_same, owes_as, same_owed, unchanged}
 use Rattle.sip_served.proofs.Owing.{ack_same, request_same, respond_owes}
 use Rattle.sip_clients.specs.Client.{Side, client_at}
 use Rattle.sip_clients.specs.Tick.{ends_early_at}
@@ -50,7 +50,7 @@ same_to : (event : Option Id) (before after : Dialogs) → OweSame before after
     → OwesTo event (λ name. unchanged) before after
 same_to event before after same name = inl (same name)
 
-up_owes : (call : Call) (calls : Calls) (id : Id) (now : ℕ) (up : AnUp) (k : Kind)
+up_owes : (call : Call) (calls : Calls) (id : Id) (now : ℕ) (up : AnUp) (k : UpKind)
     → AreApart (dialogs_of call) → AreNamed (dialogs_of call)
     → let taken = up_taken call (event_of calls id now) up k in
     OwesTo (event_of_kind id k) (λ name. owed_by_kind call up.id k name taken.1) (dialogs_of call)
@@ -98,7 +98,7 @@ command_owes call calls id now (Cancel cancel) apart named name =
     same_to (Some id) (dialogs_of call) (dialogs_of call) (same_owed (dialogs_of call)) name
 
 -- if nothing was held, nothing is told of a response
-none_owed : (local : Calls) (id : Id) (k : Kind) (name : DialogId) (outs : List CallOut)
+none_owed : (local : Calls) (id : Id) (k : UpKind) (name : DialogId) (outs : List CallOut)
     (pending_requests : List PendingRequest) → owed_by_kind (new_call local.local) id k name outs
     pending_requests ≡ pending_requests
 none_owed local id (kind.Request request reply_to) name outs pending_requests = refl

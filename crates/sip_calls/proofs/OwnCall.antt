@@ -2,24 +2,24 @@
 use Rattle.std.proofs.Common.{◌≡◌, ℕ, Bool, true, false, List, [], ◌∷◌, subst, sym}
 use Rattle.std.specs.Prelude.{Option, None, Some}
 use Rattle.std.specs.List.{AllByRecursion}
-use Rattle.sip_model.specs.Machine.{Timed, adds, next, outputs_from, state_from}
-use Rattle.sip_model.proofs.Ordered.{by_bool}
+use Rattle.keyed_machine.specs.Machine.{Timed, adds, next, outputs_from, state_from}
+use Rattle.keyed_machine.proofs.Ordered.{by_bool}
 use Rattle.sip_message.specs.declared.addr.Addr.{Addr}
 use Rattle.sip_message.specs.declared.id.Id.{Id}
-use Rattle.sip_transactions.specs.declared.output.Kind.{Kind}
-use Rattle.sip_transactions.specs.declared.output.Kind.TheVariants as kind
+use Rattle.sip_transactions.specs.declared.output.UpKind.{UpKind}
+use Rattle.sip_transactions.specs.declared.output.UpKind.TheVariants as kind
 use Rattle.sip_transactions.specs.declared.output.Up.{Up as AnUp}
-use Rattle.sip_common.specs.declared.command.UserCommand.{UserCommand}
-use Rattle.sip_common.specs.declared.command.UserCommand.TheVariants.{Invite, Plain, Request, Respond, Ack, Prack, Cancel}
-use Rattle.sip_common.specs.declared.item.CallOut.TheVariants.{Notice}
-use Rattle.sip_common.specs.declared.item.Item.TheVariants.{Up, User}
-use Rattle.sip_common.specs.declared.notice.Notice.{Notice as ANotice}
-use Rattle.sip_common.specs.declared.notice.Notice.TheVariants as notice
-use Rattle.sip_common.specs.Command.{call_of_command}
-use Rattle.sip_common.specs.OwnCall.{IsKindOf}
+use Rattle.sip_user.specs.declared.command.UserCommand.{UserCommand}
+use Rattle.sip_user.specs.declared.command.UserCommand.TheVariants.{Invite, Plain, Request, Respond, Ack, Prack, Cancel}
+use Rattle.sip_user.specs.declared.item.CallOut.TheVariants.{Notice}
+use Rattle.sip_user.specs.declared.item.Item.TheVariants.{Up, User}
+use Rattle.sip_user.specs.declared.notice.Notice.{Notice as ANotice}
+use Rattle.sip_user.specs.declared.notice.Notice.TheVariants as notice
+use Rattle.sip_user.specs.Command.{call_of_command}
+use Rattle.sip_user.specs.OwnCall.{IsKindOf}
 use Rattle.sip_served.specs.State.{ServedTaken}
 use Rattle.sip_served.specs.Tick as served
-use Rattle.sip_common.proofs.Each.{both}
+use Rattle.sip_held_dialogs.proofs.Each.{both}
 use Rattle.sip_served.proofs.OwnCall as server
 use Rattle.sip_clients.specs.Cancel.{cancel_by_user}
 use Rattle.sip_clients.specs.Client.{Side, ClientTaken}
@@ -90,13 +90,13 @@ module _ (call_id : List ℕ) where
       (λ call. by_clients call (request_lost id timed_out (side_of call))) (own, (its, tt))
       (λ call own. clients_own call (request_lost id timed_out) own (lost_own call_id id timed_out))
 
-  served_own : (call : Call) (event : Event) (up : AnUp) (k : Kind) → up.call_id ≡ call_id
+  served_own : (call : Call) (event : Event) (up : AnUp) (k : UpKind) → up.call_id ≡ call_id
       → IsKindOf call_id k → AreSidesOf call_id call → IsDoneOf (served_taken call event up k)
   served_own call event up k its of_kind own =
       server_own call _ own (server.kind_is call_id call.served (made_tag event) up k event.moment
       its of_kind own.state)
 
-  up_own : (call : Call) (event : Event) (up : AnUp) (k : Kind) → up.call_id ≡ call_id
+  up_own : (call : Call) (event : Event) (up : AnUp) (k : UpKind) → up.call_id ≡ call_id
       → IsKindOf call_id k → AreSidesOf call_id call → IsDoneOf (up_taken call event up k)
   up_own call event up (kind.Request request reply_to) its of_kind own =
       served_own call event up (kind.Request request reply_to) its of_kind own

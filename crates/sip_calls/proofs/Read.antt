@@ -5,18 +5,18 @@ use Rattle.std.specs.Prelude.{Option, None, Some, IfSome, filter, filter_map, fi
 use Rattle.std.specs.List.{IsDistinct, cons_option, flat_map}
 use Rattle.std.specs.Map.{values_of}
 use Rattle.std.proofs.lemmas.Map.Keys.{IsDistinct-head}
-use Rattle.sip_model.specs.Machine.{Timed}
+use Rattle.keyed_machine.specs.Machine.{Timed}
 use Rattle.sip_message.specs.declared.id.Id.{Id}
-use Rattle.sip_transactions.specs.declared.output.Kind.{Kind}
-use Rattle.sip_transactions.specs.declared.output.Kind.TheVariants as kind
+use Rattle.sip_transactions.specs.declared.output.UpKind.{UpKind}
+use Rattle.sip_transactions.specs.declared.output.UpKind.TheVariants as kind
 use Rattle.sip_transactions.specs.declared.output.Up.{Up as AnUp}
-use Rattle.sip_common.specs.declared.command.UserCommand.{UserCommand}
-use Rattle.sip_common.specs.declared.command.UserCommand.TheVariants.{Invite, Plain as PlainCommand, Request, Respond, Ack, Prack, Cancel}
-use Rattle.sip_common.specs.declared.item.CallOut.{CallOut}
-use Rattle.sip_common.specs.declared.item.Item.TheVariants.{Up, User}
-use Rattle.sip_common.specs.declared.held_dialog.HeldDialog.{HeldDialog}
-use Rattle.sip_common.specs.Dialogs.{Dialogs, early_ended, ended_notice, is_early_of}
-use Rattle.sip_common.specs.Ids.{is_id}
+use Rattle.sip_user.specs.declared.command.UserCommand.{UserCommand}
+use Rattle.sip_user.specs.declared.command.UserCommand.TheVariants.{Invite, Plain as PlainCommand, Request, Respond, Ack, Prack, Cancel}
+use Rattle.sip_user.specs.declared.item.CallOut.{CallOut}
+use Rattle.sip_user.specs.declared.item.Item.TheVariants.{Up, User}
+use Rattle.sip_held_dialogs.specs.declared.held_dialog.HeldDialog.{HeldDialog}
+use Rattle.sip_held_dialogs.specs.Dialogs.{Dialogs, early_ended, ended_notice, is_early_of}
+use Rattle.sip_held_dialogs.specs.Ids.{is_id}
 use Rattle.sip_served.specs.declared.held_request.HeldRequest.{HeldRequest}
 use Rattle.sip_served.specs.Arrival.{arrival_of}
 use Rattle.sip_served.specs.State.{has_id}
@@ -153,7 +153,7 @@ module _ {X : Type 0} (none : X) (read : HeldRequest → X) (by : Id → X → C
         subst (λ requests. Step was ids requests) same
         record { sound = sound; says = says_still none read (requests_of call) said says }
 
-    up_step : (id : Id) (now : ℕ) (up : AnUp) (k : Kind) (ids : List Id)
+    up_step : (id : Id) (now : ℕ) (up : AnUp) (k : UpKind) (ids : List Id)
         → IsDistinct is_id (cons_option (id_of_kind up.id k) ids)
         → Sound (requests_of call) (cons_option (id_of_kind up.id k) ids)
         → Step (λ invite. if kind_is_about k

@@ -4,21 +4,21 @@ use Rattle.std.specs.Prelude.{Option, None, Some, filter, find}
 use Rattle.std.specs.Map.{values_of}
 use Rattle.std.specs.List.{list_any}
 use Rattle.std.specs.Option.{option_and_then}
-use Rattle.sip_common.specs.declared.item.Item.TheVariants.{User}
+use Rattle.sip_user.specs.declared.item.Item.TheVariants.{User}
 use Rattle.std.proofs.lemmas.Bool.{false≢true}
 use Rattle.sip_message.specs.declared.id.Id.{Id}
 use Rattle.sip_message.specs.declared.message.Message.{Message}
-use Rattle.sip_common.specs.Command.{call_of_command}
-use Rattle.sip_common.specs.Dialogs.{Dialogs, is_early_of}
+use Rattle.sip_user.specs.Command.{call_of_command}
+use Rattle.sip_held_dialogs.specs.Dialogs.{Dialogs, is_early_of}
 use Rattle.sip_served.specs.Respond.{by_refusal, by_request, confirms_dialog, dialogs_answered, makes_dialog, refusal_for, rejects, respond_taken}
 use Rattle.sip_served.specs.State.{State, has_id}
-use Rattle.sip_common.specs.declared.command.Plain.{Plain as APlain}
-use Rattle.sip_common.specs.declared.command.Respond.{Respond as ARespond}
-use Rattle.sip_common.specs.declared.command.UserCommand.{UserCommand}
-use Rattle.sip_common.specs.declared.command.UserCommand.TheVariants.{Invite, Plain, Request, Respond, Ack, Prack, Cancel}
+use Rattle.sip_user.specs.declared.command.Plain.{Plain as APlain}
+use Rattle.sip_user.specs.declared.command.Respond.{Respond as ARespond}
+use Rattle.sip_user.specs.declared.command.UserCommand.{UserCommand}
+use Rattle.sip_user.specs.declared.command.UserCommand.TheVariants.{Invite, Plain, Request, Respond, Ack, Prack, Cancel}
 use Rattle.sip_served.specs.declared.held_request.HeldRequest.{HeldRequest}
-use Rattle.sip_common.specs.declared.refusal.Refusal.{Refusal}
-use Rattle.sip_common.specs.declared.refusal.Refusal.TheVariants.{BadMethod, CallInUse, NoSuchCall, NoSuchRequest}
+use Rattle.sip_user.specs.declared.refusal.Refusal.{Refusal}
+use Rattle.sip_user.specs.declared.refusal.Refusal.TheVariants.{BadMethod, CallInUse, NoSuchCall, NoSuchRequest}
 use Rattle.sip_clients.specs.Client.{ClientTaken}
 use Rattle.sip_clients.specs.Cancel.{cancel_by_user}
 use Rattle.sip_clients.specs.Clients.{ack_by_user, prack_by_user, request_by_user}

@@ -3,23 +3,23 @@ use Rattle.std.proofs.Common.{◌≡◌, ℕ, ◌≤◌, Bool, true, false, cond
 use Rattle.std.specs.Prelude.{Option, None, Some, count_by}
 use Rattle.std.proofs.lemmas.List.Elements.{filter_map-append}
 use Rattle.sip_message.specs.declared.id.Id.{Id}
-use Rattle.sip_transactions.specs.declared.output.Kind.{Kind}
-use Rattle.sip_transactions.specs.declared.output.Kind.TheVariants as kind
+use Rattle.sip_transactions.specs.declared.output.UpKind.{UpKind}
+use Rattle.sip_transactions.specs.declared.output.UpKind.TheVariants as kind
 use Rattle.sip_transactions.specs.declared.output.Up.{Up as AnUp}
-use Rattle.sip_common.specs.declared.command.UserCommand.{UserCommand}
-use Rattle.sip_common.specs.declared.command.UserCommand.TheVariants.{Invite, Plain, Request, Respond, Ack, Prack, Cancel}
-use Rattle.sip_common.specs.declared.item.CallOut.{CallOut}
-use Rattle.sip_common.specs.declared.item.Item.{Item}
-use Rattle.sip_common.specs.declared.item.Item.TheVariants.{Up, User}
+use Rattle.sip_user.specs.declared.command.UserCommand.{UserCommand}
+use Rattle.sip_user.specs.declared.command.UserCommand.TheVariants.{Invite, Plain, Request, Respond, Ack, Prack, Cancel}
+use Rattle.sip_user.specs.declared.item.CallOut.{CallOut}
+use Rattle.sip_user.specs.declared.item.Item.{Item}
+use Rattle.sip_user.specs.declared.item.Item.TheVariants.{Up, User}
 use Rattle.sip_served.specs.Run.{Takes, Ticks}
-use Rattle.sip_common.specs.Notices.{request_told_by}
+use Rattle.sip_user.specs.Notices.{request_told_by}
 use Rattle.sip_served.specs.ForUser.{is_request}
-use Rattle.sip_common.specs.Ids.{is_id}
+use Rattle.sip_held_dialogs.specs.Ids.{is_id}
 use Rattle.sip_served.specs.Tick as served
 use Rattle.sip_served.proofs.Shows.{told_often}
 use Rattle.sip_clients.specs.Tick as clients
 use Rattle.sip_clients.specs.declared.event.Event.{Event}
-use Rattle.sip_common.proofs.ToldRequests.{shown as asked_in}
+use Rattle.sip_held_dialogs.proofs.ToldRequests.{shown as asked_in}
 use Rattle.sip_clients.proofs.NoRequests.{ack_command_asks, cancel_asks, invite_asks, lost_asks, plain_asks, prack_command_asks, request_asks, response_asks, tick_asks}
 use Rattle.sip_calls.specs.declared.call.Call.{Call}
 use Rattle.sip_calls.specs.declared.calls.Calls.{Calls}
@@ -50,10 +50,10 @@ module _ (id : Id) where
   -- ---- what comes up
 
   -- what is handed up, as an event of the server side
-  abbrev with_kind : AnUp → Kind → Item
+  abbrev with_kind : AnUp → UpKind → Item
   with_kind up k = Up (record up { kind = k })
 
-  up_few : (call : Call) (event : Event) (up : AnUp) (k : Kind)
+  up_few : (call : Call) (event : Event) (up : AnUp) (k : UpKind)
       → Few (up_taken call event up k).1 (is_request k (is_id id up.id))
   up_few call event up (kind.Request request reply_to) =
       let item = with_kind up (kind.Request request reply_to) in

@@ -1,15 +1,15 @@
 -- The rules of a call say the same as the steps of its code.
 use Rattle.std.proofs.Common.{◌≡◌, ℕ, Bool, true, false, List, [], ◌∷◌, ◌++◌, Option, Some, None, refl, ap, ◌∙◌}
 use Rattle.sip_message.specs.declared.id.Id.{Id}
-use Rattle.sip_transactions.specs.declared.output.Kind.{Kind}
-use Rattle.sip_transactions.specs.declared.output.Kind.TheVariants as kind
+use Rattle.sip_transactions.specs.declared.output.UpKind.{UpKind}
+use Rattle.sip_transactions.specs.declared.output.UpKind.TheVariants as kind
 use Rattle.sip_transactions.specs.declared.output.Up.{Up as AnUp}
-use Rattle.sip_common.specs.declared.command.UserCommand.{UserCommand}
-use Rattle.sip_common.specs.declared.command.UserCommand.TheVariants.{Invite, Plain, Request, Respond, Ack, Prack, Cancel}
-use Rattle.sip_common.specs.declared.item.Item.TheVariants.{Up, User}
-use Rattle.sip_common.specs.declared.item.CallOut.TheVariants.{Notice}
-use Rattle.sip_common.specs.declared.notice.Notice.{Notice as ANotice}
-use Rattle.sip_common.specs.declared.notice.Notice.TheVariants.{Timeout, Failed}
+use Rattle.sip_user.specs.declared.command.UserCommand.{UserCommand}
+use Rattle.sip_user.specs.declared.command.UserCommand.TheVariants.{Invite, Plain, Request, Respond, Ack, Prack, Cancel}
+use Rattle.sip_user.specs.declared.item.Item.TheVariants.{Up, User}
+use Rattle.sip_user.specs.declared.item.CallOut.TheVariants.{Notice}
+use Rattle.sip_user.specs.declared.notice.Notice.{Notice as ANotice}
+use Rattle.sip_user.specs.declared.notice.Notice.TheVariants.{Timeout, Failed}
 use Rattle.sip_served.proofs.ArrivalRules.{kind_same}
 use Rattle.sip_served.proofs.ResponseRules.{respond_same}
 use Rattle.sip_clients.specs.Client.{ClientTaken}
@@ -30,7 +30,7 @@ same_loss call id notice timed_out =
     ap (λ (taken : ClientTaken). let after = by_clients call taken in
     (after.0, Notice notice ∷ after.1)) (lost_same id timed_out (side_of call))
 
-same_up : (call : Call) (event : Event) (up : AnUp) (k : Kind)
+same_up : (call : Call) (event : Event) (up : AnUp) (k : UpKind)
     → received call event up k ≡ up_taken call event up k
 same_up call event up (kind.Request request reply_to) =
     ap (by_server call) (kind_same call.served (made_tag event) up (kind.Request request reply_to)

@@ -4,23 +4,23 @@ use Rattle.std.specs.Prelude.{ℕ, Bool, true, false, List, [], ◌∷◌, ◌++
 use Rattle.std.specs.Option.{option_map_or}
 use Rattle.sip_message.specs.declared.addr.Addr.{Addr}
 use Rattle.sip_message.specs.declared.id.Id.{Id}
-use Rattle.sip_model.specs.Machine.{Machine, Timed}
+use Rattle.keyed_machine.specs.Machine.{Machine, Timed}
 use Rattle.sip_timers.specs.Earlier.{earlier}
-use Rattle.sip_transactions.specs.declared.output.Kind.{Kind}
-use Rattle.sip_transactions.specs.declared.output.Kind.TheVariants as kind
+use Rattle.sip_transactions.specs.declared.output.UpKind.{UpKind}
+use Rattle.sip_transactions.specs.declared.output.UpKind.TheVariants as kind
 use Rattle.sip_transactions.specs.declared.output.Up.{Up as AnUp}
-use Rattle.sip_common.specs.Command.{call_of_command}
-use Rattle.sip_common.specs.Notices.{refused}
-use Rattle.sip_common.specs.declared.command.UserCommand.{UserCommand}
-use Rattle.sip_common.specs.declared.command.UserCommand.TheVariants.{Invite, Plain, Request, Respond, Ack, Prack, Cancel}
-use Rattle.sip_common.specs.declared.item.Item.{Item}
-use Rattle.sip_common.specs.declared.item.Item.TheVariants.{Up, User}
-use Rattle.sip_common.specs.declared.item.CallOut.{CallOut}
-use Rattle.sip_common.specs.declared.item.CallOut.TheVariants.{Notice}
-use Rattle.sip_common.specs.declared.notice.Notice.{Notice as ANotice}
-use Rattle.sip_common.specs.declared.notice.Notice.TheVariants.{Timeout, Failed}
-use Rattle.sip_common.specs.declared.refusal.Refusal.{Refusal}
-use Rattle.sip_common.specs.declared.refusal.Refusal.TheVariants.{CallInUse, NoSuchCall}
+use Rattle.sip_user.specs.Command.{call_of_command}
+use Rattle.sip_user.specs.Notices.{refused}
+use Rattle.sip_user.specs.declared.command.UserCommand.{UserCommand}
+use Rattle.sip_user.specs.declared.command.UserCommand.TheVariants.{Invite, Plain, Request, Respond, Ack, Prack, Cancel}
+use Rattle.sip_user.specs.declared.item.Item.{Item}
+use Rattle.sip_user.specs.declared.item.Item.TheVariants.{Up, User}
+use Rattle.sip_user.specs.declared.item.CallOut.{CallOut}
+use Rattle.sip_user.specs.declared.item.CallOut.TheVariants.{Notice}
+use Rattle.sip_user.specs.declared.notice.Notice.{Notice as ANotice}
+use Rattle.sip_user.specs.declared.notice.Notice.TheVariants.{Timeout, Failed}
+use Rattle.sip_user.specs.declared.refusal.Refusal.{Refusal}
+use Rattle.sip_user.specs.declared.refusal.Refusal.TheVariants.{CallInUse, NoSuchCall}
 use Rattle.sip_served.specs.State.{empty_at}
 use Rattle.sip_served.specs.Rules.Arrivals.{server_received}
 use Rattle.sip_served.specs.Rules.Responses.{respond_command}
@@ -72,7 +72,7 @@ transaction_lost call id notice timed_out =
 
 -- What comes up from a transaction: a response is for the client side, a request or an ACK (the
 -- last case) for the server side.
-abbrev pub received : Call → Event → AnUp → Kind → CallTaken
+abbrev pub received : Call → Event → AnUp → UpKind → CallTaken
 received call event up (kind.Response response) =
     by_clients call (response_received event up.id up.call_id response (side_of call))
 received call event up kind.Timeout = transaction_lost call up.id (Timeout up.call_id up.id) true

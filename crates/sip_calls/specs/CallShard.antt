@@ -3,10 +3,10 @@ use Rattle.std.specs.Prelude.{ℕ, List}
 use Rattle.std.specs.Ordering.{nat_cmp}
 use Rattle.std.specs.Cmp.Lexicographic.{slice_cmp}
 use Rattle.std.specs.declared.cmp.Ordering.{Ordering}
-use Rattle.sip_model.specs.Machine.{Timed, given_at}
+use Rattle.keyed_machine.specs.Machine.{Timed, given_at}
 use Rattle.sip_message.specs.declared.id.Id.{Id}
-use Rattle.sip_model.specs.Table.{Held}
-use Rattle.sip_common.specs.declared.item.Item.{Item}
+use Rattle.keyed_machine.specs.Table.{Held}
+use Rattle.sip_user.specs.declared.item.Item.{Item}
 use Rattle.sip_calls.specs.Call.{CallItem}
 use Rattle.sip_calls.specs.declared.call.Call.{Call}
 use Rattle.sip_calls.specs.declared.calls.Calls.{Calls}

@@ -2,17 +2,17 @@
 -- and what happened to it since (RFC 3261, sections 9.1, 13.2.2.4 and 17.1.1; RFC 3262, section 4).
 use Rattle.std.specs.Prelude.{◌≡◌, ℕ, List, [], ◌∷◌, ◌++◌, Option, None, Some}
 use Rattle.std.specs.List.{AllByRecursion}
-use Rattle.sip_model.specs.Machine.{Timed}
+use Rattle.keyed_machine.specs.Machine.{Timed}
 use Rattle.sip_message.specs.declared.id.Id.{Id}
-use Rattle.sip_transactions.specs.declared.output.Kind.{Kind}
-use Rattle.sip_transactions.specs.declared.output.Kind.TheVariants as kind
+use Rattle.sip_transactions.specs.declared.output.UpKind.{UpKind}
+use Rattle.sip_transactions.specs.declared.output.UpKind.TheVariants as kind
 use Rattle.sip_transactions.specs.declared.output.Up.{Up as AnUp}
-use Rattle.sip_common.specs.declared.command.UserCommand.{UserCommand}
-use Rattle.sip_common.specs.declared.command.UserCommand.TheVariants.{Invite, Plain, Request, Respond, Ack, Prack, Cancel}
-use Rattle.sip_common.specs.declared.held_dialog.DialogId.{DialogId}
-use Rattle.sip_common.specs.declared.item.CallOut.{CallOut}
-use Rattle.sip_common.specs.declared.item.Item.{Item}
-use Rattle.sip_common.specs.declared.item.Item.TheVariants.{Up, User}
+use Rattle.sip_user.specs.declared.command.UserCommand.{UserCommand}
+use Rattle.sip_user.specs.declared.command.UserCommand.TheVariants.{Invite, Plain, Request, Respond, Ack, Prack, Cancel}
+use Rattle.sip_held_dialogs.specs.declared.held_dialog.DialogId.{DialogId}
+use Rattle.sip_user.specs.declared.item.CallOut.{CallOut}
+use Rattle.sip_user.specs.declared.item.Item.{Item}
+use Rattle.sip_user.specs.declared.item.Item.TheVariants.{Up, User}
 use Rattle.sip_clients.specs.Answers.{ack_of}
 use Rattle.sip_clients.specs.Client.{Side}
 use Rattle.sip_clients.specs.ClientLife.{ClientHappening, Outgoing, SendsAckAgain, SendsCancel}
@@ -31,7 +31,7 @@ use Rattle.sip_calls.specs.Provisionals.{side_held}
 -- ---- one input
 
 -- the stories after what comes up from a transaction, by what the call gives
-abbrev pub told_by_kind : Side → Event → AnUp → Kind → List CallOut → ClientStories
+abbrev pub told_by_kind : Side → Event → AnUp → UpKind → List CallOut → ClientStories
     → ClientStories
 told_by_kind side event up (kind.Response response) outs stories =
     response_told event up.id response side outs stories

@@ -1,6 +1,6 @@
 -- The order in which the requests of a call are held, for all its inputs.
 use Rattle.std.specs.Prelude.{List, None, filter_map, map}
-use Rattle.sip_model.specs.Machine.{Timed}
+use Rattle.keyed_machine.specs.Machine.{Timed}
 use Rattle.sip_transactions.specs.Ids.{IdsRise}
 use Rattle.sip_calls.specs.declared.calls.Calls.{Calls}
 use Rattle.sip_calls.specs.Call.{CallItem}

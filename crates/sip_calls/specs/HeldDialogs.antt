@@ -4,25 +4,25 @@ use Rattle.std.specs.Prelude.{◌≡◌, ℕ, ◌+◌, ◌≤◌, Bool, true, fa
 use Rattle.std.specs.List.{list_any}
 use Rattle.std.specs.Option.{option_map_or}
 use Rattle.std.specs.Str.{bytes_eq}
-use Rattle.sip_model.specs.Machine.{Timed}
+use Rattle.keyed_machine.specs.Machine.{Timed}
 use Rattle.sip_message.specs.declared.id.Id.{Id}
 use Rattle.sip_message.specs.declared.key.Key.{Key}
 use Rattle.sip_message.specs.declared.message.Message.{Message}
-use Rattle.sip_transactions.specs.declared.output.Kind.{Kind}
-use Rattle.sip_transactions.specs.declared.output.Kind.TheVariants as kind
-use Rattle.sip_common.specs.declared.command.UserCommand.{UserCommand}
-use Rattle.sip_common.specs.declared.command.UserCommand.TheVariants.{Request, Respond}
-use Rattle.sip_common.specs.declared.held_dialog.DialogId.{DialogId}
-use Rattle.sip_common.specs.declared.held_dialog.HeldDialog.{HeldDialog}
-use Rattle.sip_common.specs.declared.item.CallOut.{CallOut}
-use Rattle.sip_common.specs.declared.item.CallOut.TheVariants.{Notice}
-use Rattle.sip_common.specs.declared.item.Item.{Item}
-use Rattle.sip_common.specs.declared.item.Item.TheVariants.{Up, User}
-use Rattle.sip_common.specs.declared.notice.Notice.TheVariants.{Ended}
-use Rattle.sip_common.specs.Dialogs.{dialog_at, is_early_of, is_dialog_id}
-use Rattle.sip_common.specs.Ids.{is_id}
-use Rattle.sip_common.specs.Requests.{is_final, has_to_tag, dialog_id_of_tags}
-use Rattle.sip_common.specs.Sent.{cseqs_in}
+use Rattle.sip_transactions.specs.declared.output.UpKind.{UpKind}
+use Rattle.sip_transactions.specs.declared.output.UpKind.TheVariants as kind
+use Rattle.sip_user.specs.declared.command.UserCommand.{UserCommand}
+use Rattle.sip_user.specs.declared.command.UserCommand.TheVariants.{Request, Respond}
+use Rattle.sip_held_dialogs.specs.declared.held_dialog.DialogId.{DialogId}
+use Rattle.sip_held_dialogs.specs.declared.held_dialog.HeldDialog.{HeldDialog}
+use Rattle.sip_user.specs.declared.item.CallOut.{CallOut}
+use Rattle.sip_user.specs.declared.item.CallOut.TheVariants.{Notice}
+use Rattle.sip_user.specs.declared.item.Item.{Item}
+use Rattle.sip_user.specs.declared.item.Item.TheVariants.{Up, User}
+use Rattle.sip_user.specs.declared.notice.Notice.TheVariants.{Ended}
+use Rattle.sip_held_dialogs.specs.Dialogs.{dialog_at, is_early_of, is_dialog_id}
+use Rattle.sip_held_dialogs.specs.Ids.{is_id}
+use Rattle.sip_held_dialogs.specs.Requests.{is_final, has_to_tag, dialog_id_of_tags}
+use Rattle.sip_held_dialogs.specs.Sent.{cseqs_in}
 use Rattle.sip_served.specs.Endings.{ended_by_answer, ended_by_request, opened_by_answer}
 use Rattle.sip_clients.specs.declared.client.Client.{Client}
 use Rattle.sip_clients.specs.declared.client.RequestKind.{RequestKind}
@@ -110,7 +110,7 @@ gives_bye name outs = list_any (λ cseq. bytes_eq cseq.method (codes "BYE")) (cs
 -- ---- one input
 
 -- a response that comes up may open a dialog
-abbrev pub opened_by_kind : Call → Id → Kind → DialogId → Bool
+abbrev pub opened_by_kind : Call → Id → UpKind → DialogId → Bool
 opened_by_kind call id (kind.Response response) name =
     opened_by_response id response call.clients name
 opened_by_kind call id _ name = false
@@ -132,7 +132,7 @@ opens _ _ outs name = false
 
 -- what comes up ends the dialog that is held under the name: a BYE, a CANCEL, a response, or the
 -- loss of a transaction
-abbrev pub ended_by_kind : Call → Id → Key → Kind → DialogId → HeldDialog → Bool
+abbrev pub ended_by_kind : Call → Id → Key → UpKind → DialogId → HeldDialog → Bool
 ended_by_kind call id key (kind.Request request reply_to) name held =
     ended_by_request call.served key request name held
 ended_by_kind call id key (kind.Ack ack) name held = false

@@ -2,16 +2,16 @@
 -- say of each.
 use Rattle.std.specs.Prelude.{◌≡◌, Bool, true, false, List, [], ◌∷◌, Option, None, Some, filter_map, find, fold, is_some, if◌then◌else◌}
 use Rattle.std.specs.List.{IsDistinct}
-use Rattle.sip_model.specs.Machine.{Timed}
+use Rattle.keyed_machine.specs.Machine.{Timed}
 use Rattle.sip_message.specs.declared.id.Id.{Id}
-use Rattle.sip_transactions.specs.declared.output.Kind.{Kind}
-use Rattle.sip_transactions.specs.declared.output.Kind.TheVariants as kind
-use Rattle.sip_common.specs.declared.command.UserCommand.{UserCommand}
-use Rattle.sip_common.specs.declared.command.UserCommand.TheVariants.{Respond}
-use Rattle.sip_common.specs.declared.item.CallOut.{CallOut}
-use Rattle.sip_common.specs.declared.item.Item.{Item}
-use Rattle.sip_common.specs.declared.item.Item.TheVariants.{Up, User}
-use Rattle.sip_common.specs.Ids.{is_id}
+use Rattle.sip_transactions.specs.declared.output.UpKind.{UpKind}
+use Rattle.sip_transactions.specs.declared.output.UpKind.TheVariants as kind
+use Rattle.sip_user.specs.declared.command.UserCommand.{UserCommand}
+use Rattle.sip_user.specs.declared.command.UserCommand.TheVariants.{Respond}
+use Rattle.sip_user.specs.declared.item.CallOut.{CallOut}
+use Rattle.sip_user.specs.declared.item.Item.{Item}
+use Rattle.sip_user.specs.declared.item.Item.TheVariants.{Up, User}
+use Rattle.sip_held_dialogs.specs.Ids.{is_id}
 use Rattle.sip_served.specs.declared.held_request.HeldRequest.{HeldRequest}
 use Rattle.sip_served.specs.State.{has_id}
 use Rattle.sip_served.specs.Unacknowledged.{at_tick}
@@ -23,7 +23,7 @@ use Rattle.sip_calls.specs.Histories.{call_from}
 -- ---- the requests that come up
 
 -- the id of the request that a message is
-abbrev pub id_of_kind : Id → Kind → Option Id
+abbrev pub id_of_kind : Id → UpKind → Option Id
 id_of_kind id (kind.Request request reply_to) = Some id
 id_of_kind id _ = None
 
@@ -44,7 +44,7 @@ requests_held (Some call) = (call.served).requests
 -- ---- the inputs that are about them
 
 -- requests and ACKs that come up, and answers of the user, are about such requests
-abbrev pub kind_is_about : Kind → Bool
+abbrev pub kind_is_about : UpKind → Bool
 kind_is_about (kind.Request request reply_to) = true
 kind_is_about (kind.Ack ack) = true
 kind_is_about _ = false

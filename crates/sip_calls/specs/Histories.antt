@@ -2,23 +2,23 @@
 -- in it since (RFC 3261, section 12).
 use Rattle.std.specs.Prelude.{◌≡◌, ◌+◌, Bool, true, false, List, [], ◌∷◌, ◌++◌, Option, None, Some, filter_map, fold, length, if◌then◌else◌}
 use Rattle.std.specs.Option.{option_map, option_map_or}
-use Rattle.sip_model.specs.Machine.{Timed}
+use Rattle.keyed_machine.specs.Machine.{Timed}
 use Rattle.sip_message.specs.declared.cseq.CSeq.{CSeq}
 use Rattle.sip_message.specs.declared.id.Id.{Id}
 use Rattle.sip_dialog.specs.declared.dialog.Dialog.{Dialog}
 use Rattle.sip_dialog.specs.Life.{Happening, accepted_number, dialog_after, greater, routes_by, target_by}
 use Rattle.sip_dialog.specs.Opening.{Opening, opened}
-use Rattle.sip_transactions.specs.declared.output.Kind.{Kind}
-use Rattle.sip_transactions.specs.declared.output.Kind.TheVariants as kind
-use Rattle.sip_common.specs.declared.command.UserCommand.{UserCommand}
-use Rattle.sip_common.specs.declared.command.UserCommand.TheVariants.{Respond}
-use Rattle.sip_common.specs.declared.held_dialog.DialogId.{DialogId}
-use Rattle.sip_common.specs.declared.held_dialog.HeldDialog.{HeldDialog}
-use Rattle.sip_common.specs.declared.item.CallOut.{CallOut}
-use Rattle.sip_common.specs.declared.item.Item.{Item}
-use Rattle.sip_common.specs.declared.item.Item.TheVariants.{Up, User}
-use Rattle.sip_common.specs.Dialogs.{Dialogs, dialog_at, is_dialog_id, lives}
-use Rattle.sip_common.specs.Sent.{NumberedAfter, NumberedFrom, cseqs_in, name_of_dialog, number_before, requests_made, sent_in}
+use Rattle.sip_transactions.specs.declared.output.UpKind.{UpKind}
+use Rattle.sip_transactions.specs.declared.output.UpKind.TheVariants as kind
+use Rattle.sip_user.specs.declared.command.UserCommand.{UserCommand}
+use Rattle.sip_user.specs.declared.command.UserCommand.TheVariants.{Respond}
+use Rattle.sip_held_dialogs.specs.declared.held_dialog.DialogId.{DialogId}
+use Rattle.sip_held_dialogs.specs.declared.held_dialog.HeldDialog.{HeldDialog}
+use Rattle.sip_user.specs.declared.item.CallOut.{CallOut}
+use Rattle.sip_user.specs.declared.item.Item.{Item}
+use Rattle.sip_user.specs.declared.item.Item.TheVariants.{Up, User}
+use Rattle.sip_held_dialogs.specs.Dialogs.{Dialogs, dialog_at, is_dialog_id, lives}
+use Rattle.sip_held_dialogs.specs.Sent.{NumberedAfter, NumberedFrom, cseqs_in, name_of_dialog, number_before, requests_made, sent_in}
 use Rattle.sip_served.specs.Happenings.{accepts, answer_confirms, answer_opens}
 use Rattle.sip_clients.specs.Happenings.{response_brings, response_opens}
 use Rattle.sip_calls.specs.declared.call.Call.{Call}
@@ -29,7 +29,7 @@ use Rattle.sip_calls.specs.Provisionals.{EventsDiffer, event_in, side_held}
 -- ---- one input
 
 -- what a message that comes up does in the dialog that is held
-abbrev pub brought_by_kind : Call → Id → Kind → DialogId → HeldDialog → List Happening
+abbrev pub brought_by_kind : Call → Id → UpKind → DialogId → HeldDialog → List Happening
 brought_by_kind call id (kind.Request request reply_to) name held = accepts request name held
 brought_by_kind call id (kind.Ack ack) name held = []
 brought_by_kind call id (kind.Response response) name held =
@@ -57,7 +57,7 @@ happens_in (Some call) (Some (id, item)) outs name held =
 happens_in _ _ outs name held = sent_in name outs
 
 -- the opening of a dialog that a message makes: a response, with its request
-abbrev pub opening_by_kind : Call → Id → Kind → Option Opening
+abbrev pub opening_by_kind : Call → Id → UpKind → Option Opening
 opening_by_kind call id (kind.Response response) = response_opens id response call.clients
 opening_by_kind call id _ = None
 

@@ -3,15 +3,15 @@ use Rattle.std.proofs.Common.{◌≡◌, ℕ, Bool, true, false, ◌||◌, List,
 use Rattle.std.specs.Prelude.{None, Some, if◌then◌else◌}
 use Rattle.std.proofs.lemmas.Grind.{common_steps}
 use Rattle.std.proofs.lemmas.Bool.{true≢false}
-use Rattle.sip_model.specs.Machine.{IsIdle, tick_at}
-use Rattle.sip_model.proofs.Ordered.{by_bool}
+use Rattle.keyed_machine.specs.Machine.{IsIdle, tick_at}
+use Rattle.keyed_machine.proofs.Ordered.{by_bool}
 use Rattle.sip_timers.specs.Queue.{is_due}
 use Rattle.sip_served.specs.Tick as served
 use Rattle.sip_served.specs.State.{ServedTaken}
 use Rattle.sip_served.proofs.QuietBeforeDue.{quiet_before}
 use Rattle.sip_served.proofs.TickRules.{due_same, tick_same as server_same}
 use Rattle.sip_timers.specs.Earlier.{earlier}
-use Rattle.sip_common.proofs.Dues.{earlier_due}
+use Rattle.sip_held_dialogs.proofs.Dues.{earlier_due}
 use Rattle.sip_clients.specs.Tick as clients
 use Rattle.sip_clients.specs.Client.{ClientTaken}
 use Rattle.sip_clients.specs.Rules.Ends.{client_due, client_tick as clients_rule}

@@ -1,19 +1,19 @@
 -- What is owed in the dialog of a name, for all inputs of a call, by what the call gives (RFC 3261,
 -- section 13.2.2.4; RFC 3262, section 4).
 use Rattle.std.specs.Prelude.{◌≡◌, List, [], ◌∷◌, ◌++◌, Option, None, Some, if◌then◌else◌}
-use Rattle.sip_model.specs.Machine.{Timed}
+use Rattle.keyed_machine.specs.Machine.{Timed}
 use Rattle.sip_message.specs.declared.id.Id.{Id}
-use Rattle.sip_transactions.specs.declared.output.Kind.{Kind}
-use Rattle.sip_transactions.specs.declared.output.Kind.TheVariants as kind
-use Rattle.sip_common.specs.declared.command.UserCommand.{UserCommand}
-use Rattle.sip_common.specs.declared.command.UserCommand.TheVariants.{Ack, Prack}
-use Rattle.sip_common.specs.declared.pending_request.PendingRequest.{PendingRequest}
-use Rattle.sip_common.specs.declared.held_dialog.DialogId.{DialogId}
-use Rattle.sip_common.specs.declared.held_dialog.HeldDialog.{HeldDialog}
-use Rattle.sip_common.specs.declared.item.CallOut.{CallOut}
-use Rattle.sip_common.specs.declared.item.Item.{Item}
-use Rattle.sip_common.specs.declared.item.Item.TheVariants.{Up, User}
-use Rattle.sip_common.specs.Dialogs.{dialog_at}
+use Rattle.sip_transactions.specs.declared.output.UpKind.{UpKind}
+use Rattle.sip_transactions.specs.declared.output.UpKind.TheVariants as kind
+use Rattle.sip_user.specs.declared.command.UserCommand.{UserCommand}
+use Rattle.sip_user.specs.declared.command.UserCommand.TheVariants.{Ack, Prack}
+use Rattle.sip_held_dialogs.specs.declared.pending_request.PendingRequest.{PendingRequest}
+use Rattle.sip_held_dialogs.specs.declared.held_dialog.DialogId.{DialogId}
+use Rattle.sip_held_dialogs.specs.declared.held_dialog.HeldDialog.{HeldDialog}
+use Rattle.sip_user.specs.declared.item.CallOut.{CallOut}
+use Rattle.sip_user.specs.declared.item.Item.{Item}
+use Rattle.sip_user.specs.declared.item.Item.TheVariants.{Up, User}
+use Rattle.sip_held_dialogs.specs.Dialogs.{dialog_at}
 use Rattle.sip_clients.specs.Owing.{owed_after_ack, owed_after_prack, response_owes}
 use Rattle.sip_calls.specs.declared.call.Call.{Call}
 use Rattle.sip_calls.specs.declared.calls.Calls.{Calls}
@@ -26,7 +26,7 @@ use Rattle.sip_calls.specs.Sides.{side_of}
 
 -- what is owed after a message that comes up, by what was owed before and what is given: a response
 -- may ask for more
-abbrev pub owed_by_kind : Call → Id → Kind → DialogId → List CallOut → List PendingRequest
+abbrev pub owed_by_kind : Call → Id → UpKind → DialogId → List CallOut → List PendingRequest
     → List PendingRequest
 owed_by_kind call id (kind.Response response) name outs pending_requests =
     pending_requests ++ response_owes id response call.clients name

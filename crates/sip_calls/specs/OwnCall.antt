@@ -2,7 +2,7 @@
 -- 8.1.1.4).
 use Rattle.std.specs.Prelude.{ℕ, List, Option, None, Some}
 use Rattle.std.specs.List.{AllByRecursion}
-pub use Rattle.sip_common.specs.OwnCall.{IsItemOf, IsNoticeOf, call_of_notice}
+pub use Rattle.sip_user.specs.OwnCall.{IsItemOf, IsNoticeOf, call_of_notice}
 pub use Rattle.sip_served.specs.OwnCall.{IsStateOf}
 pub use Rattle.sip_clients.specs.OwnCall.{AreClientsOf}
 use Rattle.sip_calls.specs.declared.call.Call.{Call}

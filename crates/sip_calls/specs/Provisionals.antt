@@ -3,16 +3,16 @@
 use Rattle.std.specs.Prelude.{◌≡◌, ◌≢◌, ℕ, List, [], ◌∷◌, ◌++◌, Option, None, Some, AllPairs, filter_map}
 use Rattle.std.specs.List.{IsDistinct}
 use Rattle.std.specs.Option.{option_and_then, option_to_list}
-use Rattle.sip_model.specs.Machine.{Timed}
+use Rattle.keyed_machine.specs.Machine.{Timed}
 use Rattle.sip_message.specs.declared.id.Id.{Id}
 pub use Rattle.sip_reliable.specs.Inbound.{IsConsecutive, in_order}
-use Rattle.sip_transactions.specs.declared.output.Kind.{Kind}
-use Rattle.sip_transactions.specs.declared.output.Kind.TheVariants as kind
-use Rattle.sip_common.specs.declared.held_dialog.DialogReference.{DialogReference}
-use Rattle.sip_common.specs.declared.item.CallOut.{CallOut}
-use Rattle.sip_common.specs.declared.item.Item.TheVariants.{Up, User}
-use Rattle.sip_common.specs.Dialogs.{lives}
-use Rattle.sip_common.specs.Ids.{is_id}
+use Rattle.sip_transactions.specs.declared.output.UpKind.{UpKind}
+use Rattle.sip_transactions.specs.declared.output.UpKind.TheVariants as kind
+use Rattle.sip_held_dialogs.specs.declared.held_dialog.DialogReference.{DialogReference}
+use Rattle.sip_user.specs.declared.item.CallOut.{CallOut}
+use Rattle.sip_user.specs.declared.item.Item.TheVariants.{Up, User}
+use Rattle.sip_held_dialogs.specs.Dialogs.{lives}
+use Rattle.sip_held_dialogs.specs.Ids.{is_id}
 use Rattle.sip_clients.specs.Client.{Side, client_at}
 pub use Rattle.sip_clients.specs.Provisionals.{AnInvite, in_life, number_for, told_of}
 use Rattle.sip_calls.specs.declared.call.Call.{Call}
@@ -22,7 +22,7 @@ use Rattle.sip_calls.specs.Sides.{side_of}
 
 -- the RSeq of the reliable provisional response to that INVITE that comes up in that life of a
 -- dialog, if one does
-abbrev pub number_up : AnInvite → DialogReference → Id → Kind → Side → Option ℕ
+abbrev pub number_up : AnInvite → DialogReference → Id → UpKind → Side → Option ℕ
 number_up invite life id (kind.Response response) side =
     option_and_then (number_for invite life id response) (client_at id side.clients)
 number_up invite life id _ side = None
@@ -73,7 +73,7 @@ module _ (calls : Calls) (invite : AnInvite) (life : DialogReference) where
 -- ---- events
 
 -- the event by which a message comes up; a request may be lost by a tick
-abbrev pub event_of_kind : Id → Kind → Option Id
+abbrev pub event_of_kind : Id → UpKind → Option Id
 event_of_kind id (kind.Request request reply_to) = Some id
 event_of_kind id (kind.Ack ack) = Some id
 event_of_kind id (kind.Response response) = Some id

@@ -2,7 +2,7 @@
 -- happened to it since (RFC 3261, section 13.3.1.4; RFC 3262, section 3).
 use Rattle.std.specs.Prelude.{◌≡◌, ℕ, List, [], ◌∷◌, map, Option, None, Some}
 use Rattle.std.specs.List.{AllByRecursion}
-use Rattle.sip_model.specs.Machine.{Timed}
+use Rattle.keyed_machine.specs.Machine.{Timed}
 use Rattle.sip_reliable.specs.Ledger.{FewWait}
 use Rattle.sip_served.specs.Run.{Event as ServedEvent, Takes, Ticks}
 use Rattle.sip_served.specs.State.{State, empty_at}

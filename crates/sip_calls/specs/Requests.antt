@@ -1,11 +1,11 @@
 -- The requests that come up for a call, and those of which the user is told.
 use Rattle.std.specs.Prelude.{ℕ, ◌≤◌, Bool, false, List, Option, Some, cond, count_by, filter_map}
 use Rattle.sip_message.specs.declared.id.Id.{Id}
-use Rattle.sip_common.specs.declared.item.CallOut.{CallOut}
-use Rattle.sip_common.specs.declared.item.Item.TheVariants.{Up}
-use Rattle.sip_common.specs.Notices.{request_told_by}
+use Rattle.sip_user.specs.declared.item.CallOut.{CallOut}
+use Rattle.sip_user.specs.declared.item.Item.TheVariants.{Up}
+use Rattle.sip_user.specs.Notices.{request_told_by}
 use Rattle.sip_served.specs.ForUser.{is_request}
-use Rattle.sip_common.specs.Ids.{is_id}
+use Rattle.sip_held_dialogs.specs.Ids.{is_id}
 use Rattle.sip_calls.specs.declared.call.Call.{Call}
 use Rattle.sip_calls.specs.declared.calls.Calls.{Calls}
 use Rattle.sip_calls.specs.Call.{CallItem, call_step}

@@ -3,7 +3,7 @@ use Rattle.std.specs.Prelude.{ℕ, Bool, ◌||◌, not, ◌==◌, List, ◌++◌
 use Rattle.sip_timers.specs.Earlier.{earlier}
 use Rattle.sip_served.specs.State.{ServedTaken, holds}
 use Rattle.sip_served.specs.Tick as served
-use Rattle.sip_common.specs.declared.item.CallOut.{CallOut}
+use Rattle.sip_user.specs.declared.item.CallOut.{CallOut}
 use Rattle.sip_clients.specs.Client.{Side, ClientTaken}
 use Rattle.sip_clients.specs.Tick as clients
 use Rattle.sip_calls.specs.declared.call.Call.{Call}

@@ -11,8 +11,9 @@ ghost use Rattle.sip_calls.specs.Sides as spec;
 
 use sip_clients::{Clients, Event};
 use sip_message::{CallId, Id, Message};
-use sip_served::{CallOut, Cancel, DialogBody, DialogRequest, ServerSide};
+use sip_served::ServerSide;
 use sip_timers::earlier;
+use sip_user::{CallOut, Cancel, DialogBody, DialogRequest};
 use std::alloc::{AllocError, Global};
 
 /// All that is held under one Call-ID: the server requests and the dialogs, and the client

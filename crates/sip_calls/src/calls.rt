@@ -1,21 +1,22 @@
 //! The machine of one call: how each input changes it, and what it gives.
 
 ghost use Rattle.std.specs.Prelude.{◌≡◌, ◌≤◌, ◌^◌, IfOk, None, Some, false, true, if◌then◌else◌};
-ghost use Rattle.sip_common.specs.Requests.{local_tag_of};
-ghost use Rattle.sip_common.specs.declared.item.Item.TheVariants.{User};
+ghost use Rattle.sip_held_dialogs.specs.Requests.{local_tag_of};
+ghost use Rattle.sip_user.specs.declared.item.Item.TheVariants.{User};
 ghost use Rattle.sip_calls.specs.Call as spec;
 ghost use Rattle.sip_calls.specs.Call.{call_due, call_machine, call_step};
 ghost use Rattle.sip_calls.specs.Idle.{call_ticks_are_idle};
 ghost use Rattle.std.proofs.lemmas.Map.Lookups.{exact_bytes};
 
 use crate::call::Call;
+use keyed_machine::StateMachine;
 use sip_clients::{Clients, Event, made_name};
-use sip_common::outputs::refused;
-use sip_common::request::{has_to_tag, own_tag};
+use sip_held_dialogs::request::{has_to_tag, own_tag};
 use sip_message::{Addr, CallId, Id, Message, Token};
-use sip_model::StateMachine;
-use sip_served::{Arrival, CallOut, Item, Notice, Refusal, ServerSide, UserCommand};
-use sip_transactions::{Kind, Up};
+use sip_served::{Arrival, ServerSide};
+use sip_transactions::{Up, UpKind};
+use sip_user::outputs::refused;
+use sip_user::{CallOut, Item, Notice, Refusal, UserCommand};
 use std::alloc::{AllocError, Global};
 
 /// The index of the To tag of answers among the names of its event.
@@ -61,7 +62,7 @@ impl StateMachine for Calls {
     fn may_begin(&self, input: &(Id, Item)) -> bool {
         match &input.1 {
             Item::Up(up) => match &up.kind {
-                Kind::Request(request, _) => !has_to_tag(request.get()),
+                UpKind::Request(request, _) => !has_to_tag(request.get()),
                 _ => false,
             },
             Item::User(command) => {
@@ -203,7 +204,7 @@ fn take_up(alloc: Global, call: &mut Call, event: Event, up: Up) -> Result<Vec<C
         kind,
     } = up;
     match kind {
-        Kind::Request(request, reply_to) => {
+        UpKind::Request(request, reply_to) => {
             let tag = tag_of_answers(alloc, event, request.get())?;
             let arrival = Arrival {
                 id,
@@ -214,10 +215,10 @@ fn take_up(alloc: Global, call: &mut Call, event: Event, up: Up) -> Result<Vec<C
             };
             call.served.request(call_id, arrival, event.moment)
         }
-        Kind::Ack(ack) => call.served.ack(call_id, ack.get()),
-        Kind::Response(response) => call.response(event, id, call_id, response.into_inner()),
-        Kind::Timeout => fail_request(alloc, call, id, Notice::Timeout { call_id, id }, true),
-        Kind::Failed => fail_request(alloc, call, id, Notice::Failed { call_id, id }, false),
+        UpKind::Ack(ack) => call.served.ack(call_id, ack.get()),
+        UpKind::Response(response) => call.response(event, id, call_id, response.into_inner()),
+        UpKind::Timeout => fail_request(alloc, call, id, Notice::Timeout { call_id, id }, true),
+        UpKind::Failed => fail_request(alloc, call, id, Notice::Failed { call_id, id }, false),
     }
 }
 

@@ -17,4 +17,4 @@ pub use laws::{
 };
 pub use shard::CallShard;
 pub use sip_clients::{Client, Clients, names_differ};
-pub use sip_served::{CallOut, Item, Notice, Refusal, Respond, UserCommand};
+pub use sip_user::{CallOut, Item, Notice, UserCommand};

@@ -1,17 +1,17 @@
 //! The shard of calls.
 
 ghost use Rattle.std.specs.Prelude.{◌≡◌, ◌≤◌, ◌^◌, ℕ, List, [], Some, None, Err, OnErr, IfOk, length, count_by, is_some};
-ghost use Rattle.sip_model.specs.Table.{entries_of, state_at, Covers, StepsAll, StepsKey};
-ghost use Rattle.sip_model.specs.History.{AddsInput, AddsInputs};
-ghost use Rattle.sip_model.specs.Machine.{tick_at};
-ghost use Rattle.sip_common.specs.Command.{call_of_item};
+ghost use Rattle.keyed_machine.specs.Table.{entries_of, state_at, Covers, StepsAll, StepsKey};
+ghost use Rattle.keyed_machine.specs.History.{AddsInput, AddsInputs};
+ghost use Rattle.keyed_machine.specs.Machine.{tick_at};
+ghost use Rattle.sip_user.specs.Command.{call_of_item};
 ghost use Rattle.sip_calls.specs.Call.{call_machine};
 
 use crate::call::Call;
 use crate::calls::Calls;
+use keyed_machine::{Item as ShardItem, KeyShard, PhaseOutputs, ShardFault, Table};
 use sip_message::{Addr, CallId, Id};
-use sip_model::{Item as ShardItem, KeyShard, PhaseOutputs, ShardFault, Table};
-use sip_served::{CallOut, Item};
+use sip_user::{CallOut, Item};
 use std::alloc::Global;
 use std::collections::BTreeMap;
 use std::marker::Model;
@@ -100,8 +100,8 @@ impl CallShard {
 }
 
 impl KeyShard for CallShard {
-    ghost use Rattle.sip_model.specs.Groups.{groups};
-    ghost use Rattle.sip_model.specs.Phase.{AddsPhase, phase_at};
+    ghost use Rattle.keyed_machine.specs.Groups.{groups};
+    ghost use Rattle.keyed_machine.specs.Phase.{AddsPhase, phase_at};
     ghost use Rattle.sip_calls.specs.CallShard.{call_cmp};
 
     type Machine = Calls;

@@ -4,21 +4,21 @@ use Rattle.std.specs.Prelude.{Option, None, Some, if◌then◌else◌}
 use Rattle.std.specs.Option.{option_map}
 use Rattle.sip_message.specs.declared.id.Id.{Id}
 use Rattle.sip_reliable.specs.Inbound.{latest_after, offered}
-use Rattle.sip_common.specs.declared.pending_request.PendingRequest.{PendingRequest}
-use Rattle.sip_common.specs.declared.pending_request.PendingRequest.TheVariants.{Ack, Prack}
-use Rattle.sip_common.specs.declared.command.Cancel.{Cancel}
-use Rattle.sip_common.specs.declared.command.DialogBody.{DialogBody}
-use Rattle.sip_common.specs.declared.command.DialogRequest.{DialogRequest}
-use Rattle.sip_common.specs.declared.command.Invite.{Invite}
-use Rattle.sip_common.specs.declared.command.Plain.{Plain as PlainCommand}
-use Rattle.sip_common.specs.declared.held_dialog.DialogReference.{DialogReference}
-use Rattle.sip_common.specs.declared.held_dialog.DialogId.{DialogId}
-use Rattle.sip_common.specs.declared.item.CallOut.{CallOut}
-use Rattle.sip_common.specs.declared.refusal.Refusal.TheVariants.{BadMethod}
-use Rattle.sip_common.specs.Dialogs.{is_dialog_id, lives, Dialogs}
-use Rattle.sip_common.specs.Ids.{is_id}
-use Rattle.sip_common.proofs.Entries as entries
-use Rattle.sip_common.proofs.Heard.{id_laws}
+use Rattle.sip_held_dialogs.specs.declared.pending_request.PendingRequest.{PendingRequest}
+use Rattle.sip_held_dialogs.specs.declared.pending_request.PendingRequest.TheVariants.{Ack, Prack}
+use Rattle.sip_user.specs.declared.command.Cancel.{Cancel}
+use Rattle.sip_user.specs.declared.command.DialogBody.{DialogBody}
+use Rattle.sip_user.specs.declared.command.DialogRequest.{DialogRequest}
+use Rattle.sip_user.specs.declared.command.Invite.{Invite}
+use Rattle.sip_user.specs.declared.command.Plain.{Plain as PlainCommand}
+use Rattle.sip_held_dialogs.specs.declared.held_dialog.DialogReference.{DialogReference}
+use Rattle.sip_held_dialogs.specs.declared.held_dialog.DialogId.{DialogId}
+use Rattle.sip_user.specs.declared.item.CallOut.{CallOut}
+use Rattle.sip_user.specs.declared.refusal.Refusal.TheVariants.{BadMethod}
+use Rattle.sip_held_dialogs.specs.Dialogs.{is_dialog_id, lives, Dialogs}
+use Rattle.sip_held_dialogs.specs.Ids.{is_id}
+use Rattle.sip_held_dialogs.proofs.Entries as entries
+use Rattle.sip_held_dialogs.proofs.Heard.{id_laws}
 use Rattle.sip_clients.specs.declared.answers.SentAck.{SentAck}
 use Rattle.sip_clients.specs.declared.client.RequestKind.{RequestKind}
 use Rattle.sip_clients.specs.declared.client.RequestKind.TheVariants.{InitialInvite, ReInvite, InDialog, OutOfDialog}
@@ -36,7 +36,7 @@ use Rattle.sip_clients.specs.Client.{Clients, Side, client_at, client_changed, c
 use Rattle.sip_clients.specs.Clients.{ack_kept, ack_paid, ack_by_user, acked_with, invite_taken, lost_of, plain_taken, prack_paid, prack_by_user, request_by_user, settled}
 use Rattle.sip_clients.specs.Commands.{ack_asked, pending_for, is_bad_outside, name_in, requested_at}
 use Rattle.sip_clients.specs.Dialogs.{paid_at}
-use Rattle.sip_common.specs.Notices.{refused}
+use Rattle.sip_user.specs.Notices.{refused}
 use Rattle.sip_clients.specs.Outputs.{request_said, start_command}
 use Rattle.sip_clients.specs.Outside.{invite_of, plain_of}
 use Rattle.sip_clients.specs.Provisionals.{in_life, told_of}
@@ -266,9 +266,9 @@ module _ (life : DialogReference) (invite : Id) (event : Option Id) where
       → AreApart side.clients → Keeps side.clients ((request_by_user of command side).0).clients
   keeps_request of command made side apart =
       let name = name_in command.local_tag command.remote_tag in
-      let service = (requested_at name of command side.dialogs).1 in
-      keeps_settled of of.id (request_said of command.call_id name service).1 made
-      (said_fresh of command.call_id name service) side.clients apart
+      let outcome = (requested_at name of command side.dialogs).1 in
+      keeps_settled of of.id (request_said of command.call_id name outcome).1 made
+      (said_fresh of command.call_id name outcome) side.clients apart
 
   keeps_noted : (pending : PendingRequest) (name : DialogId) (ack : Option SentAck)
       (clients : Clients)
@@ -296,9 +296,9 @@ module _ (life : DialogReference) (invite : Id) (event : Option Id) where
       paid_either (λ taken. Keeps side.clients (taken.0).clients) of command
       (prack_paid of command name) side (pending_for kind.Prack name side.dialogs)
       (λ refusal. keeps_same side.clients apart)
-      (λ pending. let service = (paid_at name of pending command.content side.dialogs).1 in
-      keeps_settled of of.id (request_said of command.call_id name service).1 made
-      (said_fresh of command.call_id name service) side.clients apart)
+      (λ pending. let outcome = (paid_at name of pending command.content side.dialogs).1 in
+      keeps_settled of of.id (request_said of command.call_id name outcome).1 made
+      (said_fresh of command.call_id name outcome) side.clients apart)
 
   -- ---- CANCEL
 

@@ -4,18 +4,18 @@ use Rattle.std.specs.Prelude.{Option, None, Some, filter, if◌then◌else◌}
 use Rattle.std.specs.Map.{set_value}
 use Rattle.std.specs.Option.{option_map, option_map_or}
 use Rattle.sip_message.specs.declared.id.Id.{Id}
-use Rattle.sip_model.proofs.Ordered.{by_bool}
+use Rattle.keyed_machine.proofs.Ordered.{by_bool}
 use Rattle.sip_reliable.specs.declared.offer.Offer.{Offer}
 use Rattle.sip_reliable.specs.declared.offer.Offer.TheVariants.{Taken, Repeat, Gap}
 use Rattle.sip_reliable.specs.Inbound.{latest_after, offered, taken}
-use Rattle.sip_common.specs.declared.held_dialog.DialogReference.{DialogReference}
-use Rattle.sip_common.specs.declared.held_dialog.HeldDialog.{HeldDialog}
-use Rattle.sip_common.specs.declared.item.CallOut.{CallOut}
-use Rattle.sip_common.specs.Dialogs.{dialog_at, is_dialog_id, lives, Dialogs}
-use Rattle.sip_common.specs.Requests.{is_final, has_to_tag, is_success}
-use Rattle.sip_common.specs.Ids.{is_id}
-use Rattle.sip_common.proofs.Entries as entries
-use Rattle.sip_common.proofs.Heard.{id_laws}
+use Rattle.sip_held_dialogs.specs.declared.held_dialog.DialogReference.{DialogReference}
+use Rattle.sip_held_dialogs.specs.declared.held_dialog.HeldDialog.{HeldDialog}
+use Rattle.sip_user.specs.declared.item.CallOut.{CallOut}
+use Rattle.sip_held_dialogs.specs.Dialogs.{dialog_at, is_dialog_id, lives, Dialogs}
+use Rattle.sip_held_dialogs.specs.Requests.{is_final, has_to_tag, is_success}
+use Rattle.sip_held_dialogs.specs.Ids.{is_id}
+use Rattle.sip_held_dialogs.proofs.Entries as entries
+use Rattle.sip_held_dialogs.proofs.Heard.{id_laws}
 use Rattle.sip_clients.specs.declared.client.RequestKind.TheVariants.{ReInvite}
 use Rattle.sip_clients.specs.declared.client.Client.{Client}
 use Rattle.sip_clients.specs.declared.outputs.ClientChange.{ClientChange}

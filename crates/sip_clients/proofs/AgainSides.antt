@@ -5,11 +5,11 @@ use Rattle.std.specs.Map.{set_value}
 use Rattle.std.specs.Option.{option_and_then, option_map}
 use Rattle.sip_message.specs.declared.id.Id.{Id}
 use Rattle.sip_message.specs.declared.message.Message.{Message}
-use Rattle.sip_common.specs.declared.held_dialog.DialogReference.{DialogReference}
-use Rattle.sip_common.specs.declared.item.CallOut.{CallOut}
-use Rattle.sip_common.specs.Dialogs.{is_dialog_id, lives}
-use Rattle.sip_common.specs.Requests.{is_final}
-use Rattle.sip_common.specs.Ids.{is_id}
+use Rattle.sip_held_dialogs.specs.declared.held_dialog.DialogReference.{DialogReference}
+use Rattle.sip_user.specs.declared.item.CallOut.{CallOut}
+use Rattle.sip_held_dialogs.specs.Dialogs.{is_dialog_id, lives}
+use Rattle.sip_held_dialogs.specs.Requests.{is_final}
+use Rattle.sip_held_dialogs.specs.Ids.{is_id}
 use Rattle.sip_clients.specs.declared.client.RequestKind.{RequestKind}
 use Rattle.sip_clients.specs.declared.client.RequestKind.TheVariants.{InitialInvite, ReInvite, InDialog, OutOfDialog}
 use Rattle.sip_clients.specs.declared.client.Client.{Client}

@@ -14,32 +14,32 @@ use Rattle.sip_message.specs.declared.id.Id.{Id}
 use Rattle.sip_message.specs.declared.message.Message.{Message}
 use Rattle.sip_message.specs.declared.rack.RAck.{RAck}
 use Rattle.sip_message.specs.declared.start_line.StartLine.TheVariants as start
-use Rattle.sip_model.proofs.Ordered.{by_bool}
+use Rattle.keyed_machine.proofs.Ordered.{by_bool}
 use Rattle.sip_dialog.specs.Fault.{ack_fault, request_fault}
 use Rattle.sip_dialog.specs.Request.{bare_request_in}
 use Rattle.sip_dialog.specs.declared.fault.DialogFault.{DialogFault}
 use Rattle.sip_transactions.specs.declared.input.Command.{Command}
 use Rattle.sip_transactions.specs.declared.input.Command.TheVariants as order
-use Rattle.sip_common.specs.Dialogs.{Dialogs, dialog_at, early_ended, ended_at, ended_notice, is_early_of, is_dialog_id, lives}
-use Rattle.sip_common.specs.Ids.{is_id}
-use Rattle.sip_common.specs.Notices.{refused}
-use Rattle.sip_common.specs.Requests.{is_final}
-use Rattle.sip_common.specs.declared.command.Cancel.{Cancel as CancelCommand}
-use Rattle.sip_common.specs.declared.command.DialogBody.{DialogBody}
-use Rattle.sip_common.specs.declared.command.DialogRequest.{DialogRequest}
-use Rattle.sip_common.specs.declared.command.Invite.{Invite as InviteCommand}
-use Rattle.sip_common.specs.declared.command.Plain.{Plain as PlainCommand}
-use Rattle.sip_common.specs.declared.command.ProvisionalSupport.{ProvisionalSupport}
-use Rattle.sip_common.specs.declared.command.ProvisionalSupport.TheVariants as support
-use Rattle.sip_common.specs.declared.pending_request.PendingRequest.{PendingRequest}
-use Rattle.sip_common.specs.declared.pending_request.PendingRequest.TheVariants.{Ack, Prack}
-use Rattle.sip_common.specs.declared.held_dialog.DialogId.{DialogId}
-use Rattle.sip_common.specs.declared.held_dialog.HeldDialog.{HeldDialog}
-use Rattle.sip_common.specs.declared.item.CallOut.{CallOut}
-use Rattle.sip_common.specs.declared.item.CallOut.TheVariants as out
-use Rattle.sip_common.specs.declared.refusal.Refusal.{Refusal}
-use Rattle.sip_common.specs.declared.refusal.Refusal.TheVariants.{BadMethod, NoSuchDialog, NoSuchRequest}
-use Rattle.sip_common.proofs.Each.{all_of_each, both, each_but_one, each_changed, each_inserted, each_left, each_set, found_one}
+use Rattle.sip_held_dialogs.specs.Dialogs.{Dialogs, dialog_at, early_ended, ended_at, ended_notice, is_early_of, is_dialog_id, lives}
+use Rattle.sip_held_dialogs.specs.Ids.{is_id}
+use Rattle.sip_user.specs.Notices.{refused}
+use Rattle.sip_held_dialogs.specs.Requests.{is_final}
+use Rattle.sip_user.specs.declared.command.Cancel.{Cancel as CancelCommand}
+use Rattle.sip_user.specs.declared.command.DialogBody.{DialogBody}
+use Rattle.sip_user.specs.declared.command.DialogRequest.{DialogRequest}
+use Rattle.sip_user.specs.declared.command.Invite.{Invite as InviteCommand}
+use Rattle.sip_user.specs.declared.command.Plain.{Plain as PlainCommand}
+use Rattle.sip_user.specs.declared.command.ProvisionalSupport.{ProvisionalSupport}
+use Rattle.sip_user.specs.declared.command.ProvisionalSupport.TheVariants as support
+use Rattle.sip_held_dialogs.specs.declared.pending_request.PendingRequest.{PendingRequest}
+use Rattle.sip_held_dialogs.specs.declared.pending_request.PendingRequest.TheVariants.{Ack, Prack}
+use Rattle.sip_held_dialogs.specs.declared.held_dialog.DialogId.{DialogId}
+use Rattle.sip_held_dialogs.specs.declared.held_dialog.HeldDialog.{HeldDialog}
+use Rattle.sip_user.specs.declared.item.CallOut.{CallOut}
+use Rattle.sip_user.specs.declared.item.CallOut.TheVariants as out
+use Rattle.sip_user.specs.declared.refusal.Refusal.{Refusal}
+use Rattle.sip_user.specs.declared.refusal.Refusal.TheVariants.{BadMethod, NoSuchDialog, NoSuchRequest}
+use Rattle.sip_held_dialogs.proofs.Each.{all_of_each, both, each_but_one, each_changed, each_inserted, each_left, each_set, found_one}
 use Rattle.sip_clients.specs.Answers.{AnswerList, ack_of}
 use Rattle.sip_clients.specs.Cancel.{after_response, asked, cancel_by_user, cancel_case, cancel_client, cancelled_as, cancelled_of, freed_by, sent_beside}
 use Rattle.sip_clients.specs.Client.{Clients, ClientTaken, Side, client_at, client_changed, client_for}
@@ -52,7 +52,7 @@ use Rattle.sip_clients.specs.Outputs.{ack_said, direct, request_said, start_comm
 use Rattle.sip_clients.specs.Outside.{bare_invite, bare_plain, bare_request, invite_of, plain_of, supporting, through}
 use Rattle.sip_clients.specs.Replied.{InOneDialog, Replied, ack_owed, after_dialog, by_reply_case, ends_dialog, heard_again, heard_first, automatic_body, prack_owed, replied_in, reply_taken, request_over}
 use Rattle.sip_clients.specs.ReceivedResponse.{is_last, reply_case}
-use Rattle.sip_clients.specs.SendOutcome.{Outcome, acked, discharged, requested, sending_in, service_by}
+use Rattle.sip_clients.specs.SendOutcome.{Outcome, acked, discharged, requested, sending_in, outcome_by}
 use Rattle.sip_clients.specs.Tick.{clients_ticked, early_ends_told, is_over}
 use Rattle.sip_clients.specs.declared.answers.SentAck.{SentAck}
 use Rattle.sip_clients.specs.declared.cancel.CancelCase.{CancelCase}
@@ -144,7 +144,7 @@ Serves Q Waits = Unit {0}
 Serves Q (Refused refusal) = Unit {0}
 
 service_serves : (Q : Message → Type 0) (fault : Option DialogFault) (sending : OutgoingRequest)
-    → Q sending.message → Serves Q (service_by fault sending)
+    → Q sending.message → Serves Q (outcome_by fault sending)
 service_serves Q None sending is = is
 service_serves Q (Some fault) sending is = tt
 
@@ -273,8 +273,8 @@ module _ (Given : Message → Type 0) where
       both OutSays first.1 (own_ended client.kind over first.0).1 (early_say client.id dialogs)
       (own_say client.kind over first.0)
 
-  bye_says : (name : DialogId) (method : List ℕ) (service : SendOutcome) (dialogs : Dialogs)
-      → Say (bye_ended name method service dialogs).1
+  bye_says : (name : DialogId) (method : List ℕ) (outcome : SendOutcome) (dialogs : Dialogs)
+      → Say (bye_ended name method outcome dialogs).1
   bye_says name method (Sent sending) dialogs =
       end_says (bytes_eq method (codes "BYE")) name dialogs
   bye_says name method Waits dialogs = tt
@@ -287,16 +287,16 @@ module _ (Given : Message → Type 0) where
   ChangeAsks Over = Unit {0}
   ChangeAsks (Starts client) = Asks client
 
-  request_says : (event : Event) (call_id : List ℕ) (name : DialogId) (service : SendOutcome)
-      → Serves IsAsk service → Say (request_said event call_id name service).0
-      × ChangeAsks (request_said event call_id name service).1
+  request_says : (event : Event) (call_id : List ℕ) (name : DialogId) (outcome : SendOutcome)
+      → Serves IsAsk outcome → Say (request_said event call_id name outcome).0
+      × ChangeAsks (request_said event call_id name outcome).1
   request_says event call_id name (Sent sending) serves =
       (tt, record { request = serves; acks = tt })
   request_says event call_id name Waits serves = (tt, tt)
   request_says event call_id name (Refused refusal) serves = ((tt, tt), tt)
 
-  ack_says : (event : Event) (call_id : List ℕ) (service : SendOutcome) → Serves IsAck service
-      → Say (ack_said event call_id service).0 × KeptAck (ack_said event call_id service).1
+  ack_says : (event : Event) (call_id : List ℕ) (outcome : SendOutcome) → Serves IsAck outcome
+      → Say (ack_said event call_id outcome).0 × KeptAck (ack_said event call_id outcome).1
   ack_says event call_id (Sent sending) serves =
       (((sending.message, refl, serves), tt), (sending.message, refl, serves))
   ack_says event call_id Waits serves = (tt, tt)
@@ -408,13 +408,13 @@ module _ (Given : Message → Type 0) where
     change = tt;
   }
   case_says reply.Accepted client found answer asks =
-      let service = (ack_owed client (accepted client answer found) answer).1 in
-      let says = ack_says answer.event answer.call_id service
+      let outcome = (ack_owed client (accepted client answer found) answer).1 in
+      let says = ack_says answer.event answer.call_id outcome
       (ack_owed_serves client (accepted client answer found) answer) in
       record {
         client = record {
           request = asks.request;
-          acks = answered_asks answer.name (ack_said answer.event answer.call_id service).1
+          acks = answered_asks answer.name (ack_said answer.event answer.call_id outcome).1
               client asks says.1;
         };
         told = (tt, says.0);
@@ -602,12 +602,12 @@ module _ (Given : Message → Type 0) where
           by_debt held.pending_requests (find (is_of k) held.pending_requests) refl
 
   paid_by : (k : PendingKind) (event : Event) (command : DialogBody)
-      (pay : PendingRequest → Side → ClientTaken) (side : Side)
+      (send_pending : PendingRequest → Side → ClientTaken) (side : Side)
       (o : Result PendingRequest Refusal) → IsFound k o → AskAll side.clients
-      → ((pending : PendingRequest) → is_of k pending ≡ true → Taken (pay pending side))
-      → Taken (paid_or_refused event command pay o side)
-  paid_by k event command pay side (Err refusal) found all pays = (all, (tt, tt))
-  paid_by k event command pay side (Ok pending) found all pays = pays pending found
+      → ((pending : PendingRequest) → is_of k pending ≡ true → Taken (send_pending pending side))
+      → Taken (paid_or_refused event command send_pending o side)
+  paid_by k event command send_pending side (Err refusal) found all pays = (all, (tt, tt))
+  paid_by k event command send_pending side (Ok pending) found all pays = pays pending found
 
   ack_paid_says : (event : Event) (command : DialogBody) (name : DialogId) (side : Side)
       → AskAll side.clients → (pending : PendingRequest) → is_of kind.Ack pending ≡ true

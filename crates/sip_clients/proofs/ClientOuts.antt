@@ -8,25 +8,25 @@ use Rattle.std.specs.Option.{option_map, option_map_or}
 use Rattle.std.specs.Str.{bytes_eq}
 use Rattle.sip_message.specs.declared.id.Id.{Id}
 use Rattle.sip_message.specs.declared.message.Message.{Message}
-use Rattle.sip_common.specs.declared.command.Cancel.{Cancel as CancelCommand}
-use Rattle.sip_common.specs.declared.command.DialogBody.{DialogBody}
-use Rattle.sip_common.specs.declared.command.DialogRequest.{DialogRequest}
-use Rattle.sip_common.specs.declared.command.Invite.{Invite as InviteCommand}
-use Rattle.sip_common.specs.declared.command.Plain.{Plain as PlainCommand}
-use Rattle.sip_common.specs.declared.pending_request.PendingRequest.{PendingRequest}
-use Rattle.sip_common.specs.declared.held_dialog.DialogId.{DialogId}
-use Rattle.sip_common.specs.declared.held_dialog.HeldDialog.{HeldDialog}
-use Rattle.sip_common.specs.declared.item.CallOut.{CallOut}
-use Rattle.sip_common.specs.declared.item.CallOut.TheVariants as out
-use Rattle.sip_common.specs.declared.notice.Notice.{Notice}
-use Rattle.sip_common.specs.declared.notice.Notice.TheVariants as notice
-use Rattle.sip_common.specs.declared.refusal.Refusal.{Refusal}
-use Rattle.sip_common.specs.declared.refusal.Refusal.TheVariants.{BadMethod, NoSuchRequest}
-use Rattle.sip_common.specs.Dialogs.{Dialogs, dialog_at, early_ended, ended_at, ended_notice, is_early_of, lives}
-use Rattle.sip_common.specs.Ids.{is_id}
-use Rattle.sip_common.specs.Notices.{refused}
-use Rattle.sip_common.specs.Requests.{is_final}
-use Rattle.sip_common.proofs.Each.{all_of_each, both}
+use Rattle.sip_user.specs.declared.command.Cancel.{Cancel as CancelCommand}
+use Rattle.sip_user.specs.declared.command.DialogBody.{DialogBody}
+use Rattle.sip_user.specs.declared.command.DialogRequest.{DialogRequest}
+use Rattle.sip_user.specs.declared.command.Invite.{Invite as InviteCommand}
+use Rattle.sip_user.specs.declared.command.Plain.{Plain as PlainCommand}
+use Rattle.sip_held_dialogs.specs.declared.pending_request.PendingRequest.{PendingRequest}
+use Rattle.sip_held_dialogs.specs.declared.held_dialog.DialogId.{DialogId}
+use Rattle.sip_held_dialogs.specs.declared.held_dialog.HeldDialog.{HeldDialog}
+use Rattle.sip_user.specs.declared.item.CallOut.{CallOut}
+use Rattle.sip_user.specs.declared.item.CallOut.TheVariants as out
+use Rattle.sip_user.specs.declared.notice.Notice.{Notice}
+use Rattle.sip_user.specs.declared.notice.Notice.TheVariants as notice
+use Rattle.sip_user.specs.declared.refusal.Refusal.{Refusal}
+use Rattle.sip_user.specs.declared.refusal.Refusal.TheVariants.{BadMethod, NoSuchRequest}
+use Rattle.sip_held_dialogs.specs.Dialogs.{Dialogs, dialog_at, early_ended, ended_at, ended_notice, is_early_of, lives}
+use Rattle.sip_held_dialogs.specs.Ids.{is_id}
+use Rattle.sip_user.specs.Notices.{refused}
+use Rattle.sip_held_dialogs.specs.Requests.{is_final}
+use Rattle.sip_held_dialogs.proofs.Each.{all_of_each, both}
 use Rattle.sip_clients.specs.declared.answers.SentAck.{SentAck}
 use Rattle.sip_clients.specs.declared.cancel.CancelCase.{CancelCase}
 use Rattle.sip_clients.specs.declared.cancel.CancelCase.TheVariants as ask
@@ -92,22 +92,22 @@ module _ (P : CallOut → Type 0) (allows : Allows P) where
 
   -- ---- the client side
 
-  request_told : (event : Event) (call_id : List ℕ) (name : DialogId) (service : SendOutcome)
-      → All (request_said event call_id name service).0
+  request_told : (event : Event) (call_id : List ℕ) (name : DialogId) (outcome : SendOutcome)
+      → All (request_said event call_id name outcome).0
   request_told event call_id name (Sent sending) = tt
   request_told event call_id name Waits = tt
   request_told event call_id name (Refused refusal) =
       (allows.refusal call_id event.id.place refusal, tt)
 
-  ack_told : (event : Event) (call_id : List ℕ) (service : SendOutcome)
-      → All (ack_said event call_id service).0
+  ack_told : (event : Event) (call_id : List ℕ) (outcome : SendOutcome)
+      → All (ack_said event call_id outcome).0
   ack_told event call_id (Sent sending) = (allows.sent (sent_ack sending), tt)
   ack_told event call_id Waits = tt
   ack_told event call_id (Refused refusal) =
       (allows.refusal call_id event.id.place refusal, tt)
 
-  bye_told : (name : DialogId) (method : List ℕ) (service : SendOutcome) (dialogs : Dialogs)
-      → All (bye_ended name method service dialogs).1
+  bye_told : (name : DialogId) (method : List ℕ) (outcome : SendOutcome) (dialogs : Dialogs)
+      → All (bye_ended name method outcome dialogs).1
   bye_told name method (Sent sending) dialogs =
       at_or (bytes_eq method (codes "BYE")) name dialogs
   bye_told name method Waits dialogs = tt

@@ -5,21 +5,21 @@ use Rattle.std.specs.Prelude.{Option, None, Some, Err, find, if◌then◌else◌
 use Rattle.std.specs.List.{list_any}
 use Rattle.std.specs.Option.{option_map, option_map_or}
 use Rattle.sip_message.specs.Content.{Content}
-use Rattle.sip_common.specs.declared.command.DialogBody.{DialogBody}
-use Rattle.sip_common.specs.declared.command.DialogRequest.{DialogRequest}
-use Rattle.sip_common.specs.declared.pending_request.PendingRequest.{PendingRequest}
-use Rattle.sip_common.specs.declared.pending_request.PendingRequest.TheVariants.{Ack, Prack}
-use Rattle.sip_common.specs.declared.held_dialog.DialogId.{DialogId}
-use Rattle.sip_common.specs.declared.held_dialog.HeldDialog.{HeldDialog}
-use Rattle.sip_common.specs.declared.item.CallOut.{CallOut}
-use Rattle.sip_common.specs.declared.refusal.Refusal.{Refusal}
-use Rattle.sip_common.specs.declared.refusal.Refusal.TheVariants.{NoSuchDialog}
-use Rattle.sip_common.specs.Dialogs.{Dialogs, dialog_at, is_dialog_id}
-use Rattle.sip_common.specs.Notices.{refused}
-use Rattle.sip_common.specs.Refusal.{first_refusal}
-use Rattle.sip_common.proofs.Entries as entries
-use Rattle.sip_common.proofs.Heard.{AreApart, name_laws}
-use Rattle.sip_common.proofs.Owing.{OweSame, OwesStill, changed_same, same_then, still_as, still_same, unchanged}
+use Rattle.sip_user.specs.declared.command.DialogBody.{DialogBody}
+use Rattle.sip_user.specs.declared.command.DialogRequest.{DialogRequest}
+use Rattle.sip_held_dialogs.specs.declared.pending_request.PendingRequest.{PendingRequest}
+use Rattle.sip_held_dialogs.specs.declared.pending_request.PendingRequest.TheVariants.{Ack, Prack}
+use Rattle.sip_held_dialogs.specs.declared.held_dialog.DialogId.{DialogId}
+use Rattle.sip_held_dialogs.specs.declared.held_dialog.HeldDialog.{HeldDialog}
+use Rattle.sip_user.specs.declared.item.CallOut.{CallOut}
+use Rattle.sip_user.specs.declared.refusal.Refusal.{Refusal}
+use Rattle.sip_user.specs.declared.refusal.Refusal.TheVariants.{NoSuchDialog}
+use Rattle.sip_held_dialogs.specs.Dialogs.{Dialogs, dialog_at, is_dialog_id}
+use Rattle.sip_user.specs.Notices.{refused}
+use Rattle.sip_user.specs.Refusal.{first_refusal}
+use Rattle.sip_held_dialogs.proofs.Entries as entries
+use Rattle.sip_held_dialogs.proofs.Heard.{AreApart, name_laws}
+use Rattle.sip_held_dialogs.proofs.Owing.{OweSame, OwesStill, changed_same, same_then, still_as, still_same, unchanged}
 use Rattle.sip_clients.specs.declared.pending.PendingKind.{PendingKind}
 use Rattle.sip_clients.specs.declared.pending.PendingKind.TheVariants as kind
 use Rattle.sip_clients.specs.declared.event.Event.{Event}
@@ -151,20 +151,20 @@ module _ (event : Event) (command : DialogBody) (side : Side) where
       ap (λ found.
       (served_in asked_name (paid event pending command.content) Waits side.dialogs found).1) at
 
-  by_owed : (kind : PendingKind) (pay : PendingRequest → Side → ClientTaken)
+  by_owed : (kind : PendingKind) (send_pending : PendingRequest → Side → ClientTaken)
       → ((pending : PendingRequest) (held : HeldDialog) → dialog_at asked_name side.dialogs
       ≡ Some held
       → find (is_of kind) held.pending_requests ≡ Some pending
-      → Pays kind (pay pending side).1 ((pay pending side).0).dialogs)
+      → Pays kind (send_pending pending side).1 ((send_pending pending side).0).dialogs)
       → (o : Option HeldDialog) → dialog_at asked_name side.dialogs ≡ o
-      → let taken = paid_or_refused event command pay
+      → let taken = paid_or_refused event command send_pending
       (option_map_or (oldest_pending kind) o (Err NoSuchDialog)) side in
       Pays kind taken.1 (taken.0).dialogs
-  by_owed kind pay pays None at = refused_pays kind NoSuchDialog
-  by_owed kind pay pays (Some held) at = by_oldest (find (is_of kind) held.pending_requests) refl
+  by_owed kind send_pending pays None at = refused_pays kind NoSuchDialog
+  by_owed kind send_pending pays (Some held) at = by_oldest (find (is_of kind) held.pending_requests) refl
     where
       by_oldest : (o : Option PendingRequest) → find (is_of kind) held.pending_requests ≡ o
-          → let taken = paid_or_refused event command pay (debt_or_refusal kind o) side in
+          → let taken = paid_or_refused event command send_pending (debt_or_refusal kind o) side in
           Pays kind taken.1 (taken.0).dialogs
       by_oldest None is = refused_pays kind (nothing_pending kind)
       by_oldest (Some pending) is = pays pending held at is
@@ -175,9 +175,9 @@ module _ (event : Event) (command : DialogBody) (side : Side) where
       → let taken = ack_paid event command asked_name pending side in
       Pays kind.Ack taken.1 (taken.0).dialogs
   ack_paid_off pending held at is =
-      let service = (paid_at asked_name event pending command.content side.dialogs).1 in
-      debt_paid kind.Ack pending held (ack_said event command.call_id service).0 at is
-      (λ name same. ack_goes event command.call_id service ∙ ap goes (served_as pending held at))
+      let outcome = (paid_at asked_name event pending command.content side.dialogs).1 in
+      debt_paid kind.Ack pending held (ack_said event command.call_id outcome).0 at is
+      (λ name same. ack_goes event command.call_id outcome ∙ ap goes (served_as pending held at))
 
   pub ack_pays : Pays kind.Ack (ack_by_user event command side).1
       ((ack_by_user event command side).0).dialogs
@@ -197,12 +197,12 @@ module _ (event : Event) (command : DialogBody) (side : Side) where
     prack_out (Ack invite number) held at is name same = absurd cc
     prack_out (Prack rseq number) held at is name same =
         let pending = Prack rseq number in
-        let service = (paid_at asked_name event pending command.content side.dialogs).1 in
-        let said = request_said event command.call_id asked_name service in
+        let outcome = (paid_at asked_name event pending command.content side.dialogs).1 in
+        let said = request_said event command.call_id asked_name outcome in
         ap (list_any is_of_prack)
         (after_silent name said.0 (settled event event.id said.1 side.clients).1
-        (none_started said.0 (request_said_quiet event command.call_id asked_name service))
-        ∙ said_sent name event event.id command.call_id asked_name service side.clients
+        (none_started said.0 (request_said_quiet event command.call_id asked_name outcome))
+        ∙ said_sent name event event.id command.call_id asked_name outcome side.clients
         ∙ ap (service_cseqs name) (served_as pending held at))
         ∙ prack_pays name asked_name event held (named asked_name held at) same rseq number
         command.content

@@ -5,26 +5,26 @@ use Rattle.sip_message.specs.Content.{Content}
 use Rattle.sip_dialog.specs.declared.dialog.Dialog.{Dialog}
 use Rattle.sip_dialog.specs.declared.fault.DialogFault.{DialogFault}
 use Rattle.sip_dialog.specs.Fault.{request_fault}
-use Rattle.sip_common.specs.declared.pending_request.PendingRequest.{PendingRequest}
-use Rattle.sip_common.specs.declared.pending_request.PendingRequest.TheVariants.{Ack, Prack}
-use Rattle.sip_common.specs.declared.held_dialog.DialogId.{DialogId}
-use Rattle.sip_common.specs.declared.held_dialog.HeldDialog.{HeldDialog}
-use Rattle.sip_common.specs.declared.item.CallOut.{CallOut}
-use Rattle.sip_common.specs.Dialogs.{ended_at, happened, is_early_of, lives, Dialogs}
-use Rattle.sip_common.specs.Sent.{requests_made}
+use Rattle.sip_held_dialogs.specs.declared.pending_request.PendingRequest.{PendingRequest}
+use Rattle.sip_held_dialogs.specs.declared.pending_request.PendingRequest.TheVariants.{Ack, Prack}
+use Rattle.sip_held_dialogs.specs.declared.held_dialog.DialogId.{DialogId}
+use Rattle.sip_held_dialogs.specs.declared.held_dialog.HeldDialog.{HeldDialog}
+use Rattle.sip_user.specs.declared.item.CallOut.{CallOut}
+use Rattle.sip_held_dialogs.specs.Dialogs.{ended_at, happened, is_early_of, lives, Dialogs}
+use Rattle.sip_held_dialogs.specs.Sent.{requests_made}
 use Rattle.sip_clients.specs.declared.client.RequestKind.{RequestKind}
 use Rattle.sip_clients.specs.declared.client.RequestKind.TheVariants.{InitialInvite, ReInvite, InDialog, OutOfDialog}
 use Rattle.sip_clients.specs.declared.client.Client.{Client}
 use Rattle.sip_clients.specs.declared.event.Event.{Event}
 use Rattle.sip_clients.specs.declared.send_outcome.SendOutcome.{SendOutcome}
 use Rattle.sip_clients.specs.declared.send_outcome.SendOutcome.TheVariants.{Sent, Waits, Refused}
-use Rattle.sip_common.specs.declared.refusal.Refusal.{Refusal as ARefusal}
-use Rattle.sip_common.specs.Refusal.{first_refusal}
+use Rattle.sip_user.specs.declared.refusal.Refusal.{Refusal as ARefusal}
+use Rattle.sip_user.specs.Refusal.{first_refusal}
 use Rattle.sip_clients.specs.Commands.{bye_ended, request_in_held, request_refusals, sent_unless}
 use Rattle.sip_clients.specs.Pending.{dropped_if_sent, kept_unless_sent, kept_pending, paid}
 use Rattle.sip_clients.specs.Dialogs.{ended_with, own_ended, served_at}
 use Rattle.sip_clients.specs.SendOutcome.{Outcome, discharged, sending_in, happens_by_sending}
-use Rattle.sip_common.proofs.Heard.{AreApart, Grows, Keeps, Leads, Life, in_one, keeps_same, keeps_then, leads_changed, leads_filtered, leads_removed, leads_same, leads_then, quiet}
+use Rattle.sip_held_dialogs.proofs.Heard.{AreApart, Grows, Keeps, Leads, Life, in_one, keeps_same, keeps_then, leads_changed, leads_filtered, leads_removed, leads_same, leads_then, quiet}
 use Rattle.sip_clients.proofs.SentIn.{asks, discharge_life, request_life, unless_refused}
 use Rattle.sip_clients.proofs.Served.{served_dialogs}
 
@@ -49,14 +49,14 @@ discharged_keeps event (Prack rseq number) (Some content) held =
     let fault = request_fault held.dialog (codes "PRACK") in
     (refl, refl, sends_made (codes "PRACK") fault held.dialog)
 
-unless_sent_keeps : (pending : PendingRequest) (service : SendOutcome) (held : HeldDialog)
-    → Keeps None [] held (kept_unless_sent pending service held)
+unless_sent_keeps : (pending : PendingRequest) (outcome : SendOutcome) (held : HeldDialog)
+    → Keeps None [] held (kept_unless_sent pending outcome held)
 unless_sent_keeps pending (Sent sending) held = keeps_same held
 unless_sent_keeps pending Waits held = (refl, refl, (tt, refl))
 unless_sent_keeps pending (Refused refusal) held = (refl, refl, (tt, refl))
 
-if_sent_keeps : (pending : PendingRequest) (service : SendOutcome) (held : HeldDialog)
-    → Keeps None [] held (dropped_if_sent pending service held)
+if_sent_keeps : (pending : PendingRequest) (outcome : SendOutcome) (held : HeldDialog)
+    → Keeps None [] held (dropped_if_sent pending outcome held)
 if_sent_keeps pending (Sent sending) held = (refl, refl, (tt, refl))
 if_sent_keeps pending Waits held = keeps_same held
 if_sent_keeps pending (Refused refusal) held = keeps_same held
@@ -130,8 +130,8 @@ ended_leads client ends dialogs apart =
     (leads_filtered (λ held. not (is_early_of client.id held)) dialogs apart)
     (own_leads client.kind ends left)
 
-pub bye_leads : (name : DialogId) (method : List ℕ) (service : SendOutcome) (dialogs : Dialogs)
-    → AreApart dialogs → Leads quiet dialogs (bye_ended name method service dialogs).0
+pub bye_leads : (name : DialogId) (method : List ℕ) (outcome : SendOutcome) (dialogs : Dialogs)
+    → AreApart dialogs → Leads quiet dialogs (bye_ended name method outcome dialogs).0
 bye_leads name method (Sent sending) dialogs apart = removed_or_same _ name dialogs apart
 bye_leads name method Waits dialogs apart = leads_same dialogs apart
 bye_leads name method (Refused refusal) dialogs apart = leads_same dialogs apart

@@ -2,18 +2,18 @@
 use Rattle.std.proofs.Common.{◌≡◌, ℕ, ◌+◌, ◌≤◌, Bool, true, false, cond, List, [], ◌∷◌, ◌++◌, refl, sym, subst}
 use Rattle.std.specs.Prelude.{Option, None, Some}
 use Rattle.sip_message.specs.declared.id.Id.{Id}
-use Rattle.sip_common.specs.declared.command.Cancel.{Cancel}
-use Rattle.sip_common.specs.declared.command.DialogBody.{DialogBody}
-use Rattle.sip_common.specs.declared.command.DialogRequest.{DialogRequest}
-use Rattle.sip_common.specs.declared.command.Invite.{Invite}
-use Rattle.sip_common.specs.declared.command.Plain.{Plain as PlainCommand}
-use Rattle.sip_common.specs.declared.pending_request.PendingRequest.{PendingRequest}
-use Rattle.sip_common.specs.declared.pending_request.PendingRequest.TheVariants.{Ack, Prack}
-use Rattle.sip_common.specs.declared.held_dialog.DialogId.{DialogId}
-use Rattle.sip_common.specs.declared.item.CallOut.{CallOut}
-use Rattle.sip_common.specs.declared.refusal.Refusal.TheVariants.{BadMethod, NoSuchRequest}
-use Rattle.sip_common.specs.Ids.{is_id}
-use Rattle.sip_common.proofs.Starts.{starts}
+use Rattle.sip_user.specs.declared.command.Cancel.{Cancel}
+use Rattle.sip_user.specs.declared.command.DialogBody.{DialogBody}
+use Rattle.sip_user.specs.declared.command.DialogRequest.{DialogRequest}
+use Rattle.sip_user.specs.declared.command.Invite.{Invite}
+use Rattle.sip_user.specs.declared.command.Plain.{Plain as PlainCommand}
+use Rattle.sip_held_dialogs.specs.declared.pending_request.PendingRequest.{PendingRequest}
+use Rattle.sip_held_dialogs.specs.declared.pending_request.PendingRequest.TheVariants.{Ack, Prack}
+use Rattle.sip_held_dialogs.specs.declared.held_dialog.DialogId.{DialogId}
+use Rattle.sip_user.specs.declared.item.CallOut.{CallOut}
+use Rattle.sip_user.specs.declared.refusal.Refusal.TheVariants.{BadMethod, NoSuchRequest}
+use Rattle.sip_held_dialogs.specs.Ids.{is_id}
+use Rattle.sip_held_dialogs.proofs.Starts.{starts}
 use Rattle.sip_clients.specs.declared.answers.SentAck.{SentAck}
 use Rattle.sip_clients.specs.declared.cancel.CancelCase.{CancelCase}
 use Rattle.sip_clients.specs.declared.cancel.CancelCase.TheVariants as asked
@@ -29,7 +29,7 @@ use Rattle.sip_clients.specs.Client.{Clients, Side, ClientTaken, client_at, clie
 use Rattle.sip_clients.specs.Clients.{ack_kept, ack_paid, ack_by_user, acked_with, invite_taken, plain_taken, prack_paid, prack_by_user, request_by_user, settled, started}
 use Rattle.sip_clients.specs.Commands.{ack_asked, bye_ended, pending_for, is_bad_outside, name_in, requested_at}
 use Rattle.sip_clients.specs.Dialogs.{paid_at}
-use Rattle.sip_common.specs.Notices.{refused}
+use Rattle.sip_user.specs.Notices.{refused}
 use Rattle.sip_clients.specs.Outputs.{request_said, start_command}
 use Rattle.sip_clients.specs.Outside.{invite_of, plain_of}
 use Rattle.sip_clients.proofs.StartBounds.{waits_in, waits_for, waiting, AllClients, how_many, ids_of, Fits, Within, fits, none_more, no_weight, same_weight, more_weight, swapped, none_of, of_none, nothing, at_most_same, started_within, settled_within, said_fresh, sent_within}
@@ -75,21 +75,21 @@ module _ (event : Event) where
       (refused event.id command.call_id BadMethod) refl refl
 
   -- what is told, and how the requests change
-  said_fits : (call_id : List ℕ) (name : DialogId) (service : SendOutcome) (clients : Clients)
+  said_fits : (call_id : List ℕ) (name : DialogId) (outcome : SendOutcome) (clients : Clients)
       → OwnOf clients (
-        (settled event event.id (request_said event call_id name service).1 clients).0,
-        (request_said event call_id name service).0
-            ++ (settled event event.id (request_said event call_id name service).1 clients).1,
+        (settled event event.id (request_said event call_id name outcome).1 clients).0,
+        (request_said event call_id name outcome).0
+            ++ (settled event event.id (request_said event call_id name outcome).1 clients).1,
       )
-  said_fits call_id name service clients =
-      let said = request_said event call_id name service in
+  said_fits call_id name outcome clients =
+      let said = request_said event call_id name outcome in
       let after = settled event event.id said.1 clients in
       fits (Some event.id) clients (said.0 ++ after.1) after.0
       (subst (λ started. Within (λ id. weight (is_id id) (Some event.id)
       + how_many id (waiting clients)) started after.0)
       (sym (none_of said.0 after.1
-      (none_started said.0 (request_said_quiet event call_id name service))))
-      (settled_within event event.id said.1 clients (said_fresh event call_id name service)))
+      (none_started said.0 (request_said_quiet event call_id name outcome))))
+      (settled_within event event.id said.1 clients (said_fresh event call_id name outcome)))
 
   then_silent : (clients after : Clients) (outs ends : List CallOut)
       → starts ends ≡ [] → Fits (Some event.id) clients outs after

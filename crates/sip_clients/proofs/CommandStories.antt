@@ -12,24 +12,24 @@ use Rattle.sip_dialog.specs.Fault.{ack_fault, request_fault}
 use Rattle.sip_message.specs.Content.{Content}
 use Rattle.sip_message.specs.declared.id.Id.{Id}
 use Rattle.sip_message.specs.declared.message.Message.{Message}
-use Rattle.sip_common.specs.declared.command.Cancel.{Cancel}
-use Rattle.sip_common.specs.declared.command.DialogBody.{DialogBody}
-use Rattle.sip_common.specs.declared.command.DialogRequest.{DialogRequest}
-use Rattle.sip_common.specs.declared.command.Invite.{Invite}
-use Rattle.sip_common.specs.declared.command.Plain.{Plain as PlainCommand}
-use Rattle.sip_common.specs.declared.pending_request.PendingRequest.{PendingRequest}
-use Rattle.sip_common.specs.declared.pending_request.PendingRequest.TheVariants.{Ack, Prack}
-use Rattle.sip_common.specs.declared.held_dialog.DialogId.{DialogId}
-use Rattle.sip_common.specs.declared.held_dialog.HeldDialog.{HeldDialog}
-use Rattle.sip_common.specs.declared.item.CallOut.{CallOut}
-use Rattle.sip_common.specs.declared.refusal.Refusal.{Refusal}
-use Rattle.sip_common.specs.declared.refusal.Refusal.TheVariants.{AlreadyFinal, BadMethod, NoSuchDialog, NoSuchRequest}
-use Rattle.sip_common.specs.Dialogs.{Dialogs, dialog_at, is_dialog_id}
-use Rattle.sip_common.specs.Ids.{is_id}
-use Rattle.sip_common.specs.Notices.{refused}
-use Rattle.sip_common.specs.Refusal.{first_refusal}
-use Rattle.sip_common.specs.Requests.{is_cancel}
-use Rattle.sip_common.proofs.Each.{each_but_one, each_left}
+use Rattle.sip_user.specs.declared.command.Cancel.{Cancel}
+use Rattle.sip_user.specs.declared.command.DialogBody.{DialogBody}
+use Rattle.sip_user.specs.declared.command.DialogRequest.{DialogRequest}
+use Rattle.sip_user.specs.declared.command.Invite.{Invite}
+use Rattle.sip_user.specs.declared.command.Plain.{Plain as PlainCommand}
+use Rattle.sip_held_dialogs.specs.declared.pending_request.PendingRequest.{PendingRequest}
+use Rattle.sip_held_dialogs.specs.declared.pending_request.PendingRequest.TheVariants.{Ack, Prack}
+use Rattle.sip_held_dialogs.specs.declared.held_dialog.DialogId.{DialogId}
+use Rattle.sip_held_dialogs.specs.declared.held_dialog.HeldDialog.{HeldDialog}
+use Rattle.sip_user.specs.declared.item.CallOut.{CallOut}
+use Rattle.sip_user.specs.declared.refusal.Refusal.{Refusal}
+use Rattle.sip_user.specs.declared.refusal.Refusal.TheVariants.{AlreadyFinal, BadMethod, NoSuchDialog, NoSuchRequest}
+use Rattle.sip_held_dialogs.specs.Dialogs.{Dialogs, dialog_at, is_dialog_id}
+use Rattle.sip_held_dialogs.specs.Ids.{is_id}
+use Rattle.sip_user.specs.Notices.{refused}
+use Rattle.sip_user.specs.Refusal.{first_refusal}
+use Rattle.sip_held_dialogs.specs.Requests.{is_cancel}
+use Rattle.sip_held_dialogs.proofs.Each.{each_but_one, each_left}
 use Rattle.sip_clients.specs.declared.answers.SentAck.{SentAck}
 use Rattle.sip_clients.specs.declared.cancel.CancelCase.{CancelCase}
 use Rattle.sip_clients.specs.declared.cancel.CancelCase.TheVariants as ask
@@ -42,7 +42,7 @@ use Rattle.sip_clients.specs.declared.pending.PendingKind.TheVariants as kind
 use Rattle.sip_clients.specs.declared.event.Event.{Event}
 use Rattle.sip_clients.specs.declared.send_outcome.OutgoingRequest.{OutgoingRequest}
 use Rattle.sip_clients.specs.declared.send_outcome.SendOutcome.{SendOutcome}
-use Rattle.sip_clients.specs.declared.send_outcome.SendOutcome.TheVariants as service
+use Rattle.sip_clients.specs.declared.send_outcome.SendOutcome.TheVariants as outcome
 use Rattle.sip_clients.specs.Cancel.{asked, asking_case, cancel_by_user, cancel_client, cancelled_as, cancelled_of}
 use Rattle.sip_clients.specs.Client.{Clients, Side, ClientTaken, client_at, client_changed, client_for}
 use Rattle.sip_clients.specs.ClientLife.{ClientHappening, Outgoing, AsksCancel, SendsAck, SendsCancel, acks_out, cancels_out, requests_out}
@@ -58,7 +58,7 @@ use Rattle.sip_clients.specs.Outputs.{ack_said, kind_in, request_said, sent_ack,
 use Rattle.sip_clients.specs.Outside.{invite_of, plain_of}
 use Rattle.sip_clients.specs.RefusedCommands.{is_refusal}
 use Rattle.sip_clients.specs.ReceivedResponse.{is_invite_kind}
-use Rattle.sip_clients.specs.SendOutcome.{Outcome, discharged, sending_in, service_by}
+use Rattle.sip_clients.specs.SendOutcome.{Outcome, discharged, sending_in, outcome_by}
 use Rattle.sip_clients.specs.Tick.{clients_ticked, is_over}
 use Rattle.sip_clients.proofs.ClientRecords.{any_more, asked_again, client_happened, or_false}
 use Rattle.sip_clients.proofs.StoryBegins.{ChangesFor, beside, beside_on, beside_sent, both_sent, changed_on, freed_cancel, freed_out, none_sent, over_on, quiet_then, settled_on, some_same}
@@ -129,9 +129,9 @@ plain_holds event plain side stories told = by_method (is_bad_outside plain.meth
 
 -- what is sent is sent in this dialog
 abbrev IsBorn : Id → SendOutcome → Type 0
-IsBorn created_by (service.Sent sending) = sending.created_by ≡ created_by
-IsBorn created_by service.Waits = Unit {0}
-IsBorn created_by (service.Refused refusal) = Unit {0}
+IsBorn created_by (outcome.Sent sending) = sending.created_by ≡ created_by
+IsBorn created_by outcome.Waits = Unit {0}
+IsBorn created_by (outcome.Refused refusal) = Unit {0}
 
 module _ (event : Event) (name : DialogId) (dialogs : Dialogs) where
   abbrev born_in : Option HeldDialog → Id
@@ -154,34 +154,34 @@ module _ (event : Event) (name : DialogId) (dialogs : Dialogs) where
       by_found None = other event.id
       by_found (Some held) = serves held
 
-  said_for : (call_id : List ℕ) (service : SendOutcome)
-      → IsBorn (born_in (dialog_at name dialogs)) service
-      → ChangesFor event sent_for (request_said event call_id name service).1
-  said_for call_id (service.Sent sending) is =
+  said_for : (call_id : List ℕ) (outcome : SendOutcome)
+      → IsBorn (born_in (dialog_at name dialogs)) outcome
+      → ChangesFor event sent_for (request_said event call_id name outcome).1
+  said_for call_id (outcome.Sent sending) is =
       record {
         fresh = λ i. client_for event.id
             (kind_in record { name = name; created_by = is i } sending.message) sending.message
             sending.to;
       }
-  said_for call_id service.Waits is = tt
-  said_for call_id (service.Refused refusal) is = tt
+  said_for call_id outcome.Waits is = tt
+  said_for call_id (outcome.Refused refusal) is = tt
 
   -- what is told before and after the request that is sent
-  said_on : (call_id : List ℕ) (service : SendOutcome) (ends : List CallOut) (clients : Clients)
-      (stories : ClientStories) → IsBorn (born_in (dialog_at name dialogs)) service
+  said_on : (call_id : List ℕ) (outcome : SendOutcome) (ends : List CallOut) (clients : Clients)
+      (stories : ClientStories) → IsBorn (born_in (dialog_at name dialogs)) outcome
       → AreQuiet ends → AreTold clients stories
-      → let said = request_said event call_id name service in
+      → let said = request_said event call_id name outcome in
       let after = settled event event.id said.1 clients in
       AreTold after.0 (begin_stories sent_for ((said.0 ++ after.1) ++ ends) stories)
-  said_on call_id service ends clients stories is quiet told =
-      let said = request_said event call_id name service in
+  said_on call_id outcome ends clients stories is quiet told =
+      let said = request_said event call_id name outcome in
       let after = settled event event.id said.1 clients in
-      settled_on event event.id sent_for said.1 clients stories told (said_for call_id service is)
+      settled_on event event.id sent_for said.1 clients stories told (said_for call_id outcome is)
       ∙ (λ i. lived (fold (begin_story sent_for) stories (sym (
       both_sent (said.0 ++ after.1) ends
       ∙ ap (λ sent. requests_out (said.0 ++ after.1) ++ sent) (none_sent ends quiet)
       ∙ append-nil (requests_out (said.0 ++ after.1))
-      ∙ quiet_then said.0 after.1 (request_said_quiet event call_id name service)) i)))
+      ∙ quiet_then said.0 after.1 (request_said_quiet event call_id name outcome)) i)))
 
 request_born : (event : Event) (method : List ℕ) (content : Content) (held : HeldDialog)
     → IsBorn held.created_by (request_in_held event method content held).1
@@ -201,16 +201,16 @@ unfolding requested_at
 request_holds event command side stories told =
     let name = name_in command.local_tag command.remote_tag in
     let serve = request_in_held event command.method command.content in
-    let done = served_at name serve (service.Refused NoSuchDialog) side.dialogs in
+    let done = served_at name serve (outcome.Refused NoSuchDialog) side.dialogs in
     let bye = bye_ended name command.method done.1 done.0 in
     said_on event name side.dialogs command.call_id done.1 bye.1 side.clients stories
-    (served_born event name side.dialogs serve (service.Refused NoSuchDialog)
+    (served_born event name side.dialogs serve (outcome.Refused NoSuchDialog)
     (request_born event command.method command.content) (λ created_by. tt))
     (bye_quiet name command.method done.1 done.0) told
 
 service_born : (created_by : Id) (o : Option DialogFault) (sending : OutgoingRequest)
     → sending.created_by ≡ created_by
-    → IsBorn created_by (service_by o sending)
+    → IsBorn created_by (outcome_by o sending)
 service_born created_by None sending is = is
 service_born created_by (Some fault) sending is = tt
 
@@ -240,7 +240,7 @@ prack_holds event command side stories told =
         let said = request_said event command.call_id name done.1 in
         let after = settled event event.id said.1 side.clients in
         said_on event name side.dialogs command.call_id done.1 [] side.clients stories
-        (served_born event name side.dialogs (paid event pending command.content) service.Waits
+        (served_born event name side.dialogs (paid event pending command.content) outcome.Waits
         (paid_born event pending command.content) (λ created_by. tt)) tt told
         ∙ (λ i. lived (begin_stories (for_dialog event name side.dialogs)
         (append-nil (said.0 ++ after.1) i) stories))
@@ -263,25 +263,25 @@ same_on id more clients stories told same =
     by_found (Some client) at = set_value_same (is_id id) clients client at
 
 ack_on : (event : Event) (call_id : List ℕ) (name : DialogId) (pending : PendingRequest)
-    (service : SendOutcome)
+    (outcome : SendOutcome)
     (clients : Clients) (stories : ClientStories) → AreTold clients stories
-    → let said = ack_said event call_id service in
+    → let said = ack_said event call_id outcome in
     AreTold (ack_kept pending name said.1 clients)
     (option_map_or (λ invite. happens_to invite (map (SendsAck name) (acks_out said.0)) stories)
     (invite_owed (Ok pending)) stories)
-ack_on event call_id name (Ack invite number) (service.Sent sending) clients stories told =
+ack_on event call_id name (Ack invite number) (outcome.Sent sending) clients stories told =
     changed_on clients stories told invite (SendsAck name (sent_ack sending) ∷ [])
     (acked_with name (sent_ack sending))
     (λ client at. (λ i. record (acked_with name (sent_ack sending) client) {
       provisional = or_false client.provisional i;
     }))
-ack_on event call_id name (Ack invite number) service.Waits clients stories told =
+ack_on event call_id name (Ack invite number) outcome.Waits clients stories told =
     same_on invite [] clients stories told (λ client at. refl)
-ack_on event call_id name (Ack invite number) (service.Refused refusal) clients stories told =
+ack_on event call_id name (Ack invite number) (outcome.Refused refusal) clients stories told =
     same_on invite [] clients stories told (λ client at. refl)
-ack_on event call_id name (Prack rseq number) (service.Sent sending) clients stories told = told
-ack_on event call_id name (Prack rseq number) service.Waits clients stories told = told
-ack_on event call_id name (Prack rseq number) (service.Refused refusal) clients stories told = told
+ack_on event call_id name (Prack rseq number) (outcome.Sent sending) clients stories told = told
+ack_on event call_id name (Prack rseq number) outcome.Waits clients stories told = told
+ack_on event call_id name (Prack rseq number) (outcome.Refused refusal) clients stories told = told
 
 pub ack_holds : (event : Event) (command : DialogBody)
     → HoldsStories (ack_by_user event command)

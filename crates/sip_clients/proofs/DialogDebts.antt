@@ -7,16 +7,16 @@ use Rattle.sip_message.specs.declared.id.Id.{Id}
 use Rattle.sip_message.specs.declared.message.Message.{Message}
 use Rattle.sip_dialog.specs.declared.fault.DialogFault.{DialogFault}
 use Rattle.sip_dialog.specs.Fault.{request_fault}
-use Rattle.sip_common.specs.declared.pending_request.PendingRequest.{PendingRequest}
-use Rattle.sip_common.specs.declared.pending_request.PendingRequest.TheVariants.{Ack, Prack}
-use Rattle.sip_common.specs.declared.held_dialog.DialogId.{DialogId}
-use Rattle.sip_common.specs.declared.held_dialog.HeldDialog.{HeldDialog}
-use Rattle.sip_common.specs.declared.item.CallOut.{CallOut}
-use Rattle.sip_common.specs.Dialogs.{Dialogs, ended_at, is_early_of, is_dialog_id, lives}
-use Rattle.sip_common.specs.Sent.{name_of_dialog}
-use Rattle.sip_common.proofs.Entries as entries
-use Rattle.sip_common.proofs.Heard.{AreApart, name_laws}
-use Rattle.sip_common.proofs.Owing.{OweSame, OwesStill, filtered_same, removed_same, same_owed, same_then, unchanged}
+use Rattle.sip_held_dialogs.specs.declared.pending_request.PendingRequest.{PendingRequest}
+use Rattle.sip_held_dialogs.specs.declared.pending_request.PendingRequest.TheVariants.{Ack, Prack}
+use Rattle.sip_held_dialogs.specs.declared.held_dialog.DialogId.{DialogId}
+use Rattle.sip_held_dialogs.specs.declared.held_dialog.HeldDialog.{HeldDialog}
+use Rattle.sip_user.specs.declared.item.CallOut.{CallOut}
+use Rattle.sip_held_dialogs.specs.Dialogs.{Dialogs, ended_at, is_early_of, is_dialog_id, lives}
+use Rattle.sip_held_dialogs.specs.Sent.{name_of_dialog}
+use Rattle.sip_held_dialogs.proofs.Entries as entries
+use Rattle.sip_held_dialogs.proofs.Heard.{AreApart, name_laws}
+use Rattle.sip_held_dialogs.proofs.Owing.{OweSame, OwesStill, filtered_same, removed_same, same_owed, same_then, unchanged}
 use Rattle.sip_clients.specs.declared.client.Client.{Client}
 use Rattle.sip_clients.specs.declared.client.RequestKind.{RequestKind}
 use Rattle.sip_clients.specs.declared.client.RequestKind.TheVariants.{InitialInvite, ReInvite, InDialog, OutOfDialog}
@@ -32,7 +32,7 @@ use Rattle.sip_clients.specs.Dialogs.{accepted_in, ended_with, own_ended}
 use Rattle.sip_clients.specs.Outputs.{ack_said}
 use Rattle.sip_clients.specs.Owing.{is_direct, is_of_prack}
 use Rattle.sip_clients.specs.Replied.{heard_first}
-use Rattle.sip_clients.specs.SendOutcome.{discharged, service_by}
+use Rattle.sip_clients.specs.SendOutcome.{discharged, outcome_by}
 use Rattle.sip_clients.proofs.SentIn.{asks, discharged_sent, service_cseqs}
 
 pub neither_way : {X : Type 0} (b : Bool) (x y : X) → (if b && false then x else y) ≡ y
@@ -66,8 +66,8 @@ ended_same client ends dialogs apart =
     (own_same client.kind ends left (entries.apart_filtered name_laws
     (λ entry. not (is_early_of client.id entry.1)) dialogs apart))
 
-pub bye_same : (name : DialogId) (method : List ℕ) (service : SendOutcome) (dialogs : Dialogs)
-    → AreApart dialogs → OweSame dialogs (bye_ended name method service dialogs).0
+pub bye_same : (name : DialogId) (method : List ℕ) (outcome : SendOutcome) (dialogs : Dialogs)
+    → AreApart dialogs → OweSame dialogs (bye_ended name method outcome dialogs).0
 bye_same name method (Sent sending) dialogs apart = either_same _ name dialogs apart
 bye_same name method Waits dialogs apart = same_owed dialogs
 bye_same name method (Refused refusal) dialogs apart = same_owed dialogs
@@ -97,10 +97,10 @@ discharged_kept event (Prack rseq number) None held = (refl, refl)
 discharged_kept event (Ack invite number) (Some content) held = (refl, refl)
 discharged_kept event (Prack rseq number) (Some content) held = (refl, refl)
 
-kept_adds : (pending : PendingRequest) (service : SendOutcome) (held : HeldDialog)
-    → OwesStill (λ pending_requests. pending_requests ++ unless_out (goes service) pending)
+kept_adds : (pending : PendingRequest) (outcome : SendOutcome) (held : HeldDialog)
+    → OwesStill (λ pending_requests. pending_requests ++ unless_out (goes outcome) pending)
     (Some held)
-    (Some (kept_unless_sent pending service held))
+    (Some (kept_unless_sent pending outcome held))
 kept_adds pending (Sent sending) held = (refl, sym (append-nil held.pending_requests))
 kept_adds pending Waits held = (refl, refl)
 kept_adds pending (Refused refusal) held = (refl, refl)
@@ -109,10 +109,10 @@ abbrev pub all_but : PendingRequest → List PendingRequest → List PendingRequ
 all_but pending pending_requests =
     filter (λ other. not (is_same_pending pending other)) pending_requests
 
-drops : (pending : PendingRequest) (service : SendOutcome) (held : HeldDialog)
-    → OwesStill (λ pending_requests. if goes service then all_but pending pending_requests else
+drops : (pending : PendingRequest) (outcome : SendOutcome) (held : HeldDialog)
+    → OwesStill (λ pending_requests. if goes outcome then all_but pending pending_requests else
     pending_requests) (Some held)
-    (Some (dropped_if_sent pending service held))
+    (Some (dropped_if_sent pending outcome held))
 drops pending (Sent sending) held = (refl, refl)
 drops pending Waits held = (refl, refl)
 drops pending (Refused refusal) held = (refl, refl)
@@ -163,8 +163,8 @@ accepted_kept OutOfDialog response held = (refl, refl)
 
 -- ---- what goes out of it
 
-pub ack_goes : (event : Event) (call_id : List ℕ) (service : SendOutcome)
-    → list_any is_direct (ack_said event call_id service).0 ≡ goes service
+pub ack_goes : (event : Event) (call_id : List ℕ) (outcome : SendOutcome)
+    → list_any is_direct (ack_said event call_id outcome).0 ≡ goes outcome
 ack_goes event call_id (Sent sending) = refl
 ack_goes event call_id Waits = refl
 ack_goes event call_id (Refused refusal) = refl
@@ -188,7 +188,7 @@ module _ (name own : DialogId) (event : Event) (held : HeldDialog)
       where
         by_fault : (fault : Option DialogFault) (sending : OutgoingRequest)
             → list_any is_of_prack (asks (codes "PRACK") fault held.dialog)
-            ≡ goes (service_by fault sending)
+            ≡ goes (outcome_by fault sending)
         by_fault None sending = refl
         by_fault (Some fault) sending = refl
 

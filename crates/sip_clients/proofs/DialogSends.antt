@@ -6,13 +6,13 @@ use Rattle.sip_message.specs.declared.cseq.CSeq.{CSeq}
 use Rattle.sip_message.specs.declared.id.Id.{Id}
 use Rattle.sip_dialog.specs.Life.{Happening}
 use Rattle.sip_dialog.specs.Opening.{Opening}
-use Rattle.sip_common.specs.declared.held_dialog.DialogId.{DialogId}
-use Rattle.sip_common.specs.declared.held_dialog.HeldDialog.{HeldDialog}
-use Rattle.sip_common.specs.declared.item.CallOut.{CallOut}
-use Rattle.sip_common.specs.Dialogs.{Dialogs, dialog_at, is_dialog_id}
-use Rattle.sip_common.specs.Sent.{NumberedAfter, NumberedFrom, cseq_of_request, cseqs_in, name_of_dialog, number_before, requests_made, sent_in}
-use Rattle.sip_common.proofs.Heard.{Leads, Lives, in_one, leads_as, quiet}
-use Rattle.sip_common.proofs.Starts.{cseqs_both, none_numbered, numbered_none, starts}
+use Rattle.sip_held_dialogs.specs.declared.held_dialog.DialogId.{DialogId}
+use Rattle.sip_held_dialogs.specs.declared.held_dialog.HeldDialog.{HeldDialog}
+use Rattle.sip_user.specs.declared.item.CallOut.{CallOut}
+use Rattle.sip_held_dialogs.specs.Dialogs.{Dialogs, dialog_at, is_dialog_id}
+use Rattle.sip_held_dialogs.specs.Sent.{NumberedAfter, NumberedFrom, cseq_of_request, cseqs_in, name_of_dialog, number_before, requests_made, sent_in}
+use Rattle.sip_held_dialogs.proofs.Heard.{Leads, Lives, in_one, leads_as, quiet}
+use Rattle.sip_held_dialogs.proofs.Starts.{cseqs_both, none_numbered, numbered_none, starts}
 use Rattle.sip_clients.specs.declared.event.Event.{Event}
 use Rattle.sip_clients.specs.declared.outputs.ClientChange.{ClientChange}
 use Rattle.sip_clients.specs.declared.outputs.ClientChange.TheVariants.{Stays, Over, Starts}
@@ -117,8 +117,8 @@ settled_cseqs name event id Over clients = refl
 settled_cseqs name event id (Starts client) clients = refl
 
 pub said_change : (name : DialogId) (event : Event) (call_id : List ℕ) (own : DialogId)
-    (service : SendOutcome)
-    → change_cseqs name (request_said event call_id own service).1 ≡ service_cseqs name service
+    (outcome : SendOutcome)
+    → change_cseqs name (request_said event call_id own outcome).1 ≡ service_cseqs name outcome
 said_change name event call_id own (Sent sending) = refl
 said_change name event call_id own Waits = refl
 said_change name event call_id own (Refused refusal) = refl

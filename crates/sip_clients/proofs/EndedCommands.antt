@@ -4,23 +4,23 @@ use Rattle.std.specs.Prelude.{Option, None, Some, codes, is_some}
 use Rattle.std.specs.List.{list_any}
 use Rattle.std.specs.Str.{bytes_eq}
 use Rattle.sip_message.specs.declared.cseq.CSeq.{CSeq}
-use Rattle.sip_common.specs.declared.command.Cancel.{Cancel}
-use Rattle.sip_common.specs.declared.command.DialogBody.{DialogBody}
-use Rattle.sip_common.specs.declared.command.DialogRequest.{DialogRequest}
-use Rattle.sip_common.specs.declared.command.Invite.{Invite}
-use Rattle.sip_common.specs.declared.command.Plain.{Plain as PlainCommand}
-use Rattle.sip_common.specs.declared.pending_request.PendingRequest.{PendingRequest}
-use Rattle.sip_common.specs.declared.held_dialog.DialogId.{DialogId}
-use Rattle.sip_common.specs.declared.held_dialog.HeldDialog.{HeldDialog}
-use Rattle.sip_common.specs.declared.item.CallOut.{CallOut}
-use Rattle.sip_common.specs.declared.refusal.Refusal.{Refusal}
-use Rattle.sip_common.specs.declared.refusal.Refusal.TheVariants.{BadMethod, NoSuchDialog}
-use Rattle.sip_common.specs.Dialogs.{Dialogs, dialog_at, ended_at, is_dialog_id}
-use Rattle.sip_common.specs.Notices.{refused}
-use Rattle.sip_common.specs.Refusal.{first_refusal}
-use Rattle.sip_common.specs.Sent.{cseqs_in, name_of_dialog}
-use Rattle.sip_common.proofs.Entries as entries
-use Rattle.sip_common.proofs.Heard.{AreApart, name_laws}
+use Rattle.sip_user.specs.declared.command.Cancel.{Cancel}
+use Rattle.sip_user.specs.declared.command.DialogBody.{DialogBody}
+use Rattle.sip_user.specs.declared.command.DialogRequest.{DialogRequest}
+use Rattle.sip_user.specs.declared.command.Invite.{Invite}
+use Rattle.sip_user.specs.declared.command.Plain.{Plain as PlainCommand}
+use Rattle.sip_held_dialogs.specs.declared.pending_request.PendingRequest.{PendingRequest}
+use Rattle.sip_held_dialogs.specs.declared.held_dialog.DialogId.{DialogId}
+use Rattle.sip_held_dialogs.specs.declared.held_dialog.HeldDialog.{HeldDialog}
+use Rattle.sip_user.specs.declared.item.CallOut.{CallOut}
+use Rattle.sip_user.specs.declared.refusal.Refusal.{Refusal}
+use Rattle.sip_user.specs.declared.refusal.Refusal.TheVariants.{BadMethod, NoSuchDialog}
+use Rattle.sip_held_dialogs.specs.Dialogs.{Dialogs, dialog_at, ended_at, is_dialog_id}
+use Rattle.sip_user.specs.Notices.{refused}
+use Rattle.sip_user.specs.Refusal.{first_refusal}
+use Rattle.sip_held_dialogs.specs.Sent.{cseqs_in, name_of_dialog}
+use Rattle.sip_held_dialogs.proofs.Entries as entries
+use Rattle.sip_held_dialogs.proofs.Heard.{AreApart, name_laws}
 use Rattle.sip_clients.specs.declared.cancel.CancelCase.{CancelCase}
 use Rattle.sip_clients.specs.declared.cancel.CancelCase.TheVariants as ask
 use Rattle.sip_clients.specs.declared.client.Cancelling.TheVariants as state
@@ -40,7 +40,7 @@ use Rattle.sip_clients.specs.Outputs.{request_said, start_command}
 use Rattle.sip_clients.specs.Outside.{plain_of}
 use Rattle.sip_clients.specs.SendOutcome.{Outcome, sending_in}
 use Rattle.sip_clients.proofs.DialogSends.{between_silent}
-use Rattle.sip_common.proofs.EndedDialogs.{AreNamed, Goes, Which, changed_held, changed_named, goes_as, goes_before, goes_kept, goes_named_then, goes_removed, goes_same, names_ended, no_name, none_ends, silent_both}
+use Rattle.sip_held_dialogs.proofs.EndedDialogs.{AreNamed, Goes, Which, changed_held, changed_named, goes_as, goes_before, goes_kept, goes_named_then, goes_removed, goes_same, names_ended, no_name, none_ends, silent_both}
 use Rattle.sip_clients.proofs.EndedReplies.{ack_silent, beside_goes, request_silent, settled_silent}
 use Rattle.sip_clients.proofs.SentIn.{request_cseqs, request_sent_in, said_sent, served_sent, unless_refused}
 use Rattle.sip_clients.proofs.Served.{paid_either, served_dialogs, served_in}
@@ -176,10 +176,10 @@ module _ (event : Event) (side : Side) (apart : AreApart side.dialogs)
   removed true dialogs apart named = goes_removed own dialogs apart named
   removed false dialogs apart named = goes_same dialogs [] refl
 
-  by_service : (service : SendOutcome) (dialogs : Dialogs) → AreApart dialogs → AreNamed dialogs
-      → Goes no_name (λ name held. sends_bye service && is_dialog_id own name) dialogs
-      (bye_ended own command.method service dialogs).0
-      (bye_ended own command.method service dialogs).1
+  by_service : (outcome : SendOutcome) (dialogs : Dialogs) → AreApart dialogs → AreNamed dialogs
+      → Goes no_name (λ name held. sends_bye outcome && is_dialog_id own name) dialogs
+      (bye_ended own command.method outcome dialogs).0
+      (bye_ended own command.method outcome dialogs).1
   by_service (Sent sending) dialogs apart named =
       removed (bytes_eq command.method (codes "BYE")) dialogs apart named
   by_service Waits dialogs apart named = goes_same dialogs [] refl

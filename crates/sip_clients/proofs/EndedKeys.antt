@@ -6,24 +6,24 @@ use Rattle.std.specs.Option.{option_map, option_map_or}
 use Rattle.indexmap.specs.IndexMap.{insert_entry}
 use Rattle.sip_message.specs.declared.id.Id.{Id}
 use Rattle.sip_message.specs.declared.message.Message.{Message}
-use Rattle.sip_common.specs.declared.command.Cancel.{Cancel}
-use Rattle.sip_common.specs.declared.command.DialogBody.{DialogBody}
-use Rattle.sip_common.specs.declared.command.DialogRequest.{DialogRequest}
-use Rattle.sip_common.specs.declared.command.Invite.{Invite}
-use Rattle.sip_common.specs.declared.command.Plain.{Plain as PlainCommand}
-use Rattle.sip_common.specs.declared.pending_request.PendingRequest.{PendingRequest}
-use Rattle.sip_common.specs.declared.pending_request.PendingRequest.TheVariants.{Ack, Prack}
-use Rattle.sip_common.specs.declared.held_dialog.DialogId.{DialogId}
-use Rattle.sip_common.specs.declared.held_dialog.HeldDialog.{HeldDialog}
-use Rattle.sip_common.specs.declared.item.CallOut.{CallOut}
-use Rattle.sip_common.specs.declared.refusal.Refusal.TheVariants.{BadMethod}
-use Rattle.sip_common.specs.Dialogs.{Dialogs, dialog_at}
-use Rattle.sip_common.specs.Ids.{is_id}
-use Rattle.sip_common.specs.Notices.{refused}
-use Rattle.sip_common.specs.Requests.{is_final}
-use Rattle.sip_common.proofs.Each.{filtered}
-use Rattle.sip_common.proofs.Entries as entries
-use Rattle.sip_common.proofs.Heard.{id_laws}
+use Rattle.sip_user.specs.declared.command.Cancel.{Cancel}
+use Rattle.sip_user.specs.declared.command.DialogBody.{DialogBody}
+use Rattle.sip_user.specs.declared.command.DialogRequest.{DialogRequest}
+use Rattle.sip_user.specs.declared.command.Invite.{Invite}
+use Rattle.sip_user.specs.declared.command.Plain.{Plain as PlainCommand}
+use Rattle.sip_held_dialogs.specs.declared.pending_request.PendingRequest.{PendingRequest}
+use Rattle.sip_held_dialogs.specs.declared.pending_request.PendingRequest.TheVariants.{Ack, Prack}
+use Rattle.sip_held_dialogs.specs.declared.held_dialog.DialogId.{DialogId}
+use Rattle.sip_held_dialogs.specs.declared.held_dialog.HeldDialog.{HeldDialog}
+use Rattle.sip_user.specs.declared.item.CallOut.{CallOut}
+use Rattle.sip_user.specs.declared.refusal.Refusal.TheVariants.{BadMethod}
+use Rattle.sip_held_dialogs.specs.Dialogs.{Dialogs, dialog_at}
+use Rattle.sip_held_dialogs.specs.Ids.{is_id}
+use Rattle.sip_user.specs.Notices.{refused}
+use Rattle.sip_held_dialogs.specs.Requests.{is_final}
+use Rattle.sip_held_dialogs.proofs.Each.{filtered}
+use Rattle.sip_held_dialogs.proofs.Entries as entries
+use Rattle.sip_held_dialogs.proofs.Heard.{id_laws}
 use Rattle.sip_clients.specs.declared.answers.SentAck.{SentAck}
 use Rattle.sip_clients.specs.declared.cancel.CancelCase.{CancelCase}
 use Rattle.sip_clients.specs.declared.cancel.CancelCase.TheVariants as ask
@@ -144,8 +144,8 @@ StartsOwn event Stays = Unit {0}
 StartsOwn event Over = Unit {0}
 StartsOwn event (Starts client) = is_id event.id client.id ≡ true
 
-said_own : (event : Event) (call_id : List ℕ) (name : DialogId) (service : SendOutcome)
-    → StartsOwn event (request_said event call_id name service).1
+said_own : (event : Event) (call_id : List ℕ) (name : DialogId) (outcome : SendOutcome)
+    → StartsOwn event (request_said event call_id name outcome).1
 said_own event call_id name (Sent sending) = id_laws.refl event.id
 said_own event call_id name Waits = tt
 said_own event call_id name (Refused refusal) = tt
@@ -278,9 +278,9 @@ pub request_sound : (event : Event) (command : DialogRequest) (side : Side) → 
     → AreSound ((request_by_user event command side).0).clients
 request_sound event command side sound =
     let name = name_in command.local_tag command.remote_tag in
-    let service = (requested_at name event command side.dialogs).1 in
-    sound_settled event event.id (request_said event command.call_id name service).1
-    (said_own event command.call_id name service) side.clients sound
+    let outcome = (requested_at name event command side.dialogs).1 in
+    sound_settled event event.id (request_said event command.call_id name outcome).1
+    (said_own event command.call_id name outcome) side.clients sound
 
 noted_sound : (pending : PendingRequest) (name : DialogId) (ack : Option SentAck)
     (clients : Clients)
@@ -307,9 +307,9 @@ prack_sound event command side sound =
     paid_either (λ taken. AreSound (taken.0).clients) event command
     (prack_paid event command name) side (pending_for kind.Prack name side.dialogs)
     (λ refusal. sound)
-    (λ pending. let service = (paid_at name event pending command.content side.dialogs).1 in
-    sound_settled event event.id (request_said event command.call_id name service).1
-    (said_own event command.call_id name service) side.clients sound)
+    (λ pending. let outcome = (paid_at name event pending command.content side.dialogs).1 in
+    sound_settled event event.id (request_said event command.call_id name outcome).1
+    (said_own event command.call_id name outcome) side.clients sound)
 
 cancel_by : (way : CancelCase) (event : Event) (command : Cancel) (invite : Client)
     (clients : Clients) → AreSound clients

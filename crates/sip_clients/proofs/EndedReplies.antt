@@ -7,15 +7,15 @@ use Rattle.std.specs.Option.{option_map, option_map_or}
 use Rattle.indexmap.specs.IndexMap.{insert_entry}
 use Rattle.sip_message.specs.declared.id.Id.{Id}
 use Rattle.sip_message.specs.declared.message.Message.{Message}
-use Rattle.sip_common.specs.declared.held_dialog.DialogReference.{DialogReference}
-use Rattle.sip_common.specs.declared.held_dialog.DialogId.{DialogId}
-use Rattle.sip_common.specs.declared.held_dialog.HeldDialog.{HeldDialog}
-use Rattle.sip_common.specs.declared.item.CallOut.{CallOut}
-use Rattle.sip_common.specs.Dialogs.{Dialogs, dialog_at, early_ended, ended_at, is_early_of, is_dialog_id, lives}
-use Rattle.sip_common.specs.Ids.{is_id}
-use Rattle.sip_common.specs.Requests.{is_final, has_to_tag, is_success}
-use Rattle.sip_common.proofs.Entries as entries
-use Rattle.sip_common.proofs.Heard.{AreApart, name_laws}
+use Rattle.sip_held_dialogs.specs.declared.held_dialog.DialogReference.{DialogReference}
+use Rattle.sip_held_dialogs.specs.declared.held_dialog.DialogId.{DialogId}
+use Rattle.sip_held_dialogs.specs.declared.held_dialog.HeldDialog.{HeldDialog}
+use Rattle.sip_user.specs.declared.item.CallOut.{CallOut}
+use Rattle.sip_held_dialogs.specs.Dialogs.{Dialogs, dialog_at, early_ended, ended_at, is_early_of, is_dialog_id, lives}
+use Rattle.sip_held_dialogs.specs.Ids.{is_id}
+use Rattle.sip_held_dialogs.specs.Requests.{is_final, has_to_tag, is_success}
+use Rattle.sip_held_dialogs.proofs.Entries as entries
+use Rattle.sip_held_dialogs.proofs.Heard.{AreApart, name_laws}
 use Rattle.sip_clients.specs.declared.answers.SentAck.{SentAck}
 use Rattle.sip_clients.specs.declared.client.RequestKind.{RequestKind}
 use Rattle.sip_clients.specs.declared.client.RequestKind.TheVariants.{InitialInvite, ReInvite, InDialog, OutOfDialog}
@@ -36,7 +36,7 @@ use Rattle.sip_clients.specs.Dialogs.{accepted, dialog_for_provisional, ended_wi
 use Rattle.sip_clients.specs.Outputs.{ack_said, direct, request_said, start_command}
 use Rattle.sip_clients.specs.Replied.{Replied, ack_owed, after_dialog, by_reply_case, dialogs_with, ends_dialog, notice, prack_owed, reply_taken, request_over}
 use Rattle.sip_clients.specs.ReceivedResponse.{heard_of, is_dialog_response, is_invite_kind, is_last, has_dialog, reliable_case, reply_case, rseq_of}
-use Rattle.sip_common.proofs.EndedDialogs.{AreNamed, Goes, Which, early_told, ended_none, ends_told, none_told, filtered_named, goes_as, goes_before, goes_beside, goes_filtered_then, goes_removed, goes_same, left_of, names_ended, no_name, none_ends}
+use Rattle.sip_held_dialogs.proofs.EndedDialogs.{AreNamed, Goes, Which, early_told, ended_none, ends_told, none_told, filtered_named, goes_as, goes_before, goes_beside, goes_filtered_then, goes_removed, goes_same, left_of, names_ended, no_name, none_ends}
 
 -- ---- what ends with a client request
 
@@ -123,14 +123,14 @@ ended_goes client gone dialogs apart named =
 
 -- ---- what is said besides
 
-pub request_silent : (event : Event) (call_id : List ℕ) (name : DialogId) (service : SendOutcome)
-    → names_ended (request_said event call_id name service).0 ≡ []
+pub request_silent : (event : Event) (call_id : List ℕ) (name : DialogId) (outcome : SendOutcome)
+    → names_ended (request_said event call_id name outcome).0 ≡ []
 request_silent event call_id name (Sent sending) = refl
 request_silent event call_id name Waits = refl
 request_silent event call_id name (Refused refusal) = refl
 
-pub ack_silent : (event : Event) (call_id : List ℕ) (service : SendOutcome)
-    → names_ended (ack_said event call_id service).0 ≡ []
+pub ack_silent : (event : Event) (call_id : List ℕ) (outcome : SendOutcome)
+    → names_ended (ack_said event call_id outcome).0 ≡ []
 ack_silent event call_id (Sent sending) = refl
 ack_silent event call_id Waits = refl
 ack_silent event call_id (Refused refusal) = refl

@@ -7,17 +7,17 @@ use Rattle.std.specs.Map.{keys_of, values_of}
 use Rattle.std.proofs.lemmas.Map.Keys.{IsDistinct-head, IsDistinct-tail}
 use Rattle.sip_message.specs.declared.id.Id.{Id}
 use Rattle.sip_dialog.specs.Dialog.{is_early}
-use Rattle.sip_common.specs.declared.held_dialog.DialogId.{DialogId}
-use Rattle.sip_common.specs.declared.held_dialog.HeldDialog.{HeldDialog}
-use Rattle.sip_common.specs.declared.item.CallOut.{CallOut}
-use Rattle.sip_common.specs.Dialogs.{Dialogs, dialog_at, early_ended, is_early_of}
-use Rattle.sip_common.specs.Ids.{is_id}
-use Rattle.sip_common.proofs.Heard.{AreApart as DialogsApart, id_laws}
+use Rattle.sip_held_dialogs.specs.declared.held_dialog.DialogId.{DialogId}
+use Rattle.sip_held_dialogs.specs.declared.held_dialog.HeldDialog.{HeldDialog}
+use Rattle.sip_user.specs.declared.item.CallOut.{CallOut}
+use Rattle.sip_held_dialogs.specs.Dialogs.{Dialogs, dialog_at, early_ended, is_early_of}
+use Rattle.sip_held_dialogs.specs.Ids.{is_id}
+use Rattle.sip_held_dialogs.proofs.Heard.{AreApart as DialogsApart, id_laws}
 use Rattle.sip_clients.specs.declared.client.Client.{Client}
 use Rattle.sip_clients.specs.Client.{Clients, Side}
 use Rattle.sip_clients.specs.Tick.{dialogs_left, early_ends_told, ends_early_at, is_over, over_notices}
 use Rattle.sip_clients.proofs.AgainInvite.{AreApart}
-use Rattle.sip_common.proofs.EndedDialogs.{AreNamed, Goes, early_told, ended_of, ends_told, goes_filtered, no_name, once, told_both}
+use Rattle.sip_held_dialogs.proofs.EndedDialogs.{AreNamed, Goes, early_told, ended_of, ends_told, goes_filtered, no_name, once, told_both}
 
 -- each request is held under its own id
 abbrev pub AreKeyed : Clients → Type 0

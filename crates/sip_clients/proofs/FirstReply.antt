@@ -8,11 +8,11 @@ use Rattle.sip_dialog.specs.Life.{Happening}
 use Rattle.sip_reliable.specs.declared.offer.Offer.{Offer}
 use Rattle.sip_reliable.specs.declared.offer.Offer.TheVariants.{Taken, Repeat, Gap}
 use Rattle.sip_reliable.specs.Inbound.{offered}
-use Rattle.sip_common.specs.declared.held_dialog.DialogReference.{DialogReference}
-use Rattle.sip_common.specs.declared.held_dialog.HeldDialog.{HeldDialog}
-use Rattle.sip_common.specs.declared.item.CallOut.{CallOut}
-use Rattle.sip_common.specs.Dialogs.{dialog_at, is_dialog_id, lives, Dialogs}
-use Rattle.sip_common.specs.Requests.{is_final, has_to_tag, is_success}
+use Rattle.sip_held_dialogs.specs.declared.held_dialog.DialogReference.{DialogReference}
+use Rattle.sip_held_dialogs.specs.declared.held_dialog.HeldDialog.{HeldDialog}
+use Rattle.sip_user.specs.declared.item.CallOut.{CallOut}
+use Rattle.sip_held_dialogs.specs.Dialogs.{dialog_at, is_dialog_id, lives, Dialogs}
+use Rattle.sip_held_dialogs.specs.Requests.{is_final, has_to_tag, is_success}
 use Rattle.sip_clients.specs.declared.client.RequestKind.TheVariants.{InitialInvite}
 use Rattle.sip_clients.specs.declared.client.Client.{Client}
 use Rattle.sip_clients.specs.declared.reply.ReceivedResponse.{ReceivedResponse}
@@ -30,9 +30,9 @@ use Rattle.sip_clients.specs.Dialogs.{dialog_for_provisional}
 use Rattle.sip_clients.specs.Provisionals.{in_life, is_response, provisional_number, told_of}
 use Rattle.sip_clients.proofs.CommandDialogs.{ended_leads}
 use Rattle.sip_clients.proofs.ReplyDialogs.{Answered, IsNamedSo, case_begun, case_life, case_moves, first_name, heard_number, may_make, reply_names, start, unnamed_unheard}
-use Rattle.sip_common.proofs.Entries as entries
+use Rattle.sip_held_dialogs.proofs.Entries as entries
 use Rattle.sip_clients.proofs.FirstInvite.{ear_in, no_number, passed_so, silent_from, taken_so}
-use Rattle.sip_common.proofs.Heard.{AreApart, Goes, Life, OpensBy, in_one, name_laws, nothing}
+use Rattle.sip_held_dialogs.proofs.Heard.{AreApart, Goes, Life, OpensBy, in_one, name_laws, nothing}
 use Rattle.sip_clients.proofs.Hearing.{Listens}
 
 abbrev pub first : Client → Client
@@ -41,11 +41,11 @@ first client = record client { kind = InitialInvite }
 -- ---- what is told
 
 -- a reliable provisional response that is taken is told once, whether or not its PRACK goes out
-pub told_once : (number : ℕ) (answer : ReceivedResponse) (id : Id) (service : SendOutcome)
+pub told_once : (number : ℕ) (answer : ReceivedResponse) (id : Id) (outcome : SendOutcome)
     (clients : Clients)
     → map (λ out. number) (filter is_response
-    ((told_of_prack answer service).0
-    ++ (settled answer.event id (told_of_prack answer service).1 clients).1)) ≡ number ∷ []
+    ((told_of_prack answer outcome).0
+    ++ (settled answer.event id (told_of_prack answer outcome).1 clients).1)) ≡ number ∷ []
 unfolding start_command
 told_once number answer id (Sent sending) clients = refl
 told_once number answer id Waits clients = refl

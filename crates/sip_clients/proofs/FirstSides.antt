@@ -7,18 +7,18 @@ use Rattle.sip_message.specs.declared.id.Id.{Id}
 use Rattle.sip_dialog.specs.Life.{Happening}
 use Rattle.sip_dialog.specs.Opening.{Opening}
 use Rattle.sip_message.specs.declared.message.Message.{Message}
-use Rattle.sip_common.specs.declared.command.DialogBody.{DialogBody}
-use Rattle.sip_common.specs.declared.command.DialogRequest.{DialogRequest}
-use Rattle.sip_common.specs.declared.pending_request.PendingRequest.{PendingRequest}
-use Rattle.sip_common.specs.declared.held_dialog.DialogReference.{DialogReference}
-use Rattle.sip_common.specs.declared.held_dialog.DialogId.{DialogId}
-use Rattle.sip_common.specs.declared.item.CallOut.{CallOut}
-use Rattle.sip_common.specs.declared.refusal.Refusal.{Refusal}
-use Rattle.sip_common.specs.declared.refusal.Refusal.TheVariants.{NoSuchDialog}
+use Rattle.sip_user.specs.declared.command.DialogBody.{DialogBody}
+use Rattle.sip_user.specs.declared.command.DialogRequest.{DialogRequest}
+use Rattle.sip_held_dialogs.specs.declared.pending_request.PendingRequest.{PendingRequest}
+use Rattle.sip_held_dialogs.specs.declared.held_dialog.DialogReference.{DialogReference}
+use Rattle.sip_held_dialogs.specs.declared.held_dialog.DialogId.{DialogId}
+use Rattle.sip_user.specs.declared.item.CallOut.{CallOut}
+use Rattle.sip_user.specs.declared.refusal.Refusal.{Refusal}
+use Rattle.sip_user.specs.declared.refusal.Refusal.TheVariants.{NoSuchDialog}
 use Rattle.sip_clients.specs.declared.send_outcome.SendOutcome.TheVariants.{Refused, Waits}
-use Rattle.sip_common.specs.Dialogs.{dialog_at, is_dialog_id, lives, Dialogs}
-use Rattle.sip_common.specs.Requests.{is_final}
-use Rattle.sip_common.specs.Ids.{is_id}
+use Rattle.sip_held_dialogs.specs.Dialogs.{dialog_at, is_dialog_id, lives, Dialogs}
+use Rattle.sip_held_dialogs.specs.Requests.{is_final}
+use Rattle.sip_held_dialogs.specs.Ids.{is_id}
 use Rattle.sip_clients.specs.declared.client.RequestKind.{RequestKind}
 use Rattle.sip_clients.specs.declared.client.RequestKind.TheVariants.{InitialInvite, ReInvite, InDialog, OutOfDialog}
 use Rattle.sip_clients.specs.declared.client.Client.{Client}
@@ -39,7 +39,7 @@ use Rattle.sip_clients.proofs.CommandDialogs.{bye_leads, ended_leads, paid_keeps
 use Rattle.sip_clients.proofs.ReplyDialogs.{heard_number}
 use Rattle.sip_clients.proofs.FirstInvite.{ear_in, no_number, none_in_life, silent_from, told_beside}
 use Rattle.sip_clients.proofs.FirstReply.{first, first_replied, other_replied}
-use Rattle.sip_common.proofs.Heard.{AreApart, Leads, Lives, Moves, OpensBy, in_one, leads_same, leads_then, moves_led, none_came, quiet}
+use Rattle.sip_held_dialogs.proofs.Heard.{AreApart, Leads, Lives, Moves, OpensBy, in_one, leads_same, leads_then, moves_led, none_came, quiet}
 use Rattle.sip_clients.proofs.Hearing.{Listens}
 use Rattle.sip_clients.proofs.SentIn.{discharge_life, request_life}
 
@@ -221,15 +221,15 @@ pay_leads event command pending dialogs apart =
     (λ held. discharge_life pending (Some command.content) held.dialog)
     (paid_keeps event pending command.content) dialogs apart
 
-by_pay : (event : Event) (command : DialogBody) (pay : PendingRequest → Side → ClientTaken)
+by_pay : (event : Event) (command : DialogBody) (send_pending : PendingRequest → Side → ClientTaken)
     (side : Side)
     (o : Result PendingRequest Refusal) → AreApart side.dialogs
     → ((pending : PendingRequest) → Leads (paid_in command (Ok pending)) side.dialogs
-    ((pay pending side).0).dialogs)
+    ((send_pending pending side).0).dialogs)
     → Leads (paid_in command o) side.dialogs
-    ((paid_or_refused event command pay o side).0).dialogs
-by_pay event command pay side (Err refusal) apart pays = leads_same side.dialogs apart
-by_pay event command pay side (Ok pending) apart pays = pays pending
+    ((paid_or_refused event command send_pending o side).0).dialogs
+by_pay event command send_pending side (Err refusal) apart pays = leads_same side.dialogs apart
+by_pay event command send_pending side (Ok pending) apart pays = pays pending
 
 pub ack_leads : (event : Event) (command : DialogBody) (side : Side) → AreApart side.dialogs
     → Leads (paid_in command (pending_for kind.Ack

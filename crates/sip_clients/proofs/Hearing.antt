@@ -10,7 +10,7 @@ use Rattle.std.proofs.lemmas.Map.Keys.{IsDistinct-head, IsDistinct-tail}
 use Rattle.sip_message.specs.declared.id.Id.{Id}
 use Rattle.sip_reliable.specs.Inbound.{in_order, latest, latest_after, offered, taken}
 use Rattle.sip_reliable.proofs.InOrder.{stays, takes}
-use Rattle.sip_common.specs.Ids.{is_id}
+use Rattle.sip_held_dialogs.specs.Ids.{is_id}
 
 -- ---- one input
 

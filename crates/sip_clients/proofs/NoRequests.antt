@@ -5,18 +5,18 @@ use Rattle.std.specs.Map.{set_value}
 use Rattle.std.specs.Option.{option_map}
 use Rattle.sip_message.specs.declared.id.Id.{Id}
 use Rattle.sip_message.specs.declared.message.Message.{Message}
-use Rattle.sip_common.specs.declared.command.Cancel.{Cancel}
-use Rattle.sip_common.specs.declared.command.DialogBody.{DialogBody}
-use Rattle.sip_common.specs.declared.command.DialogRequest.{DialogRequest}
-use Rattle.sip_common.specs.declared.command.Invite.{Invite}
-use Rattle.sip_common.specs.declared.command.Plain.{Plain as PlainCommand}
-use Rattle.sip_common.specs.declared.pending_request.PendingRequest.{PendingRequest}
-use Rattle.sip_common.specs.declared.held_dialog.DialogId.{DialogId}
-use Rattle.sip_common.specs.declared.item.CallOut.{CallOut}
-use Rattle.sip_common.specs.declared.refusal.Refusal.TheVariants.{BadMethod}
-use Rattle.sip_common.specs.Requests.{is_final}
-use Rattle.sip_common.specs.Ids.{is_id}
-use Rattle.sip_common.proofs.ToldRequests.{none_of_both, shown}
+use Rattle.sip_user.specs.declared.command.Cancel.{Cancel}
+use Rattle.sip_user.specs.declared.command.DialogBody.{DialogBody}
+use Rattle.sip_user.specs.declared.command.DialogRequest.{DialogRequest}
+use Rattle.sip_user.specs.declared.command.Invite.{Invite}
+use Rattle.sip_user.specs.declared.command.Plain.{Plain as PlainCommand}
+use Rattle.sip_held_dialogs.specs.declared.pending_request.PendingRequest.{PendingRequest}
+use Rattle.sip_held_dialogs.specs.declared.held_dialog.DialogId.{DialogId}
+use Rattle.sip_user.specs.declared.item.CallOut.{CallOut}
+use Rattle.sip_user.specs.declared.refusal.Refusal.TheVariants.{BadMethod}
+use Rattle.sip_held_dialogs.specs.Requests.{is_final}
+use Rattle.sip_held_dialogs.specs.Ids.{is_id}
+use Rattle.sip_held_dialogs.proofs.ToldRequests.{none_of_both, shown}
 use Rattle.sip_clients.specs.declared.cancel.CancelCase.{CancelCase}
 use Rattle.sip_clients.specs.declared.cancel.CancelCase.TheVariants as ask
 use Rattle.sip_clients.specs.declared.client.RequestKind.TheVariants.{OutOfDialog}
@@ -32,7 +32,7 @@ use Rattle.sip_clients.specs.Client.{Clients, Side, client_at, client_changed, c
 use Rattle.sip_clients.specs.Clients.{ack_by_user, found_taken, invite_taken, request_lost, lost_of, plain_taken, prack_paid, prack_by_user, reply_name, reply_of, reply_settled, request_by_user, response_taken, settled, started, status_of}
 use Rattle.sip_clients.specs.Commands.{bye_ended, pending_for, is_bad_outside, name_in, requested_at}
 use Rattle.sip_clients.specs.Dialogs.{paid_at}
-use Rattle.sip_common.specs.Notices.{refused}
+use Rattle.sip_user.specs.Notices.{refused}
 use Rattle.sip_clients.specs.Outputs.{request_said, start_command}
 use Rattle.sip_clients.specs.Outside.{plain_of}
 use Rattle.sip_clients.specs.Replied.{reply_taken}

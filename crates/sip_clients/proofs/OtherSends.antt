@@ -17,27 +17,27 @@ use Rattle.sip_message.specs.declared.message.Message.{Message}
 use Rattle.sip_reliable.specs.declared.offer.Offer.{Offer}
 use Rattle.sip_reliable.specs.declared.offer.Offer.TheVariants.{Taken, Repeat, Gap}
 use Rattle.sip_reliable.specs.Inbound.{offered}
-use Rattle.sip_common.specs.declared.command.Cancel.{Cancel}
-use Rattle.sip_common.specs.declared.command.DialogBody.{DialogBody}
-use Rattle.sip_common.specs.declared.command.DialogRequest.{DialogRequest}
-use Rattle.sip_common.specs.declared.command.Invite.{Invite}
-use Rattle.sip_common.specs.declared.command.Plain.{Plain as PlainCommand}
-use Rattle.sip_common.specs.declared.command.ProvisionalSupport.{ProvisionalSupport}
-use Rattle.sip_common.specs.declared.command.ProvisionalSupport.TheVariants as support
-use Rattle.sip_common.specs.declared.pending_request.PendingRequest.{PendingRequest}
-use Rattle.sip_common.specs.declared.pending_request.PendingRequest.TheVariants.{Ack, Prack}
-use Rattle.sip_common.specs.declared.held_dialog.DialogId.{DialogId}
-use Rattle.sip_common.specs.declared.held_dialog.HeldDialog.{HeldDialog}
-use Rattle.sip_common.specs.declared.item.CallOut.{CallOut}
-use Rattle.sip_common.specs.declared.item.CallOut.TheVariants as out
-use Rattle.sip_common.specs.declared.refusal.Refusal.{Refusal}
-use Rattle.sip_common.specs.declared.refusal.Refusal.TheVariants.{BadMethod, NoSuchDialog}
-use Rattle.sip_common.specs.Dialogs.{Dialogs, dialog_at, early_ended, ended_at, ended_notice, is_early_of, is_dialog_id, lives}
-use Rattle.sip_common.specs.Ids.{is_id}
-use Rattle.sip_common.specs.Notices.{refused}
-use Rattle.sip_common.specs.Refusal.{first_refusal}
-use Rattle.sip_common.specs.Requests.{is_cancel, is_final, is_success}
-use Rattle.sip_common.proofs.Each.{all_of_each, both}
+use Rattle.sip_user.specs.declared.command.Cancel.{Cancel}
+use Rattle.sip_user.specs.declared.command.DialogBody.{DialogBody}
+use Rattle.sip_user.specs.declared.command.DialogRequest.{DialogRequest}
+use Rattle.sip_user.specs.declared.command.Invite.{Invite}
+use Rattle.sip_user.specs.declared.command.Plain.{Plain as PlainCommand}
+use Rattle.sip_user.specs.declared.command.ProvisionalSupport.{ProvisionalSupport}
+use Rattle.sip_user.specs.declared.command.ProvisionalSupport.TheVariants as support
+use Rattle.sip_held_dialogs.specs.declared.pending_request.PendingRequest.{PendingRequest}
+use Rattle.sip_held_dialogs.specs.declared.pending_request.PendingRequest.TheVariants.{Ack, Prack}
+use Rattle.sip_held_dialogs.specs.declared.held_dialog.DialogId.{DialogId}
+use Rattle.sip_held_dialogs.specs.declared.held_dialog.HeldDialog.{HeldDialog}
+use Rattle.sip_user.specs.declared.item.CallOut.{CallOut}
+use Rattle.sip_user.specs.declared.item.CallOut.TheVariants as out
+use Rattle.sip_user.specs.declared.refusal.Refusal.{Refusal}
+use Rattle.sip_user.specs.declared.refusal.Refusal.TheVariants.{BadMethod, NoSuchDialog}
+use Rattle.sip_held_dialogs.specs.Dialogs.{Dialogs, dialog_at, early_ended, ended_at, ended_notice, is_early_of, is_dialog_id, lives}
+use Rattle.sip_held_dialogs.specs.Ids.{is_id}
+use Rattle.sip_user.specs.Notices.{refused}
+use Rattle.sip_user.specs.Refusal.{first_refusal}
+use Rattle.sip_held_dialogs.specs.Requests.{is_cancel, is_final, is_success}
+use Rattle.sip_held_dialogs.proofs.Each.{all_of_each, both}
 use Rattle.sip_clients.specs.declared.cancel.CancelCase.{CancelCase}
 use Rattle.sip_clients.specs.declared.cancel.CancelCase.TheVariants as ask
 use Rattle.sip_clients.specs.declared.client.Cancelling.{Cancelling}
@@ -54,7 +54,7 @@ use Rattle.sip_clients.specs.declared.reply.ReplyCase.{ReplyCase}
 use Rattle.sip_clients.specs.declared.reply.ReplyCase.TheVariants as reply
 use Rattle.sip_clients.specs.declared.send_outcome.OutgoingRequest.{OutgoingRequest}
 use Rattle.sip_clients.specs.declared.send_outcome.SendOutcome.{SendOutcome}
-use Rattle.sip_clients.specs.declared.send_outcome.SendOutcome.TheVariants as service
+use Rattle.sip_clients.specs.declared.send_outcome.SendOutcome.TheVariants as outcome
 use Rattle.sip_clients.specs.Answers.{has_answer}
 use Rattle.sip_clients.specs.Cancel.{after_response, cancel_by_user, cancel_case, cancel_client, cancelled_as, cancelled_of, freed_by}
 use Rattle.sip_clients.specs.Client.{Clients, Side, ClientTaken, client_at, client_for}
@@ -69,7 +69,7 @@ use Rattle.sip_clients.specs.Outputs.{request_said, start_command}
 use Rattle.sip_clients.specs.Outside.{bare_invite, bare_plain, bare_request, invite_of, plain_of, supporting, through}
 use Rattle.sip_clients.specs.Replied.{Replied, after_dialog, by_reply_case, ends_dialog, prack_owed, request_over}
 use Rattle.sip_clients.specs.ReceivedResponse.{heard_of, is_dialog_response, is_invite_kind, is_last, has_dialog, offer_case, reliable_case, rseq_of, success_case}
-use Rattle.sip_clients.specs.SendOutcome.{Outcome, discharged, sending_in, service_by}
+use Rattle.sip_clients.specs.SendOutcome.{Outcome, discharged, sending_in, outcome_by}
 use Rattle.sip_clients.specs.Tick.{clients_ticked, early_ends_told, is_over, over_notices}
 use Rattle.sip_clients.proofs.ReplyStories.{sent_method}
 use Rattle.sip_clients.proofs.StoryBegins.{HasNoCancel, beside, both_sent, none_sent, settled_no_cancel}
@@ -139,18 +139,18 @@ with_notices client ends dialogs =
     (ended_notices (filter (is_early_of client.id) (values_of dialogs)))
     (own_notices client.kind ends early.0)
 
-bye_notices : (name : DialogId) (method : List ℕ) (service : SendOutcome) (dialogs : Dialogs)
-    → AreNotices (bye_ended name method service dialogs).1
-bye_notices name method (service.Sent sending) dialogs =
+bye_notices : (name : DialogId) (method : List ℕ) (outcome : SendOutcome) (dialogs : Dialogs)
+    → AreNotices (bye_ended name method outcome dialogs).1
+bye_notices name method (outcome.Sent sending) dialogs =
     at_or_notices (bytes_eq method (codes "BYE")) name dialogs
-bye_notices name method service.Waits dialogs = tt
-bye_notices name method (service.Refused refusal) dialogs = tt
+bye_notices name method outcome.Waits dialogs = tt
+bye_notices name method (outcome.Refused refusal) dialogs = tt
 
-said_notices : (event : Event) (call_id : List ℕ) (name : DialogId) (service : SendOutcome)
-    → AreNotices (request_said event call_id name service).0
-said_notices event call_id name (service.Sent sending) = tt
-said_notices event call_id name service.Waits = tt
-said_notices event call_id name (service.Refused refusal) = (tt, tt)
+said_notices : (event : Event) (call_id : List ℕ) (name : DialogId) (outcome : SendOutcome)
+    → AreNotices (request_said event call_id name outcome).0
+said_notices event call_id name (outcome.Sent sending) = tt
+said_notices event call_id name outcome.Waits = tt
+said_notices event call_id name (outcome.Refused refusal) = (tt, tt)
 
 start_no_ack : (id : Id) (client : Client) → acks_out (start_command id client ∷ []) ≡ []
 unfolding start_command
@@ -284,9 +284,9 @@ plain_no_ack event plain side = by_method (is_bad_outside plain.method)
 -- ---- requests in a dialog
 
 abbrev IsNoCancel : SendOutcome → Type 0
-IsNoCancel (service.Sent sending) = is_cancel sending.message ≡ false
-IsNoCancel service.Waits = Unit {0}
-IsNoCancel (service.Refused refusal) = Unit {0}
+IsNoCancel (outcome.Sent sending) = is_cancel sending.message ≡ false
+IsNoCancel outcome.Waits = Unit {0}
+IsNoCancel (outcome.Refused refusal) = Unit {0}
 
 served_so : (name : DialogId) (serve : HeldDialog → Outcome) (otherwise : SendOutcome)
     (dialogs : Dialogs) → ((held : HeldDialog) → IsNoCancel (serve held).1) → IsNoCancel otherwise
@@ -299,34 +299,34 @@ served_so name serve otherwise dialogs serves other = by_found (dialog_at name d
     by_found None = other
     by_found (Some held) = serves held
 
-said_no_cancel : (event : Event) (call_id : List ℕ) (name : DialogId) (service : SendOutcome)
-    → IsNoCancel service → HasNoCancel (request_said event call_id name service).1
-said_no_cancel event call_id name (service.Sent sending) is = is
-said_no_cancel event call_id name service.Waits is = tt
-said_no_cancel event call_id name (service.Refused refusal) is = tt
+said_no_cancel : (event : Event) (call_id : List ℕ) (name : DialogId) (outcome : SendOutcome)
+    → IsNoCancel outcome → HasNoCancel (request_said event call_id name outcome).1
+said_no_cancel event call_id name (outcome.Sent sending) is = is
+said_no_cancel event call_id name outcome.Waits is = tt
+said_no_cancel event call_id name (outcome.Refused refusal) is = tt
 
-module _ (event : Event) (call_id : List ℕ) (name : DialogId) (service : SendOutcome)
+module _ (event : Event) (call_id : List ℕ) (name : DialogId) (outcome : SendOutcome)
     (clients : Clients) where
   abbrev outs_said : List CallOut
   outs_said =
-      let said = request_said event call_id name service in
+      let said = request_said event call_id name outcome in
       said.0 ++ (settled event event.id said.1 clients).1
 
-  said_cancels : IsNoCancel service → cancels_out outs_said ≡ []
+  said_cancels : IsNoCancel outcome → cancels_out outs_said ≡ []
   said_cancels is =
-      let said = request_said event call_id name service in
+      let said = request_said event call_id name outcome in
       let after = settled event event.id said.1 clients in
       ap (filter (λ sent. is_cancel sent.request)) (both_sent said.0 after.1
       ∙ ap (λ sent. sent ++ requests_out after.1)
-      (no_request said.0 (said_notices event call_id name service)))
+      (no_request said.0 (said_notices event call_id name outcome)))
       ∙ settled_no_cancel event event.id said.1 clients
-      (said_no_cancel event call_id name service is)
+      (said_no_cancel event call_id name outcome is)
 
   said_acks : acks_out outs_said ≡ []
   said_acks =
-      let said = request_said event call_id name service in
+      let said = request_said event call_id name outcome in
       let after = settled event event.id said.1 clients in
-      both_acks said.0 after.1 (no_ack said.0 (said_notices event call_id name service))
+      both_acks said.0 after.1 (no_ack said.0 (said_notices event call_id name outcome))
       (settled_no_ack event event.id said.1 clients)
 
 own_first : (own : Bool) (others : List (Bool × Refusal))
@@ -369,7 +369,7 @@ module _ (event : Event) (command : DialogRequest) (side : Side) where
   abbrev request_done : Dialogs × SendOutcome
   request_done =
       served_at request_name (request_in_held event command.method command.content)
-      (service.Refused NoSuchDialog) side.dialogs
+      (outcome.Refused NoSuchDialog) side.dialogs
 
   abbrev request_bye : List CallOut
   request_bye =
@@ -386,7 +386,7 @@ module _ (event : Event) (command : DialogRequest) (side : Side) where
       ∙ append-nil (requests_out outs))
       ∙ said_cancels event command.call_id request_name request_done.1 side.clients
       (served_so request_name (request_in_held event command.method command.content)
-      (service.Refused NoSuchDialog) side.dialogs
+      (outcome.Refused NoSuchDialog) side.dialogs
       (request_none event command.method command.content) tt)
 
   request_acks : acks_out (outs_said event command.call_id request_name request_done.1
@@ -408,7 +408,7 @@ request_no_ack event command side = request_acks event command side
 
 service_none : (o : Option DialogFault) (sending : OutgoingRequest) → is_cancel sending.message
     ≡ false
-    → IsNoCancel (service_by o sending)
+    → IsNoCancel (outcome_by o sending)
 service_none None sending none = none
 service_none (Some fault) sending none = tt
 
@@ -433,7 +433,7 @@ prack_no_cancel event command side = by_debt (pending_for kind.Prack name side.d
     by_debt (Ok pending) =
         said_cancels event command.call_id name
         (paid_at name event pending command.content side.dialogs).1 side.clients
-        (served_so name (paid event pending command.content) service.Waits side.dialogs
+        (served_so name (paid event pending command.content) outcome.Waits side.dialogs
         (paid_none event pending command.content) tt)
 
 pub prack_no_ack : (event : Event) (command : DialogBody)

@@ -3,23 +3,23 @@ use Rattle.std.proofs.Common.{◌≡◌, ℕ, ◌+◌, Bool, true, false, cond, 
 use Rattle.std.specs.Prelude.{Option, None, Some, IfSome, codes}
 use Rattle.std.specs.Str.{bytes_eq}
 use Rattle.sip_message.specs.Content.{Content, with_content_of}
-use Rattle.sip_model.proofs.Ordered.{by_bool}
+use Rattle.keyed_machine.proofs.Ordered.{by_bool}
 use Rattle.sip_message.specs.declared.message.Message.{Message}
 use Rattle.sip_message.specs.declared.rack.RAck.{RAck}
 use Rattle.sip_dialog.specs.declared.dialog.Dialog.{Dialog}
 use Rattle.sip_dialog.specs.declared.fault.DialogFault.{DialogFault}
 use Rattle.sip_dialog.specs.Fault.{ack_fault, request_fault}
 use Rattle.sip_dialog.specs.Request.{bare_request_in}
-use Rattle.sip_common.specs.declared.command.DialogRequest.{DialogRequest}
-use Rattle.sip_common.specs.declared.pending_request.PendingRequest.{PendingRequest}
-use Rattle.sip_common.specs.declared.pending_request.PendingRequest.TheVariants.{Ack, Prack}
-use Rattle.sip_common.specs.declared.held_dialog.DialogId.{DialogId}
-use Rattle.sip_common.specs.declared.held_dialog.HeldDialog.{HeldDialog}
-use Rattle.sip_common.specs.declared.item.CallOut.{CallOut}
-use Rattle.sip_common.specs.declared.refusal.Refusal.TheVariants.{NoSuchDialog}
-use Rattle.sip_common.specs.Dialogs.{dialog_at, early_ended, ended_at, is_dialog_id, lives, Dialogs}
-use Rattle.sip_common.proofs.Each.{both, each_set}
-use Rattle.sip_common.proofs.OwnDialogs.{AreEndedOf, dialog_own, early_own, ended_own, lived_keeps}
+use Rattle.sip_user.specs.declared.command.DialogRequest.{DialogRequest}
+use Rattle.sip_held_dialogs.specs.declared.pending_request.PendingRequest.{PendingRequest}
+use Rattle.sip_held_dialogs.specs.declared.pending_request.PendingRequest.TheVariants.{Ack, Prack}
+use Rattle.sip_held_dialogs.specs.declared.held_dialog.DialogId.{DialogId}
+use Rattle.sip_held_dialogs.specs.declared.held_dialog.HeldDialog.{HeldDialog}
+use Rattle.sip_user.specs.declared.item.CallOut.{CallOut}
+use Rattle.sip_user.specs.declared.refusal.Refusal.TheVariants.{NoSuchDialog}
+use Rattle.sip_held_dialogs.specs.Dialogs.{dialog_at, early_ended, ended_at, is_dialog_id, lives, Dialogs}
+use Rattle.sip_held_dialogs.proofs.Each.{both, each_set}
+use Rattle.sip_held_dialogs.proofs.OwnDialogs.{AreEndedOf, dialog_own, early_own, ended_own, lived_keeps}
 use Rattle.sip_clients.specs.declared.client.RequestKind.{RequestKind}
 use Rattle.sip_clients.specs.declared.client.RequestKind.TheVariants.{InitialInvite, ReInvite, InDialog, OutOfDialog}
 use Rattle.sip_clients.specs.declared.client.Client.{Client}
@@ -37,7 +37,7 @@ use Rattle.sip_clients.proofs.Served.{bad_request, good_request, is_bad, served_
 use Rattle.sip_clients.specs.Event.{branch_of}
 use Rattle.sip_clients.specs.OwnCall.{AreDialogsOf, IsDialogOf, IsNoticeOf, IsRequestOf}
 use Rattle.sip_clients.specs.Replied.{heard_first}
-use Rattle.sip_clients.specs.SendOutcome.{Outcome, acked, happens_by_sending, requested, discharged, service_by}
+use Rattle.sip_clients.specs.SendOutcome.{Outcome, acked, happens_by_sending, requested, discharged, outcome_by}
 
 pub content_kept : (message : Message) (content : Content)
     → (with_content_of message content).call_id ≡ message.call_id
@@ -60,7 +60,7 @@ module _ (call_id : List ℕ) where
   -- ---- what is sent in a dialog
 
   service_own : (fault : Option DialogFault) (sending : OutgoingRequest)
-      → sending.message.call_id ≡ call_id → IsServiceOf (service_by fault sending)
+      → sending.message.call_id ≡ call_id → IsServiceOf (outcome_by fault sending)
   service_own None sending own = own
   service_own (Some fault) sending own = tt
 
@@ -92,9 +92,9 @@ module _ (call_id : List ℕ) where
       requested_own event (codes "PRACK")
       (Some record { rseq = rseq; cseq = number; method = codes "INVITE" }) content held own
 
-  kept_own : (pending : PendingRequest) (service : SendOutcome) (held : HeldDialog)
+  kept_own : (pending : PendingRequest) (outcome : SendOutcome) (held : HeldDialog)
       → IsDialogOf call_id held
-      → IsDialogOf call_id (kept_unless_sent pending service held)
+      → IsDialogOf call_id (kept_unless_sent pending outcome held)
   kept_own pending (Sent sending) held own = own
   kept_own pending Waits held own = own
   kept_own pending (Refused refusal) held own = own
@@ -108,9 +108,9 @@ module _ (call_id : List ℕ) where
       let so = served_own event pending offer held own in
       (kept_own pending done.1 done.0 so.0, so.1)
 
-  dropped_own : (pending : PendingRequest) (service : SendOutcome) (held : HeldDialog)
+  dropped_own : (pending : PendingRequest) (outcome : SendOutcome) (held : HeldDialog)
       → IsDialogOf call_id held
-      → IsDialogOf call_id (dropped_if_sent pending service held)
+      → IsDialogOf call_id (dropped_if_sent pending outcome held)
   dropped_own pending (Sent sending) held own = own
   dropped_own pending Waits held own = own
   dropped_own pending (Refused refusal) held own = own
@@ -197,8 +197,8 @@ module _ (call_id : List ℕ) where
             first.1 last.1,
       )
 
-  pub bye_own : (name : DialogId) (method : List ℕ) (service : SendOutcome) (dialogs : Dialogs)
-      → AreDialogsOf call_id dialogs → AreEndedOf call_id (bye_ended name method service dialogs)
+  pub bye_own : (name : DialogId) (method : List ℕ) (outcome : SendOutcome) (dialogs : Dialogs)
+      → AreDialogsOf call_id dialogs → AreEndedOf call_id (bye_ended name method outcome dialogs)
   bye_own name method (Sent sending) dialogs own =
       ended_or_not (bytes_eq method (codes "BYE")) name dialogs own
   bye_own name method Waits dialogs own = (own, tt)

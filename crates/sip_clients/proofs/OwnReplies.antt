@@ -6,13 +6,13 @@ use Rattle.std.specs.Map.{set_value, values_of}
 use Rattle.std.specs.Option.{option_map, option_map_or}
 use Rattle.sip_message.specs.declared.id.Id.{Id}
 use Rattle.sip_message.specs.declared.message.Message.{Message}
-use Rattle.sip_common.specs.declared.pending_request.PendingRequest.TheVariants.{Ack, Prack}
-use Rattle.sip_common.specs.declared.held_dialog.DialogId.{DialogId}
-use Rattle.sip_common.specs.declared.held_dialog.HeldDialog.{HeldDialog}
-use Rattle.sip_common.specs.declared.item.CallOut.{CallOut}
-use Rattle.sip_common.specs.Dialogs.{dialog_at, early_ended, is_dialog_id, Dialogs}
-use Rattle.sip_common.specs.Requests.{is_final}
-use Rattle.sip_common.specs.Ids.{is_id}
+use Rattle.sip_held_dialogs.specs.declared.pending_request.PendingRequest.TheVariants.{Ack, Prack}
+use Rattle.sip_held_dialogs.specs.declared.held_dialog.DialogId.{DialogId}
+use Rattle.sip_held_dialogs.specs.declared.held_dialog.HeldDialog.{HeldDialog}
+use Rattle.sip_user.specs.declared.item.CallOut.{CallOut}
+use Rattle.sip_held_dialogs.specs.Dialogs.{dialog_at, early_ended, is_dialog_id, Dialogs}
+use Rattle.sip_held_dialogs.specs.Requests.{is_final}
+use Rattle.sip_held_dialogs.specs.Ids.{is_id}
 use Rattle.sip_clients.specs.declared.answers.SentAck.{SentAck}
 use Rattle.sip_clients.specs.declared.client.RequestKind.{RequestKind}
 use Rattle.sip_clients.specs.declared.client.RequestKind.TheVariants.{InitialInvite, ReInvite, InDialog, OutOfDialog}
@@ -35,8 +35,8 @@ use Rattle.sip_clients.specs.OwnCall.{AreClientsOf, AreDialogsOf, AreNoticesOf, 
 use Rattle.sip_clients.specs.Replied.{InOneDialog, Replied, ack_owed, after_dialog, by_reply_case, ends_dialog, request_over, heard_again, heard_first, automatic_body, prack_owed, replied_in, reply_taken, dialogs_with}
 use Rattle.sip_clients.specs.ReceivedResponse.{is_last, reply_case}
 use Rattle.sip_clients.specs.Tick.{ends_early_at, is_over, early_ends_told, clients_ticked}
-use Rattle.sip_common.proofs.Each.{all_of_each, both, each_but_one, each_inserted, each_left, each_set, found_one}
-use Rattle.sip_common.proofs.OwnDialogs.{dialog_own, early_own}
+use Rattle.sip_held_dialogs.proofs.Each.{all_of_each, both, each_but_one, each_inserted, each_left, each_set, found_one}
+use Rattle.sip_held_dialogs.proofs.OwnDialogs.{dialog_own, early_own}
 use Rattle.sip_clients.proofs.OwnDialogs.{IsOutcomeOf, IsServiceOf, accepted_own, ended_with_own, heard_own, opened_own, owed_own}
 
 module _ (call_id : List ℕ) where
@@ -65,15 +65,15 @@ module _ (call_id : List ℕ) where
   -- ---- what is told beside it
 
   pub request_said_own : (event : Event) (of : List ℕ) → of ≡ call_id → (name : DialogId)
-      (service : SendOutcome) → IsServiceOf call_id service
-      → AreNoticesOf call_id (request_said event of name service).0
-      × IsChangeOf (request_said event of name service).1
+      (outcome : SendOutcome) → IsServiceOf call_id outcome
+      → AreNoticesOf call_id (request_said event of name outcome).0
+      × IsChangeOf (request_said event of name outcome).1
   request_said_own event of is name (Sent sending) own = (tt, own)
   request_said_own event of is name Waits own = (tt, tt)
   request_said_own event of is name (Refused refusal) own = ((is, tt), tt)
 
-  pub ack_said_own : (event : Event) (of : List ℕ) → of ≡ call_id → (service : SendOutcome)
-      → AreNoticesOf call_id (ack_said event of service).0
+  pub ack_said_own : (event : Event) (of : List ℕ) → of ≡ call_id → (outcome : SendOutcome)
+      → AreNoticesOf call_id (ack_said event of outcome).0
   ack_said_own event of is (Sent sending) = (tt, tt)
   ack_said_own event of is Waits = tt
   ack_said_own event of is (Refused refusal) = (is, tt)

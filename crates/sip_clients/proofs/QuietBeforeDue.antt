@@ -5,10 +5,10 @@ use Rattle.std.specs.List.{flat_map, list_any}
 use Rattle.std.specs.Map.{values_of}
 use Rattle.sip_timers.specs.Queue.{is_due}
 use Rattle.sip_timers.specs.Earlier.{earlier}
-use Rattle.sip_common.proofs.Dues.{earlier_due, or_assoc, or_false}
-use Rattle.sip_common.specs.declared.held_dialog.HeldDialog.{HeldDialog}
-use Rattle.sip_common.specs.Dialogs.{early_ended, is_early_of, Dialogs}
-use Rattle.sip_common.specs.declared.item.CallOut.{CallOut}
+use Rattle.sip_held_dialogs.proofs.Dues.{earlier_due, or_assoc, or_false}
+use Rattle.sip_held_dialogs.specs.declared.held_dialog.HeldDialog.{HeldDialog}
+use Rattle.sip_held_dialogs.specs.Dialogs.{early_ended, is_early_of, Dialogs}
+use Rattle.sip_user.specs.declared.item.CallOut.{CallOut}
 use Rattle.sip_clients.specs.declared.client.Client.{Client}
 use Rattle.sip_clients.specs.Client.{Clients, Side, nothing_done}
 use Rattle.sip_clients.specs.Tick.{clients_left, dialogs_left, ends_early_at, is_over, next_removal, early_ends_told, clients_ticked}

@@ -9,19 +9,19 @@ use Rattle.sip_message.specs.Content.{Content}
 use Rattle.sip_message.specs.declared.rack.RAck.{RAck}
 use Rattle.sip_dialog.specs.declared.fault.DialogFault.{DialogFault}
 use Rattle.sip_message.specs.declared.id.Id.{Id}
-use Rattle.sip_common.specs.Dialogs.{dialog_at, ended_notice, lived, Dialogs}
-use Rattle.sip_common.specs.Notices.{refused}
-use Rattle.sip_common.specs.Refusal.{first_refusal}
-use Rattle.sip_common.specs.declared.command.Cancel.{Cancel}
-use Rattle.sip_common.specs.declared.command.DialogBody.{DialogBody}
-use Rattle.sip_common.specs.declared.command.DialogRequest.{DialogRequest}
-use Rattle.sip_common.specs.declared.pending_request.PendingRequest.{PendingRequest}
-use Rattle.sip_common.specs.declared.pending_request.PendingRequest.TheVariants as pending
-use Rattle.sip_common.specs.declared.held_dialog.DialogId.{DialogId}
-use Rattle.sip_common.specs.declared.held_dialog.HeldDialog.{HeldDialog}
-use Rattle.sip_common.specs.declared.item.CallOut.{CallOut}
-use Rattle.sip_common.specs.declared.refusal.Refusal.{Refusal}
-use Rattle.sip_common.specs.declared.refusal.Refusal.TheVariants.{NoSuchDialog, NoSuchRequest}
+use Rattle.sip_held_dialogs.specs.Dialogs.{dialog_at, ended_notice, lived, Dialogs}
+use Rattle.sip_user.specs.Notices.{refused}
+use Rattle.sip_user.specs.Refusal.{first_refusal}
+use Rattle.sip_user.specs.declared.command.Cancel.{Cancel}
+use Rattle.sip_user.specs.declared.command.DialogBody.{DialogBody}
+use Rattle.sip_user.specs.declared.command.DialogRequest.{DialogRequest}
+use Rattle.sip_held_dialogs.specs.declared.pending_request.PendingRequest.{PendingRequest}
+use Rattle.sip_held_dialogs.specs.declared.pending_request.PendingRequest.TheVariants as pending
+use Rattle.sip_held_dialogs.specs.declared.held_dialog.DialogId.{DialogId}
+use Rattle.sip_held_dialogs.specs.declared.held_dialog.HeldDialog.{HeldDialog}
+use Rattle.sip_user.specs.declared.item.CallOut.{CallOut}
+use Rattle.sip_user.specs.declared.refusal.Refusal.{Refusal}
+use Rattle.sip_user.specs.declared.refusal.Refusal.TheVariants.{NoSuchDialog, NoSuchRequest}
 use Rattle.sip_clients.specs.Cancel.{cancel_case, cancel_by_user, cancelled_as, cancelled_of}
 use Rattle.sip_clients.specs.Client.{Clients, Side, client_at, ClientTaken}
 use Rattle.sip_clients.specs.Clients.{ack_kept, ack_paid, ack_by_user, prack_paid, prack_by_user, request_settled, request_by_user, settled}
@@ -29,7 +29,7 @@ use Rattle.sip_clients.specs.Commands.{bye_ended, pending_for, name_in, request_
 use Rattle.sip_clients.specs.Dialogs.{paid_at}
 use Rattle.sip_clients.specs.Pending.{dropped_if_sent, paid}
 use Rattle.sip_clients.specs.Outputs.{ack_said, request_said, start_command}
-use Rattle.sip_clients.specs.SendOutcome.{happens_by_sending, requested, discharged, sending_in, service_by}
+use Rattle.sip_clients.specs.SendOutcome.{happens_by_sending, requested, discharged, sending_in, outcome_by}
 use Rattle.sip_clients.specs.declared.cancel.CancelCase.{CancelCase}
 use Rattle.sip_clients.specs.declared.cancel.CancelCase.TheVariants as cancel
 use Rattle.sip_clients.specs.declared.client.Client.{Client}
@@ -73,7 +73,7 @@ requested_same : (event : Event) (method : List ℕ) (rack : Option RAck) (conte
 requested_same event method rack content held refusal e = by_fault _ _ e
   where
     by_fault : (fault : Option DialogFault) (sending : OutgoingRequest)
-        → service_by fault sending ≡ Refused refusal → lived (happens_by_sending method fault) held
+        → outcome_by fault sending ≡ Refused refusal → lived (happens_by_sending method fault) held
         ≡ held
     by_fault None sending is = absurd cc
     by_fault (Some fault) sending is = refl
@@ -109,7 +109,7 @@ debt_same : (event : Event) (pending_requests : PendingRequest) (content : Conte
     → (paid event pending_requests content held).0 ≡ held
 unfolding paid
 debt_same event pending_requests content held refusal e =
-    ap (λ service. dropped_if_sent pending_requests service
+    ap (λ outcome. dropped_if_sent pending_requests outcome
     (discharged event pending_requests (Some content) held).0) e
     ∙ served_same event pending_requests content held refusal e
 
@@ -121,13 +121,13 @@ module _ (event : Event) (side : Side) where
 
   -- if the request isn't sent, the dialogs don't change
   abbrev Keeps : Dialogs → SendOutcome → Type 0
-  Keeps dialogs service =
-      (refusal : Refusal) → service ≡ Refused refusal → dialogs ≡ side.dialogs
+  Keeps dialogs outcome =
+      (refusal : Refusal) → outcome ≡ Refused refusal → dialogs ≡ side.dialogs
 
   abbrev request_done : DialogId → DialogRequest → Dialogs → SendOutcome → ClientTaken
-  request_done name command dialogs service =
-      let bye = bye_ended name command.method service dialogs in
-      let said = request_said event command.call_id name service in
+  request_done name command dialogs outcome =
+      let bye = bye_ended name command.method outcome dialogs in
+      let said = request_said event command.call_id name outcome in
       let after = request_settled event said.0 said.1 bye.1 side.clients in
       (record { dialogs = bye.0; clients = after.0 }, after.1)
 
@@ -138,8 +138,8 @@ module _ (event : Event) (side : Side) where
       (λ other. rw other refl)
 
   request_by : (name : DialogId) (command : DialogRequest) (dialogs : Dialogs)
-      (service : SendOutcome) → Keeps dialogs service
-      → Lonely command.call_id (request_done name command dialogs service)
+      (outcome : SendOutcome) → Keeps dialogs outcome
+      → Lonely command.call_id (request_done name command dialogs outcome)
   unfolding start_command
   request_by name command dialogs (Sent sending) same =
       silent side command.call_id event.id
@@ -174,8 +174,8 @@ module _ (event : Event) (side : Side) where
       (λ held. debt_same event pending_requests content held refusal)
 
   abbrev ack_done : DialogId → DialogBody → PendingRequest → Dialogs → SendOutcome → ClientTaken
-  ack_done name command pending_requests dialogs service =
-      let said = ack_said event command.call_id service in (
+  ack_done name command pending_requests dialogs outcome =
+      let said = ack_said event command.call_id outcome in (
         record { dialogs = dialogs; clients = ack_kept pending_requests name said.1 side.clients },
         said.0,
       )
@@ -187,8 +187,8 @@ module _ (event : Event) (side : Side) where
 
   ack_by : (name : DialogId) (command : DialogBody) (pending_requests : PendingRequest)
       (dialogs : Dialogs)
-      (service : SendOutcome) → Keeps dialogs service
-      → Lonely command.call_id (ack_done name command pending_requests dialogs service)
+      (outcome : SendOutcome) → Keeps dialogs outcome
+      → Lonely command.call_id (ack_done name command pending_requests dialogs outcome)
   ack_by name command pending_requests dialogs (Sent sending) same =
       silent side command.call_id event.id
       (ack_done name command pending_requests dialogs (Sent sending)) refl
@@ -208,14 +208,14 @@ module _ (event : Event) (side : Side) where
   )
 
   abbrev prack_done : DialogId → DialogBody → Dialogs → SendOutcome → ClientTaken
-  prack_done name command dialogs service =
-      let said = request_said event command.call_id name service in
+  prack_done name command dialogs outcome =
+      let said = request_said event command.call_id name outcome in
       let after = settled event event.id said.1 side.clients in
       (record { dialogs = dialogs; clients = after.0 }, said.0 ++ after.1)
 
-  prack_by : (name : DialogId) (command : DialogBody) (dialogs : Dialogs) (service : SendOutcome)
-      → Keeps dialogs service
-      → Lonely command.call_id (prack_done name command dialogs service)
+  prack_by : (name : DialogId) (command : DialogBody) (dialogs : Dialogs) (outcome : SendOutcome)
+      → Keeps dialogs outcome
+      → Lonely command.call_id (prack_done name command dialogs outcome)
   unfolding start_command
   prack_by name command dialogs (Sent sending) same =
       silent side command.call_id event.id

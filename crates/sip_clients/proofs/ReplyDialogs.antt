@@ -9,12 +9,12 @@ use Rattle.sip_message.specs.Party.{tag_of}
 use Rattle.sip_dialog.specs.declared.dialog.Dialog.{Dialog}
 use Rattle.sip_dialog.specs.Life.{Happening}
 use Rattle.sip_dialog.specs.Opening.{ByResponse, Opening, contact_uri, opened as dialog_opened}
-use Rattle.sip_common.specs.declared.pending_request.PendingRequest.TheVariants.{Ack, Prack}
-use Rattle.sip_common.specs.declared.held_dialog.DialogId.{DialogId}
-use Rattle.sip_common.specs.declared.held_dialog.HeldDialog.{HeldDialog}
-use Rattle.sip_common.specs.Dialogs.{dialog_at, is_dialog_id, Dialogs}
-use Rattle.sip_common.specs.Requests.{is_final, dialog_id_of_tags}
-use Rattle.sip_common.specs.Sent.{name_of_dialog}
+use Rattle.sip_held_dialogs.specs.declared.pending_request.PendingRequest.TheVariants.{Ack, Prack}
+use Rattle.sip_held_dialogs.specs.declared.held_dialog.DialogId.{DialogId}
+use Rattle.sip_held_dialogs.specs.declared.held_dialog.HeldDialog.{HeldDialog}
+use Rattle.sip_held_dialogs.specs.Dialogs.{dialog_at, is_dialog_id, Dialogs}
+use Rattle.sip_held_dialogs.specs.Requests.{is_final, dialog_id_of_tags}
+use Rattle.sip_held_dialogs.specs.Sent.{name_of_dialog}
 use Rattle.sip_clients.specs.declared.client.RequestKind.{RequestKind}
 use Rattle.sip_clients.specs.declared.client.RequestKind.TheVariants.{InitialInvite, ReInvite, InDialog, OutOfDialog}
 use Rattle.sip_clients.specs.declared.client.Client.{Client}
@@ -28,9 +28,9 @@ use Rattle.sip_clients.specs.Dialogs.{accepted, accepted_in, hearing, dialog_by_
 use Rattle.sip_clients.specs.Happenings.{success_brings}
 use Rattle.sip_clients.specs.Replied.{ack_owed, by_reply_case, heard_first, automatic_body, prack_owed, dialogs_with}
 use Rattle.sip_clients.specs.ReceivedResponse.{heard_of, is_dialog_response, has_dialog, reliable_case, reply_case, rseq_of}
-use Rattle.sip_common.proofs.Entries as entries
-use Rattle.sip_common.proofs.Heard.{AreApart, Goes, Keeps, Life, Moves, OpensBy, Stays, in_one, keeps_same, keeps_then, name_laws, none_either, nothing, same_name, stays_same, tag_kept}
-use Rattle.sip_common.proofs.Lives.{cases_fit}
+use Rattle.sip_held_dialogs.proofs.Entries as entries
+use Rattle.sip_held_dialogs.proofs.Heard.{AreApart, Goes, Keeps, Life, Moves, OpensBy, Stays, in_one, keeps_same, keeps_then, name_laws, none_either, nothing, same_name, stays_same, tag_kept}
+use Rattle.sip_held_dialogs.proofs.Lives.{cases_fit}
 use Rattle.sip_clients.proofs.CommandDialogs.{owed_keeps}
 use Rattle.sip_clients.proofs.SentIn.{discharge_life}
 

@@ -13,18 +13,18 @@ use Rattle.sip_dialog.specs.Opening.{ByResponse, Opening}
 use Rattle.sip_reliable.specs.declared.offer.Offer.{Offer}
 use Rattle.sip_reliable.specs.declared.offer.Offer.TheVariants.{Taken, Repeat, Gap}
 use Rattle.sip_reliable.specs.Inbound.{offered}
-use Rattle.sip_common.specs.declared.pending_request.PendingRequest.TheVariants.{Prack, Ack}
-use Rattle.sip_common.specs.declared.held_dialog.DialogId.{DialogId}
-use Rattle.sip_common.specs.declared.held_dialog.HeldDialog.{HeldDialog}
-use Rattle.sip_common.specs.Dialogs.{Dialogs, dialog_at, is_dialog_id}
-use Rattle.sip_common.specs.Requests.{is_final, is_success}
-use Rattle.sip_common.specs.Sent.{NumberedFrom, name_of_dialog, number_before, requests_made}
-use Rattle.sip_common.specs.declared.pending_request.PendingRequest.{PendingRequest}
-use Rattle.sip_common.specs.declared.item.CallOut.{CallOut}
-use Rattle.sip_common.proofs.Entries as entries
-use Rattle.sip_common.proofs.Heard.{AreApart, Lives, Moves, in_one, leads_as, moves_as, moves_led, name_laws, none_came, none_either, quiet}
-use Rattle.sip_common.proofs.Starts.{numbered_none}
-use Rattle.sip_common.proofs.Owing.{Owes, owes_as, still_same, unchanged}
+use Rattle.sip_held_dialogs.specs.declared.pending_request.PendingRequest.TheVariants.{Prack, Ack}
+use Rattle.sip_held_dialogs.specs.declared.held_dialog.DialogId.{DialogId}
+use Rattle.sip_held_dialogs.specs.declared.held_dialog.HeldDialog.{HeldDialog}
+use Rattle.sip_held_dialogs.specs.Dialogs.{Dialogs, dialog_at, is_dialog_id}
+use Rattle.sip_held_dialogs.specs.Requests.{is_final, is_success}
+use Rattle.sip_held_dialogs.specs.Sent.{NumberedFrom, name_of_dialog, number_before, requests_made}
+use Rattle.sip_held_dialogs.specs.declared.pending_request.PendingRequest.{PendingRequest}
+use Rattle.sip_user.specs.declared.item.CallOut.{CallOut}
+use Rattle.sip_held_dialogs.proofs.Entries as entries
+use Rattle.sip_held_dialogs.proofs.Heard.{AreApart, Lives, Moves, in_one, leads_as, moves_as, moves_led, name_laws, none_came, none_either, quiet}
+use Rattle.sip_held_dialogs.proofs.Starts.{numbered_none}
+use Rattle.sip_held_dialogs.proofs.Owing.{Owes, owes_as, still_same, unchanged}
 use Rattle.sip_clients.specs.declared.client.Client.{Client}
 use Rattle.sip_clients.specs.declared.client.RequestKind.{RequestKind}
 use Rattle.sip_clients.specs.declared.client.RequestKind.TheVariants.{InitialInvite, ReInvite, InDialog, OutOfDialog}

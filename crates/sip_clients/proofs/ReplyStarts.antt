@@ -4,11 +4,11 @@ use Rattle.std.specs.Prelude.{Option, None, Some}
 use Rattle.std.specs.Map.{set_value}
 use Rattle.sip_message.specs.declared.id.Id.{Id}
 use Rattle.sip_message.specs.declared.message.Message.{Message}
-use Rattle.sip_common.specs.declared.held_dialog.HeldDialog.{HeldDialog}
-use Rattle.sip_common.specs.Dialogs.{dialog_at, Dialogs}
-use Rattle.sip_common.specs.Requests.{is_final}
-use Rattle.sip_common.specs.Ids.{is_id}
-use Rattle.sip_common.proofs.Starts.{starts}
+use Rattle.sip_held_dialogs.specs.declared.held_dialog.HeldDialog.{HeldDialog}
+use Rattle.sip_held_dialogs.specs.Dialogs.{dialog_at, Dialogs}
+use Rattle.sip_held_dialogs.specs.Requests.{is_final}
+use Rattle.sip_held_dialogs.specs.Ids.{is_id}
+use Rattle.sip_held_dialogs.proofs.Starts.{starts}
 use Rattle.sip_clients.specs.declared.client.RequestKind.{RequestKind}
 use Rattle.sip_clients.specs.declared.client.RequestKind.TheVariants.{InitialInvite, ReInvite, InDialog, OutOfDialog}
 use Rattle.sip_clients.specs.declared.client.Cancelling.{Cancelling}

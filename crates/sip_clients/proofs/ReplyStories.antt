@@ -19,15 +19,15 @@ use Rattle.sip_message.specs.declared.rack.RAck.{RAck}
 use Rattle.sip_reliable.specs.declared.offer.Offer.{Offer}
 use Rattle.sip_reliable.specs.declared.offer.Offer.TheVariants.{Taken, Repeat, Gap}
 use Rattle.sip_reliable.specs.Inbound.{latest_after, offered}
-use Rattle.sip_common.specs.declared.pending_request.PendingRequest.TheVariants.{Prack}
-use Rattle.sip_common.specs.declared.held_dialog.DialogId.{DialogId}
-use Rattle.sip_common.specs.declared.held_dialog.HeldDialog.{HeldDialog}
-use Rattle.sip_common.specs.declared.item.CallOut.{CallOut}
-use Rattle.sip_common.specs.Dialogs.{dialog_at}
-use Rattle.sip_common.specs.Ids.{is_id}
-use Rattle.sip_common.specs.Requests.{is_cancel, is_final}
-use Rattle.sip_common.proofs.Each.{each_but_one}
-use Rattle.sip_common.proofs.Heard.{name_laws, none_either}
+use Rattle.sip_held_dialogs.specs.declared.pending_request.PendingRequest.TheVariants.{Prack}
+use Rattle.sip_held_dialogs.specs.declared.held_dialog.DialogId.{DialogId}
+use Rattle.sip_held_dialogs.specs.declared.held_dialog.HeldDialog.{HeldDialog}
+use Rattle.sip_user.specs.declared.item.CallOut.{CallOut}
+use Rattle.sip_held_dialogs.specs.Dialogs.{dialog_at}
+use Rattle.sip_held_dialogs.specs.Ids.{is_id}
+use Rattle.sip_held_dialogs.specs.Requests.{is_cancel, is_final}
+use Rattle.sip_held_dialogs.proofs.Each.{each_but_one}
+use Rattle.sip_held_dialogs.proofs.Heard.{name_laws, none_either}
 use Rattle.sip_clients.specs.declared.answers.SentAck.{SentAck}
 use Rattle.sip_clients.specs.declared.client.Cancelling.{Cancelling}
 use Rattle.sip_clients.specs.declared.client.Cancelling.TheVariants as cancel
@@ -40,7 +40,7 @@ use Rattle.sip_clients.specs.declared.reply.ReceivedResponse.{ReceivedResponse}
 use Rattle.sip_clients.specs.declared.reply.ReplyCase.{ReplyCase}
 use Rattle.sip_clients.specs.declared.reply.ReplyCase.TheVariants as reply
 use Rattle.sip_clients.specs.declared.send_outcome.SendOutcome.{SendOutcome}
-use Rattle.sip_clients.specs.declared.send_outcome.SendOutcome.TheVariants as service
+use Rattle.sip_clients.specs.declared.send_outcome.SendOutcome.TheVariants as outcome
 use Rattle.sip_clients.specs.Answers.{ack_of, has_answer}
 use Rattle.sip_clients.specs.Cancel.{after_response, cancel_client, cancelling_after, freed_by}
 use Rattle.sip_clients.specs.Client.{Side, ClientTaken, client_at, client_for}
@@ -56,7 +56,7 @@ use Rattle.sip_clients.specs.Outputs.{direct, kind_in, request_said, sent_ack}
 use Rattle.sip_clients.specs.Provisionals.{is_response, provisional_number}
 use Rattle.sip_clients.specs.Replied.{Replied, ack_owed, after_dialog, by_reply_case, heard_again, heard_first, held_after_success, automatic_body, prack_owed, replied_in, request_over, told_of_ack}
 use Rattle.sip_clients.specs.ReceivedResponse.{heard_of, is_dialog_response, is_last, has_dialog, offer_case, reliable_case, rseq_of, success_case}
-use Rattle.sip_clients.specs.SendOutcome.{discharged, sending_in, service_by}
+use Rattle.sip_clients.specs.SendOutcome.{discharged, sending_in, outcome_by}
 use Rattle.sip_clients.proofs.ClientRecords.{any_more, client_happened, heard_taken, or_false}
 use Rattle.sip_clients.proofs.StoryBegins.{ChangesFor, HasNoCancel, beside_on, beside_sent, beside_silent, freed_cancel, freed_out, over_on, put_on, quiet_then, settled_no_cancel, settled_on, settled_silent, some_same, then_begin}
 use Rattle.sip_clients.proofs.StoryFits.{IsReady, LivesSo, acks_fit, begin_fit, freed_fits, happens_fit, ready_then, waits_ready}
@@ -96,10 +96,10 @@ hears_so OutOfDialog client found rseq there taken = absurd (false≢true there)
 -- ---- the PRACK
 
 abbrev pub IsPrack : Id → SendOutcome → Type 0
-IsPrack created_by (service.Sent sending) =
+IsPrack created_by (outcome.Sent sending) =
     (is_cancel sending.message ≡ false) × (sending.created_by ≡ created_by)
-IsPrack created_by service.Waits = Unit {0}
-IsPrack created_by (service.Refused refusal) = Unit {0}
+IsPrack created_by outcome.Waits = Unit {0}
+IsPrack created_by (outcome.Refused refusal) = Unit {0}
 
 pub sent_method : (event : Event) (method : List ℕ) (rack : Option RAck) (content : Content)
     (held : HeldDialog) → is_cancel (sending_in event method rack content held).message
@@ -118,7 +118,7 @@ owed_prack event rseq number (Some content) held =
     rack : RAck
     rack = record { rseq = rseq; cseq = number; method = codes "INVITE" }
 
-    by_fault : (fault : Option DialogFault) → IsPrack held.created_by (service_by fault
+    by_fault : (fault : Option DialogFault) → IsPrack held.created_by (outcome_by fault
         (sending_in event (codes "PRACK") (Some rack) content held))
     by_fault None = (sent_method event (codes "PRACK") (Some rack) content held, refl)
     by_fault (Some fault) = tt
@@ -232,21 +232,21 @@ module _ (event : Event) (id : Id) (call_id : List ℕ) (response : Message) (st
 
       by_service : (pending_requests : HeldDialog × SendOutcome)
           → SuccessTold false (taken_with None (done_by pending_requests))
-      by_service (held, service.Sent sending) =
+      by_service (held, outcome.Sent sending) =
           let ack = sent_ack sending in
           success_on (held_after_success answer (Some ack) (after_response true client))
-          (told_of_ack answer (service.Sent sending)).0
+          (told_of_ack answer (outcome.Sent sending)).0
           (GetsSuccess name event.moment ∷ SendsAck name ack ∷ []) (refl, (tt, tt))
           (λ i. record (held_after_success answer (Some ack) (after_response true client)) {
             provisional = or_false (client.provisional || false) i;
             answers = insert_twice name_laws client.answers name None (Some ack) i;
           })
-      by_service (held, service.Waits) =
+      by_service (held, outcome.Waits) =
           success_on (held_after_success answer None (after_response true client))
-          (told_of_ack answer service.Waits).0 (GetsSuccess name event.moment ∷ []) (refl, tt) refl
-      by_service (held, service.Refused refusal) =
+          (told_of_ack answer outcome.Waits).0 (GetsSuccess name event.moment ∷ []) (refl, tt) refl
+      by_service (held, outcome.Refused refusal) =
           success_on (held_after_success answer None (after_response true client))
-          (told_of_ack answer (service.Refused refusal)).0 (GetsSuccess name event.moment ∷ [])
+          (told_of_ack answer (outcome.Refused refusal)).0 (GetsSuccess name event.moment ∷ [])
           (refl, (refl, tt)) refl
 
   success_told : (again there : Bool) → SuccessTold again
@@ -333,10 +333,10 @@ module _ (event : Event) (id : Id) (call_id : List ℕ) (response : Message) (st
       })
       ∙ sym (hears_so client.kind (after_response false client) found rseq there taken)
 
-  prack_for : (service : SendOutcome)
-      → IsPrack (option_map_or (λ held. held.created_by) found event.id) service
-      → ChangesFor event sent_for (request_said event call_id name service).1
-  prack_for (service.Sent sending) is =
+  prack_for : (outcome : SendOutcome)
+      → IsPrack (option_map_or (λ held. held.created_by) found event.id) outcome
+      → ChangesFor event sent_for (request_said event call_id name outcome).1
+  prack_for (outcome.Sent sending) is =
       let message = sending.message in
       record {
         fresh =
@@ -346,14 +346,14 @@ module _ (event : Event) (id : Id) (call_id : List ℕ) (response : Message) (st
             (if sym is.0 i then OutOfDialog else for_dialog event name side.dialogs message) message
             sending.to);
       }
-  prack_for service.Waits is = tt
-  prack_for (service.Refused refusal) is = tt
+  prack_for outcome.Waits is = tt
+  prack_for (outcome.Refused refusal) is = tt
 
-  prack_none : (created_by : Id) (service : SendOutcome) → IsPrack created_by service
-      → HasNoCancel (request_said event call_id name service).1
-  prack_none created_by (service.Sent sending) is = is.0
-  prack_none created_by service.Waits is = tt
-  prack_none created_by (service.Refused refusal) is = tt
+  prack_none : (created_by : Id) (outcome : SendOutcome) → IsPrack created_by outcome
+      → HasNoCancel (request_said event call_id name outcome).1
+  prack_none created_by (outcome.Sent sending) is = is.0
+  prack_none created_by outcome.Waits is = tt
+  prack_none created_by (outcome.Refused refusal) is = tt
 
   found_born : (o : Option HeldDialog)
       → (dialog_for_provisional (after_response false client) answer o).created_by

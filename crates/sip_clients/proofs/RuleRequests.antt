@@ -19,24 +19,24 @@ use Rattle.sip_dialog.specs.declared.fault.DialogFault.TheVariants as fault
 use Rattle.sip_dialog.specs.Dialog.{is_early, is_ended}
 use Rattle.sip_dialog.specs.Fault.{ack_fault, request_fault}
 use Rattle.sip_dialog.specs.Route.{is_strict}
-use Rattle.sip_common.specs.declared.command.Cancel.{Cancel}
-use Rattle.sip_common.specs.declared.command.DialogBody.{DialogBody}
-use Rattle.sip_common.specs.declared.command.DialogRequest.{DialogRequest}
-use Rattle.sip_common.specs.declared.command.Invite.{Invite}
-use Rattle.sip_common.specs.declared.command.Plain.{Plain as PlainCommand}
-use Rattle.sip_common.specs.declared.command.ProvisionalSupport.{ProvisionalSupport}
-use Rattle.sip_common.specs.declared.command.ProvisionalSupport.TheVariants as support
-use Rattle.sip_common.specs.declared.pending_request.PendingRequest.{PendingRequest}
-use Rattle.sip_common.specs.declared.pending_request.PendingRequest.TheVariants.{Ack, Prack}
-use Rattle.sip_common.specs.declared.held_dialog.DialogId.{DialogId}
-use Rattle.sip_common.specs.declared.held_dialog.HeldDialog.{HeldDialog}
-use Rattle.sip_common.specs.declared.item.CallOut.{CallOut}
-use Rattle.sip_common.specs.declared.refusal.Refusal.{Refusal}
-use Rattle.sip_common.specs.declared.refusal.Refusal.TheVariants as refusal
-use Rattle.sip_common.specs.Dialogs.{dialog_at, is_dialog_id, Dialogs}
-use Rattle.sip_common.specs.Ids.{is_id}
-use Rattle.sip_common.specs.Notices.{refused}
-use Rattle.sip_common.specs.Refusal.{first_refusal}
+use Rattle.sip_user.specs.declared.command.Cancel.{Cancel}
+use Rattle.sip_user.specs.declared.command.DialogBody.{DialogBody}
+use Rattle.sip_user.specs.declared.command.DialogRequest.{DialogRequest}
+use Rattle.sip_user.specs.declared.command.Invite.{Invite}
+use Rattle.sip_user.specs.declared.command.Plain.{Plain as PlainCommand}
+use Rattle.sip_user.specs.declared.command.ProvisionalSupport.{ProvisionalSupport}
+use Rattle.sip_user.specs.declared.command.ProvisionalSupport.TheVariants as support
+use Rattle.sip_held_dialogs.specs.declared.pending_request.PendingRequest.{PendingRequest}
+use Rattle.sip_held_dialogs.specs.declared.pending_request.PendingRequest.TheVariants.{Ack, Prack}
+use Rattle.sip_held_dialogs.specs.declared.held_dialog.DialogId.{DialogId}
+use Rattle.sip_held_dialogs.specs.declared.held_dialog.HeldDialog.{HeldDialog}
+use Rattle.sip_user.specs.declared.item.CallOut.{CallOut}
+use Rattle.sip_user.specs.declared.refusal.Refusal.{Refusal}
+use Rattle.sip_user.specs.declared.refusal.Refusal.TheVariants as refusal
+use Rattle.sip_held_dialogs.specs.Dialogs.{dialog_at, is_dialog_id, Dialogs}
+use Rattle.sip_held_dialogs.specs.Ids.{is_id}
+use Rattle.sip_user.specs.Notices.{refused}
+use Rattle.sip_user.specs.Refusal.{first_refusal}
 use Rattle.sip_clients.specs.declared.answers.SentAck.{SentAck}
 use Rattle.sip_clients.specs.declared.client.Cancelling.{Cancelling}
 use Rattle.sip_clients.specs.declared.client.Cancelling.TheVariants.{NotAsked, Sent, Waits}
@@ -46,7 +46,7 @@ use Rattle.sip_clients.specs.declared.event.Event.{Event}
 use Rattle.sip_clients.specs.declared.outputs.ClientChange.{ClientChange}
 use Rattle.sip_clients.specs.declared.outputs.ClientChange.TheVariants as change
 use Rattle.sip_clients.specs.declared.send_outcome.SendOutcome.{SendOutcome}
-use Rattle.sip_clients.specs.declared.send_outcome.SendOutcome.TheVariants as service
+use Rattle.sip_clients.specs.declared.send_outcome.SendOutcome.TheVariants as outcome
 use Rattle.sip_clients.specs.declared.cancel.CancelCase.TheVariants as case
 use Rattle.sip_clients.specs.declared.client.RequestKind.{RequestKind}
 use Rattle.sip_clients.specs.declared.client.RequestKind.TheVariants.{InitialInvite, ReInvite, InDialog, OutOfDialog}
@@ -180,7 +180,7 @@ module _ (event : Event) (command : DialogRequest) (side : Side) where
   request_step found = request_done (option_map_or
       (λ held. (set_value (is_dialog_id own_name) side.dialogs (serve held).0, (serve held).1))
       found
-      (side.dialogs, service.Refused refusal.NoSuchDialog))
+      (side.dialogs, outcome.Refused refusal.NoSuchDialog))
 
   abbrev refuse : Refusal → ClientTaken
   refuse why = (side, refused event.id command.call_id why)
@@ -190,7 +190,7 @@ module _ (event : Event) (command : DialogRequest) (side : Side) where
       let sent = rule.start (side.clients, [])
       (rule.request_with_next_number event own_name command.method None command.content held) in
       let dialogs = set_value (is_dialog_id own_name) side.dialogs (rule.with_number held) in
-      let ended = bye_ended own_name command.method (service.Sent
+      let ended = bye_ended own_name command.method (outcome.Sent
       (sending_in event command.method None
       command.content held)) dialogs in
       (record { dialogs = ended.0; clients = sent.0 }, sent.1 ++ ended.1)
@@ -234,9 +234,9 @@ request_same event command side =
 -- which dialog is held after it
 abbrev pub dialog_by : SendOutcome → List PendingRequest → List PendingRequest → HeldDialog
     → HeldDialog
-dialog_by (service.Sent sending) paid owing after = record after { pending_requests = paid }
-dialog_by service.Waits paid owing after = record after { pending_requests = owing }
-dialog_by (service.Refused why) paid owing after = record after { pending_requests = owing }
+dialog_by (outcome.Sent sending) paid owing after = record after { pending_requests = paid }
+dialog_by outcome.Waits paid owing after = record after { pending_requests = owing }
+dialog_by (outcome.Refused why) paid owing after = record after { pending_requests = owing }
 
 abbrev pub started_by : ClientChange → List Client
 started_by change.Stays = []
@@ -348,16 +348,16 @@ dropped : (pending : PendingRequest) (held after : HeldDialog) (o : SendOutcome)
     → dialog_by o (filter (λ other. not (is_same_pending pending other)) held.pending_requests)
     held.pending_requests after
     ≡ dropped_if_sent pending o after
-dropped pending held after (service.Sent sending) same =
+dropped pending held after (outcome.Sent sending) same =
     ap (λ (pending_requests : List PendingRequest).
     record after {
       pending_requests = filter (λ other. not (is_same_pending pending other))
           pending_requests;
     }) (sym same)
-dropped pending held after service.Waits same =
+dropped pending held after outcome.Waits same =
     ap (λ (pending_requests : List PendingRequest). record after
     { pending_requests = pending_requests }) (sym same)
-dropped pending held after (service.Refused why) same =
+dropped pending held after (outcome.Refused why) same =
     ap (λ (pending_requests : List PendingRequest). record after
     { pending_requests = pending_requests }) (sym same)
 
@@ -434,7 +434,7 @@ module _ (event : Event) (command : DialogBody) (side : Side) where
   at_name serve found = option_map_or
       (λ held. (set_value (is_dialog_id asked_name) side.dialogs (serve held).0, (serve held).1))
       found
-      (side.dialogs, service.Waits)
+      (side.dialogs, outcome.Waits)
 
   -- ---- the command Ack
 
@@ -502,9 +502,9 @@ module _ (event : Event) (command : DialogBody) (side : Side) where
       (record { dialogs = dialogs; clients = kept.0 }, said.0 ++ kept.1) in after)
   unfolding start_command
   prack_by_service (Ack invite number) dialogs o is = absurd (false≢true is)
-  prack_by_service (Prack rseq number) dialogs (service.Sent sending) is = refl
-  prack_by_service (Prack rseq number) dialogs service.Waits is = refl
-  prack_by_service (Prack rseq number) dialogs (service.Refused why) is = refl
+  prack_by_service (Prack rseq number) dialogs (outcome.Sent sending) is = refl
+  prack_by_service (Prack rseq number) dialogs outcome.Waits is = refl
+  prack_by_service (Prack rseq number) dialogs (outcome.Refused why) is = refl
 
   abbrev prack_after : Dialogs × SendOutcome → ClientTaken
   prack_after done =

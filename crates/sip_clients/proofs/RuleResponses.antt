@@ -4,7 +4,7 @@ use Rattle.std.specs.Prelude.{Option, None, Some, ◌==◌, fold, nat_le, nat_lt
 use Rattle.std.specs.Map.{remove_entry, set_value}
 use Rattle.std.specs.Option.{option_map_or}
 use Rattle.indexmap.specs.IndexMap.{insert_entry}
-use Rattle.sip_model.proofs.Ordered.{by_bool}
+use Rattle.keyed_machine.proofs.Ordered.{by_bool}
 use Rattle.sip_message.specs.Content.{Content}
 use Rattle.sip_message.specs.Party.{tag_of}
 use Rattle.sip_message.specs.declared.id.Id.{Id}
@@ -15,15 +15,15 @@ use Rattle.sip_dialog.specs.Dialog.{is_ended}
 use Rattle.sip_dialog.specs.Opening.{contact_uri}
 use Rattle.sip_reliable.specs.declared.offer.Offer.TheVariants.{Taken, Repeat, Gap}
 use Rattle.sip_reliable.specs.Inbound.{latest_after, offered}
-use Rattle.sip_common.specs.declared.pending_request.PendingRequest.{PendingRequest}
-use Rattle.sip_common.specs.declared.pending_request.PendingRequest.TheVariants.{Ack, Prack}
-use Rattle.sip_common.specs.declared.held_dialog.DialogReference.{DialogReference}
-use Rattle.sip_common.specs.declared.held_dialog.DialogId.{DialogId}
-use Rattle.sip_common.specs.declared.held_dialog.HeldDialog.{HeldDialog}
-use Rattle.sip_common.specs.declared.item.CallOut.{CallOut}
-use Rattle.sip_common.specs.Dialogs.{confirmed, dialog_at, is_dialog_id, retargeted, Dialogs}
-use Rattle.sip_common.specs.Ids.{is_id}
-use Rattle.sip_common.specs.Requests.{is_final, dialog_id_of_tags}
+use Rattle.sip_held_dialogs.specs.declared.pending_request.PendingRequest.{PendingRequest}
+use Rattle.sip_held_dialogs.specs.declared.pending_request.PendingRequest.TheVariants.{Ack, Prack}
+use Rattle.sip_held_dialogs.specs.declared.held_dialog.DialogReference.{DialogReference}
+use Rattle.sip_held_dialogs.specs.declared.held_dialog.DialogId.{DialogId}
+use Rattle.sip_held_dialogs.specs.declared.held_dialog.HeldDialog.{HeldDialog}
+use Rattle.sip_user.specs.declared.item.CallOut.{CallOut}
+use Rattle.sip_held_dialogs.specs.Dialogs.{confirmed, dialog_at, is_dialog_id, retargeted, Dialogs}
+use Rattle.sip_held_dialogs.specs.Ids.{is_id}
+use Rattle.sip_held_dialogs.specs.Requests.{is_final, dialog_id_of_tags}
 use Rattle.sip_clients.specs.declared.answers.SentAck.{SentAck}
 use Rattle.sip_clients.specs.declared.client.Cancelling.{Cancelling}
 use Rattle.sip_clients.specs.declared.client.Cancelling.TheVariants.{NotAsked, Waits, Sent}
@@ -36,7 +36,7 @@ use Rattle.sip_clients.specs.declared.reply.ReceivedResponse.{ReceivedResponse}
 use Rattle.sip_clients.specs.declared.reply.ReplyCase.{ReplyCase}
 use Rattle.sip_clients.specs.declared.reply.ReplyCase.TheVariants as reply
 use Rattle.sip_clients.specs.declared.send_outcome.SendOutcome.{SendOutcome}
-use Rattle.sip_clients.specs.declared.send_outcome.SendOutcome.TheVariants as service
+use Rattle.sip_clients.specs.declared.send_outcome.SendOutcome.TheVariants as outcome
 use Rattle.sip_clients.specs.Answers.{has_answer}
 use Rattle.sip_clients.specs.Cancel.{after_response, cancel_client, cancel_freed, cancelling_after, freed_by}
 use Rattle.sip_clients.specs.Client.{ClientTaken, Side, client_at}
@@ -131,14 +131,14 @@ prack_put : (event : Event) (id : Id) (side : Side) (cancel : Option Client) (cl
     ≡ (let said = request_said event call_id name o in
     side_after event id side cancel (client, dialogs, told ∷ said.0, said.1))
 unfolding start_command
-prack_put event id side None client dialogs call_id name told (service.Sent sending) = refl
-prack_put event id side (Some cancel) client dialogs call_id name told (service.Sent sending) =
+prack_put event id side None client dialogs call_id name told (outcome.Sent sending) = refl
+prack_put event id side (Some cancel) client dialogs call_id name told (outcome.Sent sending) =
     refl
-prack_put event id side cancel client dialogs call_id name told service.Waits =
+prack_put event id side cancel client dialogs call_id name told outcome.Waits =
     stays_put event id side cancel client dialogs (told ∷ [])
-prack_put event id side cancel client dialogs call_id name told (service.Refused why) =
+prack_put event id side cancel client dialogs call_id name told (outcome.Refused why) =
     stays_put event id side cancel client dialogs
-    (told ∷ (request_said event call_id name (service.Refused why)).0)
+    (told ∷ (request_said event call_id name (outcome.Refused why)).0)
 
 -- ---- what a response asks for
 
@@ -161,13 +161,13 @@ kept_in : (pending : PendingRequest) (held after : HeldDialog) (o : SendOutcome)
     → after.pending_requests ≡ held.pending_requests
     → dialog_by o held.pending_requests (held.pending_requests ++ pending ∷ []) after
     ≡ kept_unless_sent pending o after
-kept_in pending held after (service.Sent sending) same =
+kept_in pending held after (outcome.Sent sending) same =
     ap (λ (pending_requests : List PendingRequest). record after
     { pending_requests = pending_requests }) (sym same)
-kept_in pending held after service.Waits same =
+kept_in pending held after outcome.Waits same =
     ap (λ (pending_requests : List PendingRequest). record after
     { pending_requests = pending_requests ++ pending ∷ [] }) (sym same)
-kept_in pending held after (service.Refused why) same =
+kept_in pending held after (outcome.Refused why) same =
     ap (λ (pending_requests : List PendingRequest). record after
     { pending_requests = pending_requests ++ pending ∷ [] }) (sym same)
 

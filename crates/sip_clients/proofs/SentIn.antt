@@ -13,20 +13,20 @@ use Rattle.sip_dialog.specs.declared.fault.DialogFault.{DialogFault}
 use Rattle.sip_dialog.specs.Fault.{ack_fault, request_fault}
 use Rattle.sip_dialog.specs.Life.{Happening}
 use Rattle.sip_dialog.specs.Request.{ack_in}
-use Rattle.sip_common.specs.declared.pending_request.PendingRequest.{PendingRequest}
-use Rattle.sip_common.specs.declared.pending_request.PendingRequest.TheVariants.{Ack, Prack}
-use Rattle.sip_common.specs.declared.held_dialog.DialogId.{DialogId}
-use Rattle.sip_common.specs.declared.held_dialog.HeldDialog.{HeldDialog}
-use Rattle.sip_common.specs.declared.item.CallOut.{CallOut}
-use Rattle.sip_common.specs.declared.refusal.Refusal.{Refusal}
-use Rattle.sip_common.specs.declared.refusal.Refusal.TheVariants.{BadMethod}
-use Rattle.sip_common.specs.Dialogs.{Dialogs, dialog_at, is_dialog_id}
-use Rattle.sip_common.specs.Refusal.{first_refusal}
-use Rattle.sip_common.specs.Sent.{NumberedAfter, cseq_of_request, cseqs_in, name_of_dialog, requests_made}
-use Rattle.sip_common.proofs.Entries as entries
-use Rattle.sip_common.proofs.Heard.{name_laws, none_either}
-use Rattle.sip_common.proofs.Sent.{cseq_for, made_in, numbered}
-use Rattle.sip_common.proofs.Starts.{cseqs_both}
+use Rattle.sip_held_dialogs.specs.declared.pending_request.PendingRequest.{PendingRequest}
+use Rattle.sip_held_dialogs.specs.declared.pending_request.PendingRequest.TheVariants.{Ack, Prack}
+use Rattle.sip_held_dialogs.specs.declared.held_dialog.DialogId.{DialogId}
+use Rattle.sip_held_dialogs.specs.declared.held_dialog.HeldDialog.{HeldDialog}
+use Rattle.sip_user.specs.declared.item.CallOut.{CallOut}
+use Rattle.sip_user.specs.declared.refusal.Refusal.{Refusal}
+use Rattle.sip_user.specs.declared.refusal.Refusal.TheVariants.{BadMethod}
+use Rattle.sip_held_dialogs.specs.Dialogs.{Dialogs, dialog_at, is_dialog_id}
+use Rattle.sip_user.specs.Refusal.{first_refusal}
+use Rattle.sip_held_dialogs.specs.Sent.{NumberedAfter, cseq_of_request, cseqs_in, name_of_dialog, requests_made}
+use Rattle.sip_held_dialogs.proofs.Entries as entries
+use Rattle.sip_held_dialogs.proofs.Heard.{name_laws, none_either}
+use Rattle.sip_held_dialogs.proofs.Sent.{cseq_for, made_in, numbered}
+use Rattle.sip_held_dialogs.proofs.Starts.{cseqs_both}
 use Rattle.sip_clients.specs.declared.client.Client.{Client}
 use Rattle.sip_clients.specs.declared.event.Event.{Event}
 use Rattle.sip_clients.specs.declared.send_outcome.OutgoingRequest.{OutgoingRequest}
@@ -40,7 +40,7 @@ use Rattle.sip_clients.specs.Pending.{kept_pending, paid}
 use Rattle.sip_clients.specs.Dialogs.{served_at}
 use Rattle.sip_clients.specs.Event.{branch_of}
 use Rattle.sip_clients.specs.Outputs.{request_said, start_command}
-use Rattle.sip_clients.specs.SendOutcome.{Outcome, discharged, sending_in, service_by}
+use Rattle.sip_clients.specs.SendOutcome.{Outcome, discharged, sending_in, outcome_by}
 use Rattle.sip_clients.proofs.Served.{served_in}
 
 -- ---- one request
@@ -148,13 +148,13 @@ module _ (name own : DialogId) (event : Event) (held : HeldDialog)
   by_ack_fault : (number : ℕ) (content : Content) (fault : Option DialogFault)
       (sending : OutgoingRequest)
       → cseq_of_request name sending.message ≡ None
-      → service_cseqs name (service_by fault sending) ≡ cond (is_dialog_id own name) [] []
+      → service_cseqs name (outcome_by fault sending) ≡ cond (is_dialog_id own name) [] []
   by_ack_fault number content None sending none =
       ap (λ o. cons_option o []) none ∙ sym (none_either (is_dialog_id own name))
   by_ack_fault number content (Some fault) sending none = sym (none_either (is_dialog_id own name))
 
   by_prack_fault : (rack : Option RAck) (content : Content) (fault : Option DialogFault)
-      → service_cseqs name (service_by fault (sending_in event (codes "PRACK") rack content held))
+      → service_cseqs name (outcome_by fault (sending_in event (codes "PRACK") rack content held))
       ≡ cond (is_dialog_id own name) (asks (codes "PRACK") fault held.dialog) []
   by_prack_fault rack content None =
       sent_once name own event (codes "PRACK") rack content held named refl
@@ -233,9 +233,9 @@ served_sent own serve otherwise cseqs dialogs name sends none held at =
         ∙ ap (λ found. service_cseqs name (served_in own serve otherwise dialogs found).1) (sym is)
 
 pub said_sent : (name : DialogId) (event : Event) (id : Id) (call_id : List ℕ) (own : DialogId)
-    (service : SendOutcome) (clients : Clients)
-    → cseqs_in name (settled event id (request_said event call_id own service).1 clients).1
-    ≡ service_cseqs name service
+    (outcome : SendOutcome) (clients : Clients)
+    → cseqs_in name (settled event id (request_said event call_id own outcome).1 clients).1
+    ≡ service_cseqs name outcome
 unfolding start_command
 said_sent name event id call_id own (Sent sending) clients = refl
 said_sent name event id call_id own Waits clients = refl

@@ -11,22 +11,22 @@ use Rattle.sip_dialog.specs.declared.fault.DialogFault.TheVariants as fault
 use Rattle.sip_dialog.specs.Dialog.{is_early, is_ended}
 use Rattle.sip_dialog.specs.Fault.{request_fault}
 use Rattle.sip_dialog.specs.Route.{is_strict}
-use Rattle.sip_common.specs.Dialogs.{dialog_at, dialog_changed, is_dialog_id, lived, Dialogs}
-use Rattle.sip_common.specs.Refusal.{first_refusal}
-use Rattle.sip_common.specs.declared.held_dialog.DialogId.{DialogId}
-use Rattle.sip_common.specs.declared.held_dialog.HeldDialog.{HeldDialog}
-use Rattle.sip_common.specs.declared.refusal.Refusal.{Refusal}
-use Rattle.sip_common.specs.declared.refusal.Refusal.TheVariants.{BadMethod, DialogEnded, StrictRoute, SequenceUsedUp}
+use Rattle.sip_held_dialogs.specs.Dialogs.{dialog_at, dialog_changed, is_dialog_id, lived, Dialogs}
+use Rattle.sip_user.specs.Refusal.{first_refusal}
+use Rattle.sip_held_dialogs.specs.declared.held_dialog.DialogId.{DialogId}
+use Rattle.sip_held_dialogs.specs.declared.held_dialog.HeldDialog.{HeldDialog}
+use Rattle.sip_user.specs.declared.refusal.Refusal.{Refusal}
+use Rattle.sip_user.specs.declared.refusal.Refusal.TheVariants.{BadMethod, DialogEnded, StrictRoute, SequenceUsedUp}
 use Rattle.sip_clients.specs.Commands.{is_bad_early, is_callee, is_own_kind, request_in_held, sent_unless}
 use Rattle.sip_clients.specs.Dialogs.{served_at}
-use Rattle.sip_clients.specs.SendOutcome.{Outcome, refusal_for_fault, requested, sending_in, happens_by_sending, service_by}
+use Rattle.sip_clients.specs.SendOutcome.{Outcome, refusal_for_fault, requested, sending_in, happens_by_sending, outcome_by}
 use Rattle.sip_clients.specs.declared.event.Event.{Event}
 use Rattle.sip_clients.specs.declared.send_outcome.OutgoingRequest.{OutgoingRequest}
 use Rattle.sip_clients.specs.declared.send_outcome.SendOutcome.{SendOutcome}
 use Rattle.sip_clients.specs.declared.send_outcome.SendOutcome.TheVariants.{Refused}
-use Rattle.sip_common.specs.declared.command.DialogBody.{DialogBody}
-use Rattle.sip_common.specs.declared.pending_request.PendingRequest.{PendingRequest}
-use Rattle.sip_common.specs.Notices.{refused}
+use Rattle.sip_user.specs.declared.command.DialogBody.{DialogBody}
+use Rattle.sip_held_dialogs.specs.declared.pending_request.PendingRequest.{PendingRequest}
+use Rattle.sip_user.specs.Notices.{refused}
 use Rattle.sip_clients.specs.Client.{Side, ClientTaken}
 use Rattle.sip_clients.specs.Clients.{paid_or_refused}
 
@@ -34,12 +34,12 @@ use Rattle.sip_clients.specs.Clients.{paid_or_refused}
 
 -- what is true of a refusal, and of each ACK or PRACK that is owed, is true of the command
 pub paid_either : (P : ClientTaken → Type 0) (event : Event) (command : DialogBody)
-    (pay : PendingRequest → Side → ClientTaken) (side : Side) (o : Result PendingRequest Refusal)
+    (send_pending : PendingRequest → Side → ClientTaken) (side : Side) (o : Result PendingRequest Refusal)
     → ((refusal : Refusal) → P (side, refused event.id command.call_id refusal))
-    → ((pending : PendingRequest) → P (pay pending side))
-    → P (paid_or_refused event command pay o side)
-paid_either P event command pay side (Err refusal) refuses pays = refuses refusal
-paid_either P event command pay side (Ok pending) refuses pays = pays pending
+    → ((pending : PendingRequest) → P (send_pending pending side))
+    → P (paid_or_refused event command send_pending o side)
+paid_either P event command send_pending side (Err refusal) refuses pays = refuses refusal
+paid_either P event command send_pending side (Ok pending) refuses pays = pays pending
 
 pub found_passes : (p : PendingRequest → Bool) (pending_requests : List PendingRequest)
     (pending : PendingRequest) → find p pending_requests ≡ Some pending
@@ -121,7 +121,7 @@ by_dialog false false invite bye false false false is = refl
 sent_by : (method : List ℕ) (fault : Option DialogFault) (sending : OutgoingRequest)
     (held : HeldDialog)
     → sent_unless (option_map refusal_for_fault fault) sending held
-    ≡ (lived (happens_by_sending method fault) held, service_by fault sending)
+    ≡ (lived (happens_by_sending method fault) held, outcome_by fault sending)
 sent_by method None sending held = refl
 sent_by method (Some fault) sending held = refl
 

@@ -13,10 +13,10 @@ use Rattle.sip_message.specs.TopVia.{top_branch}
 use Rattle.sip_message.specs.declared.id.Id.{Id}
 use Rattle.sip_message.specs.declared.key.Key.{Key}
 use Rattle.sip_message.specs.declared.key.Key.TheVariants as key
-use Rattle.sip_common.specs.declared.held_dialog.DialogId.{DialogId}
-use Rattle.sip_common.specs.declared.item.CallOut.{CallOut}
-use Rattle.sip_common.specs.Ids.{is_id}
-use Rattle.sip_common.proofs.Starts.{start_in, starts}
+use Rattle.sip_held_dialogs.specs.declared.held_dialog.DialogId.{DialogId}
+use Rattle.sip_user.specs.declared.item.CallOut.{CallOut}
+use Rattle.sip_held_dialogs.specs.Ids.{is_id}
+use Rattle.sip_held_dialogs.proofs.Starts.{start_in, starts}
 use Rattle.sip_clients.specs.declared.client.Cancelling.{Cancelling}
 use Rattle.sip_clients.specs.declared.client.Cancelling.TheVariants as cancel
 use Rattle.sip_clients.specs.declared.client.Client.{Client}
@@ -218,8 +218,8 @@ settled_within event id Over clients fresh =
 settled_within event id (Starts client) clients fresh =
     started_within event client clients fresh.0
 
-pub said_fresh : (event : Event) (call_id : List ℕ) (name : DialogId) (service : SendOutcome)
-    → StartsFresh (request_said event call_id name service).1
+pub said_fresh : (event : Event) (call_id : List ℕ) (name : DialogId) (outcome : SendOutcome)
+    → StartsFresh (request_said event call_id name outcome).1
 said_fresh event call_id name (Sent sending) = (refl, refl)
 said_fresh event call_id name Waits = tt
 said_fresh event call_id name (Refused refusal) = tt

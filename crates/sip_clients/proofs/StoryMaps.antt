@@ -4,7 +4,7 @@ use Rattle.std.specs.Prelude.{filter}
 use Rattle.std.specs.Cmp.{IsEquivalence}
 use Rattle.std.specs.Map.{remove_entry, set_value}
 use Rattle.indexmap.specs.IndexMap.{insert_entry}
-use Rattle.sip_model.proofs.Ordered.{by_bool}
+use Rattle.keyed_machine.proofs.Ordered.{by_bool}
 
 module _ {K A B : Type 0} (f : A → B) where
   abbrev pub read : List (K × A) → List (K × B)

@@ -6,16 +6,16 @@ use Rattle.std.specs.Map.{values_of}
 use Rattle.std.specs.Option.{option_map_or}
 use Rattle.std.specs.Str.{bytes_eq}
 use Rattle.sip_message.specs.declared.id.Id.{Id}
-use Rattle.sip_common.specs.declared.held_dialog.DialogId.{DialogId}
-use Rattle.sip_common.specs.declared.held_dialog.HeldDialog.{HeldDialog}
-use Rattle.sip_common.specs.declared.item.CallOut.{CallOut}
-use Rattle.sip_common.specs.declared.item.CallOut.TheVariants as out
-use Rattle.sip_common.specs.Dialogs.{dialog_at, early_ended, ended_at, ended_notice, is_early_of, lives, Dialogs}
-use Rattle.sip_common.specs.Ids.{is_id}
-use Rattle.sip_common.specs.Notices.{request_told_by}
-use Rattle.sip_common.proofs.Each.{all_of_each, both}
-use Rattle.sip_common.proofs.Starts.{starts}
-use Rattle.sip_common.proofs.ToldRequests.{shown}
+use Rattle.sip_held_dialogs.specs.declared.held_dialog.DialogId.{DialogId}
+use Rattle.sip_held_dialogs.specs.declared.held_dialog.HeldDialog.{HeldDialog}
+use Rattle.sip_user.specs.declared.item.CallOut.{CallOut}
+use Rattle.sip_user.specs.declared.item.CallOut.TheVariants as out
+use Rattle.sip_held_dialogs.specs.Dialogs.{dialog_at, early_ended, ended_at, ended_notice, is_early_of, lives, Dialogs}
+use Rattle.sip_held_dialogs.specs.Ids.{is_id}
+use Rattle.sip_user.specs.Notices.{request_told_by}
+use Rattle.sip_held_dialogs.proofs.Each.{all_of_each, both}
+use Rattle.sip_held_dialogs.proofs.Starts.{starts}
+use Rattle.sip_held_dialogs.proofs.ToldRequests.{shown}
 use Rattle.sip_clients.specs.declared.answers.SentAck.{SentAck}
 use Rattle.sip_clients.specs.declared.client.RequestKind.{RequestKind}
 use Rattle.sip_clients.specs.declared.client.RequestKind.TheVariants.{InitialInvite, ReInvite, InDialog, OutOfDialog}
@@ -38,7 +38,7 @@ use Rattle.sip_clients.specs.Tick.{clients_left, is_over, early_ends_told, over_
 use Rattle.sip_clients.proofs.StartBounds.{waits_for, waiting, AllClients, how_many, ids_of, Fits, Within, fits, none_of, own_nothing, at_most_same}
 use Rattle.sip_clients.proofs.Tally.{tally_filtered, tally_removed, weight}
 use Rattle.sip_clients.proofs.Served.{paid_either}
-use Rattle.sip_common.specs.declared.command.DialogBody.{DialogBody}
+use Rattle.sip_user.specs.declared.command.DialogBody.{DialogBody}
 
 -- ---- notices of no request, and ACKs
 
@@ -66,14 +66,14 @@ none_shown (out.Direct to bytes ∷ outs) quiet = none_shown outs quiet.1
 -- ---- what is told of a request
 
 pub request_said_quiet : (event : Event) (call_id : List ℕ) (name : DialogId)
-    (service : SendOutcome)
-    → AreQuiet (request_said event call_id name service).0
+    (outcome : SendOutcome)
+    → AreQuiet (request_said event call_id name outcome).0
 request_said_quiet event call_id name (Sent sending) = tt
 request_said_quiet event call_id name Waits = tt
 request_said_quiet event call_id name (Refused refusal) = (refl, tt)
 
-pub ack_said_quiet : (event : Event) (call_id : List ℕ) (service : SendOutcome)
-    → AreQuiet (ack_said event call_id service).0
+pub ack_said_quiet : (event : Event) (call_id : List ℕ) (outcome : SendOutcome)
+    → AreQuiet (ack_said event call_id outcome).0
 ack_said_quiet event call_id (Sent sending) = (tt, tt)
 ack_said_quiet event call_id Waits = tt
 ack_said_quiet event call_id (Refused refusal) = (refl, tt)
@@ -104,8 +104,8 @@ early_quiet invite dialogs = each (filter (is_early_of invite) (values_of dialog
     each [] = tt
     each (held ∷ dialogs) = (refl, each dialogs)
 
-pub bye_quiet : (name : DialogId) (method : List ℕ) (service : SendOutcome) (dialogs : Dialogs)
-    → AreQuiet (bye_ended name method service dialogs).1
+pub bye_quiet : (name : DialogId) (method : List ℕ) (outcome : SendOutcome) (dialogs : Dialogs)
+    → AreQuiet (bye_ended name method outcome dialogs).1
 bye_quiet name method (Sent sending) dialogs =
     at_or_quiet (bytes_eq method (codes "BYE")) name dialogs
 bye_quiet name method Waits dialogs = tt

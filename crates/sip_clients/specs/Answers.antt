@@ -2,8 +2,8 @@
 use Rattle.std.specs.Prelude.{Bool, List, Option}
 use Rattle.std.specs.Map.{lookup}
 use Rattle.std.specs.Option.{is_some, option_and_then}
-use Rattle.sip_common.specs.declared.held_dialog.DialogId.{DialogId}
-use Rattle.sip_common.specs.Dialogs.{is_dialog_id}
+use Rattle.sip_held_dialogs.specs.declared.held_dialog.DialogId.{DialogId}
+use Rattle.sip_held_dialogs.specs.Dialogs.{is_dialog_id}
 use Rattle.sip_clients.specs.declared.answers.SentAck.{SentAck}
 
 -- the dialogs, each with its ACK once that was sent

@@ -3,11 +3,11 @@ use Rattle.std.specs.Prelude.{Bool, not, ◌||◌, List, [], ◌∷◌, ◌++◌
 use Rattle.std.specs.Option.{is_some, option_map}
 use Rattle.sip_message.specs.HopByHop.{cancel_of}
 use Rattle.sip_message.specs.declared.id.Id.{Id}
-use Rattle.sip_common.specs.declared.command.Cancel.{Cancel}
-use Rattle.sip_common.specs.declared.item.CallOut.{CallOut}
-use Rattle.sip_common.specs.declared.refusal.Refusal.{Refusal}
-use Rattle.sip_common.specs.declared.refusal.Refusal.TheVariants.{AlreadyFinal, NoSuchRequest}
-use Rattle.sip_common.specs.Notices.{refused}
+use Rattle.sip_user.specs.declared.command.Cancel.{Cancel}
+use Rattle.sip_user.specs.declared.item.CallOut.{CallOut}
+use Rattle.sip_user.specs.declared.refusal.Refusal.{Refusal}
+use Rattle.sip_user.specs.declared.refusal.Refusal.TheVariants.{AlreadyFinal, NoSuchRequest}
+use Rattle.sip_user.specs.Notices.{refused}
 use Rattle.sip_clients.specs.declared.cancel.CancelCase.{CancelCase}
 use Rattle.sip_clients.specs.declared.cancel.CancelCase.TheVariants as case
 use Rattle.sip_clients.specs.declared.client.RequestKind.TheVariants.{OutOfDialog}

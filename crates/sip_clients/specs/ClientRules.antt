@@ -6,8 +6,8 @@ use Rattle.sip_message.specs.HopByHop.{cancel_of}
 use Rattle.sip_message.specs.TopVia.{top_via}
 use Rattle.sip_message.specs.declared.id.Id.{Id}
 use Rattle.sip_message.specs.declared.message.Message.{Message}
-use Rattle.sip_common.specs.declared.item.CallOut.{CallOut}
-use Rattle.sip_common.specs.Requests.{is_final}
+use Rattle.sip_user.specs.declared.item.CallOut.{CallOut}
+use Rattle.sip_held_dialogs.specs.Requests.{is_final}
 use Rattle.sip_clients.specs.declared.client.Cancelling.TheVariants.{Waits}
 use Rattle.sip_clients.specs.declared.client.Client.{Client}
 use Rattle.sip_clients.specs.Answers.{ack_of}

@@ -9,7 +9,7 @@ use Rattle.sip_message.specs.declared.addr.Addr.{Addr}
 use Rattle.sip_message.specs.declared.id.Id.{Id}
 use Rattle.sip_message.specs.declared.message.Message.{Message}
 use Rattle.sip_timers.specs.declared.estimate.TheConstants.{T1}
-use Rattle.sip_common.specs.Dialogs.{is_dialog_id}
+use Rattle.sip_held_dialogs.specs.Dialogs.{is_dialog_id}
 use Rattle.sip_clients.specs.declared.client.Cancelling.{Cancelling}
 use Rattle.sip_clients.specs.declared.client.Cancelling.TheVariants.{NotAsked, Waits, Sent}
 use Rattle.sip_clients.specs.declared.client.Client.{Client}

@@ -8,20 +8,20 @@ use Rattle.sip_message.specs.declared.message.Message.{Message}
 use Rattle.sip_message.specs.declared.start_line.StartLine.{StartLine}
 use Rattle.sip_message.specs.declared.start_line.StartLine.TheVariants as start
 use Rattle.sip_message.specs.Party.{tag_of}
-use Rattle.sip_common.specs.declared.command.DialogBody.{DialogBody}
-use Rattle.sip_common.specs.declared.command.DialogRequest.{DialogRequest}
-use Rattle.sip_common.specs.declared.command.Invite.{Invite}
-use Rattle.sip_common.specs.declared.command.Plain.{Plain as PlainCommand}
-use Rattle.sip_common.specs.declared.pending_request.PendingRequest.{PendingRequest}
-use Rattle.sip_common.specs.declared.pending_request.PendingRequest.TheVariants.{Ack, Prack}
-use Rattle.sip_common.specs.declared.held_dialog.DialogId.{DialogId}
-use Rattle.sip_common.specs.declared.item.CallOut.{CallOut}
-use Rattle.sip_common.specs.declared.refusal.Refusal.{Refusal}
-use Rattle.sip_common.specs.declared.refusal.Refusal.TheVariants.{BadMethod}
-use Rattle.sip_common.specs.Dialogs.{is_dialog_id}
-use Rattle.sip_common.specs.Notices.{refused}
-use Rattle.sip_common.specs.Requests.{is_final, dialog_id_of_tags}
-use Rattle.sip_common.specs.Ids.{is_id}
+use Rattle.sip_user.specs.declared.command.DialogBody.{DialogBody}
+use Rattle.sip_user.specs.declared.command.DialogRequest.{DialogRequest}
+use Rattle.sip_user.specs.declared.command.Invite.{Invite}
+use Rattle.sip_user.specs.declared.command.Plain.{Plain as PlainCommand}
+use Rattle.sip_held_dialogs.specs.declared.pending_request.PendingRequest.{PendingRequest}
+use Rattle.sip_held_dialogs.specs.declared.pending_request.PendingRequest.TheVariants.{Ack, Prack}
+use Rattle.sip_held_dialogs.specs.declared.held_dialog.DialogId.{DialogId}
+use Rattle.sip_user.specs.declared.item.CallOut.{CallOut}
+use Rattle.sip_user.specs.declared.refusal.Refusal.{Refusal}
+use Rattle.sip_user.specs.declared.refusal.Refusal.TheVariants.{BadMethod}
+use Rattle.sip_held_dialogs.specs.Dialogs.{is_dialog_id}
+use Rattle.sip_user.specs.Notices.{refused}
+use Rattle.sip_held_dialogs.specs.Requests.{is_final, dialog_id_of_tags}
+use Rattle.sip_held_dialogs.specs.Ids.{is_id}
 use Rattle.sip_clients.specs.declared.answers.SentAck.{SentAck}
 use Rattle.sip_clients.specs.declared.client.RequestKind.{RequestKind}
 use Rattle.sip_clients.specs.declared.client.RequestKind.TheVariants.{InitialInvite, ReInvite, InDialog, OutOfDialog}
@@ -188,9 +188,9 @@ abbrev pub paid_or_refused : Event → DialogBody → (PendingRequest → Side �
     → Result PendingRequest Refusal
     → Side
     → ClientTaken
-paid_or_refused event command pay (Err refusal) side =
+paid_or_refused event command send_pending (Err refusal) side =
     (side, refused event.id command.call_id refusal)
-paid_or_refused event command pay (Ok pending) side = pay pending side
+paid_or_refused event command send_pending (Ok pending) side = send_pending pending side
 
 -- the command Ack, for the oldest 2xx of its dialog without an ACK
 abbrev pub ack_by_user : Event → DialogBody → Side → ClientTaken

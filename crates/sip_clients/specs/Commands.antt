@@ -10,17 +10,17 @@ use Rattle.sip_dialog.specs.declared.dialog.Dialog.{Dialog}
 use Rattle.sip_dialog.specs.Dialog.{is_early, is_ended}
 use Rattle.sip_dialog.specs.Route.{is_strict}
 use Rattle.sip_dialog.specs.Life.{Requests}
-use Rattle.sip_common.specs.declared.command.DialogBody.{DialogBody}
-use Rattle.sip_common.specs.declared.command.DialogRequest.{DialogRequest}
-use Rattle.sip_common.specs.declared.pending_request.PendingRequest.{PendingRequest}
-use Rattle.sip_common.specs.declared.held_dialog.DialogId.{DialogId}
-use Rattle.sip_common.specs.declared.held_dialog.HeldDialog.{HeldDialog}
-use Rattle.sip_common.specs.declared.item.CallOut.{CallOut}
-use Rattle.sip_common.specs.declared.refusal.Refusal.{Refusal}
-use Rattle.sip_common.specs.declared.refusal.Refusal.TheVariants.{NoSuchDialog, BadMethod, DialogEnded, StrictRoute, SequenceUsedUp, NothingToAck, NothingToPrack}
-use Rattle.sip_common.specs.Dialogs.{dialog_at, ended_at, lived, tag_text, Dialogs}
-use Rattle.sip_common.specs.Refusal.{first_refusal}
-use Rattle.sip_common.specs.Requests.{dialog_id_of_tags}
+use Rattle.sip_user.specs.declared.command.DialogBody.{DialogBody}
+use Rattle.sip_user.specs.declared.command.DialogRequest.{DialogRequest}
+use Rattle.sip_held_dialogs.specs.declared.pending_request.PendingRequest.{PendingRequest}
+use Rattle.sip_held_dialogs.specs.declared.held_dialog.DialogId.{DialogId}
+use Rattle.sip_held_dialogs.specs.declared.held_dialog.HeldDialog.{HeldDialog}
+use Rattle.sip_user.specs.declared.item.CallOut.{CallOut}
+use Rattle.sip_user.specs.declared.refusal.Refusal.{Refusal}
+use Rattle.sip_user.specs.declared.refusal.Refusal.TheVariants.{NoSuchDialog, BadMethod, DialogEnded, StrictRoute, SequenceUsedUp, NothingToAck, NothingToPrack}
+use Rattle.sip_held_dialogs.specs.Dialogs.{dialog_at, ended_at, lived, tag_text, Dialogs}
+use Rattle.sip_user.specs.Refusal.{first_refusal}
+use Rattle.sip_held_dialogs.specs.Requests.{dialog_id_of_tags}
 use Rattle.sip_clients.specs.declared.answers.SentAck.{SentAck}
 use Rattle.sip_clients.specs.declared.pending.PendingKind.{PendingKind}
 use Rattle.sip_clients.specs.declared.pending.PendingKind.TheVariants as kind

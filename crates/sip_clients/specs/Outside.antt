@@ -11,10 +11,10 @@ use Rattle.sip_message.specs.declared.start_line.StartLine.TheVariants.{Request}
 use Rattle.sip_message.specs.Content.{with_content_of}
 use Rattle.sip_message.specs.Message.{bare}
 use Rattle.sip_message.specs.Party.{party_of}
-use Rattle.sip_common.specs.declared.command.Invite.{Invite}
-use Rattle.sip_common.specs.declared.command.Plain.{Plain}
-use Rattle.sip_common.specs.declared.command.ProvisionalSupport.{ProvisionalSupport}
-use Rattle.sip_common.specs.declared.command.ProvisionalSupport.TheVariants as support
+use Rattle.sip_user.specs.declared.command.Invite.{Invite}
+use Rattle.sip_user.specs.declared.command.Plain.{Plain}
+use Rattle.sip_user.specs.declared.command.ProvisionalSupport.{ProvisionalSupport}
+use Rattle.sip_user.specs.declared.command.ProvisionalSupport.TheVariants as support
 use Rattle.sip_clients.specs.declared.event.Event.{Event}
 use Rattle.sip_clients.specs.declared.outside.TheConstants.{FIRST_CSEQ}
 use Rattle.sip_clients.specs.Event.{branch_of, from_tag_of}

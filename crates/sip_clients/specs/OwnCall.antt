@@ -4,8 +4,9 @@
 use Rattle.std.specs.Prelude.{◌≡◌, ℕ, List}
 use Rattle.std.specs.List.{AllByRecursion}
 use Rattle.sip_message.specs.declared.id.Id.{Id}
-use Rattle.sip_common.specs.declared.item.CallOut.{CallOut}
-pub use Rattle.sip_common.specs.OwnCall.{AreDialogsOf, AreNoticesOf, IsDialogOf, IsNoticeOf, call_of_notice}
+use Rattle.sip_user.specs.declared.item.CallOut.{CallOut}
+pub use Rattle.sip_user.specs.OwnCall.{AreNoticesOf, IsNoticeOf, call_of_notice}
+pub use Rattle.sip_held_dialogs.specs.OwnDialogs.{AreDialogsOf, IsDialogOf}
 use Rattle.sip_clients.specs.declared.client.Client.{Client}
 use Rattle.sip_clients.specs.Client.{Clients, Side, ClientTaken}
 

@@ -6,11 +6,11 @@ use Rattle.indexmap.specs.IndexMap.{insert_entry}
 use Rattle.sip_message.specs.Content.{Content, content_of_body}
 use Rattle.sip_message.specs.declared.message.Message.{Message}
 use Rattle.sip_reliable.specs.Inbound.{latest_after, offered}
-use Rattle.sip_common.specs.declared.pending_request.PendingRequest.TheVariants.{Ack, Prack}
-use Rattle.sip_common.specs.declared.held_dialog.DialogId.{DialogId}
-use Rattle.sip_common.specs.declared.held_dialog.HeldDialog.{HeldDialog}
-use Rattle.sip_common.specs.declared.item.CallOut.{CallOut}
-use Rattle.sip_common.specs.Dialogs.{dialog_at, is_dialog_id, Dialogs}
+use Rattle.sip_held_dialogs.specs.declared.pending_request.PendingRequest.TheVariants.{Ack, Prack}
+use Rattle.sip_held_dialogs.specs.declared.held_dialog.DialogId.{DialogId}
+use Rattle.sip_held_dialogs.specs.declared.held_dialog.HeldDialog.{HeldDialog}
+use Rattle.sip_user.specs.declared.item.CallOut.{CallOut}
+use Rattle.sip_held_dialogs.specs.Dialogs.{dialog_at, is_dialog_id, Dialogs}
 use Rattle.sip_timers.specs.declared.estimate.TheConstants.{LIFETIME}
 use Rattle.sip_clients.specs.declared.answers.SentAck.{SentAck}
 use Rattle.sip_clients.specs.declared.client.RequestKind.{RequestKind}
@@ -90,8 +90,8 @@ prack_owed rseq client held answer =
 
 -- what is told and sent, and the PRACK
 abbrev pub told_of_prack : ReceivedResponse → SendOutcome → List CallOut × ClientChange
-told_of_prack answer service =
-    let said = request_said answer.event answer.call_id answer.name service in
+told_of_prack answer outcome =
+    let said = request_said answer.event answer.call_id answer.name outcome in
     (notice answer ++ said.0, said.1)
 
 -- a reliable response that is the next of its dialog: the user is told, and its PRACK is owed or
@@ -124,8 +124,8 @@ ack_owed client held answer =
 
 -- what is told and sent, and the ACK
 abbrev pub told_of_ack : ReceivedResponse → SendOutcome → List CallOut × Option SentAck
-told_of_ack answer service =
-    let said = ack_said answer.event answer.call_id service in (notice answer ++ said.0, said.1)
+told_of_ack answer outcome =
+    let said = ack_said answer.event answer.call_id outcome in (notice answer ++ said.0, said.1)
 
 -- the first 2xx of a dialog: the user is told, and its ACK is owed or sent
 abbrev pub accepted_by_ack : Client → HeldDialog → ReceivedResponse → InOneDialog

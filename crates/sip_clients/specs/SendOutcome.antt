@@ -10,12 +10,12 @@ use Rattle.sip_dialog.specs.Route.{hop_of}
 use Rattle.sip_message.specs.Content.{Content}
 use Rattle.sip_message.specs.declared.message.Message.{Message}
 use Rattle.sip_message.specs.declared.rack.RAck.{RAck}
-use Rattle.sip_common.specs.declared.pending_request.PendingRequest.{PendingRequest}
-use Rattle.sip_common.specs.declared.pending_request.PendingRequest.TheVariants.{Ack, Prack}
-use Rattle.sip_common.specs.declared.held_dialog.HeldDialog.{HeldDialog}
-use Rattle.sip_common.specs.Dialogs.{lived}
-use Rattle.sip_common.specs.declared.refusal.Refusal.{Refusal}
-use Rattle.sip_common.specs.declared.refusal.Refusal.TheVariants as refusal
+use Rattle.sip_held_dialogs.specs.declared.pending_request.PendingRequest.{PendingRequest}
+use Rattle.sip_held_dialogs.specs.declared.pending_request.PendingRequest.TheVariants.{Ack, Prack}
+use Rattle.sip_held_dialogs.specs.declared.held_dialog.HeldDialog.{HeldDialog}
+use Rattle.sip_held_dialogs.specs.Dialogs.{lived}
+use Rattle.sip_user.specs.declared.refusal.Refusal.{Refusal}
+use Rattle.sip_user.specs.declared.refusal.Refusal.TheVariants as refusal
 use Rattle.sip_clients.specs.declared.event.Event.{Event}
 use Rattle.sip_clients.specs.declared.send_outcome.OutgoingRequest.{OutgoingRequest}
 use Rattle.sip_clients.specs.declared.send_outcome.SendOutcome.{SendOutcome}
@@ -36,9 +36,9 @@ refusal_for_fault fault.OutOfOrder = refusal.SequenceUsedUp
 refusal_for_fault fault.NoMemory = refusal.SequenceUsedUp
 
 -- sent, or refused for the dialog's reason
-abbrev pub service_by : Option DialogFault → OutgoingRequest → SendOutcome
-service_by None sending = Sent sending
-service_by (Some fault) sending = Refused (refusal_for_fault fault)
+abbrev pub outcome_by : Option DialogFault → OutgoingRequest → SendOutcome
+outcome_by None sending = Sent sending
+outcome_by (Some fault) sending = Refused (refusal_for_fault fault)
 
 -- a message with this RAck
 abbrev pub with_rack : Option RAck → Message → Message
@@ -62,7 +62,7 @@ sending_in event method rack content held = record {
 abbrev pub requested : Event → List ℕ → Option RAck → Content → HeldDialog → Outcome
 requested event method rack content held = (
   lived (happens_by_sending method (request_fault held.dialog method)) held,
-  service_by (request_fault held.dialog method) (sending_in event method rack content held),
+  outcome_by (request_fault held.dialog method) (sending_in event method rack content held),
 )
 
 -- the PRACK of a response of this RSeq to the INVITE of this number
@@ -73,7 +73,7 @@ prack_requested event rseq number content held =
 
 -- the ACK of the INVITE of this number
 abbrev pub acked : Event → HeldDialog → ℕ → Content → SendOutcome
-acked event held number content = service_by (ack_fault held.dialog) record {
+acked event held number content = outcome_by (ack_fault held.dialog) record {
   message = ack_in held.dialog number content (branch_of event) event.local;
   to = hop_of held.dialog held.address;
   created_by = held.created_by;

@@ -3,11 +3,11 @@
 ghost use Rattle.std.specs.Prelude.{◌≡◌, [], IfOk, OnOk};
 ghost use Rattle.std.specs.Option.{option_copied};
 ghost use Rattle.indexmap.specs.IndexMap.{insert_entry};
-ghost use Rattle.sip_common.specs.Dialogs.{is_dialog_id};
+ghost use Rattle.sip_held_dialogs.specs.Dialogs.{is_dialog_id};
 ghost use Rattle.sip_clients.specs.Answers as spec;
 
 use indexmap::IndexMap;
-use sip_common::DialogId;
+use sip_held_dialogs::DialogId;
 use sip_message::Addr;
 use sip_text::Text;
 use std::alloc::{AllocError, Global};
@@ -34,7 +34,7 @@ pub struct Answers {
 
 impl Model for Answers {
     ghost use Rattle.std.specs.Prelude.{List, Option};
-    ghost use Rattle.sip_common.specs.declared.held_dialog.DialogId.{DialogId};
+    ghost use Rattle.sip_held_dialogs.specs.declared.held_dialog.DialogId.{DialogId};
     ghost use Rattle.sip_clients.specs.declared.answers.SentAck.{SentAck};
 
     ghost Value = { List (DialogId × Option SentAck) };

@@ -9,9 +9,9 @@ use crate::event::Event;
 use crate::held::{ClientMap, hold};
 use crate::outputs::start_command;
 use crate::reply::is_invite_kind;
-use sip_common::outputs::refused;
-use sip_common::{CallOut, Cancel, Refusal};
 use sip_message::{Id, cancel_for};
+use sip_user::outputs::refused;
+use sip_user::{CallOut, Cancel, Refusal};
 use std::alloc::{AllocError, Global};
 
 /// The outcome of a command to cancel a client request.

@@ -4,7 +4,7 @@ ghost use Rattle.std.specs.Prelude.{◌≡◌};
 ghost use Rattle.sip_clients.specs.Client as spec;
 
 use crate::answers::Answers;
-use sip_common::DialogReference;
+use sip_held_dialogs::DialogReference;
 use sip_message::{Addr, Id, Message};
 use sip_reliable::Inbound;
 use std::alloc::Global;

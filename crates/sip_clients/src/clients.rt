@@ -1,7 +1,7 @@
 //! The client requests of one Call-ID.
 
 ghost use Rattle.std.specs.Prelude.{◌≡◌, ◌≤◌, ◌==◌, ◌^◌, [], IfOk, OnErr, OnOk, length};
-ghost use Rattle.sip_common.specs.Dialogs.{Dialogs};
+ghost use Rattle.sip_held_dialogs.specs.Dialogs.{Dialogs};
 ghost use Rattle.sip_clients.specs.Clients as spec;
 ghost use Rattle.sip_clients.specs.Rules.Ends as ends;
 ghost use Rattle.sip_clients.specs.Rules.Requests as requests;
@@ -17,12 +17,10 @@ use crate::outside::{invite_of, plain_of};
 use crate::pending::PendingKind;
 use crate::tick::{drop_clients, drop_dialogs, next_due, over_notices};
 use indexmap::IndexMap;
-use sip_common::outputs::refused;
-use sip_common::{
-    CallOut, Cancel, DialogBody, DialogId, DialogRequest, Dialogs, Invite, PendingRequest, Plain,
-    Refusal,
-};
+use sip_held_dialogs::{DialogId, Dialogs, PendingRequest};
 use sip_message::{CallId, Id, Message};
+use sip_user::outputs::refused;
+use sip_user::{CallOut, Cancel, DialogBody, DialogRequest, Invite, Plain, Refusal};
 use std::alloc::{AllocError, Global};
 use std::marker::Model;
 use std::mem;

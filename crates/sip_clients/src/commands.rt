@@ -2,8 +2,8 @@
 
 ghost use Rattle.std.specs.Prelude.{◌≡◌, ◌&&◌, ◌||◌, IfOk, OnOk};
 ghost use Rattle.sip_dialog.specs.Dialog.{is_early};
-ghost use Rattle.sip_common.specs.Dialogs.{tag_text};
-ghost use Rattle.sip_common.specs.declared.refusal.Refusal.TheVariants.{NoSuchDialog};
+ghost use Rattle.sip_held_dialogs.specs.Dialogs.{tag_text};
+ghost use Rattle.sip_user.specs.declared.refusal.Refusal.TheVariants.{NoSuchDialog};
 ghost use Rattle.sip_clients.specs.Commands as spec;
 ghost use Rattle.sip_clients.specs.Dialogs.{served_at};
 ghost use Rattle.sip_clients.specs.declared.send_outcome.SendOutcome.TheVariants.{Refused};
@@ -14,12 +14,11 @@ use crate::event::Event;
 use crate::outputs::{ClientChange, ack_said, request_said};
 use crate::pending::{PendingKind, oldest};
 use crate::send_outcome::{SendOutcome, request};
-use sip_common::dialogs::end;
-use sip_common::{
-    CallOut, DialogBody, DialogId, DialogRequest, Dialogs, HeldDialog, PendingRequest, Refusal,
-};
 use sip_dialog::{DialogState, Side};
+use sip_held_dialogs::dialogs::end;
+use sip_held_dialogs::{DialogId, Dialogs, HeldDialog, PendingRequest};
 use sip_message::{Content, Token};
+use sip_user::{CallOut, DialogBody, DialogRequest, Refusal};
 use std::alloc::{AllocError, Global};
 
 /// The name of the dialog of these tags.
@@ -63,9 +62,9 @@ pub(crate) fn request_told(
     ensures ends { IfOk result (λ told. told.2.items
         ≡ (spec.request_asked event name.now command.now dialogs.old.entries).3) }
 {
-    let service = request_by(alloc, dialogs, name, event, command)?;
-    let ends = bye_end(alloc, dialogs, name, &command.method, &service)?;
-    let (outs, change) = request_said(alloc, event, &command.call_id, name, service)?;
+    let outcome = request_by(alloc, dialogs, name, event, command)?;
+    let ends = bye_end(alloc, dialogs, name, &command.method, &outcome)?;
+    let (outs, change) = request_said(alloc, event, &command.call_id, name, outcome)?;
     Ok((outs, change, ends))
 }
 
@@ -77,7 +76,7 @@ fn request_by(
     event: Event,
     command: &DialogRequest,
 ) -> Result<SendOutcome, AllocError>
-    ensures service { IfOk result (λ service. service
+    ensures outcome { IfOk result (λ outcome. outcome
         ≡ (spec.requested_at name.now event command.now dialogs.old.entries).1) }
     ensures dialogs { OnOk result (dialogs.new.entries
         ≡ (spec.requested_at name.now event command.now dialogs.old.entries).0) }
@@ -95,7 +94,7 @@ fn request_at(
     method: Token,
     content: Content,
 ) -> Result<SendOutcome, AllocError>
-    ensures service { IfOk result (λ service. service
+    ensures outcome { IfOk result (λ outcome. outcome
         ≡ (served_at name.now (spec.request_in_held event method content) (Refused NoSuchDialog)
         dialogs.old.entries).1) }
     ensures dialogs { OnOk result (dialogs.new.entries
@@ -115,7 +114,7 @@ fn request_in(
     method: Token,
     content: Content,
 ) -> Result<SendOutcome, AllocError>
-    ensures service { IfOk result (λ service. service
+    ensures outcome { IfOk result (λ outcome. outcome
         ≡ (spec.request_in_held event method content held.old).1) }
     ensures held { OnOk result (held.new ≡ (spec.request_in_held event method content held.old).0) }
 {
@@ -164,12 +163,12 @@ fn bye_end(
     dialogs: &mut Dialogs,
     name: &DialogId,
     method: &Token,
-    service: &SendOutcome,
+    outcome: &SendOutcome,
 ) -> Result<Vec<CallOut>, AllocError>
     ensures { IfOk result (λ outs. (dialogs.new.entries, outs.items)
-        ≡ spec.bye_ended name.now method.now service.now dialogs.old.entries) }
+        ≡ spec.bye_ended name.now method.now outcome.now dialogs.old.entries) }
 {
-    match service {
+    match outcome {
         SendOutcome::Sent(_) if method.as_slice() == b"BYE".as_slice() => end(alloc, dialogs, name),
         _ => Ok(Vec::new(alloc)),
     }
@@ -226,8 +225,8 @@ pub(crate) fn ack_told(
         ≡ (spec.ack_asked event name.now pending command.now dialogs.old.entries).2) }
 {
     let content = command.content.clone()?;
-    let service = pay_at(alloc, dialogs, name, event, pending, content)?;
-    ack_said(alloc, event, &command.call_id, service)
+    let outcome = pay_at(alloc, dialogs, name, event, pending, content)?;
+    ack_said(alloc, event, &command.call_id, outcome)
 }
 
 /// The outcome of a PRACK that the user gives: what is told, and the request that is sent.
@@ -247,6 +246,6 @@ pub(crate) fn prack_told(
         ≡ (spec.prack_asked event name.now pending command.now dialogs.old.entries).2) }
 {
     let content = command.content.clone()?;
-    let service = pay_at(alloc, dialogs, name, event, pending, content)?;
-    request_said(alloc, event, &command.call_id, name, service)
+    let outcome = pay_at(alloc, dialogs, name, event, pending, content)?;
+    request_said(alloc, event, &command.call_id, name, outcome)
 }

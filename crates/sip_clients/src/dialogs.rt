@@ -2,20 +2,21 @@
 
 ghost use Rattle.std.specs.Prelude.{◌≡◌, IfOk, OnOk};
 ghost use Rattle.indexmap.specs.IndexMap.{insert_entry};
-ghost use Rattle.sip_common.specs.Dialogs.{is_dialog_id};
+ghost use Rattle.sip_held_dialogs.specs.Dialogs.{is_dialog_id};
 ghost use Rattle.sip_clients.specs.Dialogs as spec;
 
 use crate::client::{Client, RequestKind};
 use crate::event::Event;
-use crate::pending::pay;
+use crate::pending::send_pending;
 use crate::reply::ReceivedResponse;
 use crate::send_outcome::SendOutcome;
-use sip_common::dialogs::{confirm_dialog, end, end_early, lives};
-use sip_common::{CallOut, DialogId, DialogReference, Dialogs, HeldDialog, PendingRequest};
 use sip_dialog::Dialog;
+use sip_held_dialogs::dialogs::{confirm_dialog, end, end_early, lives};
+use sip_held_dialogs::{DialogId, DialogReference, Dialogs, HeldDialog, PendingRequest};
 use sip_message::{Content, Message};
 use sip_reliable::Inbound;
 use sip_text::Series;
+use sip_user::CallOut;
 use std::alloc::{AllocError, Global};
 
 /// The dialog that a response makes (RFC 3261, section 12.1.2).
@@ -92,7 +93,7 @@ pub(crate) fn pay_at(
     pending: PendingRequest,
     content: Content,
 ) -> Result<SendOutcome, AllocError>
-    ensures service { IfOk result (λ service. service
+    ensures outcome { IfOk result (λ outcome. outcome
         ≡ (spec.paid_at name.now event pending content dialogs.old.entries).1) }
     ensures dialogs { OnOk result (dialogs.new.entries
         ≡ (spec.paid_at name.now event pending content dialogs.old.entries).0) }
@@ -100,7 +101,7 @@ pub(crate) fn pay_at(
     let Some(held) = dialogs.get_mut(name) else {
         return Ok(SendOutcome::Waits);
     };
-    pay(alloc, held, event, pending, content)
+    send_pending(alloc, held, event, pending, content)
 }
 
 /// Ends what ends with a client request: the early dialogs that it made, and, if `ends`, the dialog

@@ -1,7 +1,7 @@
 //! The held client requests, found by the events that sent them.
 
 ghost use Rattle.std.specs.Prelude.{◌≡◌, ◌≤◌, ◌^◌, IfOk, OnOk};
-ghost use Rattle.sip_common.specs.Requests.{is_final};
+ghost use Rattle.sip_held_dialogs.specs.Requests.{is_final};
 ghost use Rattle.sip_clients.specs.Cancel.{cancel_freed, after_response};
 ghost use Rattle.sip_clients.specs.Replied.{reply_taken};
 ghost use Rattle.sip_clients.specs.Client.{client_at, client_changed, with_client, without_client};
@@ -16,10 +16,11 @@ use crate::outputs::{ClientChange, start_command};
 use crate::replied::take_reply;
 use crate::reply::{ReceivedResponse, reply_name, status_of};
 use indexmap::IndexMap;
-use sip_common::outputs::one;
-use sip_common::request::is_final;
-use sip_common::{CallOut, DialogId, Dialogs, PendingRequest};
+use sip_held_dialogs::request::is_final;
+use sip_held_dialogs::{DialogId, Dialogs, PendingRequest};
 use sip_message::{CallId, Id, Message};
+use sip_user::CallOut;
+use sip_user::outputs::one;
 use std::alloc::{AllocError, Global};
 
 /// The held client requests, in the order in which they were sent.

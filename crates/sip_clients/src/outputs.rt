@@ -8,12 +8,13 @@ use crate::client::{Client, RequestKind, client_for};
 use crate::event::Event;
 use crate::reply::ReceivedResponse;
 use crate::send_outcome::{OutgoingRequest, SendOutcome};
-use sip_common::outputs::{one, refused};
-use sip_common::request::is_invite;
-use sip_common::{CallOut, DialogId, DialogReference, Notice};
+use sip_held_dialogs::request::is_invite;
+use sip_held_dialogs::{DialogId, DialogReference};
 use sip_message::{CallId, Id, Key, Message, write};
 use sip_text::{Boxed, Text};
 use sip_transactions::Command;
+use sip_user::outputs::{one, refused};
+use sip_user::{CallOut, Notice};
 use std::alloc::{AllocError, Global};
 
 /// How the client requests change after a response or a command.
@@ -49,14 +50,14 @@ pub(crate) fn request_said(
     event: Event,
     call_id: &CallId,
     name: &DialogId,
-    service: SendOutcome,
+    outcome: SendOutcome,
 ) -> Result<(Vec<CallOut>, ClientChange), AllocError>
     ensures outs { IfOk result (λ said. said.0.items
-        ≡ (spec.request_said event call_id.now name.now service).0) }
+        ≡ (spec.request_said event call_id.now name.now outcome).0) }
     ensures change { IfOk result (λ said. said.1
-        ≡ (spec.request_said event call_id.now name.now service).1) }
+        ≡ (spec.request_said event call_id.now name.now outcome).1) }
 {
-    match service {
+    match outcome {
         SendOutcome::Sent(sending) => {
             let client = client_of(alloc, event, name, sending)?;
             Ok((Vec::new(alloc), ClientChange::Starts(client)))
@@ -101,13 +102,13 @@ pub(crate) fn ack_said(
     alloc: Global,
     event: Event,
     call_id: &CallId,
-    service: SendOutcome,
+    outcome: SendOutcome,
 ) -> Result<(Vec<CallOut>, Option<SentAck>), AllocError>
     ensures outs { IfOk result (λ said. said.0.items
-        ≡ (spec.ack_said event call_id.now service).0) }
-    ensures ack { IfOk result (λ said. said.1 ≡ (spec.ack_said event call_id.now service).1) }
+        ≡ (spec.ack_said event call_id.now outcome).0) }
+    ensures ack { IfOk result (λ said. said.1 ≡ (spec.ack_said event call_id.now outcome).1) }
 {
-    match service {
+    match outcome {
         SendOutcome::Sent(sending) => {
             let ack = sent_ack(alloc, &sending)?;
             Ok((one(alloc, direct(&ack)?)?, Some(ack)))

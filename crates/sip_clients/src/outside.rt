@@ -4,12 +4,12 @@ ghost use Rattle.std.specs.Prelude.{◌≡◌, ◌∷◌, [], IfOk, codes};
 ghost use Rattle.sip_clients.specs.Outside as spec;
 
 use crate::event::Event;
-use sip_common::{Invite, Plain, ProvisionalSupport};
 use sip_dialog::{own_contact, own_via};
 use sip_message::{
     Addr, CSeq, CallId, MAX_FORWARDS, Message, Party, RequestUri, StartLine, Token, Uri,
 };
 use sip_text::Series;
+use sip_user::{Invite, Plain, ProvisionalSupport};
 use std::alloc::{AllocError, Global};
 
 /// The CSeq number of a request outside of dialogs.

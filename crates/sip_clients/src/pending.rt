@@ -6,7 +6,7 @@ ghost use Rattle.sip_clients.specs.Pending as spec;
 
 use crate::event::Event;
 use crate::send_outcome::{SendOutcome, discharge};
-use sip_common::{HeldDialog, PendingRequest};
+use sip_held_dialogs::{HeldDialog, PendingRequest};
 use sip_message::Content;
 use sip_text::Series;
 use std::alloc::{AllocError, Global};
@@ -21,30 +21,30 @@ pub(crate) enum PendingKind {
 
 /// Sends what a response asks for. It stays owed if it isn't sent.
 #[tactic(auto, unfolding(crate::specs::Pending::kept_pending))]
-pub(crate) fn owe(
+pub(crate) fn add_pending(
     alloc: Global,
     held: &mut HeldDialog,
     event: Event,
     pending: PendingRequest,
     offer: Option<Content>,
 ) -> Result<SendOutcome, AllocError>
-    ensures service { IfOk result (λ service. service
+    ensures outcome { IfOk result (λ outcome. outcome
         ≡ (spec.kept_pending event pending offer held.old).1) }
     ensures held { OnOk result (held.new ≡ (spec.kept_pending event pending offer held.old).0) }
 {
-    let service = discharge(alloc, held, event, pending, offer)?;
-    keep_unless_sent(held, pending, &service)?;
-    Ok(service)
+    let outcome = discharge(alloc, held, event, pending, offer)?;
+    keep_unless_sent(held, pending, &outcome)?;
+    Ok(outcome)
 }
 
 fn keep_unless_sent(
     held: &mut HeldDialog,
     pending: PendingRequest,
-    service: &SendOutcome,
+    outcome: &SendOutcome,
 ) -> Result<(), AllocError>
-    ensures { OnOk result (held.new ≡ spec.kept_unless_sent pending service.now held.old) }
+    ensures { OnOk result (held.new ≡ spec.kept_unless_sent pending outcome.now held.old) }
 {
-    match service {
+    match outcome {
         SendOutcome::Sent(_) => Ok(()),
         SendOutcome::Waits | SendOutcome::Refused(_) => held.pending_requests.push(pending),
     }
@@ -52,37 +52,37 @@ fn keep_unless_sent(
 
 /// Sends what is owed, as the user's command asks. If it is sent, it is no longer owed.
 #[tactic(auto, unfolding(crate::specs::Pending::paid))]
-pub(crate) fn pay(
+pub(crate) fn send_pending(
     alloc: Global,
     held: &mut HeldDialog,
     event: Event,
     pending: PendingRequest,
     content: Content,
 ) -> Result<SendOutcome, AllocError>
-    ensures service { IfOk result (λ service. service
+    ensures outcome { IfOk result (λ outcome. outcome
         ≡ (spec.paid event pending content held.old).1) }
     ensures held { OnOk result (held.new ≡ (spec.paid event pending content held.old).0) }
 {
-    let service = discharge(alloc, held, event, pending, Some(content))?;
-    drop_if_sent(alloc, held, pending, &service);
-    Ok(service)
+    let outcome = discharge(alloc, held, event, pending, Some(content))?;
+    drop_if_sent(alloc, held, pending, &outcome);
+    Ok(outcome)
 }
 
 fn drop_if_sent(
     alloc: Global,
     held: &mut HeldDialog,
     pending: PendingRequest,
-    service: &SendOutcome,
+    outcome: &SendOutcome,
 )
-    ensures { held.new ≡ spec.dropped_if_sent pending service.now held.old }
+    ensures { held.new ≡ spec.dropped_if_sent pending outcome.now held.old }
 {
-    match service {
-        SendOutcome::Sent(_) => drop_debt(alloc, held, pending),
+    match outcome {
+        SendOutcome::Sent(_) => remove_pending(alloc, held, pending),
         SendOutcome::Waits | SendOutcome::Refused(_) => {}
     }
 }
 
-fn drop_debt(alloc: Global, held: &mut HeldDialog, pending: PendingRequest)
+fn remove_pending(alloc: Global, held: &mut HeldDialog, pending: PendingRequest)
     ensures { held.new ≡ spec.without_pending pending held.old }
 {
     let mut pending_requests = mem::replace(

@@ -7,14 +7,15 @@ use crate::answers::SentAck;
 use crate::client::{Client, RequestKind};
 use crate::dialogs::{accept, end_with, hear, hold, made_dialog};
 use crate::outputs::{ClientChange, ack_said, direct, request_said, response_notice};
-use crate::pending::owe;
+use crate::pending::add_pending;
 use crate::reply::{ReceivedResponse, ReplyCase, is_last, reply_case};
 use crate::send_outcome::SendOutcome;
-use sip_common::outputs::one;
-use sip_common::{CallOut, Dialogs, HeldDialog, PendingRequest};
+use sip_held_dialogs::{Dialogs, HeldDialog, PendingRequest};
 use sip_message::{Content, Message};
 use sip_text::Text;
 use sip_timers::LIFETIME;
+use sip_user::CallOut;
+use sip_user::outputs::one;
 use std::alloc::{AllocError, Global};
 
 /// The status of a response to a request for what isn't there (RFC 3261, section 12.2.1.2).
@@ -165,21 +166,21 @@ fn reliable(
     ensures { IfOk result (λ told. (client.new, Some held.new, told.0.items, told.1)
         ≡ spec.reliable rseq client.old held.old reply.now) }
 {
-    let service = owe_prack(alloc, client, held, reply, rseq)?;
+    let outcome = owe_prack(alloc, client, held, reply, rseq)?;
     hear_again(client, rseq);
-    told_of_prack(alloc, reply, service)
+    told_of_prack(alloc, reply, outcome)
 }
 
 fn told_of_prack(
     alloc: Global,
     reply: &ReceivedResponse,
-    service: SendOutcome,
+    outcome: SendOutcome,
 ) -> Result<(Vec<CallOut>, ClientChange), AllocError>
-    ensures outs { IfOk result (λ told. told.0.items ≡ (spec.told_of_prack reply.now service).0) }
-    ensures change { IfOk result (λ told. told.1 ≡ (spec.told_of_prack reply.now service).1) }
+    ensures outs { IfOk result (λ told. told.0.items ≡ (spec.told_of_prack reply.now outcome).0) }
+    ensures change { IfOk result (λ told. told.1 ≡ (spec.told_of_prack reply.now outcome).1) }
 {
     let mut outs = one(alloc, response_notice(alloc, reply)?)?;
-    let mut said = request_said(alloc, reply.event, &reply.call_id, &reply.name, service)?;
+    let mut said = request_said(alloc, reply.event, &reply.call_id, &reply.name, outcome)?;
     outs.append(&mut said.0)?;
     Ok((outs, said.1))
 }
@@ -193,7 +194,7 @@ fn owe_prack(
     reply: &ReceivedResponse,
     rseq: u32,
 ) -> Result<SendOutcome, AllocError>
-    ensures service { IfOk result (λ service. service
+    ensures outcome { IfOk result (λ outcome. outcome
         ≡ (spec.prack_owed rseq client.now held.old reply.now).1) }
     ensures held { OnOk result (held.new
         ≡ (spec.prack_owed rseq client.now held.old reply.now).0) }
@@ -204,7 +205,7 @@ fn owe_prack(
         number: client.request.cseq.number,
     };
     let offer = automatic_body(alloc, client, &reply.response);
-    owe(alloc, held, reply.event, pending, offer)
+    add_pending(alloc, held, reply.event, pending, offer)
 }
 
 // The dialog of a first INVITE keeps the RSeq that came in it.
@@ -255,8 +256,8 @@ fn accepted(
     ensures { IfOk result (λ told. (client.new, Some held.new, told.0.items, told.1)
         ≡ spec.accepted_by_ack client.old held.old reply.now) }
 {
-    let service = owe_ack(alloc, client, held, reply)?;
-    let (outs, ack) = told_of_ack(alloc, reply, service)?;
+    let outcome = owe_ack(alloc, client, held, reply)?;
+    let (outs, ack) = told_of_ack(alloc, reply, outcome)?;
     note_answer(client, reply, ack)?;
     Ok((outs, ClientChange::Stays))
 }
@@ -269,7 +270,7 @@ fn owe_ack(
     held: &mut HeldDialog,
     reply: &ReceivedResponse,
 ) -> Result<SendOutcome, AllocError>
-    ensures service { IfOk result (λ service. service
+    ensures outcome { IfOk result (λ outcome. outcome
         ≡ (spec.ack_owed client.now held.old reply.now).1) }
     ensures held { OnOk result (held.new ≡ (spec.ack_owed client.now held.old reply.now).0) }
 {
@@ -278,19 +279,19 @@ fn owe_ack(
         number: client.request.cseq.number,
     };
     let offer = automatic_body(alloc, client, &reply.response);
-    owe(alloc, held, reply.event, pending, offer)
+    add_pending(alloc, held, reply.event, pending, offer)
 }
 
 fn told_of_ack(
     alloc: Global,
     reply: &ReceivedResponse,
-    service: SendOutcome,
+    outcome: SendOutcome,
 ) -> Result<(Vec<CallOut>, Option<SentAck>), AllocError>
-    ensures outs { IfOk result (λ told. told.0.items ≡ (spec.told_of_ack reply.now service).0) }
-    ensures ack { IfOk result (λ told. told.1 ≡ (spec.told_of_ack reply.now service).1) }
+    ensures outs { IfOk result (λ told. told.0.items ≡ (spec.told_of_ack reply.now outcome).0) }
+    ensures ack { IfOk result (λ told. told.1 ≡ (spec.told_of_ack reply.now outcome).1) }
 {
     let mut outs = one(alloc, response_notice(alloc, reply)?)?;
-    let mut said = ack_said(alloc, reply.event, &reply.call_id, service)?;
+    let mut said = ack_said(alloc, reply.event, &reply.call_id, outcome)?;
     outs.append(&mut said.0)?;
     Ok((outs, said.1))
 }

@@ -8,8 +8,8 @@ ghost use Rattle.sip_clients.specs.ReceivedResponse as spec;
 
 use crate::client::{Client, RequestKind};
 use crate::event::Event;
-use sip_common::request::{has_to_tag, is_final, is_success, requires_100rel};
-use sip_common::{DialogId, HeldDialog};
+use sip_held_dialogs::request::{has_to_tag, is_final, is_success, requires_100rel};
+use sip_held_dialogs::{DialogId, HeldDialog};
 use sip_message::{CallId, Id, Message, StartLine, StatusCode};
 use sip_reliable::{Inbound, Offer};
 use std::alloc::{AllocError, Global};

@@ -3,11 +3,11 @@
 ghost use Rattle.std.specs.Prelude.{◌≡◌, ℕ, Bool, List};
 ghost use Rattle.sip_message.specs.declared.id.Id.{Id};
 ghost use Rattle.sip_message.specs.declared.message.Message.{Message};
-ghost use Rattle.sip_common.specs.declared.command.Cancel.{Cancel};
-ghost use Rattle.sip_common.specs.declared.command.DialogBody.{DialogBody};
-ghost use Rattle.sip_common.specs.declared.command.DialogRequest.{DialogRequest};
-ghost use Rattle.sip_common.specs.declared.command.Invite.{Invite};
-ghost use Rattle.sip_common.specs.declared.command.Plain.{Plain};
+ghost use Rattle.sip_user.specs.declared.command.Cancel.{Cancel};
+ghost use Rattle.sip_user.specs.declared.command.DialogBody.{DialogBody};
+ghost use Rattle.sip_user.specs.declared.command.DialogRequest.{DialogRequest};
+ghost use Rattle.sip_user.specs.declared.command.Invite.{Invite};
+ghost use Rattle.sip_user.specs.declared.command.Plain.{Plain};
 ghost use Rattle.sip_clients.specs.declared.event.Event.{Event};
 ghost use Rattle.sip_clients.specs.Cancel.{cancel_by_user};
 ghost use Rattle.sip_clients.specs.Client.{Clients, Side};

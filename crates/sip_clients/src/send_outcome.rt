@@ -4,14 +4,15 @@ ghost use Rattle.std.specs.Prelude.{◌≡◌, ◌∷◌, ◌++◌, [], ℕ, IfO
 ghost use Rattle.sip_dialog.specs.declared.fault.DialogFault.{DialogFault};
 ghost use Rattle.sip_dialog.specs.Fault.{or_no_memory};
 ghost use Rattle.sip_clients.specs.declared.send_outcome.OutgoingRequest.{OutgoingRequest};
-ghost use Rattle.sip_common.specs.declared.held_dialog.HeldDialog.{HeldDialog};
-ghost use Rattle.sip_common.specs.Dialogs.{lived};
+ghost use Rattle.sip_held_dialogs.specs.declared.held_dialog.HeldDialog.{HeldDialog};
+ghost use Rattle.sip_held_dialogs.specs.Dialogs.{lived};
 ghost use Rattle.sip_clients.specs.SendOutcome as spec;
 
 use crate::event::Event;
-use sip_common::{HeldDialog, PendingRequest, Refusal};
 use sip_dialog::DialogFault;
+use sip_held_dialogs::{HeldDialog, PendingRequest};
 use sip_message::{Addr, Content, Id, Message, RAck, Token};
+use sip_user::Refusal;
 use std::alloc::{AllocError, Global};
 
 /// A request that is sent in a dialog.
@@ -64,7 +65,7 @@ pub(crate) fn request(
     rack: Option<RAck>,
     content: Content,
 ) -> Result<SendOutcome, AllocError>
-    ensures service { IfOk result (λ service. service
+    ensures outcome { IfOk result (λ outcome. outcome
         ≡ (spec.requested event method rack content held.old).1) }
     ensures held { OnOk result (held.new ≡ (spec.requested event method rack content held.old).0) }
 {
@@ -99,7 +100,7 @@ fn ack(
     number: u32,
     content: Content,
 ) -> Result<SendOutcome, AllocError>
-    ensures { IfOk result (λ service. service ≡ spec.acked event held.now number content) }
+    ensures { IfOk result (λ outcome. outcome ≡ spec.acked event held.now number content) }
 {
     let to = held.dialog.hop(held.address);
     let branch = event.branch(alloc)?;
@@ -123,7 +124,7 @@ fn prack(
     number: u32,
     content: Content,
 ) -> Result<SendOutcome, AllocError>
-    ensures service { IfOk result (λ service. service
+    ensures outcome { IfOk result (λ outcome. outcome
         ≡ (spec.prack_requested event rseq number content held.old).1) }
     ensures held { OnOk result (held.new ≡ (spec.prack_requested event rseq number content
         held.old).0) }
@@ -139,9 +140,9 @@ fn prack(
 
 // Why a dialog refused a request, or that memory ran out.
 fn refused_by(fault: DialogFault) -> Result<SendOutcome, AllocError>
-    ensures service { (found : Option DialogFault) (sending : OutgoingRequest) → fault
+    ensures outcome { (found : Option DialogFault) (sending : OutgoingRequest) → fault
         ≡ or_no_memory found
-        → IfOk result (λ service. service ≡ spec.service_by found sending) }
+        → IfOk result (λ outcome. outcome ≡ spec.outcome_by found sending) }
     ensures held { (found : Option DialogFault) (method : List ℕ) (held : HeldDialog)
         → fault ≡ or_no_memory found → OnOk result (held
         ≡ lived (spec.happens_by_sending method found) held) }
@@ -166,7 +167,7 @@ pub(crate) fn discharge(
     pending: PendingRequest,
     offer: Option<Content>,
 ) -> Result<SendOutcome, AllocError>
-    ensures service { IfOk result (λ service. service
+    ensures outcome { IfOk result (λ outcome. outcome
         ≡ (spec.discharged event pending offer held.old).1) }
     ensures held { OnOk result (held.new ≡ (spec.discharged event pending offer held.old).0) }
 {

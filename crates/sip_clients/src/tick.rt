@@ -5,9 +5,10 @@ ghost use Rattle.sip_clients.specs.Tick as spec;
 
 use crate::client::Client;
 use crate::held::ClientMap;
-use sip_common::dialogs::{early_notices, is_early_of};
-use sip_common::{CallOut, Dialogs, HeldDialog};
+use sip_held_dialogs::dialogs::{early_notices, is_early_of};
+use sip_held_dialogs::{Dialogs, HeldDialog};
 use sip_timers::earlier;
+use sip_user::CallOut;
 use std::alloc::{AllocError, Global};
 
 /// Whether an INVITE is due to be removed.

@@ -11,7 +11,7 @@ use Rattle.sip_message.specs.Message.{is_request_message}
 use Rattle.sip_message.specs.Party.{tag_of}
 use Rattle.sip_message.specs.declared.id.Id.{Id}
 use Rattle.sip_message.specs.declared.message.Message.{Message}
-use Rattle.sip_model.specs.Machine.{Timed, outputs_from}
+use Rattle.keyed_machine.specs.Machine.{Timed, outputs_from}
 use Rattle.sip_dialog.specs.Dialog.{is_ended}
 use Rattle.sip_dialog.specs.Opening.{contact_uri}
 use Rattle.sip_dialog.specs.Request.{request_in}
@@ -19,19 +19,19 @@ use Rattle.sip_dialog.specs.Step.{confirmed_at, confirmed_by}
 use Rattle.sip_dialog.specs.declared.dialog.Dialog.{Dialog}
 use Rattle.sip_dialog.specs.declared.dialog.Side.{Side as End}
 use Rattle.sip_dialog.specs.declared.dialog.Side.TheVariants.{Callee, Caller}
-use Rattle.sip_transactions.specs.declared.output.Kind.{Kind}
-use Rattle.sip_transactions.specs.declared.output.Kind.TheVariants as kind
+use Rattle.sip_transactions.specs.declared.output.UpKind.{UpKind}
+use Rattle.sip_transactions.specs.declared.output.UpKind.TheVariants as kind
 use Rattle.sip_transactions.specs.declared.output.Up.{Up as AnUp}
-use Rattle.sip_common.specs.Dialogs.{dialog_at, is_dialog_id}
-use Rattle.sip_common.specs.Ids.{is_id}
-use Rattle.sip_common.specs.OwnCall.{IsDialogOf}
-use Rattle.sip_common.specs.Requests.{dialog_id_of_tags, is_success}
-use Rattle.sip_common.specs.Sent.{name_of_dialog}
-use Rattle.sip_common.specs.declared.held_dialog.DialogId.{DialogId}
-use Rattle.sip_common.specs.declared.held_dialog.HeldDialog.{HeldDialog}
-use Rattle.sip_common.specs.declared.item.Item.TheVariants.{Up, User}
-use Rattle.sip_common.specs.declared.pending_request.PendingRequest.TheVariants.{Ack, Prack}
-use Rattle.sip_common.proofs.Each.{found_one}
+use Rattle.sip_held_dialogs.specs.Dialogs.{dialog_at, is_dialog_id}
+use Rattle.sip_held_dialogs.specs.Ids.{is_id}
+use Rattle.sip_held_dialogs.specs.OwnDialogs.{IsDialogOf}
+use Rattle.sip_held_dialogs.specs.Requests.{dialog_id_of_tags, is_success}
+use Rattle.sip_held_dialogs.specs.Sent.{name_of_dialog}
+use Rattle.sip_held_dialogs.specs.declared.held_dialog.DialogId.{DialogId}
+use Rattle.sip_held_dialogs.specs.declared.held_dialog.HeldDialog.{HeldDialog}
+use Rattle.sip_user.specs.declared.item.Item.TheVariants.{Up, User}
+use Rattle.sip_held_dialogs.specs.declared.pending_request.PendingRequest.TheVariants.{Ack, Prack}
+use Rattle.sip_held_dialogs.proofs.Each.{found_one}
 use Rattle.sip_clients.specs.Event.{branch_of}
 use Rattle.sip_clients.specs.Clients.{reply_name}
 use Rattle.sip_clients.specs.OwnCall.{IsRequestOf}
@@ -203,7 +203,7 @@ module _ (calls : Calls) (call_id : List ℕ) (all : List (Timed CallItem)) wher
     either_of reply client its (Some dialog) at = dialog_of reply.name (Some dialog) at
 
     hears_pays : (id : Id) (now : ℕ) (up : AnUp)
-        → all ≡ front ++ record { moment = now; input = Some (id, Up up) } ∷ rest → (k : Kind)
+        → all ≡ front ++ record { moment = now; input = Some (id, Up up) } ∷ rest → (k : UpKind)
         → up.kind ≡ k → KindPays IsAckOf call (event_of calls id now) up k
     hears_pays id now up are (kind.Response response) is =
         λ status status_is client found success has told.

@@ -8,13 +8,13 @@ use Rattle.sip_message.specs.declared.addr.Addr.{Addr}
 use Rattle.sip_message.specs.declared.id.Id.{Id}
 use Rattle.sip_message.specs.declared.message.Message.{Message}
 use Rattle.sip_message.specs.declared.party.Party.{Party}
-use Rattle.sip_model.proofs.Ordered.{by_bool}
-use Rattle.sip_model.specs.Machine.{Timed}
-use Rattle.sip_common.specs.Dialogs.{dialog_at}
-use Rattle.sip_common.specs.Requests.{dialog_id_of_tags, has_to_tag, is_success}
-use Rattle.sip_common.specs.declared.held_dialog.DialogId.{DialogId}
-use Rattle.sip_common.specs.declared.item.CallOut.TheVariants as call_out
-use Rattle.sip_common.proofs.Each.{both}
+use Rattle.keyed_machine.proofs.Ordered.{by_bool}
+use Rattle.keyed_machine.specs.Machine.{Timed}
+use Rattle.sip_held_dialogs.specs.Dialogs.{dialog_at}
+use Rattle.sip_held_dialogs.specs.Requests.{dialog_id_of_tags, has_to_tag, is_success}
+use Rattle.sip_held_dialogs.specs.declared.held_dialog.DialogId.{DialogId}
+use Rattle.sip_user.specs.declared.item.CallOut.TheVariants as call_out
+use Rattle.sip_held_dialogs.proofs.Each.{both}
 use Rattle.sip_clients.specs.Clients.{reply_name}
 use Rattle.sip_clients.specs.ReceivedResponse.{has_dialog}
 use Rattle.sip_clients.specs.declared.client.RequestKind.{RequestKind}

@@ -10,8 +10,8 @@ use Rattle.sip_message.specs.Written.{written}
 use Rattle.sip_message.specs.declared.addr.Addr.{Addr}
 use Rattle.sip_message.specs.declared.message.Message.{Message}
 use Rattle.sip_transactions.specs.declared.input.Command.TheVariants as order
-use Rattle.sip_common.specs.Requests.{dialog_id_of_tags}
-use Rattle.sip_common.specs.declared.item.CallOut.TheVariants as call_out
+use Rattle.sip_held_dialogs.specs.Requests.{dialog_id_of_tags}
+use Rattle.sip_user.specs.declared.item.CallOut.TheVariants as call_out
 use Rattle.sip_round.specs.declared.config.Config.{Config}
 use Rattle.sip_round.specs.Answers.{past_of}
 use Rattle.sip_conversation.specs.AckedResponses.{AcksFollowResponses, FollowsSuccess}

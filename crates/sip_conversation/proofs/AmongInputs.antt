@@ -3,8 +3,8 @@
 use Rattle.std.proofs.Common.{◌≡◌, ⊎_elim, ℕ, List, [], ◌∷◌, ◌++◌, refl, sym, subst}
 use Rattle.std.specs.Prelude.{Contains, None, Option}
 use Rattle.std.proofs.lemmas.List.Elements.{Contains-append_cases, Contains-append_left, Contains-append_right}
-use Rattle.sip_model.specs.Machine.{Timed, outputs_from}
-use Rattle.sip_common.specs.declared.item.CallOut.{CallOut}
+use Rattle.keyed_machine.specs.Machine.{Timed, outputs_from}
+use Rattle.sip_user.specs.declared.item.CallOut.{CallOut}
 use Rattle.sip_calls.specs.Call.{CallItem, call_machine, call_step}
 use Rattle.sip_calls.specs.Histories.{call_from}
 use Rattle.sip_calls.specs.declared.call.Call.{Call}

@@ -2,10 +2,10 @@
 use Rattle.std.proofs.Common.{◌≡◌, ℕ, ◌<◌, ◌^◌, true, false, ◌==◌, List, [], ◌∷◌, ◌++◌, refl, sym, subst, append-nil, append_assoc, codes, length, arith}
 use Rattle.std.specs.Prelude.{IsTrue, IfSome, Option, None, Some, filter, is_some, if◌then◌else◌}
 use Rattle.std.specs.List.{AllByRecursion, join_by}
-use Rattle.sip_parts.specs.HeaderValue.{is_header_value}
-use Rattle.sip_parts.specs.Parameters.{parameter_named}
-use Rattle.sip_parts.specs.ParameterRules.{IsParameter}
-use Rattle.sip_parts.proofs.Bytes.{token_is_value}
+use Rattle.sip_grammar.specs.HeaderValue.{is_header_value}
+use Rattle.sip_grammar.specs.Parameters.{parameter_named}
+use Rattle.sip_grammar.specs.ParameterRules.{IsParameter}
+use Rattle.sip_grammar.proofs.Bytes.{token_is_value}
 use Rattle.sip_message.specs.Addr.{IsAddr}
 use Rattle.sip_message.specs.Party.{tag_of}
 use Rattle.sip_message.specs.Response.{answering_to, is_tagged, response_of, tag_parameter, tagged}
@@ -19,9 +19,9 @@ use Rattle.sip_message.specs.declared.start_line.StartLine.TheVariants.{Response
 use Rattle.sip_message.proofs.Tags.{good_tag_added}
 use Rattle.sip_dialog.specs.Request.{contact_of}
 use Rattle.sip_dialog.proofs.Tags.{tag_is_token}
-use Rattle.sip_common.specs.Requests.{is_unknown_option, local_tag_of}
-use Rattle.sip_common.specs.declared.command.Respond.{Respond}
-use Rattle.sip_common.proofs.Each.{both, filtered}
+use Rattle.sip_held_dialogs.specs.Requests.{is_unknown_option, local_tag_of}
+use Rattle.sip_user.specs.declared.command.Respond.{Respond}
+use Rattle.sip_held_dialogs.proofs.Each.{both, filtered}
 use Rattle.sip_served.specs.Rules.Responses.{is_dialog_response, is_sent_reliably, response_sent}
 use Rattle.sip_served.specs.declared.held_request.HeldRequest.{HeldRequest}
 use Rattle.sip_served.proofs.Joined.{SoFar, added, begun, joined, with_one_more}

@@ -12,19 +12,19 @@ use Rattle.sip_message.specs.Content.{with_content_of}
 use Rattle.sip_message.specs.Message.{is_request_message}
 use Rattle.sip_message.specs.Response.{response_of}
 use Rattle.sip_message.specs.Written.{written}
-use Rattle.sip_model.specs.Laws.{EachKeyAlone}
-use Rattle.sip_model.specs.Machine.{given_at, tick_at}
+use Rattle.keyed_machine.specs.Laws.{EachKeyAlone}
+use Rattle.keyed_machine.specs.Machine.{given_at, tick_at}
 use Rattle.sip_transactions.specs.declared.input.Command.TheVariants as order
 use Rattle.sip_transactions.specs.declared.input.Input.{Input}
 use Rattle.sip_transactions.specs.declared.input.Input.TheVariants as input
-use Rattle.sip_transactions.specs.declared.output.Kind.{Kind}
-use Rattle.sip_transactions.specs.declared.output.Kind.TheVariants as kind
-use Rattle.sip_common.specs.declared.command.Respond.{Respond}
-use Rattle.sip_common.specs.declared.command.UserCommand.{UserCommand}
-use Rattle.sip_common.specs.declared.command.UserCommand.TheVariants as user
-use Rattle.sip_common.specs.declared.item.CallOut.{CallOut}
-use Rattle.sip_common.specs.declared.item.CallOut.TheVariants as call_out
-use Rattle.sip_common.specs.declared.item.Item.TheVariants.{Up, User}
+use Rattle.sip_transactions.specs.declared.output.UpKind.{UpKind}
+use Rattle.sip_transactions.specs.declared.output.UpKind.TheVariants as kind
+use Rattle.sip_user.specs.declared.command.Respond.{Respond}
+use Rattle.sip_user.specs.declared.command.UserCommand.{UserCommand}
+use Rattle.sip_user.specs.declared.command.UserCommand.TheVariants as user
+use Rattle.sip_user.specs.declared.item.CallOut.{CallOut}
+use Rattle.sip_user.specs.declared.item.CallOut.TheVariants as call_out
+use Rattle.sip_user.specs.declared.item.Item.TheVariants.{Up, User}
 use Rattle.sip_served.specs.declared.held_request.HeldRequest.{HeldRequest}
 use Rattle.sip_served.proofs.Rseqs.{answer_start}
 use Rattle.sip_served.proofs.ServedAnswers.{KindGiven, OwnAnswers}
@@ -210,7 +210,7 @@ module _ (config : Config) (rounds : List Round) (Came : Message → Type 0) whe
   command_gives call_id now event (user.Prack prack) among = tt
   command_gives call_id now event (user.Cancel cancel) among = tt
 
-  kind_gives : (k : Kind) → KindCame Came k → KindGiven CameToAnswer k
+  kind_gives : (k : UpKind) → KindCame Came k → KindGiven CameToAnswer k
   kind_gives (kind.Request request reply_to) came = came
   kind_gives (kind.Ack ack) came = tt
   kind_gives (kind.Response response) came = tt

@@ -15,15 +15,15 @@ use Rattle.sip_message.specs.declared.message.Message.{Message}
 use Rattle.sip_reliable.specs.Ledger.{must_wait}
 use Rattle.sip_reliable.specs.Provisional.{Provisional, is_late, is_repeated}
 use Rattle.sip_transactions.specs.declared.input.Command.TheVariants as order
-use Rattle.sip_common.specs.Dialogs.{Dialogs, lives}
-use Rattle.sip_common.specs.Refusal.{first_refusal}
-use Rattle.sip_common.specs.Requests.{is_final, is_invite, is_success}
-use Rattle.sip_common.specs.declared.command.Respond.{Respond}
-use Rattle.sip_common.specs.declared.item.CallOut.{CallOut}
-use Rattle.sip_common.specs.declared.item.CallOut.TheVariants as out
-use Rattle.sip_common.specs.declared.refusal.Refusal.{Refusal}
-use Rattle.sip_common.specs.declared.refusal.Refusal.TheVariants as why
-use Rattle.sip_common.proofs.Each.{both, filtered, mapped}
+use Rattle.sip_held_dialogs.specs.Dialogs.{Dialogs, lives}
+use Rattle.sip_user.specs.Refusal.{first_refusal}
+use Rattle.sip_held_dialogs.specs.Requests.{is_final, is_invite, is_success}
+use Rattle.sip_user.specs.declared.command.Respond.{Respond}
+use Rattle.sip_user.specs.declared.item.CallOut.{CallOut}
+use Rattle.sip_user.specs.declared.item.CallOut.TheVariants as out
+use Rattle.sip_user.specs.declared.refusal.Refusal.{Refusal}
+use Rattle.sip_user.specs.declared.refusal.Refusal.TheVariants as why
+use Rattle.sip_held_dialogs.proofs.Each.{both, filtered, mapped}
 use Rattle.sip_served.specs.Rules.Arrivals.{after_ack, after_prack}
 use Rattle.sip_served.specs.Rules.Responses.{held_after, is_dialog_response, is_reliable, is_sent_reliably, may_be_reliable, response_refusal, response_sent, success_sent}
 use Rattle.sip_served.specs.Rules.Ticks.{provisionals_tick, success_at, success_tick}

@@ -14,23 +14,23 @@ use Rattle.sip_dialog.specs.Step.{confirmed_at, confirmed_by}
 use Rattle.sip_dialog.specs.declared.dialog.Dialog.{Dialog}
 use Rattle.sip_dialog.specs.declared.dialog.Side.{Side as End}
 use Rattle.sip_dialog.specs.declared.dialog.Side.TheVariants.{Callee, Caller}
-use Rattle.sip_common.specs.Dialogs.{Dialogs, early_ended, ended_at, is_dialog_id, lives, tag_text}
-use Rattle.sip_common.specs.Ids.{is_id}
-use Rattle.sip_common.specs.OwnCall.{AreDialogsOf, IsDialogOf}
-use Rattle.sip_common.specs.Refusal.{first_refusal}
-use Rattle.sip_common.specs.Requests.{dialog_id_of_tags, has_to_tag, is_final, is_success, requires_100rel}
-use Rattle.sip_common.specs.declared.command.Cancel.{Cancel}
-use Rattle.sip_common.specs.declared.command.DialogBody.{DialogBody}
-use Rattle.sip_common.specs.declared.command.DialogRequest.{DialogRequest}
-use Rattle.sip_common.specs.declared.held_dialog.DialogId.{DialogId}
-use Rattle.sip_common.specs.declared.held_dialog.HeldDialog.{HeldDialog}
-use Rattle.sip_common.specs.declared.item.CallOut.{CallOut}
-use Rattle.sip_common.specs.declared.pending_request.PendingRequest.{PendingRequest}
-use Rattle.sip_common.specs.declared.pending_request.PendingRequest.TheVariants.{Ack, Prack}
-use Rattle.sip_common.specs.declared.refusal.Refusal.{Refusal}
-use Rattle.sip_common.specs.declared.refusal.Refusal.TheVariants.{AlreadyFinal, BadMethod, NoSuchRequest, NothingToAck, NothingToPrack}
-use Rattle.sip_common.proofs.Each.{both, each_but_one, each_changed, each_set, found_one}
-use Rattle.sip_common.proofs.Starts.{early_starts, ended_starts, none_of_both, starts}
+use Rattle.sip_held_dialogs.specs.Dialogs.{Dialogs, early_ended, ended_at, is_dialog_id, lives, tag_text}
+use Rattle.sip_held_dialogs.specs.Ids.{is_id}
+use Rattle.sip_held_dialogs.specs.OwnDialogs.{AreDialogsOf, IsDialogOf}
+use Rattle.sip_user.specs.Refusal.{first_refusal}
+use Rattle.sip_held_dialogs.specs.Requests.{dialog_id_of_tags, has_to_tag, is_final, is_success, requires_100rel}
+use Rattle.sip_user.specs.declared.command.Cancel.{Cancel}
+use Rattle.sip_user.specs.declared.command.DialogBody.{DialogBody}
+use Rattle.sip_user.specs.declared.command.DialogRequest.{DialogRequest}
+use Rattle.sip_held_dialogs.specs.declared.held_dialog.DialogId.{DialogId}
+use Rattle.sip_held_dialogs.specs.declared.held_dialog.HeldDialog.{HeldDialog}
+use Rattle.sip_user.specs.declared.item.CallOut.{CallOut}
+use Rattle.sip_held_dialogs.specs.declared.pending_request.PendingRequest.{PendingRequest}
+use Rattle.sip_held_dialogs.specs.declared.pending_request.PendingRequest.TheVariants.{Ack, Prack}
+use Rattle.sip_user.specs.declared.refusal.Refusal.{Refusal}
+use Rattle.sip_user.specs.declared.refusal.Refusal.TheVariants.{AlreadyFinal, BadMethod, NoSuchRequest, NothingToAck, NothingToPrack}
+use Rattle.sip_held_dialogs.proofs.Each.{both, each_but_one, each_changed, each_set, found_one}
+use Rattle.sip_held_dialogs.proofs.Starts.{early_starts, ended_starts, none_of_both, starts}
 use Rattle.sip_clients.specs.Client.{Clients, ClientTaken, Side}
 use Rattle.sip_clients.specs.Rules.Ends.{request_is_lost, request_over}
 use Rattle.sip_clients.specs.Rules.Requests.{ack_command, ack_kept, cancel_command, cancel_of_request, cancel_request, dialog_of_kind, has_command, is_asked, is_invite_kind, is_same_pending, method_of, oldest_pending, pending_by_user, pending_command, pending_outcome, prack_command, refusals_in, refuse, request_command, request_in_dialog, request_with_next_number, start, with_number}

@@ -14,7 +14,7 @@ use Rattle.sip_message.specs.MessageKey.{key_of_message}
 use Rattle.sip_message.specs.Rules.{IsMessage}
 use Rattle.sip_message.specs.Source.{answer_address, stamped}
 use Rattle.sip_message.specs.Written.{written}
-use Rattle.sip_model.proofs.Ordered.{by_bool}
+use Rattle.keyed_machine.proofs.Ordered.{by_bool}
 use Rattle.sip_reader.specs.ReadMessage.{message_at, message_in}
 use Rattle.sip_reader.specs.SkippedEnds.{without_line_ends}
 use Rattle.sip_reader.proofs.RoundTrip.{written_spelled}

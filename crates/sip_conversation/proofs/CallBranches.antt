@@ -4,17 +4,17 @@ use Rattle.std.specs.Prelude.{Option, None, Some, IfSome}
 use Rattle.std.specs.List.{AllByRecursion}
 use Rattle.sip_message.specs.declared.addr.Addr.{Addr}
 use Rattle.sip_message.specs.declared.id.Id.{Id}
-use Rattle.sip_model.specs.Machine.{Timed, outputs_from}
-use Rattle.sip_transactions.specs.declared.output.Kind.{Kind}
-use Rattle.sip_transactions.specs.declared.output.Kind.TheVariants as kind
+use Rattle.keyed_machine.specs.Machine.{Timed, outputs_from}
+use Rattle.sip_transactions.specs.declared.output.UpKind.{UpKind}
+use Rattle.sip_transactions.specs.declared.output.UpKind.TheVariants as kind
 use Rattle.sip_transactions.specs.declared.output.Up.{Up as AnUp}
-use Rattle.sip_common.specs.Command.{call_of_command}
-use Rattle.sip_common.specs.declared.command.UserCommand.{UserCommand}
-use Rattle.sip_common.specs.declared.command.UserCommand.TheVariants as user
-use Rattle.sip_common.specs.declared.item.CallOut.{CallOut}
-use Rattle.sip_common.specs.declared.item.Item.TheVariants.{Up, User}
-use Rattle.sip_common.proofs.Each.{both, each_left}
-use Rattle.sip_common.proofs.Starts.{starts}
+use Rattle.sip_user.specs.Command.{call_of_command}
+use Rattle.sip_user.specs.declared.command.UserCommand.{UserCommand}
+use Rattle.sip_user.specs.declared.command.UserCommand.TheVariants as user
+use Rattle.sip_user.specs.declared.item.CallOut.{CallOut}
+use Rattle.sip_user.specs.declared.item.Item.TheVariants.{Up, User}
+use Rattle.sip_held_dialogs.proofs.Each.{both, each_left}
+use Rattle.sip_held_dialogs.proofs.Starts.{starts}
 use Rattle.sip_served.proofs.ArrivalRules.{kind_same}
 use Rattle.sip_served.proofs.NoStarts.{kind_starts, respond_starts}
 use Rattle.sip_served.proofs.ResponseRules.{respond_same}
@@ -62,7 +62,7 @@ module _ (calls : Calls) (call_id : List ℕ) (Came : Id → Type 0) where
 
   -- ---- what comes up
 
-  up_own : (call : Call) (id : Id) (now : ℕ) (up : AnUp) (k : Kind)
+  up_own : (call : Call) (id : Id) (now : ℕ) (up : AnUp) (k : UpKind)
       → IfSome (event_of_kind id k) Came
       → AreSidesOf call_id call → OwnClients call
       → Done (received call (event_of calls id now) up k)

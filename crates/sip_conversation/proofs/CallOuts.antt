@@ -11,32 +11,32 @@ use Rattle.sip_clients.specs.Outputs.{start_command}
 use Rattle.sip_clients.specs.Tick.{clients_ticked}
 use Rattle.sip_clients.specs.declared.client.Client.{Client}
 use Rattle.sip_clients.specs.declared.event.Event.{Event}
-use Rattle.sip_common.proofs.Each.{both}
-use Rattle.sip_common.specs.declared.command.UserCommand.{UserCommand}
-use Rattle.sip_common.specs.declared.item.CallOut.{CallOut}
-use Rattle.sip_common.specs.declared.item.Item.TheVariants.{Up, User}
-use Rattle.sip_common.specs.declared.notice.Notice.{Notice}
+use Rattle.sip_held_dialogs.proofs.Each.{both}
+use Rattle.sip_user.specs.declared.command.UserCommand.{UserCommand}
+use Rattle.sip_user.specs.declared.item.CallOut.{CallOut}
+use Rattle.sip_user.specs.declared.item.Item.TheVariants.{Up, User}
+use Rattle.sip_user.specs.declared.notice.Notice.{Notice}
 use Rattle.sip_clients.proofs.ClientOuts.{Allows, ack_command_told, cancel_told, clients_tick, command_told, invite_told, lost_told, plain_told, prack_command_told, response_told}
 use Rattle.sip_message.specs.Party.{tag_of}
 use Rattle.sip_message.specs.declared.id.Id.{Id}
 use Rattle.sip_message.specs.declared.message.Message.{Message}
-use Rattle.sip_model.specs.Machine.{Timed, outputs_from}
+use Rattle.keyed_machine.specs.Machine.{Timed, outputs_from}
 use Rattle.sip_served.specs.declared.held_request.HeldRequest.{HeldRequest}
 use Rattle.sip_served.specs.declared.held_request.Success.{Success}
 use Rattle.sip_served.specs.declared.provisionals.ReliableResponse.{ReliableResponse}
 use Rattle.sip_served.specs.State.{State}
 use Rattle.sip_served.specs.Step.{kind_taken}
 use Rattle.sip_served.specs.Tick.{tick_taken}
-use Rattle.sip_transactions.specs.declared.output.Kind.{Kind}
+use Rattle.sip_transactions.specs.declared.output.UpKind.{UpKind}
 use Rattle.sip_transactions.specs.declared.output.Up.{Up as AnUp}
 use Rattle.std.proofs.Common.{◌≡◌, ℕ, true, false, List, [], ◌∷◌, subst, sym}
 use Rattle.std.specs.List.{AllByRecursion}
 use Rattle.std.specs.Prelude.{Option, None, Some, IfSome}
 use Rattle.sip_served.proofs.ServedAnswers.{AllowsServed, IsOther, KeepsGiven, KindGiven, OwnAnswers, StateGiven, kind_fits, respond_fits, server_tick}
-use Rattle.sip_common.specs.declared.command.UserCommand.TheVariants as user
-use Rattle.sip_common.specs.declared.item.CallOut.TheVariants as out
-use Rattle.sip_common.specs.declared.notice.Notice.TheVariants as notice
-use Rattle.sip_transactions.specs.declared.output.Kind.TheVariants as kind
+use Rattle.sip_user.specs.declared.command.UserCommand.TheVariants as user
+use Rattle.sip_user.specs.declared.item.CallOut.TheVariants as out
+use Rattle.sip_user.specs.declared.notice.Notice.TheVariants as notice
+use Rattle.sip_transactions.specs.declared.output.UpKind.TheVariants as kind
 
 -- nothing is required of requests and answers here
 abbrev pub Any : Message → Type 0
@@ -52,7 +52,7 @@ any_own = record {
   terminated = λ request tag came. tt;
 }
 
-any_kind : (k : Kind) → KindGiven Any k
+any_kind : (k : UpKind) → KindGiven Any k
 any_kind (kind.Request request reply_to) = tt
 any_kind (kind.Ack ack) = tt
 any_kind (kind.Response response) = tt
@@ -129,7 +129,7 @@ module _ (Tells : List ℕ → Id → ℕ → List ℕ → List ℕ → List ℕ
   any_state : (state : State) → StateGiven OutFits Any Any allows_served state
   any_state state = any_requests state.requests
 
-  served_told : (call : Call) (event : Event) (up : AnUp) (k : Kind)
+  served_told : (call : Call) (event : Event) (up : AnUp) (k : UpKind)
       → Fit (by_server call (kind_taken call.served (made_tag event) up k event.moment)).1
   served_told call event up k =
       (kind_fits OutFits Any Any allows_served any_own call.served (made_tag event) up k
@@ -143,7 +143,7 @@ module _ (Tells : List ℕ → Id → ℕ → List ℕ → List ℕ → List ℕ
       → Tells call_id id status (tag_of response.from) (tag_of response.to) response.body
 
   -- this is true of a response that comes up
-  abbrev pub KindTells : List ℕ → Id → Kind → Type 0
+  abbrev pub KindTells : List ℕ → Id → UpKind → Type 0
   KindTells call_id id (kind.Request request reply_to) = Unit {0}
   KindTells call_id id (kind.Ack ack) = Unit {0}
   KindTells call_id id (kind.Response response) = ResponseTells call_id id response
@@ -155,7 +155,7 @@ module _ (Tells : List ℕ → Id → ℕ → List ℕ → List ℕ → List ℕ
   InputFits (Some (event, Up up)) = KindTells up.call_id up.id up.kind
   InputFits (Some (event, User command)) = Unit {0}
 
-  up_fits : (call : Call) (event : Event) (up : AnUp) (k : Kind) → KindTells up.call_id up.id k
+  up_fits : (call : Call) (event : Event) (up : AnUp) (k : UpKind) → KindTells up.call_id up.id k
       → Fit (up_taken call event up k).1
   up_fits call event up (kind.Request request reply_to) tells =
       served_told call event up (kind.Request request reply_to)

@@ -3,15 +3,15 @@ use Rattle.std.proofs.Common.{ℕ, Bool, true, false, cond, List, [], ◌∷◌,
 use Rattle.std.specs.Prelude.{Option, None, Some, IfSome}
 use Rattle.std.specs.List.{AllByRecursion}
 use Rattle.sip_message.specs.declared.message.Message.{Message}
-use Rattle.sip_model.specs.Machine.{Timed, outputs_from}
-use Rattle.sip_transactions.specs.declared.output.Kind.{Kind}
-use Rattle.sip_transactions.specs.declared.output.Kind.TheVariants as kind
+use Rattle.keyed_machine.specs.Machine.{Timed, outputs_from}
+use Rattle.sip_transactions.specs.declared.output.UpKind.{UpKind}
+use Rattle.sip_transactions.specs.declared.output.UpKind.TheVariants as kind
 use Rattle.sip_transactions.specs.declared.output.Up.{Up as AnUp}
-use Rattle.sip_common.proofs.Each.{both}
-use Rattle.sip_common.specs.declared.command.UserCommand.{UserCommand}
-use Rattle.sip_common.specs.declared.command.UserCommand.TheVariants as user
-use Rattle.sip_common.specs.declared.item.CallOut.{CallOut}
-use Rattle.sip_common.specs.declared.item.Item.TheVariants.{Up, User}
+use Rattle.sip_held_dialogs.proofs.Each.{both}
+use Rattle.sip_user.specs.declared.command.UserCommand.{UserCommand}
+use Rattle.sip_user.specs.declared.command.UserCommand.TheVariants as user
+use Rattle.sip_user.specs.declared.item.CallOut.{CallOut}
+use Rattle.sip_user.specs.declared.item.Item.TheVariants.{Up, User}
 use Rattle.sip_served.specs.Tick.{tick_taken}
 use Rattle.sip_served.proofs.ServedAnswers.{AllowsServed, KindGiven, OwnAnswers, RespondGiven, StateGiven, kind_fits, respond_fits, server_tick}
 use Rattle.sip_clients.specs.Tick.{clients_ticked}
@@ -56,7 +56,7 @@ module _ (Came Given : Message → Type 0) (own : OwnAnswers Came Given) where
 
   -- ---- one input
 
-  up_says : (call : Call) (event : Event) (up : AnUp) (k : Kind) → KindGiven Came k
+  up_says : (call : Call) (event : Event) (up : AnUp) (k : UpKind) → KindGiven Came k
       → CallIs call → CallSays (up_taken call event up k)
   up_says call event up (kind.Request request reply_to) came is =
       let fits = kind_fits (OutSays Given) Came Given allows own call.served (made_tag event) up

@@ -6,19 +6,19 @@ use Rattle.std.specs.Map.{lookup, remove_entry, set_value}
 use Rattle.std.proofs.lemmas.List.Elements.{filter_map-append}
 use Rattle.sip_message.specs.declared.id.Id.{Id}
 use Rattle.sip_message.specs.declared.message.Message.{Message}
-use Rattle.sip_model.specs.Machine.{Timed, outputs_from}
+use Rattle.keyed_machine.specs.Machine.{Timed, outputs_from}
 use Rattle.sip_transactions.specs.declared.input.Command.TheVariants as order
-use Rattle.sip_transactions.specs.declared.output.Kind.{Kind}
-use Rattle.sip_transactions.specs.declared.output.Kind.TheVariants as kind
+use Rattle.sip_transactions.specs.declared.output.UpKind.{UpKind}
+use Rattle.sip_transactions.specs.declared.output.UpKind.TheVariants as kind
 use Rattle.sip_transactions.specs.declared.output.Up.{Up as AnUp}
-use Rattle.sip_common.specs.Dialogs.{Dialogs}
-use Rattle.sip_common.specs.Ids.{is_id}
-use Rattle.sip_common.specs.declared.command.UserCommand.{UserCommand}
-use Rattle.sip_common.specs.declared.command.UserCommand.TheVariants as user
-use Rattle.sip_common.specs.declared.item.CallOut.{CallOut}
-use Rattle.sip_common.specs.declared.item.CallOut.TheVariants as out
-use Rattle.sip_common.specs.declared.item.Item.TheVariants.{Up, User}
-use Rattle.sip_common.proofs.Each.{filtered}
+use Rattle.sip_held_dialogs.specs.Dialogs.{Dialogs}
+use Rattle.sip_held_dialogs.specs.Ids.{is_id}
+use Rattle.sip_user.specs.declared.command.UserCommand.{UserCommand}
+use Rattle.sip_user.specs.declared.command.UserCommand.TheVariants as user
+use Rattle.sip_user.specs.declared.item.CallOut.{CallOut}
+use Rattle.sip_user.specs.declared.item.CallOut.TheVariants as out
+use Rattle.sip_user.specs.declared.item.Item.TheVariants.{Up, User}
+use Rattle.sip_held_dialogs.proofs.Each.{filtered}
 use Rattle.sip_clients.specs.Client.{Side, client_at}
 use Rattle.sip_clients.specs.ClientLife.{ClientHappening, Outgoing, SendsAck, acks_out, request_in, requests_out}
 use Rattle.sip_clients.specs.ClientStory.{ClientStory, client_told, lives_on}
@@ -158,7 +158,7 @@ module _ (Went : Outgoing → Type 0) where
         (λ none. all))
         (λ none. all)
 
-    kind_went : (side : Side) (event : Event) (up : AnUp) (k : Kind) (stories : ClientStories)
+    kind_went : (side : Side) (event : Event) (up : AnUp) (k : UpKind) (stories : ClientStories)
         → AllWent stories → AllWent (told_by_kind side event up k outs stories)
     kind_went side event up (kind.Request request reply_to) stories all = all
     kind_went side event up (kind.Ack ack) stories all = all

@@ -6,10 +6,10 @@ use Rattle.std.specs.List.{AllByRecursion, AllZip}
 use Rattle.std.proofs.lemmas.Grind.{common_steps}
 use Rattle.sip_message.specs.declared.id.Id.{Id}
 use Rattle.sip_message.specs.declared.message.Message.{Message}
-use Rattle.sip_common.specs.declared.held_dialog.DialogReference.{DialogReference}
-use Rattle.sip_common.specs.declared.item.CallOut.{CallOut}
-use Rattle.sip_common.specs.declared.item.CallOut.TheVariants as out
-use Rattle.sip_common.specs.declared.notice.Notice.TheVariants as notice
+use Rattle.sip_held_dialogs.specs.declared.held_dialog.DialogReference.{DialogReference}
+use Rattle.sip_user.specs.declared.item.CallOut.{CallOut}
+use Rattle.sip_user.specs.declared.item.CallOut.TheVariants as out
+use Rattle.sip_user.specs.declared.notice.Notice.TheVariants as notice
 use Rattle.sip_clients.specs.Provisionals.{OfTheCall}
 use Rattle.sip_round.specs.declared.config.Config.{Config}
 use Rattle.sip_round.specs.declared.round.Round.{Round}
@@ -30,7 +30,7 @@ use Rattle.sip_conversation.proofs.RepliesSaid.{IsFair}
 use Rattle.sip_conversation.proofs.ToldAt.{told_at}
 use Rattle.sip_conversation.proofs.ToldGiven.{IsGivenThere, is_given, same_request}
 use Rattle.sip_reliable.specs.Inbound.{IsConsecutive}
-use Rattle.sip_model.proofs.Ordered.{by_bool}
+use Rattle.keyed_machine.proofs.Ordered.{by_bool}
 use Rattle.sip_round.proofs.RequestsDiffer.{requests_differ}
 use Rattle.sip_conversation.proofs.GivenInOrder.{given_in_order}
 

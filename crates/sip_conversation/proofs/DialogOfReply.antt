@@ -9,15 +9,15 @@ use Rattle.sip_message.specs.Content.{Content, content_of_body}
 use Rattle.sip_message.specs.Party.{tag_of}
 use Rattle.sip_message.specs.declared.id.Id.{Id}
 use Rattle.sip_message.specs.declared.message.Message.{Message}
-use Rattle.sip_common.specs.Dialogs.{Dialogs, dialog_at, is_dialog_id, lives}
-use Rattle.sip_common.specs.Refusal.{first_refusal}
-use Rattle.sip_common.specs.Requests.{dialog_id_of_tags, has_to_tag, is_final, is_success}
-use Rattle.sip_common.specs.Sent.{name_of_dialog}
-use Rattle.sip_common.specs.declared.held_dialog.DialogId.{DialogId}
-use Rattle.sip_common.specs.declared.held_dialog.HeldDialog.{HeldDialog}
-use Rattle.sip_common.specs.declared.pending_request.PendingRequest.TheVariants.{Prack}
-use Rattle.sip_common.proofs.Entries.{found_inserted}
-use Rattle.sip_common.proofs.Heard.{name_laws}
+use Rattle.sip_held_dialogs.specs.Dialogs.{Dialogs, dialog_at, is_dialog_id, lives}
+use Rattle.sip_user.specs.Refusal.{first_refusal}
+use Rattle.sip_held_dialogs.specs.Requests.{dialog_id_of_tags, has_to_tag, is_final, is_success}
+use Rattle.sip_held_dialogs.specs.Sent.{name_of_dialog}
+use Rattle.sip_held_dialogs.specs.declared.held_dialog.DialogId.{DialogId}
+use Rattle.sip_held_dialogs.specs.declared.held_dialog.HeldDialog.{HeldDialog}
+use Rattle.sip_held_dialogs.specs.declared.pending_request.PendingRequest.TheVariants.{Prack}
+use Rattle.sip_held_dialogs.proofs.Entries.{found_inserted}
+use Rattle.sip_held_dialogs.proofs.Heard.{name_laws}
 use Rattle.sip_clients.specs.Client.{ClientTaken, Side, client_at}
 use Rattle.sip_clients.specs.Clients.{reply_name}
 use Rattle.sip_clients.specs.Provisionals.{provisional_number}

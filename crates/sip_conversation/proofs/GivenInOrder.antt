@@ -11,25 +11,25 @@ use Rattle.std.proofs.lemmas.Map.Keys.{IsDistinct-head}
 use Rattle.sip_message.specs.declared.id.Id.{Id}
 use Rattle.sip_message.specs.declared.key.Key.{Key}
 use Rattle.sip_message.specs.declared.message.Message.{Message}
-use Rattle.sip_model.specs.Machine.{Timed}
+use Rattle.keyed_machine.specs.Machine.{Timed}
 use Rattle.sip_reliable.specs.Inbound.{IsConsecutive, following}
 use Rattle.sip_reliable.proofs.InOrder.{consecutive}
 use Rattle.sip_transactions.specs.declared.input.Command.TheVariants as order
-use Rattle.sip_transactions.specs.declared.output.Kind.{Kind}
-use Rattle.sip_transactions.specs.declared.output.Kind.TheVariants as kind
+use Rattle.sip_transactions.specs.declared.output.UpKind.{UpKind}
+use Rattle.sip_transactions.specs.declared.output.UpKind.TheVariants as kind
 use Rattle.sip_transactions.specs.declared.output.Up.{Up as AnUp}
-use Rattle.sip_common.specs.declared.command.Respond.{Respond as Answer}
-use Rattle.sip_common.specs.declared.command.UserCommand.{UserCommand}
-use Rattle.sip_common.specs.declared.command.UserCommand.TheVariants.{Respond}
-use Rattle.sip_common.specs.declared.held_dialog.HeldDialog.{HeldDialog}
-use Rattle.sip_common.specs.declared.item.CallOut.{CallOut}
-use Rattle.sip_common.specs.declared.item.CallOut.TheVariants as out
-use Rattle.sip_common.specs.declared.item.Item.TheVariants.{Up, User}
-use Rattle.sip_common.specs.declared.refusal.Refusal.{Refusal}
-use Rattle.sip_common.specs.Dialogs.{Dialogs, early_ended, ended_notice, is_early_of}
-use Rattle.sip_common.specs.Ids.{is_id}
-use Rattle.sip_common.proofs.Each.{found}
-use Rattle.sip_common.proofs.Heard.{id_laws}
+use Rattle.sip_user.specs.declared.command.Respond.{Respond as Answer}
+use Rattle.sip_user.specs.declared.command.UserCommand.{UserCommand}
+use Rattle.sip_user.specs.declared.command.UserCommand.TheVariants.{Respond}
+use Rattle.sip_held_dialogs.specs.declared.held_dialog.HeldDialog.{HeldDialog}
+use Rattle.sip_user.specs.declared.item.CallOut.{CallOut}
+use Rattle.sip_user.specs.declared.item.CallOut.TheVariants as out
+use Rattle.sip_user.specs.declared.item.Item.TheVariants.{Up, User}
+use Rattle.sip_user.specs.declared.refusal.Refusal.{Refusal}
+use Rattle.sip_held_dialogs.specs.Dialogs.{Dialogs, early_ended, ended_notice, is_early_of}
+use Rattle.sip_held_dialogs.specs.Ids.{is_id}
+use Rattle.sip_held_dialogs.proofs.Each.{found}
+use Rattle.sip_held_dialogs.proofs.Heard.{id_laws}
 use Rattle.sip_served.specs.declared.held_request.HeldRequest.{HeldRequest}
 use Rattle.sip_served.specs.Arrival.{arrival_of}
 use Rattle.sip_served.specs.Respond.{answer_given, answer_to, by_refusal, by_request, confirms_dialog, dialogs_answered, makes_dialog, refusal_for, rejects, respond_taken}
@@ -233,7 +233,7 @@ module _ (calls : Calls) (invite : Id) where
   later_ones count id ids (inr other) = inr other.1
 
   module _ (call : Call) (count : ℕ) where
-    up_stands : (id : Id) (now : ℕ) (up : AnUp) (k : Kind) (ids : List Id)
+    up_stands : (id : Id) (now : ℕ) (up : AnUp) (k : UpKind) (ids : List Id)
         → IsDistinct is_id (cons_option (id_of_kind up.id k) ids)
         → Stands count (requests_of call) (cons_option (id_of_kind up.id k) ids)
         → Stands count (requests_of (up_taken call (event_of calls id now) up k).0) ids

@@ -12,20 +12,20 @@ use Rattle.sip_message.specs.declared.key.Key.{Key}
 use Rattle.sip_message.specs.declared.message.Message.{Message}
 use Rattle.sip_message.specs.Party.{tag_of}
 use Rattle.sip_message.specs.Response.{tagged}
-use Rattle.sip_model.specs.Machine.{Timed, given_at, outputs_from}
-use Rattle.sip_parts.specs.Tag.{has_good_tag}
+use Rattle.keyed_machine.specs.Machine.{Timed, given_at, outputs_from}
+use Rattle.sip_grammar.specs.Tag.{has_good_tag}
 use Rattle.sip_transactions.specs.declared.input.Command.TheVariants as order
-use Rattle.sip_transactions.specs.declared.output.Kind.{Kind}
-use Rattle.sip_transactions.specs.declared.output.Kind.TheVariants as kind
+use Rattle.sip_transactions.specs.declared.output.UpKind.{UpKind}
+use Rattle.sip_transactions.specs.declared.output.UpKind.TheVariants as kind
 use Rattle.sip_transactions.specs.declared.output.Up.{Up as AnUp}
-use Rattle.sip_common.specs.Ids.{is_id}
-use Rattle.sip_common.specs.Requests.{has_to_tag, local_tag_of}
-use Rattle.sip_common.specs.declared.command.Respond.{Respond}
-use Rattle.sip_common.specs.declared.command.UserCommand.{UserCommand}
-use Rattle.sip_common.specs.declared.command.UserCommand.TheVariants as user
-use Rattle.sip_common.specs.declared.item.CallOut.{CallOut}
-use Rattle.sip_common.specs.declared.item.CallOut.TheVariants as out
-use Rattle.sip_common.specs.declared.item.Item.TheVariants.{Up, User}
+use Rattle.sip_held_dialogs.specs.Ids.{is_id}
+use Rattle.sip_held_dialogs.specs.Requests.{has_to_tag, local_tag_of}
+use Rattle.sip_user.specs.declared.command.Respond.{Respond}
+use Rattle.sip_user.specs.declared.command.UserCommand.{UserCommand}
+use Rattle.sip_user.specs.declared.command.UserCommand.TheVariants as user
+use Rattle.sip_user.specs.declared.item.CallOut.{CallOut}
+use Rattle.sip_user.specs.declared.item.CallOut.TheVariants as out
+use Rattle.sip_user.specs.declared.item.Item.TheVariants.{Up, User}
 use Rattle.sip_served.specs.declared.arrival.Arrival.{Arrival}
 use Rattle.sip_clients.specs.Name.{name_of}
 use Rattle.sip_calls.specs.declared.calls.Calls.{Calls}
@@ -75,7 +75,7 @@ module _ (calls : Calls) (id : Id) where
 
 -- a request that comes up is one of those of which this is true
 module _ (Brought : Message → Type 0) where
-  abbrev pub KindBrings : Kind → Type 0
+  abbrev pub KindBrings : UpKind → Type 0
   KindBrings (kind.Request request reply_to) = Brought request
   KindBrings (kind.Ack ack) = Unit {0}
   KindBrings (kind.Response response) = Unit {0}
@@ -121,7 +121,7 @@ module _ (Brought : Message → Type 0) (calls : Calls) (inputs : List (Timed Ca
   abbrev pub IsAmongGiven : Id → ℕ → Message → Type 0
   IsAmongGiven id rseq response = Contains (given_from calls id None inputs) (rseq, response)
 
-  kind_came : (event : Id) (now : ℕ) (up : AnUp) (k : Kind) → up.kind ≡ k
+  kind_came : (event : Id) (now : ℕ) (up : AnUp) (k : UpKind) → up.kind ≡ k
       → Contains inputs (given_at now (event, Up up)) → KindBrings Brought k
       → KindBrought CameUp IsAmongGiven (name_of calls.seed event 0) up k
   kind_came event now up (kind.Request request reply_to) is among brought = record {

@@ -9,17 +9,17 @@ use Rattle.sip_message.specs.declared.id.Id.{Id}
 use Rattle.sip_message.specs.declared.message.Message.{Message}
 use Rattle.sip_message.specs.MessageKey.{key_of_message}
 use Rattle.sip_message.specs.TopVia.{top_branch}
-use Rattle.sip_model.specs.Laws.{EachKeyAlone}
-use Rattle.sip_model.specs.Machine.{Timed, outputs_from, tick_at}
+use Rattle.keyed_machine.specs.Laws.{EachKeyAlone}
+use Rattle.keyed_machine.specs.Machine.{Timed, outputs_from, tick_at}
 use Rattle.sip_transactions.specs.declared.input.Input.TheVariants.{Start}
-use Rattle.sip_common.specs.Dialogs.{dialog_at}
-use Rattle.sip_common.specs.Ids.{is_id}
-use Rattle.sip_common.specs.declared.held_dialog.DialogId.{DialogId}
-use Rattle.sip_common.specs.declared.item.CallOut.{CallOut}
-use Rattle.sip_common.specs.declared.item.CallOut.TheVariants as call_out
-use Rattle.sip_common.specs.declared.notice.Notice.{Notice}
-use Rattle.sip_common.specs.declared.notice.Notice.TheVariants as notice
-use Rattle.sip_common.proofs.Each.{found_one}
+use Rattle.sip_held_dialogs.specs.Dialogs.{dialog_at}
+use Rattle.sip_held_dialogs.specs.Ids.{is_id}
+use Rattle.sip_held_dialogs.specs.declared.held_dialog.DialogId.{DialogId}
+use Rattle.sip_user.specs.declared.item.CallOut.{CallOut}
+use Rattle.sip_user.specs.declared.item.CallOut.TheVariants as call_out
+use Rattle.sip_user.specs.declared.notice.Notice.{Notice}
+use Rattle.sip_user.specs.declared.notice.Notice.TheVariants as notice
+use Rattle.sip_held_dialogs.proofs.Each.{found_one}
 use Rattle.sip_clients.specs.Client.{client_at}
 use Rattle.sip_clients.specs.Provisionals.{is_response}
 use Rattle.sip_clients.specs.declared.client.Client.{Client}
@@ -59,9 +59,9 @@ use Rattle.sip_conversation.proofs.Rounds.{all_of_parts}
 use Rattle.sip_conversation.proofs.StartedFor.{KindStarted, response_key}
 use Rattle.sip_conversation.proofs.ToldCallId.{own_reply}
 use Rattle.sip_conversation.proofs.Ups.{ItemCame, TimedCame}
-use Rattle.sip_transactions.specs.declared.output.Kind.TheVariants as kind
+use Rattle.sip_transactions.specs.declared.output.UpKind.TheVariants as kind
 use Rattle.sip_transactions.specs.declared.output.Up.{Up as AnUp}
-use Rattle.sip_common.specs.declared.item.Item.TheVariants.{Up}
+use Rattle.sip_user.specs.declared.item.Item.TheVariants.{Up}
 use Rattle.sip_clients.specs.Clients.{reply_name, status_of}
 use Rattle.sip_clients.specs.ReceivedResponse.{has_dialog}
 

@@ -7,8 +7,8 @@ use Rattle.sip_message.specs.declared.message.Message.{Message}
 use Rattle.sip_transactions.specs.declared.output.Out.{Out}
 use Rattle.sip_transactions.specs.declared.output.Out.TheVariants as out
 use Rattle.sip_transactions.specs.declared.output.Up.{Up as AnUp}
-use Rattle.sip_common.specs.OwnCall.{IsItemOf}
-use Rattle.sip_common.specs.declared.item.Item.TheVariants.{Up, User}
+use Rattle.sip_user.specs.OwnCall.{IsItemOf}
+use Rattle.sip_user.specs.declared.item.Item.TheVariants.{Up, User}
 use Rattle.sip_calls.specs.Call.{CallItem}
 use Rattle.sip_calls.specs.OwnCall.{IsInputOf}
 use Rattle.sip_round.specs.declared.config.Config.{Config}

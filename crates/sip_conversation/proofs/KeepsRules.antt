@@ -4,12 +4,12 @@ use Rattle.std.specs.List.{AllByRecursion}
 use Rattle.sip_message.specs.declared.message.Message.{Message}
 use Rattle.sip_message.specs.Rules.{IsMessage}
 use Rattle.sip_message.specs.Written.{written}
-use Rattle.sip_model.specs.Machine.{Timed, outputs_from}
-use Rattle.sip_transactions.specs.declared.output.Kind.{Kind}
-use Rattle.sip_transactions.specs.declared.output.Kind.TheVariants as kind
-use Rattle.sip_common.specs.declared.item.CallOut.{CallOut}
-use Rattle.sip_common.specs.declared.item.CallOut.TheVariants as call_out
-use Rattle.sip_common.specs.declared.item.Item.TheVariants.{Up, User}
+use Rattle.keyed_machine.specs.Machine.{Timed, outputs_from}
+use Rattle.sip_transactions.specs.declared.output.UpKind.{UpKind}
+use Rattle.sip_transactions.specs.declared.output.UpKind.TheVariants as kind
+use Rattle.sip_user.specs.declared.item.CallOut.{CallOut}
+use Rattle.sip_user.specs.declared.item.CallOut.TheVariants as call_out
+use Rattle.sip_user.specs.declared.item.Item.TheVariants.{Up, User}
 use Rattle.sip_calls.specs.Call.{CallItem, call_machine}
 use Rattle.sip_calls.specs.Provisionals.{EventsDiffer}
 use Rattle.sip_calls.specs.declared.calls.Calls.{Calls}
@@ -17,7 +17,7 @@ use Rattle.sip_conversation.specs.Commands.{KeepsTypes}
 use Rattle.sip_conversation.specs.Messages.{message_of}
 
 -- a message that comes up keeps the rules of messages
-abbrev pub KindKeeps : Kind → Type 0
+abbrev pub KindKeeps : UpKind → Type 0
 KindKeeps (kind.Request request reply_to) = IsMessage request
 KindKeeps (kind.Ack ack) = IsMessage ack
 KindKeeps (kind.Response response) = IsMessage response

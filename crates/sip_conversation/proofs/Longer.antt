@@ -5,11 +5,11 @@ use Rattle.std.specs.declared.cmp.Ordering.{Ordering}
 use Rattle.std.proofs.lemmas.Grind.{flat_map-append}
 use Rattle.std.proofs.lemmas.List.{map-append}
 use Rattle.std.proofs.lemmas.List.Elements.{Contains-append_cases, Contains-append_left, Contains-append_right, filter-append}
-use Rattle.sip_model.specs.Laws.{said_by}
-use Rattle.sip_model.specs.Machine.{Machine, Timed, tick_at}
-use Rattle.sip_model.specs.Phase.{Phase, history, own_inputs}
-use Rattle.sip_model.specs.Rules.{said_in, said_since}
-use Rattle.sip_common.specs.declared.item.CallOut.{CallOut}
+use Rattle.keyed_machine.specs.Laws.{said_by}
+use Rattle.keyed_machine.specs.Machine.{Machine, Timed, tick_at}
+use Rattle.keyed_machine.specs.Phase.{Phase, history, own_inputs}
+use Rattle.keyed_machine.specs.Rules.{said_in, said_since}
+use Rattle.sip_user.specs.declared.item.CallOut.{CallOut}
 use Rattle.sip_calls.specs.Call.{CallItem, call_machine}
 use Rattle.sip_calls.specs.CallShard.{call_cmp}
 use Rattle.sip_round.specs.declared.config.Config.{Config}

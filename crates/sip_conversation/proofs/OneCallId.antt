@@ -18,18 +18,18 @@ use Rattle.sip_message.specs.declared.addr.Addr.{Addr}
 use Rattle.sip_message.specs.declared.id.Id.{Id}
 use Rattle.sip_message.specs.declared.key.Key.{Key}
 use Rattle.sip_message.specs.declared.message.Message.{Message}
-use Rattle.sip_model.specs.Laws.{EachKeyAlone}
-use Rattle.sip_model.specs.Machine.{Timed, given_at, tick_at}
+use Rattle.keyed_machine.specs.Laws.{EachKeyAlone}
+use Rattle.keyed_machine.specs.Machine.{Timed, given_at, tick_at}
 use Rattle.sip_transactions.specs.declared.input.Command.TheVariants as order
 use Rattle.sip_transactions.specs.declared.input.Input.{Input}
 use Rattle.sip_transactions.specs.declared.input.Input.TheVariants as input
-use Rattle.sip_transactions.specs.declared.output.Kind.{Kind}
-use Rattle.sip_transactions.specs.declared.output.Kind.TheVariants as kind
-use Rattle.sip_common.specs.declared.command.UserCommand.{UserCommand}
-use Rattle.sip_common.specs.declared.command.UserCommand.TheVariants as user
-use Rattle.sip_common.specs.declared.item.CallOut.{CallOut}
-use Rattle.sip_common.specs.declared.item.CallOut.TheVariants as call_out
-use Rattle.sip_common.specs.declared.item.Item.TheVariants.{Up, User}
+use Rattle.sip_transactions.specs.declared.output.UpKind.{UpKind}
+use Rattle.sip_transactions.specs.declared.output.UpKind.TheVariants as kind
+use Rattle.sip_user.specs.declared.command.UserCommand.{UserCommand}
+use Rattle.sip_user.specs.declared.command.UserCommand.TheVariants as user
+use Rattle.sip_user.specs.declared.item.CallOut.{CallOut}
+use Rattle.sip_user.specs.declared.item.CallOut.TheVariants as call_out
+use Rattle.sip_user.specs.declared.item.Item.TheVariants.{Up, User}
 use Rattle.sip_served.proofs.Rseqs.{answer_start}
 use Rattle.sip_served.proofs.ServedAnswers.{KindGiven, OwnAnswers}
 use Rattle.sip_clients.specs.Name.{hex, name_of, word_of_name}
@@ -130,7 +130,7 @@ user_gives (user.Ack ack) = tt
 user_gives (user.Prack prack) = tt
 user_gives (user.Cancel cancel) = tt
 
-kind_gives : (k : Kind) → KindGiven Any k
+kind_gives : (k : UpKind) → KindGiven Any k
 kind_gives (kind.Request request reply_to) = tt
 kind_gives (kind.Ack ack) = tt
 kind_gives (kind.Response response) = tt

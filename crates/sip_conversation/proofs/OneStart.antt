@@ -10,14 +10,14 @@ use Rattle.std.proofs.lemmas.List.Elements.{Contains-append_cases, Contains-appe
 use Rattle.sip_message.specs.declared.id.Id.{Id}
 use Rattle.sip_message.specs.declared.key.Key.{Key}
 use Rattle.sip_message.specs.declared.message.Message.{Message}
-use Rattle.sip_model.specs.Laws.{said_by}
-use Rattle.sip_model.specs.Machine.{Machine, Timed, tick_at}
-use Rattle.sip_model.specs.Phase.{PhaseOutputs}
-use Rattle.sip_model.specs.Rules.{said_since}
-use Rattle.sip_common.specs.Ids.{is_id}
-use Rattle.sip_common.specs.declared.item.CallOut.{CallOut}
-use Rattle.sip_common.specs.declared.item.CallOut.TheVariants as out
-use Rattle.sip_common.proofs.Starts.{start_in, starts}
+use Rattle.keyed_machine.specs.Laws.{said_by}
+use Rattle.keyed_machine.specs.Machine.{Machine, Timed, tick_at}
+use Rattle.keyed_machine.specs.Phase.{PhaseOutputs}
+use Rattle.keyed_machine.specs.Rules.{said_since}
+use Rattle.sip_held_dialogs.specs.Ids.{is_id}
+use Rattle.sip_user.specs.declared.item.CallOut.{CallOut}
+use Rattle.sip_user.specs.declared.item.CallOut.TheVariants as out
+use Rattle.sip_held_dialogs.proofs.Starts.{start_in, starts}
 use Rattle.sip_calls.specs.declared.call.Call.{Call}
 use Rattle.sip_calls.specs.Call.{CallItem, call_machine}
 use Rattle.sip_calls.specs.CallShard.{call_cmp}

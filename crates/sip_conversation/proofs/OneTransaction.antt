@@ -14,20 +14,20 @@ use Rattle.sip_message.specs.declared.start_line.StartLine.TheVariants as start
 use Rattle.sip_message.specs.HopByHop.{ack_of}
 use Rattle.sip_message.specs.Message.{is_request_line, is_request_message}
 use Rattle.sip_message.specs.Written.{written}
-use Rattle.sip_model.specs.Machine.{Timed, given_at, outputs_from}
+use Rattle.keyed_machine.specs.Machine.{Timed, given_at, outputs_from}
 use Rattle.sip_transactions.specs.declared.input.Input.{Input}
 use Rattle.sip_transactions.specs.declared.input.Input.TheVariants.{Answer, Failed, Receive, Start}
 use Rattle.sip_transactions.specs.declared.life.Context.{Context}
 use Rattle.sip_transactions.specs.declared.life.Life.{Life}
-use Rattle.sip_transactions.specs.declared.output.Kind.{Kind}
-use Rattle.sip_transactions.specs.declared.output.Kind.TheVariants as kind
+use Rattle.sip_transactions.specs.declared.output.UpKind.{UpKind}
+use Rattle.sip_transactions.specs.declared.output.UpKind.TheVariants as kind
 use Rattle.sip_transactions.specs.declared.output.Out.{Out}
 use Rattle.sip_transactions.specs.declared.output.Out.TheVariants as out
 use Rattle.sip_transactions.specs.declared.state.Role.{Role}
 use Rattle.sip_transactions.specs.declared.state.Role.TheVariants as role
 use Rattle.sip_transactions.specs.declared.state.State.{State}
-use Rattle.sip_transactions.specs.declared.step.Handed.{Handed}
-use Rattle.sip_transactions.specs.declared.step.Handed.TheVariants as up
+use Rattle.sip_transactions.specs.declared.step.UpAction.{UpAction}
+use Rattle.sip_transactions.specs.declared.step.UpAction.TheVariants as up
 use Rattle.sip_transactions.specs.declared.step.Sent.{Sent}
 use Rattle.sip_transactions.specs.declared.step.Sent.TheVariants as send
 use Rattle.sip_transactions.specs.declared.step.Step.{Step}
@@ -46,7 +46,7 @@ use Rattle.sip_transactions.specs.declared.trigger.Class.{Class}
 use Rattle.sip_transactions.specs.declared.trigger.Class.TheVariants as class
 use Rattle.sip_clients.specs.Clients.{status_of}
 use Rattle.sip_conversation.specs.Messages.{IsFailure}
-use Rattle.sip_common.proofs.Each.{both}
+use Rattle.sip_held_dialogs.proofs.Each.{both}
 use Rattle.sip_conversation.proofs.Among.{all_of}
 
 -- ---- the rows: only at a command is a given message sent, and only otherwise one made from a
@@ -150,7 +150,7 @@ module _ (Says : Message → Type 0) where
 
 module _ (Came : Message → Type 0) where
   -- this is true of the message that came, if any
-  abbrev pub KindCame : Kind → Type 0
+  abbrev pub KindCame : UpKind → Type 0
   KindCame (kind.Request message reply_to) = Came message × (is_request_message message ≡ true)
   KindCame (kind.Ack message) = Came message
   KindCame (kind.Response message) = Came message
@@ -299,7 +299,7 @@ module _ (all : List (Timed Input)) (Says Came : Message → Type 0) where
         (sym same)
     kind_came (start.Response status reason) message reply_to same came = came
 
-    handed_came : (key : Key) (context : Context) (handed : Handed)
+    handed_came : (key : Key) (context : Context) (handed : UpAction)
         (arrived : Option (Message × Addr)) → IfSome arrived (λ a. Came a.0)
         → AllByRecursion (IsFaithful Says Came)
         (option_to_list (handed_out key context handed arrived))

@@ -8,20 +8,20 @@ use Rattle.std.proofs.lemmas.List.Elements.{filter_map-append}
 use Rattle.std.proofs.lemmas.Map.Lookups.{exact_bytes}
 use Rattle.sip_message.specs.declared.addr.Addr.{Addr}
 use Rattle.sip_message.specs.declared.id.Id.{Id}
-use Rattle.sip_model.specs.declared.item.Item as model
-use Rattle.sip_model.specs.Machine.{Timed, tick_at}
-use Rattle.sip_model.specs.Phase.{history, inputs_of, own_inputs, timed_item, timed_items}
-use Rattle.sip_model.proofs.Ordered.{exact_at}
-use Rattle.sip_transactions.specs.declared.output.Kind.{Kind}
-use Rattle.sip_transactions.specs.declared.output.Kind.TheVariants as kind
+use Rattle.keyed_machine.specs.declared.item.Item as model
+use Rattle.keyed_machine.specs.Machine.{Timed, tick_at}
+use Rattle.keyed_machine.specs.Phase.{history, inputs_of, own_inputs, timed_item, timed_items}
+use Rattle.keyed_machine.proofs.Ordered.{exact_at}
+use Rattle.sip_transactions.specs.declared.output.UpKind.{UpKind}
+use Rattle.sip_transactions.specs.declared.output.UpKind.TheVariants as kind
 use Rattle.sip_transactions.specs.declared.output.Out.{Out}
 use Rattle.sip_transactions.specs.declared.output.Out.TheVariants as out
-use Rattle.sip_common.specs.Command.{call_of_item}
-use Rattle.sip_common.specs.Ids.{is_id}
-use Rattle.sip_common.specs.OwnCall.{IsItemOf}
-use Rattle.sip_common.specs.declared.item.Item.{Item}
-use Rattle.sip_common.specs.declared.item.Item.TheVariants.{Up, User}
-use Rattle.sip_common.proofs.Each.{both}
+use Rattle.sip_user.specs.Command.{call_of_item}
+use Rattle.sip_held_dialogs.specs.Ids.{is_id}
+use Rattle.sip_user.specs.OwnCall.{IsItemOf}
+use Rattle.sip_user.specs.declared.item.Item.{Item}
+use Rattle.sip_user.specs.declared.item.Item.TheVariants.{Up, User}
+use Rattle.sip_held_dialogs.proofs.Each.{both}
 use Rattle.sip_calls.specs.Call.{CallItem}
 use Rattle.sip_calls.specs.CallShard.{call_cmp}
 use Rattle.sip_calls.specs.OwnCall.{IsInputOf}
@@ -140,7 +140,7 @@ module _ (config : Config) where
 
 -- ---- the event of an item is its id
 
-kind_event : (id : Id) (k : Kind) (event : Id) → event_of_kind id k ≡ Some event → event ≡ id
+kind_event : (id : Id) (k : UpKind) (event : Id) → event_of_kind id k ≡ Some event → event ≡ id
 kind_event id (kind.Request request reply_to) event is = cc
 kind_event id (kind.Ack ack) event is = cc
 kind_event id (kind.Response response) event is = cc

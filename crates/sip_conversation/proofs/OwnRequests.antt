@@ -5,15 +5,15 @@ use Rattle.std.specs.List.{AllByRecursion, list_any}
 use Rattle.std.proofs.lemmas.Bool.{and_from}
 use Rattle.sip_text.specs.Token.{is_token, is_token_byte}
 use Rattle.sip_text.specs.Quoted.{is_quoted}
-use Rattle.sip_parts.specs.DisplayText.{is_display_text}
-use Rattle.sip_parts.specs.HeaderEntry.{is_named}
-use Rattle.sip_parts.specs.HeaderValue.{is_header_value}
-use Rattle.sip_parts.specs.OtherName.{is_compact_name, is_other_name}
-use Rattle.sip_parts.specs.PartyDisplay.{is_party_display}
-use Rattle.sip_parts.specs.Tag.{has_good_tag}
-use Rattle.sip_parts.specs.Uri.{is_uri}
-use Rattle.sip_parts.specs.Word.{is_word}
-use Rattle.sip_parts.proofs.Bytes.{token_is_value, uri_is_word}
+use Rattle.sip_grammar.specs.DisplayText.{is_display_text}
+use Rattle.sip_grammar.specs.HeaderEntry.{is_named}
+use Rattle.sip_grammar.specs.HeaderValue.{is_header_value}
+use Rattle.sip_grammar.specs.OtherName.{is_compact_name, is_other_name}
+use Rattle.sip_grammar.specs.PartyDisplay.{is_party_display}
+use Rattle.sip_grammar.specs.Tag.{has_good_tag}
+use Rattle.sip_grammar.specs.Uri.{is_uri}
+use Rattle.sip_grammar.specs.Word.{is_word}
+use Rattle.sip_grammar.proofs.Bytes.{token_is_value, uri_is_word}
 use Rattle.sip_message.specs.Addr.{IsAddr}
 use Rattle.sip_message.specs.Content.{Content, contacts_of_content, content_of_body, content_type, is_content_type, with_content_of, with_type_of}
 use Rattle.sip_message.specs.HopByHop.{cancel_of}
@@ -28,17 +28,17 @@ use Rattle.sip_message.specs.declared.rack.RAck.{RAck}
 use Rattle.sip_dialog.specs.Branch.{is_branch}
 use Rattle.sip_dialog.specs.Request.{agent_via, bare_request_in, contact_of, contacts_of, is_invite_method, request_in}
 use Rattle.sip_dialog.proofs.Requests.{ip_is_host, own_are_vias, own_uri}
-use Rattle.sip_common.proofs.Each.{both}
-use Rattle.sip_common.specs.declared.command.ProvisionalSupport.{ProvisionalSupport}
-use Rattle.sip_common.specs.declared.command.ProvisionalSupport.TheVariants as support
+use Rattle.sip_held_dialogs.proofs.Each.{both}
+use Rattle.sip_user.specs.declared.command.ProvisionalSupport.{ProvisionalSupport}
+use Rattle.sip_user.specs.declared.command.ProvisionalSupport.TheVariants as support
 use Rattle.sip_served.proofs.Names.{option_100rel}
 use Rattle.sip_clients.specs.Event.{branch_of, from_tag_of}
 use Rattle.sip_clients.specs.Name.{name_of}
 use Rattle.sip_clients.specs.Rules.Requests.{request_outside, with_100rel}
 use Rattle.sip_clients.specs.declared.event.Event.{Event}
 use Rattle.sip_clients.proofs.Hex.{branch_has_cookie, branch_is_token, name_is_token}
-use Rattle.sip_common.specs.declared.command.Invite.{Invite}
-use Rattle.sip_common.specs.declared.command.Plain.{Plain}
+use Rattle.sip_user.specs.declared.command.Invite.{Invite}
+use Rattle.sip_user.specs.declared.command.Plain.{Plain}
 use Rattle.sip_dialog.specs.declared.dialog.Dialog.{Dialog}
 use Rattle.sip_conversation.specs.Commands.{IsContent, IsInvite, IsPlain}
 use Rattle.sip_conversation.proofs.Addresses.{octet}

@@ -14,22 +14,22 @@ use Rattle.sip_message.specs.Response.{answering_to, response_of, tagged}
 use Rattle.sip_message.specs.declared.key.Key.{Key}
 use Rattle.sip_dialog.specs.Request.{contact_of}
 use Rattle.sip_transactions.specs.declared.input.Command.TheVariants as order
-use Rattle.sip_common.specs.declared.item.CallOut.{CallOut}
-use Rattle.sip_common.specs.declared.item.CallOut.TheVariants as out
+use Rattle.sip_user.specs.declared.item.CallOut.{CallOut}
+use Rattle.sip_user.specs.declared.item.CallOut.TheVariants as out
 use Rattle.sip_message.specs.declared.addr.Addr.{Addr}
 use Rattle.sip_message.specs.declared.id.Id.{Id}
 use Rattle.sip_message.specs.declared.message.Message.{Message}
-use Rattle.sip_model.proofs.Ordered.{by_bool}
+use Rattle.keyed_machine.proofs.Ordered.{by_bool}
 use Rattle.sip_reliable.specs.Ledger.{Ledger, must_wait, waits_for}
 use Rattle.sip_reliable.specs.Provisional.{Provisional, is_given_up, is_late, is_repeated}
 use Rattle.sip_reliable.specs.declared.provisional.TheConstants.{MOST_WAITING}
-use Rattle.sip_common.specs.Dialogs.{Dialogs, lives}
-use Rattle.sip_common.specs.Refusal.{first_refusal}
-use Rattle.sip_common.specs.Requests.{dialog_id_of, dialog_id_of_tags, is_final, is_invite, is_success}
-use Rattle.sip_common.specs.declared.held_dialog.DialogReference.{DialogReference}
-use Rattle.sip_common.specs.declared.command.Respond.{Respond}
-use Rattle.sip_common.specs.declared.refusal.Refusal.TheVariants as why
-use Rattle.sip_common.proofs.Each.{both, filtered}
+use Rattle.sip_held_dialogs.specs.Dialogs.{Dialogs, lives}
+use Rattle.sip_user.specs.Refusal.{first_refusal}
+use Rattle.sip_held_dialogs.specs.Requests.{dialog_id_of, dialog_id_of_tags, is_final, is_invite, is_success}
+use Rattle.sip_held_dialogs.specs.declared.held_dialog.DialogReference.{DialogReference}
+use Rattle.sip_user.specs.declared.command.Respond.{Respond}
+use Rattle.sip_user.specs.declared.refusal.Refusal.TheVariants as why
+use Rattle.sip_held_dialogs.proofs.Each.{both, filtered}
 use Rattle.sip_served.specs.declared.arrival.Arrival.{Arrival}
 use Rattle.sip_served.specs.declared.held_request.HeldRequest.{HeldRequest}
 use Rattle.sip_served.specs.declared.held_request.Success.{Success}

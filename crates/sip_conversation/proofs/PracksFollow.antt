@@ -15,14 +15,14 @@ use Rattle.sip_message.specs.declared.id.Id.{Id}
 use Rattle.sip_message.specs.declared.key.Key.{Key}
 use Rattle.sip_message.specs.declared.message.Message.{Message}
 use Rattle.sip_message.specs.declared.rack.RAck.{RAck}
-use Rattle.sip_model.specs.Laws.{EachKeyAlone}
-use Rattle.sip_model.specs.Machine.{Timed, outputs_from, tick_at}
+use Rattle.keyed_machine.specs.Laws.{EachKeyAlone}
+use Rattle.keyed_machine.specs.Machine.{Timed, outputs_from, tick_at}
 use Rattle.sip_transactions.specs.declared.input.Command.TheVariants as order
-use Rattle.sip_common.specs.Requests.{dialog_id_of_tags}
-use Rattle.sip_common.specs.declared.held_dialog.DialogId.{DialogId}
-use Rattle.sip_common.specs.declared.item.CallOut.{CallOut}
-use Rattle.sip_common.specs.declared.item.CallOut.TheVariants as call_out
-use Rattle.sip_common.specs.declared.notice.Notice.TheVariants as notice
+use Rattle.sip_held_dialogs.specs.Requests.{dialog_id_of_tags}
+use Rattle.sip_held_dialogs.specs.declared.held_dialog.DialogId.{DialogId}
+use Rattle.sip_user.specs.declared.item.CallOut.{CallOut}
+use Rattle.sip_user.specs.declared.item.CallOut.TheVariants as call_out
+use Rattle.sip_user.specs.declared.notice.Notice.TheVariants as notice
 use Rattle.sip_clients.specs.Clients.{status_of}
 use Rattle.sip_clients.specs.Provisionals.{provisional_number}
 use Rattle.sip_calls.specs.Call.{CallItem, call_machine}

@@ -4,7 +4,7 @@
 use Rattle.std.proofs.Common.{◌≡◌, ℕ, ◌<◌, Bool, true, false, ◌&&◌, not, ◌==◌, List, [], refl, sym, ap, ◌∙◌, subst}
 use Rattle.std.specs.Prelude.{IfSome, IsTrue, Option, None, Some, codes, if◌then◌else◌}
 use Rattle.std.specs.List.{AllByRecursion}
-use Rattle.sip_parts.specs.Tag.{has_good_tag}
+use Rattle.sip_grammar.specs.Tag.{has_good_tag}
 use Rattle.sip_message.specs.Message.{is_request_message}
 use Rattle.sip_message.specs.Party.{tag_of}
 use Rattle.sip_message.specs.Source.{stamped}
@@ -14,16 +14,16 @@ use Rattle.sip_message.specs.declared.cseq.CSeq.{CSeq}
 use Rattle.sip_message.specs.declared.id.Id.{Id}
 use Rattle.sip_message.specs.declared.message.Message.{Message}
 use Rattle.sip_message.specs.declared.party.Party.{Party}
-use Rattle.sip_model.specs.Laws.{EachKeyAlone}
-use Rattle.sip_model.specs.Machine.{tick_at}
+use Rattle.keyed_machine.specs.Laws.{EachKeyAlone}
+use Rattle.keyed_machine.specs.Machine.{tick_at}
 use Rattle.sip_transactions.specs.declared.input.Command.TheVariants as order
-use Rattle.sip_transactions.specs.declared.output.Kind.{Kind}
-use Rattle.sip_transactions.specs.declared.output.Kind.TheVariants as kind
-use Rattle.sip_common.specs.OwnCall.{IsKindOf}
-use Rattle.sip_common.specs.Requests.{dialog_id_of_tags, has_to_tag, is_final, local_tag_of, requires_100rel}
-use Rattle.sip_common.specs.declared.item.CallOut.{CallOut}
-use Rattle.sip_common.specs.declared.item.CallOut.TheVariants as call_out
-use Rattle.sip_common.specs.declared.item.Item.TheVariants.{Up, User}
+use Rattle.sip_transactions.specs.declared.output.UpKind.{UpKind}
+use Rattle.sip_transactions.specs.declared.output.UpKind.TheVariants as kind
+use Rattle.sip_user.specs.OwnCall.{IsKindOf}
+use Rattle.sip_held_dialogs.specs.Requests.{dialog_id_of_tags, has_to_tag, is_final, local_tag_of, requires_100rel}
+use Rattle.sip_user.specs.declared.item.CallOut.{CallOut}
+use Rattle.sip_user.specs.declared.item.CallOut.TheVariants as call_out
+use Rattle.sip_user.specs.declared.item.Item.TheVariants.{Up, User}
 use Rattle.sip_clients.specs.Clients.{status_of}
 use Rattle.sip_clients.specs.Provisionals.{provisional_number}
 use Rattle.sip_calls.specs.Call.{CallItem, call_machine}
@@ -120,7 +120,7 @@ module _ (Came : Message → Type 0) where
   OfCall call_id message =
       Came message × (message.call_id ≡ call_id) × (is_request_message message ≡ true)
 
-  kind_brought : (call_id : List ℕ) (k : Kind) → KindCame Came k → IsKindOf call_id k
+  kind_brought : (call_id : List ℕ) (k : UpKind) → KindCame Came k → IsKindOf call_id k
       → KindBrings (OfCall call_id) k
   kind_brought call_id (kind.Request request reply_to) came own =
       (came.0, own, came.1)

@@ -14,23 +14,23 @@ use Rattle.sip_message.specs.Response.{response_of}
 use Rattle.sip_message.specs.declared.id.Id.{Id}
 use Rattle.sip_message.specs.declared.message.Message.{Message}
 use Rattle.sip_message.specs.declared.rack.RAck.{RAck}
-use Rattle.sip_transactions.specs.declared.output.Kind.{Kind}
-use Rattle.sip_transactions.specs.declared.output.Kind.TheVariants as kind
+use Rattle.sip_transactions.specs.declared.output.UpKind.{UpKind}
+use Rattle.sip_transactions.specs.declared.output.UpKind.TheVariants as kind
 use Rattle.sip_transactions.specs.declared.output.Up.{Up as AnUp}
 use Rattle.sip_transactions.proofs.RowFacts.{and-left, and-right}
 use Rattle.sip_reliable.specs.Ledger.{waits_for}
-use Rattle.sip_common.specs.Dialogs.{Dialogs, dialog_at, dialog_changed, early_ended, ended_at, ended_notice, is_early_of, is_dialog_id, reference_at}
-use Rattle.sip_common.specs.Ids.{is_id}
-use Rattle.sip_common.specs.Requests.{dialog_id_of, dialog_id_of_tags, has_to_tag, is_bye, is_cancel, is_invite, is_prack, is_success, is_unknown_option}
-use Rattle.sip_common.specs.declared.command.Respond.{Respond}
-use Rattle.sip_common.specs.declared.held_dialog.DialogId.{DialogId}
-use Rattle.sip_common.specs.declared.held_dialog.DialogReference.{DialogReference}
-use Rattle.sip_common.specs.declared.held_dialog.HeldDialog.{HeldDialog}
-use Rattle.sip_common.specs.declared.item.CallOut.{CallOut}
-use Rattle.sip_common.specs.declared.item.CallOut.TheVariants as out
-use Rattle.sip_common.specs.declared.notice.Notice.TheVariants as notice
+use Rattle.sip_held_dialogs.specs.Dialogs.{Dialogs, dialog_at, dialog_changed, early_ended, ended_at, ended_notice, is_early_of, is_dialog_id, reference_at}
+use Rattle.sip_held_dialogs.specs.Ids.{is_id}
+use Rattle.sip_held_dialogs.specs.Requests.{dialog_id_of, dialog_id_of_tags, has_to_tag, is_bye, is_cancel, is_invite, is_prack, is_success, is_unknown_option}
+use Rattle.sip_user.specs.declared.command.Respond.{Respond}
+use Rattle.sip_held_dialogs.specs.declared.held_dialog.DialogId.{DialogId}
+use Rattle.sip_held_dialogs.specs.declared.held_dialog.DialogReference.{DialogReference}
+use Rattle.sip_held_dialogs.specs.declared.held_dialog.HeldDialog.{HeldDialog}
+use Rattle.sip_user.specs.declared.item.CallOut.{CallOut}
+use Rattle.sip_user.specs.declared.item.CallOut.TheVariants as out
+use Rattle.sip_user.specs.declared.notice.Notice.TheVariants as notice
 use Rattle.sip_transactions.specs.declared.input.Command.TheVariants as order
-use Rattle.sip_common.proofs.Each.{both}
+use Rattle.sip_held_dialogs.proofs.Each.{both}
 use Rattle.sip_served.specs.declared.arrival.Arrival.{Arrival}
 use Rattle.sip_served.specs.declared.held_request.HeldRequest.{HeldRequest}
 use Rattle.sip_served.specs.Rules.Arrivals.{ack_for, ack_received, after_487, after_ack, after_prack, after_request, awaits, bad_extension, cancel_for, cancel_received, is_above, is_merged, is_named_by, is_same_branch, no_such_call, own_response, prack_for, prack_received, request_for_user, request_in_dialog, request_received, server_received}
@@ -388,7 +388,7 @@ module _ (Brought : Arrival → Type 0) (Gave : Id → ℕ → Message → Type 
       (λ odd. no_call_done state arrival all)
       (λ plain. user_done state call_id arrival brought all)))))
 
-  abbrev pub KindBrought : List ℕ → AnUp → Kind → Type 0
+  abbrev pub KindBrought : List ℕ → AnUp → UpKind → Type 0
   KindBrought made up (kind.Request request reply_to) =
       Brought (arrival_of up request reply_to made)
   KindBrought made up (kind.Ack ack) = Unit {0}
@@ -396,7 +396,7 @@ module _ (Brought : Arrival → Type 0) (Gave : Id → ℕ → Message → Type 
   KindBrought made up kind.Timeout = Unit {0}
   KindBrought made up kind.Failed = Unit {0}
 
-  pub kind_done : (state : State) (made : List ℕ) (up : AnUp) (k : Kind) (now : ℕ)
+  pub kind_done : (state : State) (made : List ℕ) (up : AnUp) (k : UpKind) (now : ℕ)
       → KindBrought made up k → Apart state.requests → HoldsAll state.requests
       → Done (server_received state made up k now)
   kind_done state made up (kind.Request request reply_to) now brought apart all =

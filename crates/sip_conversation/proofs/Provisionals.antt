@@ -7,17 +7,17 @@ use Rattle.std.proofs.lemmas.List.{map-append}
 use Rattle.sip_message.specs.declared.id.Id.{Id}
 use Rattle.sip_message.specs.Party.{tag_of}
 use Rattle.sip_message.specs.declared.message.Message.{Message}
-use Rattle.sip_model.specs.Machine.{Timed}
-use Rattle.sip_transactions.specs.declared.output.Kind.{Kind}
-use Rattle.sip_transactions.specs.declared.output.Kind.TheVariants as kind
-use Rattle.sip_common.specs.declared.held_dialog.DialogReference.{DialogReference}
-use Rattle.sip_common.specs.declared.item.CallOut.{CallOut}
-use Rattle.sip_common.specs.declared.item.CallOut.TheVariants as out
-use Rattle.sip_common.specs.declared.item.Item.TheVariants.{Up, User}
-use Rattle.sip_common.specs.declared.notice.Notice.{Notice}
-use Rattle.sip_common.specs.declared.notice.Notice.TheVariants as notice
-use Rattle.sip_common.specs.Dialogs.{lives}
-use Rattle.sip_common.proofs.Each.{both}
+use Rattle.keyed_machine.specs.Machine.{Timed}
+use Rattle.sip_transactions.specs.declared.output.UpKind.{UpKind}
+use Rattle.sip_transactions.specs.declared.output.UpKind.TheVariants as kind
+use Rattle.sip_held_dialogs.specs.declared.held_dialog.DialogReference.{DialogReference}
+use Rattle.sip_user.specs.declared.item.CallOut.{CallOut}
+use Rattle.sip_user.specs.declared.item.CallOut.TheVariants as out
+use Rattle.sip_user.specs.declared.item.Item.TheVariants.{Up, User}
+use Rattle.sip_user.specs.declared.notice.Notice.{Notice}
+use Rattle.sip_user.specs.declared.notice.Notice.TheVariants as notice
+use Rattle.sip_held_dialogs.specs.Dialogs.{lives}
+use Rattle.sip_held_dialogs.proofs.Each.{both}
 use Rattle.sip_clients.specs.declared.client.Client.{Client}
 use Rattle.sip_clients.specs.Client.{Side as Held, client_at}
 use Rattle.sip_clients.specs.Clients.{status_of}
@@ -160,7 +160,7 @@ module _ (configs : Side → Config) (fair : IsFair configs) (before : List Turn
         chosen (is_for invite life id client client.kind response) response comes rseq is call_id
         id
 
-    kind_number : (k : Kind) (id : Id) (held : Held) → KindCame Comes k → (rseq : ℕ)
+    kind_number : (k : UpKind) (id : Id) (held : Held) → KindCame Comes k → (rseq : ℕ)
         → number_up invite life id k held ≡ Some rseq
         → (call_id : List ℕ) → KindTells (Said rseq) call_id id k
     kind_number (kind.Request request reply_to) id held came rseq is call_id = tt

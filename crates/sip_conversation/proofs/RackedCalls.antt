@@ -8,24 +8,24 @@ use Rattle.std.proofs.lemmas.List.Elements.{filter_map-append}
 use Rattle.sip_message.specs.declared.id.Id.{Id}
 use Rattle.sip_message.specs.declared.message.Message.{Message}
 use Rattle.sip_message.specs.declared.rack.RAck.{RAck}
-use Rattle.sip_model.specs.Machine.{Timed, outputs_from}
-use Rattle.sip_transactions.specs.declared.output.Kind.{Kind}
-use Rattle.sip_transactions.specs.declared.output.Kind.TheVariants as kind
+use Rattle.keyed_machine.specs.Machine.{Timed, outputs_from}
+use Rattle.sip_transactions.specs.declared.output.UpKind.{UpKind}
+use Rattle.sip_transactions.specs.declared.output.UpKind.TheVariants as kind
 use Rattle.sip_transactions.specs.declared.output.Up.{Up as AnUp}
-use Rattle.sip_common.specs.Dialogs.{dialog_at}
-use Rattle.sip_common.specs.Ids.{is_id}
-use Rattle.sip_common.specs.Requests.{is_success}
-use Rattle.sip_common.specs.Sent.{name_of_dialog}
-use Rattle.sip_common.specs.declared.command.UserCommand.{UserCommand}
-use Rattle.sip_common.specs.declared.command.UserCommand.TheVariants as user
-use Rattle.sip_common.specs.declared.held_dialog.DialogId.{DialogId}
-use Rattle.sip_common.specs.declared.held_dialog.HeldDialog.{HeldDialog}
-use Rattle.sip_common.specs.declared.item.CallOut.{CallOut}
-use Rattle.sip_common.specs.declared.item.Item.TheVariants.{Up, User}
-use Rattle.sip_common.specs.declared.pending_request.PendingRequest.{PendingRequest}
-use Rattle.sip_common.specs.declared.pending_request.PendingRequest.TheVariants.{Ack, Prack}
-use Rattle.sip_common.proofs.Each.{both}
-use Rattle.sip_common.proofs.Starts.{starts}
+use Rattle.sip_held_dialogs.specs.Dialogs.{dialog_at}
+use Rattle.sip_held_dialogs.specs.Ids.{is_id}
+use Rattle.sip_held_dialogs.specs.Requests.{is_success}
+use Rattle.sip_held_dialogs.specs.Sent.{name_of_dialog}
+use Rattle.sip_user.specs.declared.command.UserCommand.{UserCommand}
+use Rattle.sip_user.specs.declared.command.UserCommand.TheVariants as user
+use Rattle.sip_held_dialogs.specs.declared.held_dialog.DialogId.{DialogId}
+use Rattle.sip_held_dialogs.specs.declared.held_dialog.HeldDialog.{HeldDialog}
+use Rattle.sip_user.specs.declared.item.CallOut.{CallOut}
+use Rattle.sip_user.specs.declared.item.Item.TheVariants.{Up, User}
+use Rattle.sip_held_dialogs.specs.declared.pending_request.PendingRequest.{PendingRequest}
+use Rattle.sip_held_dialogs.specs.declared.pending_request.PendingRequest.TheVariants.{Ack, Prack}
+use Rattle.sip_held_dialogs.proofs.Each.{both}
+use Rattle.sip_held_dialogs.proofs.Starts.{starts}
 use Rattle.sip_served.proofs.ArrivalRules.{kind_same}
 use Rattle.sip_served.proofs.NoStarts.{kind_starts, respond_starts}
 use Rattle.sip_served.proofs.ResponseRules.{respond_same}
@@ -153,7 +153,7 @@ module _ (calls : Calls) (all : List (Timed CallItem)) where
   -- ---- what comes up
 
   -- of each response that comes up, of which the user is told, this is said
-  abbrev HearsUp : CallTaken → Call → Id → Kind → Type 0
+  abbrev HearsUp : CallTaken → Call → Id → UpKind → Type 0
   HearsUp taken call id (kind.Response response) = (status : ℕ)
       → status_of response.start ≡ Some status → (client : Client)
       → client_at id call.clients ≡ Some client
@@ -161,7 +161,7 @@ module _ (calls : Calls) (all : List (Timed CallItem)) where
       (reply_name client.kind client response) (side_of call).dialogs
   HearsUp taken call id _ = Unit {0}
 
-  up_says : (call : Call) (id : Id) (now : ℕ) (up : AnUp) (k : Kind)
+  up_says : (call : Call) (id : Id) (now : ℕ) (up : AnUp) (k : UpKind)
       → AreNamed (side_of call).dialogs
       → HearsUp (received call (event_of calls id now) up k) call up.id k
       → Says (received call (event_of calls id now) up k).1
@@ -242,7 +242,7 @@ module _ (calls : Calls) (all : List (Timed CallItem)) where
 
   hears_so : (front rest : List (Timed CallItem)) (call : Call) (id : Id) (now : ℕ) (up : AnUp)
       → all ≡ front ++ record { moment = now; input = Some (id, Up up) } ∷ rest
-      → call_from calls None front ≡ Some call → (k : Kind) → up.kind ≡ k
+      → call_from calls None front ≡ Some call → (k : UpKind) → up.kind ≡ k
       → HearsUp (received call (event_of calls id now) up k) call up.id k
   hears_so front rest call id now up are held (kind.Response response) is =
       λ status status_is client found rseq number has told. (
@@ -276,7 +276,7 @@ module _ (calls : Calls) (all : List (Timed CallItem)) where
   hears_so front rest call id now up are held kind.Timeout is = tt
   hears_so front rest call id now up are held kind.Failed is = tt
 
-  none_hears : (taken : CallTaken) (call : Call) → call.clients ≡ [] → (id : Id) (k : Kind)
+  none_hears : (taken : CallTaken) (call : Call) → call.clients ≡ [] → (id : Id) (k : UpKind)
       → HearsUp taken call id k
   none_hears taken call none id (kind.Response response) =
       λ status status_is client found. absurd (none_found client

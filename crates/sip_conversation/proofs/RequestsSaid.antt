@@ -14,15 +14,15 @@ use Rattle.sip_message.specs.Party.{tag_of}
 use Rattle.sip_message.specs.Rules.{IsMessage}
 use Rattle.sip_message.specs.Source.{stamped}
 use Rattle.sip_message.specs.Written.{written}
-use Rattle.sip_model.proofs.Ordered.{by_bool}
-use Rattle.sip_transactions.specs.declared.output.Kind.{Kind}
-use Rattle.sip_transactions.specs.declared.output.Kind.TheVariants as kind
+use Rattle.keyed_machine.proofs.Ordered.{by_bool}
+use Rattle.sip_transactions.specs.declared.output.UpKind.{UpKind}
+use Rattle.sip_transactions.specs.declared.output.UpKind.TheVariants as kind
 use Rattle.sip_transactions.specs.declared.output.Up.{Up as AnUp}
-use Rattle.sip_common.specs.OwnCall.{IsKindOf, call_of_notice}
-use Rattle.sip_common.specs.Requests.{is_cancel, is_prack, local_tag_of}
-use Rattle.sip_common.specs.declared.item.Item.TheVariants.{Up, User}
-use Rattle.sip_common.specs.declared.notice.Notice.{Notice}
-use Rattle.sip_common.specs.declared.notice.Notice.TheVariants as notice
+use Rattle.sip_user.specs.OwnCall.{IsKindOf, call_of_notice}
+use Rattle.sip_held_dialogs.specs.Requests.{is_cancel, is_prack, local_tag_of}
+use Rattle.sip_user.specs.declared.item.Item.TheVariants.{Up, User}
+use Rattle.sip_user.specs.declared.notice.Notice.{Notice}
+use Rattle.sip_user.specs.declared.notice.Notice.TheVariants as notice
 use Rattle.sip_clients.specs.Rules.Requests.{has_command}
 use Rattle.sip_calls.specs.Call.{CallItem}
 use Rattle.sip_round.specs.declared.config.Config.{Config}
@@ -207,7 +207,7 @@ module _ (configs : Side → Config) (fair : IsFair configs) (before : List Turn
         body_is = same.body;
       }
 
-  kind_said : (up : AnUp) (k : Kind) → KindCame (Came configs front turn.side) k → HasMethod k
+  kind_said : (up : AnUp) (k : UpKind) → KindCame (Came configs front turn.side) k → HasMethod k
       → IsKindOf up.call_id k → UpTells Told others up k
   kind_said up (kind.Request request reply_to) came no_ack its =
       request_said up.call_id up.id request came.0 came.1 no_ack its

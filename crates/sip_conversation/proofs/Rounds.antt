@@ -10,19 +10,19 @@ use Rattle.std.proofs.lemmas.List.Elements.{Contains-append_cases, Contains-appe
 use Rattle.sip_message.specs.declared.id.Id.{Id}
 use Rattle.sip_message.specs.declared.key.Key.{Key}
 use Rattle.sip_message.specs.Key.{key_cmp, keys_total}
-use Rattle.sip_model.specs.declared.item.Item as model
-use Rattle.sip_model.specs.Laws.{said_by}
-use Rattle.sip_model.specs.Machine.{Machine, Timed, tick_at}
-use Rattle.sip_model.specs.Phase.{Phase, PhaseOutputs, history, inputs_of, own_inputs, timed_items}
-use Rattle.sip_model.specs.Rules.{said_since}
-use Rattle.sip_model.proofs.Ordered.{exact_at, is_at_itself}
+use Rattle.keyed_machine.specs.declared.item.Item as model
+use Rattle.keyed_machine.specs.Laws.{said_by}
+use Rattle.keyed_machine.specs.Machine.{Machine, Timed, tick_at}
+use Rattle.keyed_machine.specs.Phase.{Phase, PhaseOutputs, history, inputs_of, own_inputs, timed_items}
+use Rattle.keyed_machine.specs.Rules.{said_since}
+use Rattle.keyed_machine.proofs.Ordered.{exact_at, is_at_itself}
 use Rattle.sip_transactions.specs.declared.input.Command.{Command}
 use Rattle.sip_transactions.specs.declared.input.Input.{Input}
 use Rattle.sip_transactions.specs.Keys.{exact_keys}
 use Rattle.sip_transactions.specs.Shard.{asked_by, command_key}
-use Rattle.sip_common.specs.declared.item.CallOut.{CallOut}
-use Rattle.sip_common.specs.declared.item.CallOut.TheVariants as call_out
-use Rattle.sip_common.proofs.Each.{both}
+use Rattle.sip_user.specs.declared.item.CallOut.{CallOut}
+use Rattle.sip_user.specs.declared.item.CallOut.TheVariants as call_out
+use Rattle.sip_held_dialogs.proofs.Each.{both}
 use Rattle.sip_calls.specs.declared.call.Call.{Call}
 use Rattle.sip_calls.specs.Call.{CallItem, call_machine}
 use Rattle.sip_calls.specs.CallShard.{call_cmp}

@@ -6,7 +6,7 @@ use Rattle.std.specs.List.{AllByRecursion}
 use Rattle.std.specs.Str.{bytes_eq, str_eq_ignore_ascii_case}
 use Rattle.sip_text.specs.Parameter.{is_parameter_value}
 use Rattle.sip_text.specs.Token.{is_token, is_token_byte}
-use Rattle.sip_parts.specs.declared.parameter.Parameter.{Parameter}
+use Rattle.sip_grammar.specs.declared.parameter.Parameter.{Parameter}
 use Rattle.sip_message.specs.declared.addr.Addr.{Addr}
 use Rattle.sip_message.specs.declared.message.Message.{Message}
 use Rattle.sip_message.specs.declared.via.Via.{Via}

@@ -4,14 +4,14 @@ use Rattle.std.specs.Prelude.{Option, None, Some, IfSome}
 use Rattle.std.specs.List.{AllByRecursion}
 use Rattle.sip_message.specs.Addr.{IsAddr}
 use Rattle.sip_message.specs.declared.id.Id.{Id}
-use Rattle.sip_model.specs.Machine.{Timed, outputs_from}
-use Rattle.sip_transactions.specs.declared.output.Kind.{Kind}
-use Rattle.sip_transactions.specs.declared.output.Kind.TheVariants as kind
+use Rattle.keyed_machine.specs.Machine.{Timed, outputs_from}
+use Rattle.sip_transactions.specs.declared.output.UpKind.{UpKind}
+use Rattle.sip_transactions.specs.declared.output.UpKind.TheVariants as kind
 use Rattle.sip_transactions.specs.declared.output.Up.{Up as AnUp}
-use Rattle.sip_common.specs.declared.command.UserCommand.{UserCommand}
-use Rattle.sip_common.specs.declared.command.UserCommand.TheVariants as user
-use Rattle.sip_common.specs.declared.item.Item.TheVariants.{Up, User}
-use Rattle.sip_common.proofs.Each.{both}
+use Rattle.sip_user.specs.declared.command.UserCommand.{UserCommand}
+use Rattle.sip_user.specs.declared.command.UserCommand.TheVariants as user
+use Rattle.sip_user.specs.declared.item.Item.TheVariants.{Up, User}
+use Rattle.sip_held_dialogs.proofs.Each.{both}
 use Rattle.sip_served.specs.State.{ServedTaken}
 use Rattle.sip_served.specs.Rules.Ticks.{server_tick}
 use Rattle.sip_clients.specs.Client.{ClientTaken}
@@ -33,12 +33,12 @@ use Rattle.sip_conversation.proofs.SoundServed.{IsSoundState, empty_sound, kind_
 use Rattle.sip_message.specs.declared.message.Message.{Message}
 use Rattle.sip_message.specs.declared.addr.Addr.{Addr}
 use Rattle.std.specs.Map.{lookup}
-use Rattle.sip_common.specs.Ids.{is_id}
+use Rattle.sip_held_dialogs.specs.Ids.{is_id}
 use Rattle.sip_clients.specs.Rules.Responses.{response_received, status_of}
 use Rattle.sip_clients.specs.declared.client.Client.{Client}
 use Rattle.sip_dialog.specs.declared.dialog.Dialog.{Dialog}
-use Rattle.sip_common.specs.declared.pending_request.PendingRequest.{PendingRequest}
-use Rattle.sip_common.specs.declared.pending_request.PendingRequest.TheVariants.{Ack, Prack}
+use Rattle.sip_held_dialogs.specs.declared.pending_request.PendingRequest.{PendingRequest}
+use Rattle.sip_held_dialogs.specs.declared.pending_request.PendingRequest.TheVariants.{Ack, Prack}
 use Rattle.sip_calls.specs.Histories.{call_from}
 use Rattle.sip_conversation.proofs.RackedCalls.{front_differ, named_so}
 use Rattle.sip_conversation.proofs.RackedSteps.{IsToldOf}
@@ -82,7 +82,7 @@ module _ (AckIs : Message → Type 0) where
   -- ---- what comes up
 
   -- of each ACK that may be made for a 2xx that comes up this is said, if the user is told of that
-  abbrev pub KindPays : Call → Event → AnUp → Kind → Type 0
+  abbrev pub KindPays : Call → Event → AnUp → UpKind → Type 0
   KindPays call event up (kind.Response response) = (status : ℕ)
       → status_of response.start ≡ Some status → (client : Client)
       → lookup (is_id up.id) call.clients ≡ Some client
@@ -97,7 +97,7 @@ module _ (AckIs : Message → Type 0) where
       by_clients_done call _ sound
       (lost_done AckIs id timed_out (side_of call) (sides_of call sound))
 
-  up_done : (call : Call) (event : Event) (up : AnUp) (k : Kind) → IsAddr event.local
+  up_done : (call : Call) (event : Event) (up : AnUp) (k : UpKind) → IsAddr event.local
       → KindKeeps k → KindPays call event up k → IsSoundCall call
       → Done (received call event up k)
   up_done call event up (kind.Request request reply_to) address rules pays sound =
@@ -186,7 +186,7 @@ module _ (AckIs : Message → Type 0) where
   none_found : (client : Client) → None ≡ Some client → ⊥
   none_found client is = absurd cc
 
-  new_pays : (local : Addr) (event : Event) (up : AnUp) (k : Kind)
+  new_pays : (local : Addr) (event : Event) (up : AnUp) (k : UpKind)
       → KindPays (new_call local) event up k
   new_pays local event up (kind.Response response) =
       λ status is client found. absurd (none_found client found)
@@ -288,7 +288,7 @@ any_pending : (dialog : Dialog) (pending : PendingRequest) → Pays Any dialog p
 any_pending dialog (Ack invite number) = λ event content. tt
 any_pending dialog (Prack rseq number) = tt
 
-any_kind : (call : Call) (event : Event) (up : AnUp) (k : Kind) → KindPays Any call event up k
+any_kind : (call : Call) (event : Event) (up : AnUp) (k : UpKind) → KindPays Any call event up k
 any_kind call event up (kind.Response response) =
     λ status is client found success has told event content. tt
 any_kind call event up (kind.Request request reply_to) = tt

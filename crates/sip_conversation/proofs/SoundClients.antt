@@ -16,23 +16,23 @@ use Rattle.sip_message.specs.declared.message.Message.{Message}
 use Rattle.sip_message.specs.declared.rack.RAck.{RAck}
 use Rattle.sip_dialog.specs.Request.{request_in}
 use Rattle.sip_dialog.specs.declared.dialog.Dialog.{Dialog}
-use Rattle.sip_common.specs.Dialogs.{Dialogs, ended_at, is_dialog_id, tag_text}
-use Rattle.sip_common.specs.Ids.{is_id}
-use Rattle.sip_common.specs.Refusal.{first_refusal}
-use Rattle.sip_common.specs.Requests.{dialog_id_of_tags}
-use Rattle.sip_common.specs.declared.command.Cancel.{Cancel}
-use Rattle.sip_common.specs.declared.command.DialogBody.{DialogBody}
-use Rattle.sip_common.specs.declared.command.DialogRequest.{DialogRequest}
-use Rattle.sip_common.specs.declared.command.Invite.{Invite}
-use Rattle.sip_common.specs.declared.command.Plain.{Plain}
-use Rattle.sip_common.specs.declared.held_dialog.DialogId.{DialogId}
-use Rattle.sip_common.specs.declared.held_dialog.HeldDialog.{HeldDialog}
-use Rattle.sip_common.specs.declared.item.CallOut.{CallOut}
-use Rattle.sip_common.specs.declared.pending_request.PendingRequest.{PendingRequest}
-use Rattle.sip_common.specs.declared.pending_request.PendingRequest.TheVariants.{Ack, Prack}
-use Rattle.sip_common.specs.declared.refusal.Refusal.{Refusal}
-use Rattle.sip_common.specs.declared.refusal.Refusal.TheVariants.{AlreadyFinal, BadMethod, NoSuchRequest, NothingToAck, NothingToPrack}
-use Rattle.sip_common.proofs.Each.{both, each_changed, each_inserted, each_set, filtered, found, found_one}
+use Rattle.sip_held_dialogs.specs.Dialogs.{Dialogs, ended_at, is_dialog_id, tag_text}
+use Rattle.sip_held_dialogs.specs.Ids.{is_id}
+use Rattle.sip_user.specs.Refusal.{first_refusal}
+use Rattle.sip_held_dialogs.specs.Requests.{dialog_id_of_tags}
+use Rattle.sip_user.specs.declared.command.Cancel.{Cancel}
+use Rattle.sip_user.specs.declared.command.DialogBody.{DialogBody}
+use Rattle.sip_user.specs.declared.command.DialogRequest.{DialogRequest}
+use Rattle.sip_user.specs.declared.command.Invite.{Invite}
+use Rattle.sip_user.specs.declared.command.Plain.{Plain}
+use Rattle.sip_held_dialogs.specs.declared.held_dialog.DialogId.{DialogId}
+use Rattle.sip_held_dialogs.specs.declared.held_dialog.HeldDialog.{HeldDialog}
+use Rattle.sip_user.specs.declared.item.CallOut.{CallOut}
+use Rattle.sip_held_dialogs.specs.declared.pending_request.PendingRequest.{PendingRequest}
+use Rattle.sip_held_dialogs.specs.declared.pending_request.PendingRequest.TheVariants.{Ack, Prack}
+use Rattle.sip_user.specs.declared.refusal.Refusal.{Refusal}
+use Rattle.sip_user.specs.declared.refusal.Refusal.TheVariants.{AlreadyFinal, BadMethod, NoSuchRequest, NothingToAck, NothingToPrack}
+use Rattle.sip_held_dialogs.proofs.Each.{both, each_changed, each_inserted, each_set, filtered, found, found_one}
 use Rattle.sip_clients.specs.Client.{Clients, ClientTaken, Side}
 use Rattle.sip_clients.specs.Event.{branch_of}
 use Rattle.sip_clients.specs.Rules.Requests.{PendingOutcome, ack_command, ack_kept, cancel_command, cancel_of_request, cancel_request, has_command, invite_command, is_asked, is_invite_kind, is_same_pending, method_of, oldest_pending, pending_by_user, pending_command, pending_outcome, pending_sent, pending_with, plain_command, prack_command, refusals_in, refuse, request_command, request_in_dialog, request_with_next_number, start, with_number}
@@ -44,7 +44,7 @@ use Rattle.sip_clients.specs.declared.client.Client.{Client}
 use Rattle.sip_clients.specs.declared.client.RequestKind.{RequestKind}
 use Rattle.sip_clients.specs.declared.client.RequestKind.TheVariants.{InDialog, ReInvite}
 use Rattle.sip_clients.proofs.DialogSends.{AreNamed}
-use Rattle.sip_common.specs.Sent.{name_of_dialog}
+use Rattle.sip_held_dialogs.specs.Sent.{name_of_dialog}
 use Rattle.sip_message.specs.Party.{tag_of}
 use Rattle.std.proofs.lemmas.Bool.{false≢true}
 use Rattle.sip_conversation.proofs.PracksServed.{same_name}

@@ -6,9 +6,9 @@ use Rattle.std.specs.List.{AllByRecursion, slice_get}
 use Rattle.std.proofs.lemmas.Bool.Decides.{nat_tests}
 use Rattle.std.specs.Option.{option_map}
 use mathlib.Core.List.{reverse-cons}
-use Rattle.sip_parts.specs.Uri.{is_uri}
-use Rattle.sip_parts.specs.Word.{is_word}
-use Rattle.sip_parts.proofs.Bytes.{uri_is_word}
+use Rattle.sip_grammar.specs.Uri.{is_uri}
+use Rattle.sip_grammar.specs.Word.{is_word}
+use Rattle.sip_grammar.proofs.Bytes.{uri_is_word}
 use Rattle.sip_text.specs.Token.{is_token}
 use Rattle.sip_message.specs.Party.{tag_of}
 use Rattle.sip_message.specs.Rules.{IsMessage, IsNameAddr, IsParty, IsStartLine}
@@ -25,13 +25,13 @@ use Rattle.sip_dialog.specs.declared.dialog.Dialog.{Dialog}
 use Rattle.sip_dialog.specs.declared.dialog.Side.{Side}
 use Rattle.sip_dialog.specs.declared.dialog.Side.TheVariants.{Callee, Caller}
 use Rattle.sip_dialog.proofs.Tags.{tag_is_token}
-use Rattle.sip_common.specs.Dialogs.{Dialogs}
-use Rattle.sip_common.specs.Requests.{is_invite}
-use Rattle.sip_common.specs.declared.held_dialog.DialogId.{DialogId}
-use Rattle.sip_common.specs.declared.held_dialog.HeldDialog.{HeldDialog}
-use Rattle.sip_common.specs.declared.pending_request.PendingRequest.{PendingRequest}
-use Rattle.sip_common.specs.declared.pending_request.PendingRequest.TheVariants.{Ack, Prack}
-use Rattle.sip_common.proofs.Each.{both}
+use Rattle.sip_held_dialogs.specs.Dialogs.{Dialogs}
+use Rattle.sip_held_dialogs.specs.Requests.{is_invite}
+use Rattle.sip_held_dialogs.specs.declared.held_dialog.DialogId.{DialogId}
+use Rattle.sip_held_dialogs.specs.declared.held_dialog.HeldDialog.{HeldDialog}
+use Rattle.sip_held_dialogs.specs.declared.pending_request.PendingRequest.{PendingRequest}
+use Rattle.sip_held_dialogs.specs.declared.pending_request.PendingRequest.TheVariants.{Ack, Prack}
+use Rattle.sip_held_dialogs.proofs.Each.{both}
 use Rattle.sip_served.specs.Rules.Arrivals.{after_request}
 use Rattle.sip_served.specs.Rules.Responses.{after_2xx}
 use Rattle.sip_conversation.proofs.Branches.{either}

@@ -14,13 +14,13 @@ use Rattle.sip_message.specs.declared.message.Message.{Message}
 use Rattle.sip_dialog.specs.Dialog.{is_ended}
 use Rattle.sip_dialog.specs.Opening.{contact_uri}
 use Rattle.sip_dialog.specs.Step.{confirmed_by}
-use Rattle.sip_common.specs.Dialogs.{Dialogs, early_ended, ended_at, is_dialog_id, lives}
-use Rattle.sip_common.specs.Ids.{is_id}
-use Rattle.sip_common.specs.Requests.{dialog_id_of_tags, has_to_tag, is_final, is_success, requires_100rel}
-use Rattle.sip_common.specs.declared.held_dialog.HeldDialog.{HeldDialog}
-use Rattle.sip_common.specs.declared.pending_request.PendingRequest.{PendingRequest}
-use Rattle.sip_common.specs.declared.pending_request.PendingRequest.TheVariants.{Ack, Prack}
-use Rattle.sip_common.proofs.Each.{all_of_each, both, each_but_one, each_inserted, each_left, each_set, found_one}
+use Rattle.sip_held_dialogs.specs.Dialogs.{Dialogs, early_ended, ended_at, is_dialog_id, lives}
+use Rattle.sip_held_dialogs.specs.Ids.{is_id}
+use Rattle.sip_held_dialogs.specs.Requests.{dialog_id_of_tags, has_to_tag, is_final, is_success, requires_100rel}
+use Rattle.sip_held_dialogs.specs.declared.held_dialog.HeldDialog.{HeldDialog}
+use Rattle.sip_held_dialogs.specs.declared.pending_request.PendingRequest.{PendingRequest}
+use Rattle.sip_held_dialogs.specs.declared.pending_request.PendingRequest.TheVariants.{Ack, Prack}
+use Rattle.sip_held_dialogs.proofs.Each.{all_of_each, both, each_but_one, each_inserted, each_left, each_set, found_one}
 use Rattle.sip_clients.specs.Client.{Clients, Side}
 use Rattle.sip_clients.specs.Provisionals.{is_response}
 use Rattle.sip_clients.specs.Rules.Ends.{client_tick, is_over, request_is_lost, request_over}

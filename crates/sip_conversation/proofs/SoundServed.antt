@@ -13,16 +13,16 @@ use Rattle.sip_message.specs.declared.id.Id.{Id}
 use Rattle.sip_message.specs.declared.message.Message.{Message}
 use Rattle.sip_message.specs.declared.rack.RAck.{RAck}
 use Rattle.sip_message.specs.declared.start_line.StartLine.TheVariants.{Response}
-use Rattle.sip_transactions.specs.declared.output.Kind.{Kind}
-use Rattle.sip_transactions.specs.declared.output.Kind.TheVariants as kind
+use Rattle.sip_transactions.specs.declared.output.UpKind.{UpKind}
+use Rattle.sip_transactions.specs.declared.output.UpKind.TheVariants as kind
 use Rattle.sip_transactions.specs.declared.output.Up.{Up as AnUp}
-use Rattle.sip_common.specs.Dialogs.{Dialogs, dialog_at, dialog_changed, early_ended, ended_at, ended_notice, is_dialog_id, is_early_of}
-use Rattle.sip_common.specs.Requests.{dialog_id_of, has_to_tag, is_bye, is_cancel, is_invite, is_prack, is_success, is_unknown_option}
-use Rattle.sip_common.specs.declared.command.Respond.{Respond}
-use Rattle.sip_common.specs.declared.held_dialog.DialogId.{DialogId}
-use Rattle.sip_common.specs.declared.held_dialog.HeldDialog.{HeldDialog}
-use Rattle.sip_common.specs.declared.item.CallOut.{CallOut}
-use Rattle.sip_common.proofs.Each.{both, each_but_one, each_changed, each_inserted, each_left, filtered, flattened, found, mapped}
+use Rattle.sip_held_dialogs.specs.Dialogs.{Dialogs, dialog_at, dialog_changed, early_ended, ended_at, ended_notice, is_dialog_id, is_early_of}
+use Rattle.sip_held_dialogs.specs.Requests.{dialog_id_of, has_to_tag, is_bye, is_cancel, is_invite, is_prack, is_success, is_unknown_option}
+use Rattle.sip_user.specs.declared.command.Respond.{Respond}
+use Rattle.sip_held_dialogs.specs.declared.held_dialog.DialogId.{DialogId}
+use Rattle.sip_held_dialogs.specs.declared.held_dialog.HeldDialog.{HeldDialog}
+use Rattle.sip_user.specs.declared.item.CallOut.{CallOut}
+use Rattle.sip_held_dialogs.proofs.Each.{both, each_but_one, each_changed, each_inserted, each_left, filtered, flattened, found, mapped}
 use Rattle.sip_served.specs.Rules.Arrivals.{ack_for, ack_received, after_487, after_ack, after_prack, after_request, awaits, bad_extension, cancel_for, cancel_received, is_above, is_merged, is_named_by, is_same_branch, no_such_call, own_response, prack_for, prack_received, request_for_user, request_in_dialog, request_received, server_received}
 use Rattle.sip_served.specs.Rules.Responses.{after_2xx, dialog_by_request, dialogs_after, held_after, makes_dialog, respond_command, respond_to, response_refusal, response_sent}
 use Rattle.sip_served.specs.Rules.Ticks.{provisionals_tick, server_tick, success_tick}
@@ -262,7 +262,7 @@ module _ (AckIs : Message → Type 0) where
       (λ odd. no_call_done state arrival its sound)
       (λ plain. user_done state call_id name arrival its sound)))))
 
-  pub kind_done : (state : State) (made : List ℕ) (up : AnUp) (k : Kind) (now : ℕ) → KindKeeps k
+  pub kind_done : (state : State) (made : List ℕ) (up : AnUp) (k : UpKind) (now : ℕ) → KindKeeps k
       → IsTrue (is_token made) → IsSoundState state → Done (server_received state made up k now)
   kind_done state made up (kind.Request request reply_to) now rules token sound =
       request_done state up.call_id _ now

@@ -13,19 +13,19 @@ use Rattle.sip_message.specs.declared.start_line.StartLine.TheVariants as start
 use Rattle.sip_message.specs.Key.{client_key, key_cmp, side_of}
 use Rattle.sip_message.specs.MessageKey.{key_at, key_of_message}
 use Rattle.sip_message.specs.TopVia.{top_branch, top_host, top_port}
-use Rattle.sip_model.specs.Laws.{EachKeyAlone}
-use Rattle.sip_model.specs.Machine.{given_at, outputs_from, tick_at}
+use Rattle.keyed_machine.specs.Laws.{EachKeyAlone}
+use Rattle.keyed_machine.specs.Machine.{given_at, outputs_from, tick_at}
 use Rattle.sip_transactions.specs.declared.input.Command.TheVariants as order
 use Rattle.sip_transactions.specs.declared.input.Input.{Input}
 use Rattle.sip_transactions.specs.declared.input.Input.TheVariants as input
-use Rattle.sip_transactions.specs.declared.output.Kind.{Kind}
-use Rattle.sip_transactions.specs.declared.output.Kind.TheVariants as kind
+use Rattle.sip_transactions.specs.declared.output.UpKind.{UpKind}
+use Rattle.sip_transactions.specs.declared.output.UpKind.TheVariants as kind
 use Rattle.sip_transactions.specs.declared.output.Out.{Out}
 use Rattle.sip_transactions.specs.declared.output.Out.TheVariants as out
 use Rattle.sip_transactions.specs.declared.output.Up.{Up as AnUp}
 use Rattle.sip_transactions.specs.Machine.{transaction_machine}
-use Rattle.sip_common.specs.declared.item.CallOut.{CallOut}
-use Rattle.sip_common.specs.declared.item.CallOut.TheVariants as call_out
+use Rattle.sip_user.specs.declared.item.CallOut.{CallOut}
+use Rattle.sip_user.specs.declared.item.CallOut.TheVariants as call_out
 use Rattle.sip_clients.specs.Clients.{status_of}
 use Rattle.sip_round.specs.declared.config.Config.{Config}
 use Rattle.sip_round.specs.declared.round.Round.{Round}
@@ -90,7 +90,7 @@ module _ (config : Config) (rounds : List Round) where
 
   -- ---- what comes up
 
-  abbrev pub KindStarted : Id → List ℕ → Kind → Type 0
+  abbrev pub KindStarted : Id → List ℕ → UpKind → Type 0
   KindStarted id call_id (kind.Request request reply_to) = Unit {0}
   KindStarted id call_id (kind.Ack ack) = Unit {0}
   KindStarted id call_id (kind.Response response) = (status : ℕ)
@@ -117,7 +117,7 @@ module _ (config : Config) (rounds : List Round) where
       }) key
 
   module _ (branch method : List ℕ) where
-    client_kind : (id : Id) (call_id : List ℕ) (k : Kind)
+    client_kind : (id : Id) (call_id : List ℕ) (k : UpKind)
         → WasStarted branch method (inputs_of config rounds (key.Client branch method)) id call_id
         → KindCame (HasKey (key.Client branch method)) k → KindStarted id call_id k
     client_kind id call_id (kind.Request request reply_to) started key = tt
@@ -142,7 +142,7 @@ module _ (config : Config) (rounds : List Round) where
     not_both : (side : ℕ) → side ≡ 0 → side ≡ 1 → ⊥
     not_both side zero one = absurd (omega arith)
 
-    server_kind : (id : Id) (call_id : List ℕ) (k : Kind) → KindCame (HasKey server) k
+    server_kind : (id : Id) (call_id : List ℕ) (k : UpKind) → KindCame (HasKey server) k
         → KindStarted id call_id k
     server_kind id call_id (kind.Request request reply_to) key = tt
     server_kind id call_id (kind.Ack ack) key = tt

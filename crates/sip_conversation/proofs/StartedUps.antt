@@ -11,8 +11,8 @@ use Rattle.sip_message.specs.declared.key.Key.TheVariants as key
 use Rattle.sip_message.specs.declared.message.Message.{Message}
 use Rattle.sip_message.specs.declared.start_line.StartLine.{StartLine}
 use Rattle.sip_message.specs.declared.start_line.StartLine.TheVariants as start
-use Rattle.sip_model.specs.Machine.{Timed, given_at, outputs_from}
-use Rattle.sip_model.proofs.Ordered.{by_bool}
+use Rattle.keyed_machine.specs.Machine.{Timed, given_at, outputs_from}
+use Rattle.keyed_machine.proofs.Ordered.{by_bool}
 use Rattle.sip_transactions.specs.declared.input.Input.{Input}
 use Rattle.sip_transactions.specs.declared.input.Input.TheVariants.{Answer, Failed, Receive, Start}
 use Rattle.sip_transactions.specs.declared.life.Context.{Context}
@@ -22,8 +22,8 @@ use Rattle.sip_transactions.specs.declared.output.Out.TheVariants as out
 use Rattle.sip_transactions.specs.declared.state.Role.TheVariants as role
 use Rattle.sip_transactions.specs.declared.state.State.{State}
 use Rattle.sip_transactions.specs.declared.step.Due.{Due}
-use Rattle.sip_transactions.specs.declared.step.Handed.{Handed}
-use Rattle.sip_transactions.specs.declared.step.Handed.TheVariants as up
+use Rattle.sip_transactions.specs.declared.step.UpAction.{UpAction}
+use Rattle.sip_transactions.specs.declared.step.UpAction.TheVariants as up
 use Rattle.sip_transactions.specs.declared.step.Next.{Next}
 use Rattle.sip_transactions.specs.declared.step.Next.TheVariants.{Same, Ended, Become}
 use Rattle.sip_transactions.specs.declared.step.Step.{Step}
@@ -38,7 +38,7 @@ use Rattle.sip_transactions.specs.Steps.Output.{handed_out, made_bytes, outputs_
 use Rattle.sip_transactions.specs.Rows.{rows_of}
 use Rattle.sip_transactions.proofs.LawSteps.{by_step, is_ended}
 use Rattle.sip_transactions.proofs.RowFacts.{and-left, and-right, row_passes, table_passes}
-use Rattle.sip_common.proofs.Each.{both}
+use Rattle.sip_held_dialogs.proofs.Each.{both}
 use Rattle.sip_conversation.proofs.Among.{all_of}
 
 -- ---- the rows: if nothing is held, only a start begins a life; any other row hands nothing up
@@ -53,7 +53,7 @@ is_start on.Ack = false
 is_start (on.Response c) = false
 is_start (on.Answer c) = false
 
-abbrev hands_nothing : Handed → Bool
+abbrev hands_nothing : UpAction → Bool
 hands_nothing up.Nothing = true
 hands_nothing up.Message = false
 hands_nothing up.Timeout = false
@@ -103,7 +103,7 @@ module _ (branch method : List ℕ) (all : List (Timed Input)) where
 
   -- ---- a row
 
-  handed_started : (context : Context) (handed : Handed) (arrived : Option (Message × Addr))
+  handed_started : (context : Context) (handed : UpAction) (arrived : Option (Message × Addr))
       → WasStarted context.id context.call_id
       → AllByRecursion UpIsStarted (option_to_list (handed_out client context handed arrived))
   unfolding handed_out
@@ -154,7 +154,7 @@ module _ (branch method : List ℕ) (all : List (Timed Input)) where
   no_life Ended made due now ended = tt
   no_life (Become state) made due now ended = absurd (false≢true ended)
 
-  none_handed : (context : Context) (handed : Handed) (arrived : Option (Message × Addr))
+  none_handed : (context : Context) (handed : UpAction) (arrived : Option (Message × Addr))
       → hands_nothing handed ≡ true
       → AllByRecursion UpIsStarted (option_to_list (handed_out client context handed arrived))
   unfolding handed_out

@@ -5,14 +5,14 @@ use Rattle.std.specs.Str.{str_eq_ignore_ascii_case}
 use Rattle.std.proofs.lemmas.Bool.{false≢true}
 use Rattle.std.proofs.lemmas.Bool.Decides.{nat_tests}
 use Rattle.sip_text.specs.Token.{is_token}
-use Rattle.sip_parts.specs.Parameters.{parameter_named, value_named, value_or_nothing}
-use Rattle.sip_parts.specs.Tag.{has_good_tag, is_good_tag, is_token_value}
-use Rattle.sip_parts.specs.declared.parameter.Parameter.{Parameter}
+use Rattle.sip_grammar.specs.Parameters.{parameter_named, value_named, value_or_nothing}
+use Rattle.sip_grammar.specs.Tag.{has_good_tag, is_good_tag, is_token_value}
+use Rattle.sip_grammar.specs.declared.parameter.Parameter.{Parameter}
 use Rattle.sip_message.specs.Party.{tag_of}
 use Rattle.sip_message.specs.Response.{answering_to, is_tagged, tag_parameter, tagged}
 use Rattle.sip_message.specs.declared.message.Message.{Message}
 use Rattle.sip_message.specs.declared.party.Party.{Party}
-use Rattle.sip_common.specs.Requests.{has_to_tag}
+use Rattle.sip_held_dialogs.specs.Requests.{has_to_tag}
 use Rattle.sip_conversation.proofs.Branches.{either}
 
 -- what is looked for after others that don't pass

@@ -6,15 +6,15 @@ use Rattle.std.specs.List.{AllByRecursion}
 use Rattle.std.specs.Option.{option_and_then}
 use Rattle.sip_message.specs.declared.id.Id.{Id}
 use Rattle.sip_message.specs.declared.message.Message.{Message}
-use Rattle.sip_model.specs.Machine.{Timed}
-use Rattle.sip_transactions.specs.declared.output.Kind.{Kind}
-use Rattle.sip_transactions.specs.declared.output.Kind.TheVariants as kind
+use Rattle.keyed_machine.specs.Machine.{Timed}
+use Rattle.sip_transactions.specs.declared.output.UpKind.{UpKind}
+use Rattle.sip_transactions.specs.declared.output.UpKind.TheVariants as kind
 use Rattle.sip_transactions.specs.declared.output.Up.{Up as AnUp}
-use Rattle.sip_common.specs.Dialogs.{is_dialog_id, lives}
-use Rattle.sip_common.specs.declared.held_dialog.DialogReference.{DialogReference}
-use Rattle.sip_common.specs.declared.item.CallOut.{CallOut}
-use Rattle.sip_common.specs.declared.item.Item.TheVariants.{Up, User}
-use Rattle.sip_common.proofs.Each.{both}
+use Rattle.sip_held_dialogs.specs.Dialogs.{is_dialog_id, lives}
+use Rattle.sip_held_dialogs.specs.declared.held_dialog.DialogReference.{DialogReference}
+use Rattle.sip_user.specs.declared.item.CallOut.{CallOut}
+use Rattle.sip_user.specs.declared.item.Item.TheVariants.{Up, User}
+use Rattle.sip_held_dialogs.proofs.Each.{both}
 use Rattle.sip_clients.specs.Client.{Side as Held, client_at}
 use Rattle.sip_clients.specs.Clients.{reply_name, status_of}
 use Rattle.sip_clients.specs.Provisionals.{AnInvite, OfTheCall, in_life, is_for, is_response, number_for, provisional_number}
@@ -144,7 +144,7 @@ module _ (life : DialogReference) (side : Held) (rseq : ℕ) where
         rseq_is = so.rseq_is;
       }
 
-  by_up : (event : Id) (up : AnUp) (k : Kind) → up.kind ≡ k
+  by_up : (event : Id) (up : AnUp) (k : UpKind) → up.kind ≡ k
       → number_up OfTheCall life up.id k side ≡ Some rseq
       → RepliesToInvite life side (Some (event, Up up)) rseq
   by_up event up (kind.Request request reply_to) kind_is is = absurd cc

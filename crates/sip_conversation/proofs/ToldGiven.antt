@@ -6,24 +6,24 @@ use Rattle.std.specs.List.{AllByRecursion}
 use Rattle.std.specs.Str.{bytes_eq, str_to_ascii_lowercase}
 use Rattle.std.proofs.lemmas.Bool.{false≢true}
 use Rattle.std.proofs.lemmas.Option.{same_Some}
-use Rattle.sip_parts.specs.Tag.{has_good_tag}
+use Rattle.sip_grammar.specs.Tag.{has_good_tag}
 use Rattle.sip_message.specs.Party.{tag_of}
 use Rattle.sip_message.specs.TopVia.{top_branch}
 use Rattle.sip_message.specs.declared.id.Id.{Id}
 use Rattle.sip_message.specs.declared.message.Message.{Message}
 use Rattle.sip_message.specs.MessageKey.{key_of_message}
-use Rattle.sip_model.specs.Machine.{Timed, outputs_from, given_at}
+use Rattle.keyed_machine.specs.Machine.{Timed, outputs_from, given_at}
 use Rattle.sip_transactions.specs.declared.input.Input.TheVariants.{Start}
-use Rattle.sip_transactions.specs.declared.output.Kind.TheVariants as kind
+use Rattle.sip_transactions.specs.declared.output.UpKind.TheVariants as kind
 use Rattle.sip_transactions.specs.declared.output.Up.{Up as AnUp}
-use Rattle.sip_common.specs.Ids.{is_id}
-use Rattle.sip_common.specs.Requests.{has_to_tag}
-use Rattle.sip_common.specs.declared.held_dialog.DialogReference.{DialogReference}
-use Rattle.sip_common.specs.declared.item.CallOut.{CallOut}
-use Rattle.sip_common.specs.declared.item.CallOut.TheVariants as call_out
-use Rattle.sip_common.specs.declared.item.Item.TheVariants.{Up}
-use Rattle.sip_common.specs.declared.notice.Notice.TheVariants as notice
-use Rattle.sip_common.proofs.Each.{found_one}
+use Rattle.sip_held_dialogs.specs.Ids.{is_id}
+use Rattle.sip_held_dialogs.specs.Requests.{has_to_tag}
+use Rattle.sip_held_dialogs.specs.declared.held_dialog.DialogReference.{DialogReference}
+use Rattle.sip_user.specs.declared.item.CallOut.{CallOut}
+use Rattle.sip_user.specs.declared.item.CallOut.TheVariants as call_out
+use Rattle.sip_user.specs.declared.item.Item.TheVariants.{Up}
+use Rattle.sip_user.specs.declared.notice.Notice.TheVariants as notice
+use Rattle.sip_held_dialogs.proofs.Each.{found_one}
 use Rattle.sip_clients.specs.Client.{client_at}
 use Rattle.sip_clients.specs.Clients.{status_of, reply_name}
 use Rattle.sip_clients.specs.Name.{name_of}
@@ -67,7 +67,7 @@ use Rattle.sip_conversation.proofs.Unchanged.{inputs_unchanged}
 use Rattle.sip_conversation.proofs.Ups.{ItemCame, TimedCame}
 use Rattle.sip_message.specs.declared.addr.Addr.{Addr}
 use Rattle.std.proofs.lemmas.List.Elements.{Contains-append_right}
-use Rattle.sip_common.specs.declared.held_dialog.DialogId.{DialogId}
+use Rattle.sip_held_dialogs.specs.declared.held_dialog.DialogId.{DialogId}
 use Rattle.sip_clients.specs.declared.client.RequestKind.TheVariants.{InitialInvite}
 use Rattle.sip_message.specs.declared.party.Party.{Party}
 use Rattle.sip_clients.specs.Rules.Requests.{is_invite_kind}

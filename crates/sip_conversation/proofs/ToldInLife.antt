@@ -8,18 +8,18 @@ use Rattle.std.proofs.lemmas.Bool.{false≢true}
 use Rattle.std.proofs.lemmas.List.Elements.{Contains-append_cases}
 use Rattle.sip_message.specs.declared.id.Id.{Id}
 use Rattle.sip_message.specs.declared.message.Message.{Message}
-use Rattle.sip_model.specs.Machine.{Timed}
-use Rattle.sip_transactions.specs.declared.output.Kind.{Kind}
-use Rattle.sip_transactions.specs.declared.output.Kind.TheVariants as kind
+use Rattle.keyed_machine.specs.Machine.{Timed}
+use Rattle.sip_transactions.specs.declared.output.UpKind.{UpKind}
+use Rattle.sip_transactions.specs.declared.output.UpKind.TheVariants as kind
 use Rattle.sip_transactions.specs.declared.output.Up.{Up as AnUp}
-use Rattle.sip_common.specs.Dialogs.{dialog_at, is_dialog_id, lives}
-use Rattle.sip_common.specs.Ids.{is_id}
-use Rattle.sip_common.specs.declared.held_dialog.DialogId.{DialogId}
-use Rattle.sip_common.specs.declared.held_dialog.DialogReference.{DialogReference}
-use Rattle.sip_common.specs.declared.held_dialog.HeldDialog.{HeldDialog}
-use Rattle.sip_common.specs.declared.item.CallOut.{CallOut}
-use Rattle.sip_common.specs.declared.item.Item.TheVariants.{Up, User}
-use Rattle.sip_common.proofs.Heard.{id_laws, name_laws}
+use Rattle.sip_held_dialogs.specs.Dialogs.{dialog_at, is_dialog_id, lives}
+use Rattle.sip_held_dialogs.specs.Ids.{is_id}
+use Rattle.sip_held_dialogs.specs.declared.held_dialog.DialogId.{DialogId}
+use Rattle.sip_held_dialogs.specs.declared.held_dialog.DialogReference.{DialogReference}
+use Rattle.sip_held_dialogs.specs.declared.held_dialog.HeldDialog.{HeldDialog}
+use Rattle.sip_user.specs.declared.item.CallOut.{CallOut}
+use Rattle.sip_user.specs.declared.item.Item.TheVariants.{Up, User}
+use Rattle.sip_held_dialogs.proofs.Heard.{id_laws, name_laws}
 use Rattle.sip_clients.specs.Client.{Side as Held, client_at}
 use Rattle.sip_clients.specs.Clients.{reply_name, status_of}
 use Rattle.sip_clients.specs.Provisionals.{AnInvite, InTheDialog, OfTheCall, in_life, is_for, is_response, number_for, provisional_number}
@@ -310,7 +310,7 @@ module _ (calls : Calls) (inputs : List (Timed CallItem)) (life : DialogReferenc
         by_kind call held client is client.kind refl number
 
   by_up : (state : Option Call) → call_from calls None before ≡ state → (event : Id) (up : AnUp)
-      → timed.input ≡ Some (event, Up up) → (k : Kind) → up.kind ≡ k
+      → timed.input ≡ Some (event, Up up) → (k : UpKind) → up.kind ≡ k
       → number_up OfTheCall life up.id k (side_held state) ≡ Some rseq → Comes
   by_up state held event up comes (kind.Response response) is number =
       by_client event up comes response is state held

@@ -11,23 +11,23 @@ use Rattle.sip_message.specs.Message.{is_request_message}
 use Rattle.sip_message.specs.Rules.{IsMessage}
 use Rattle.sip_message.specs.Source.{stamped}
 use Rattle.sip_message.specs.Written.{written}
-use Rattle.sip_model.specs.Laws.{EachKeyAlone}
-use Rattle.sip_model.specs.Machine.{given_at, outputs_from, tick_at}
+use Rattle.keyed_machine.specs.Laws.{EachKeyAlone}
+use Rattle.keyed_machine.specs.Machine.{given_at, outputs_from, tick_at}
 use Rattle.sip_reader.specs.ReadMessage.{message_at}
 use Rattle.sip_transactions.specs.declared.input.Command.{Command}
 use Rattle.sip_transactions.specs.declared.input.Command.TheVariants as command
 use Rattle.sip_transactions.specs.declared.input.Input.{Input}
 use Rattle.sip_transactions.specs.declared.input.Input.TheVariants as input
-use Rattle.sip_transactions.specs.declared.output.Kind.{Kind}
-use Rattle.sip_transactions.specs.declared.output.Kind.TheVariants as kind
+use Rattle.sip_transactions.specs.declared.output.UpKind.{UpKind}
+use Rattle.sip_transactions.specs.declared.output.UpKind.TheVariants as kind
 use Rattle.sip_transactions.specs.declared.output.Out.{Out}
 use Rattle.sip_transactions.specs.declared.output.Out.TheVariants as out
 use Rattle.sip_transactions.specs.declared.output.Up.{Up as AnUp}
 use Rattle.sip_transactions.specs.Machine.{transaction_machine}
 use Rattle.sip_transactions.specs.Shard.{asked_by, command_key}
-use Rattle.sip_common.specs.declared.item.Item.TheVariants.{Up}
-use Rattle.sip_common.specs.declared.item.CallOut.{CallOut}
-use Rattle.sip_common.specs.declared.item.CallOut.TheVariants as call_out
+use Rattle.sip_user.specs.declared.item.Item.TheVariants.{Up}
+use Rattle.sip_user.specs.declared.item.CallOut.{CallOut}
+use Rattle.sip_user.specs.declared.item.CallOut.TheVariants as call_out
 use Rattle.sip_round.specs.declared.config.Config.{Config}
 use Rattle.sip_round.specs.declared.output.Output.TheVariants.{Send}
 use Rattle.sip_round.specs.declared.round.Event.{Event}
@@ -52,7 +52,7 @@ use Rattle.sip_conversation.proofs.Rounds.{ArrivalFits, OutFits, RoundFits, Time
 use Rattle.sip_conversation.proofs.Rules.{ack_keeps, stamped_keeps, trying_keeps}
 use Rattle.sip_conversation.proofs.Sends.{SendFits, direct_sends_fit, own_sends_fit}
 use Rattle.sip_conversation.proofs.Ups.{OutCame, TimedCame, UpCame, inputs_came}
-use Rattle.sip_common.proofs.Each.{both}
+use Rattle.sip_held_dialogs.proofs.Each.{both}
 
 pub come_keeps : (source : Addr) → IsAddr source → (message : Message) → IsMessage message
     → IsMessage (come_from source message)
@@ -363,7 +363,7 @@ module _ (alone : EachKeyAlone key_cmp transaction_machine tick_at) where
         inputs_came (UpCame (ComesUnchanged configs turns s)) (configs s) (rounds_of s turns)
         (ups_unchanged turns carried keep s) call_id
 
-    kind_unchanged : (turns : List Turn) (s : Side) (k : Kind)
+    kind_unchanged : (turns : List Turn) (s : Side) (k : UpKind)
         → KindCame (ComesUnchanged configs turns s) k
         → IfSome (message_up k) (ComesUnchanged configs turns s)
     kind_unchanged turns s (kind.Request message reply_to) came = came.0

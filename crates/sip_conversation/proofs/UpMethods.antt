@@ -11,18 +11,18 @@ use Rattle.sip_message.specs.declared.start_line.StartLine.{StartLine}
 use Rattle.sip_message.specs.declared.start_line.StartLine.TheVariants as start
 use Rattle.sip_message.specs.Key.{key_cmp}
 use Rattle.sip_message.specs.Message.{is_request_line, is_request_message}
-use Rattle.sip_model.specs.Laws.{EachKeyAlone}
-use Rattle.sip_model.specs.Machine.{Timed, outputs_from, tick_at}
+use Rattle.keyed_machine.specs.Laws.{EachKeyAlone}
+use Rattle.keyed_machine.specs.Machine.{Timed, outputs_from, tick_at}
 use Rattle.sip_transactions.specs.declared.input.Input.{Input}
 use Rattle.sip_transactions.specs.declared.life.Context.{Context}
 use Rattle.sip_transactions.specs.declared.life.Life.{Life}
-use Rattle.sip_transactions.specs.declared.output.Kind.{Kind}
-use Rattle.sip_transactions.specs.declared.output.Kind.TheVariants as kind
+use Rattle.sip_transactions.specs.declared.output.UpKind.{UpKind}
+use Rattle.sip_transactions.specs.declared.output.UpKind.TheVariants as kind
 use Rattle.sip_transactions.specs.declared.output.Out.{Out}
 use Rattle.sip_transactions.specs.declared.output.Up.{Up as AnUp}
 use Rattle.sip_transactions.specs.declared.state.State.{State}
-use Rattle.sip_transactions.specs.declared.step.Handed.{Handed}
-use Rattle.sip_transactions.specs.declared.step.Handed.TheVariants as up
+use Rattle.sip_transactions.specs.declared.step.UpAction.{UpAction}
+use Rattle.sip_transactions.specs.declared.step.UpAction.TheVariants as up
 use Rattle.sip_transactions.specs.declared.step.Step.{Step}
 use Rattle.sip_transactions.specs.Machine.{transaction_machine}
 use Rattle.sip_transactions.specs.Rules.Step.{step_at}
@@ -31,7 +31,7 @@ use Rattle.sip_transactions.specs.Steps.Life.{acted_if, context_of, state_of, st
 use Rattle.sip_transactions.specs.Steps.Output.{handed_out, kind_of, made_bytes, outputs_of, send_out, sent_bytes}
 use Rattle.sip_transactions.proofs.LawSteps.{by_step}
 use Rattle.sip_transactions.proofs.Rules.{step_is}
-use Rattle.sip_common.proofs.Each.{both}
+use Rattle.sip_held_dialogs.proofs.Each.{both}
 use Rattle.sip_round.specs.declared.config.Config.{Config}
 use Rattle.sip_round.specs.declared.round.Round.{Round}
 use Rattle.sip_round.specs.Answers.{past_of}
@@ -40,7 +40,7 @@ use Rattle.sip_round.proofs.Said.{transaction_alone}
 use Rattle.sip_conversation.proofs.Ups.{OutCame}
 
 -- an ACK has this method, and a request another one
-abbrev pub HasMethod : Kind → Type 0
+abbrev pub HasMethod : UpKind → Type 0
 HasMethod (kind.Request message reply_to) = message.cseq.method ≡ codes "ACK" → ⊥
 HasMethod (kind.Ack message) = (message.cseq.method ≡ codes "ACK")
     × (is_request_message message ≡ true)
@@ -73,7 +73,7 @@ kind_method (start.Request uri) message reply_to same =
     by_method message reply_to (is_same_method message.cseq.method (codes "ACK")) (sym same) refl
 kind_method (start.Response status reason) message reply_to same = tt
 
-handed_methods : (key : Key) (context : Context) (handed : Handed)
+handed_methods : (key : Key) (context : Context) (handed : UpAction)
     (arrived : Option (Message × Addr))
     → HaveMethods (option_to_list (handed_out key context handed arrived))
 unfolding handed_out

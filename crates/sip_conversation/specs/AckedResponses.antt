@@ -8,10 +8,10 @@ use Rattle.sip_message.specs.Message.{is_request_message}
 use Rattle.sip_message.specs.Party.{tag_of}
 use Rattle.sip_message.specs.Rules.{IsMessage}
 use Rattle.sip_message.specs.Written.{written}
-use Rattle.sip_common.specs.Requests.{dialog_id_of_tags, has_to_tag, is_success}
-use Rattle.sip_common.specs.declared.held_dialog.DialogId.{DialogId}
-use Rattle.sip_common.specs.declared.item.CallOut.TheVariants.{Direct}
-use Rattle.sip_common.specs.declared.notice.Notice.TheVariants.{Response}
+use Rattle.sip_held_dialogs.specs.Requests.{dialog_id_of_tags, has_to_tag, is_success}
+use Rattle.sip_held_dialogs.specs.declared.held_dialog.DialogId.{DialogId}
+use Rattle.sip_user.specs.declared.item.CallOut.TheVariants.{Direct}
+use Rattle.sip_user.specs.declared.notice.Notice.TheVariants.{Response}
 use Rattle.sip_round.specs.declared.config.Config.{Config}
 use Rattle.sip_round.specs.declared.output.Output.TheVariants.{Notice}
 use Rattle.sip_conversation.specs.Conversation.{Side, Turn, given_by, rounds_of}

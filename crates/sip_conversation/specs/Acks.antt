@@ -11,9 +11,9 @@ use Rattle.sip_message.specs.Party.{tag_of}
 use Rattle.sip_message.specs.Rules.{IsMessage}
 use Rattle.sip_message.specs.Written.{written}
 use Rattle.sip_transactions.specs.declared.input.Input.TheVariants.{Receive, Start}
-use Rattle.sip_common.specs.Requests.{dialog_id_of_tags}
-use Rattle.sip_common.specs.declared.item.CallOut.TheVariants.{Direct}
-use Rattle.sip_common.specs.declared.notice.Notice.TheVariants.{Ack}
+use Rattle.sip_held_dialogs.specs.Requests.{dialog_id_of_tags}
+use Rattle.sip_user.specs.declared.item.CallOut.TheVariants.{Direct}
+use Rattle.sip_user.specs.declared.notice.Notice.TheVariants.{Ack}
 use Rattle.sip_round.specs.declared.config.Config.{Config}
 use Rattle.sip_round.specs.declared.output.Output.TheVariants.{Notice}
 use Rattle.sip_round.specs.declared.round.Round.{Round}

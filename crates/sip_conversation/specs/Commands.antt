@@ -3,16 +3,16 @@
 use Rattle.std.specs.Prelude.{IsTrue, List}
 use Rattle.std.specs.List.{AllByRecursion}
 use Rattle.sip_text.specs.Token.{is_token}
-use Rattle.sip_parts.specs.Reason.{is_reason}
-use Rattle.sip_parts.specs.Uri.{is_uri}
-use Rattle.sip_parts.specs.Word.{is_word}
+use Rattle.sip_grammar.specs.Reason.{is_reason}
+use Rattle.sip_grammar.specs.Uri.{is_uri}
+use Rattle.sip_grammar.specs.Word.{is_word}
 use Rattle.sip_message.specs.Content.{Content}
 use Rattle.sip_message.specs.Rules.{IsNameAddr, IsOtherHeader}
-use Rattle.sip_common.specs.declared.command.Invite.{Invite}
-use Rattle.sip_common.specs.declared.command.Plain.{Plain}
-use Rattle.sip_common.specs.declared.command.Respond.{Respond}
-use Rattle.sip_common.specs.declared.command.UserCommand.{UserCommand}
-use Rattle.sip_common.specs.declared.command.UserCommand.TheVariants as user
+use Rattle.sip_user.specs.declared.command.Invite.{Invite}
+use Rattle.sip_user.specs.declared.command.Plain.{Plain}
+use Rattle.sip_user.specs.declared.command.Respond.{Respond}
+use Rattle.sip_user.specs.declared.command.UserCommand.{UserCommand}
+use Rattle.sip_user.specs.declared.command.UserCommand.TheVariants as user
 use Rattle.sip_round.specs.declared.round.Event.{Event}
 use Rattle.sip_round.specs.declared.round.Event.TheVariants.{Command, Datagram, Failed}
 use Rattle.sip_conversation.specs.Conversation.{Turn}

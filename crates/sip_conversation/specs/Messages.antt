@@ -9,18 +9,18 @@ use Rattle.sip_message.specs.Message.{is_request_message}
 use Rattle.sip_message.specs.Rules.{IsMessage}
 use Rattle.sip_message.specs.Source.{stamped}
 use Rattle.sip_message.specs.Written.{written}
-use Rattle.sip_model.specs.Machine.{given_at}
+use Rattle.keyed_machine.specs.Machine.{given_at}
 use Rattle.sip_transactions.specs.declared.input.Command.{Command}
 use Rattle.sip_transactions.specs.declared.input.Command.TheVariants.{Answer, Start}
 use Rattle.sip_transactions.specs.declared.input.Input.{Input}
 use Rattle.sip_transactions.specs.declared.input.Input.TheVariants as input
-use Rattle.sip_transactions.specs.declared.output.Kind.{Kind}
-use Rattle.sip_transactions.specs.declared.output.Kind.TheVariants as kind
+use Rattle.sip_transactions.specs.declared.output.UpKind.{UpKind}
+use Rattle.sip_transactions.specs.declared.output.UpKind.TheVariants as kind
 use Rattle.sip_transactions.specs.declared.output.Up.{Up}
 use Rattle.sip_transactions.specs.Steps.Output.{trying_of}
-use Rattle.sip_common.specs.declared.item.CallOut.{CallOut}
-use Rattle.sip_common.specs.declared.item.CallOut.TheVariants as call_out
-use Rattle.sip_common.specs.declared.item.Item.TheVariants as item
+use Rattle.sip_user.specs.declared.item.CallOut.{CallOut}
+use Rattle.sip_user.specs.declared.item.CallOut.TheVariants as call_out
+use Rattle.sip_user.specs.declared.item.Item.TheVariants as item
 use Rattle.sip_clients.specs.Clients.{status_of}
 use Rattle.sip_round.specs.declared.config.Config.{Config}
 use Rattle.sip_round.specs.declared.round.Round.{Round}
@@ -101,7 +101,7 @@ MessagesComeUnchanged configs turns =
 -- ---- what comes up to calls
 
 -- the message that comes up from a transaction, if one does
-abbrev pub message_up : Kind → Option Message
+abbrev pub message_up : UpKind → Option Message
 message_up (kind.Request message reply_to) = Some message
 message_up (kind.Ack message) = Some message
 message_up (kind.Response message) = Some message

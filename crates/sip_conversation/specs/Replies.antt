@@ -9,7 +9,7 @@ use Rattle.sip_message.specs.MessageKey.{key_of_message}
 use Rattle.sip_message.specs.Party.{tag_of}
 use Rattle.sip_message.specs.Rules.{IsMessage}
 use Rattle.sip_transactions.specs.declared.input.Input.TheVariants.{Start}
-use Rattle.sip_common.specs.declared.notice.Notice.TheVariants.{Response}
+use Rattle.sip_user.specs.declared.notice.Notice.TheVariants.{Response}
 use Rattle.sip_clients.specs.Clients.{status_of}
 use Rattle.sip_round.specs.declared.config.Config.{Config}
 use Rattle.sip_round.specs.declared.output.Output.TheVariants.{Notice}

@@ -6,13 +6,13 @@ use Rattle.sip_message.specs.declared.key.Key.{Key}
 use Rattle.sip_message.specs.declared.message.Message.{Message}
 use Rattle.sip_message.specs.Party.{tag_of}
 use Rattle.sip_message.specs.Rules.{IsMessage}
-use Rattle.sip_model.specs.Machine.{given_at}
+use Rattle.keyed_machine.specs.Machine.{given_at}
 use Rattle.sip_transactions.specs.declared.input.Command.TheVariants.{Start}
-use Rattle.sip_common.specs.declared.command.UserCommand.{UserCommand}
-use Rattle.sip_common.specs.declared.command.UserCommand.TheVariants as user
-use Rattle.sip_common.specs.declared.item.CallOut.TheVariants.{Command}
-use Rattle.sip_common.specs.declared.item.Item.TheVariants.{User}
-use Rattle.sip_common.specs.declared.notice.Notice.TheVariants.{Request}
+use Rattle.sip_user.specs.declared.command.UserCommand.{UserCommand}
+use Rattle.sip_user.specs.declared.command.UserCommand.TheVariants as user
+use Rattle.sip_user.specs.declared.item.CallOut.TheVariants.{Command}
+use Rattle.sip_user.specs.declared.item.Item.TheVariants.{User}
+use Rattle.sip_user.specs.declared.notice.Notice.TheVariants.{Request}
 use Rattle.sip_round.specs.declared.config.Config.{Config}
 use Rattle.sip_round.specs.declared.output.Output.TheVariants.{Notice}
 use Rattle.sip_round.specs.declared.round.Round.{Round}

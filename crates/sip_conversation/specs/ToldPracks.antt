@@ -5,11 +5,11 @@ use Rattle.sip_message.specs.declared.message.Message.{Message}
 use Rattle.sip_message.specs.declared.rack.RAck.{RAck}
 use Rattle.sip_message.specs.Message.{is_request_message}
 use Rattle.sip_message.specs.Rules.{IsMessage}
-use Rattle.sip_model.specs.Machine.{given_at}
-use Rattle.sip_common.specs.declared.command.DialogBody.{DialogBody}
-use Rattle.sip_common.specs.declared.command.UserCommand.TheVariants as user
-use Rattle.sip_common.specs.declared.item.Item.TheVariants.{User}
-use Rattle.sip_common.specs.declared.notice.Notice.TheVariants.{Prack}
+use Rattle.keyed_machine.specs.Machine.{given_at}
+use Rattle.sip_user.specs.declared.command.DialogBody.{DialogBody}
+use Rattle.sip_user.specs.declared.command.UserCommand.TheVariants as user
+use Rattle.sip_user.specs.declared.item.Item.TheVariants.{User}
+use Rattle.sip_user.specs.declared.notice.Notice.TheVariants.{Prack}
 use Rattle.sip_round.specs.declared.config.Config.{Config}
 use Rattle.sip_round.specs.declared.output.Output.TheVariants.{Notice}
 use Rattle.sip_round.specs.declared.round.Round.{Round}

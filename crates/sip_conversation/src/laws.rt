@@ -16,9 +16,9 @@ ghost use Rattle.sip_conversation.specs.Replies.{ResponsesToldWereSaid};
 ghost use Rattle.sip_conversation.specs.Requests.{RequestsToldWereAskedFor};
 ghost use Rattle.sip_conversation.specs.ToldPracks.{PracksToldWereSaid};
 
+use keyed_machine::laws_of_phases;
 use sip_calls::Calls;
 use sip_message::Addr;
-use sip_model::laws_of_phases;
 use sip_round::{Config, provisionals_in_each_life};
 use sip_transactions::Transactions;
 

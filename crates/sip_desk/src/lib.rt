@@ -4,13 +4,12 @@
 mod desk;
 mod ended;
 mod laws;
-mod no_memory;
 mod poster;
 mod settle_fault;
 
 pub use desk::{Desk, open};
 pub use ended::{Ended, Unfinished};
 pub use laws::{drained_line_settles, merges_in_rounds};
-pub use no_memory::NoMemory;
+pub use out_of_memory::NoMemory;
 pub use poster::Poster;
 pub use settle_fault::SettleFault;

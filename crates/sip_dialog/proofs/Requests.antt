@@ -3,12 +3,12 @@ use Rattle.std.proofs.Common.{◌≡◌, ℕ, ◌<◌, Bool, true, false, not, L
 use Rattle.std.specs.List.{list_all}
 use Rattle.std.specs.Char.{is_ascii_digit}
 use Rattle.std.proofs.lemmas.Bool.{eqb-true, true≢false, and_parts}
-use Rattle.sip_parts.specs.Host.{is_host, is_host_byte}
-use Rattle.sip_parts.specs.Uri.{is_uri, is_uri_byte}
-use Rattle.sip_parts.proofs.Bytes.{none_of}
+use Rattle.sip_grammar.specs.Host.{is_host, is_host_byte}
+use Rattle.sip_grammar.specs.Uri.{is_uri, is_uri_byte}
+use Rattle.sip_grammar.proofs.Bytes.{none_of}
 use Rattle.sip_message.specs.declared.addr.Addr.{Addr}
 use Rattle.sip_message.specs.Ip.{ip_text}
-use Rattle.sip_parts.specs.Parameters.{value_named}
+use Rattle.sip_grammar.specs.Parameters.{value_named}
 use Rattle.sip_message.specs.Via.{are_vias}
 use Rattle.sip_dialog.specs.Branch.{is_branch}
 use Rattle.sip_dialog.specs.Request.{agent_via}

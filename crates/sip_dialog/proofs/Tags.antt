@@ -2,9 +2,9 @@
 use Rattle.std.proofs.Common.{◌≡◌, ℕ, true, false, List, length, Option, Some, None, IsTrue, codes}
 use Rattle.std.specs.Prelude.{◌==◌}
 use Rattle.sip_text.specs.Token.{is_token}
-use Rattle.sip_parts.specs.declared.parameter.Parameter.{Parameter}
-use Rattle.sip_parts.specs.Parameters.{parameter_named, value_named, value_or_nothing}
-use Rattle.sip_parts.specs.Tag.{has_good_tag, is_good_tag, is_token_value, tag_in}
+use Rattle.sip_grammar.specs.declared.parameter.Parameter.{Parameter}
+use Rattle.sip_grammar.specs.Parameters.{parameter_named, value_named, value_or_nothing}
+use Rattle.sip_grammar.specs.Tag.{has_good_tag, is_good_tag, is_token_value, tag_in}
 
 of_value : (value : Option (List ℕ)) (name : List ℕ)
     → (length (value_or_nothing (Some record { name = name; value = value })) == 0) ≡ false

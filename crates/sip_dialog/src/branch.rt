@@ -4,7 +4,7 @@ ghost use Rattle.std.specs.Option.{SomeIff};
 ghost use Rattle.sip_message.specs.Via as via;
 ghost use Rattle.sip_dialog.specs.Branch as rule;
 
-use sip_parts::Token;
+use sip_grammar::Token;
 use sip_text::token_eq;
 use std::marker::Model;
 

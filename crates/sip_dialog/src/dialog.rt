@@ -9,8 +9,8 @@ ghost use Rattle.sip_dialog.specs.Step as step;
 use crate::endpoint::Endpoint;
 use crate::fault::DialogFault;
 use crate::opening::{contact_uri, reversed, target_of};
+use sip_grammar::{CallId, RequestUri, Uri};
 use sip_message::{Message, NameAddr};
-use sip_parts::{CallId, RequestUri, Uri};
 use sip_text::Series;
 use std::alloc::{AllocError, Global};
 

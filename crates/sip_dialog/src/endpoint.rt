@@ -3,8 +3,8 @@ ghost use Rattle.std.specs.Prelude.{◌≡◌, IfOk};
 ghost use Rattle.sip_message.specs.Party.{party_of};
 ghost use Rattle.sip_dialog.specs.Endpoint as endpoint;
 
+use sip_grammar::{Token, Uri};
 use sip_message::Party;
-use sip_parts::{Token, Uri};
 use std::alloc::{AllocError, Global};
 
 /// One end of a dialog: its URI, and its tag, if it had one, as it was spelled when the dialog was

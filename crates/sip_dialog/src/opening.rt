@@ -7,8 +7,8 @@ ghost use Rattle.sip_dialog.specs.Opening as opening;
 
 use crate::dialog::{Dialog, DialogState, Side};
 use crate::endpoint::Endpoint;
+use sip_grammar::{RequestUri, StatusCode, Token, Uri};
 use sip_message::{Message, NameAddr, StartLine};
-use sip_parts::{RequestUri, StatusCode, Token, Uri};
 use sip_text::Series;
 use std::alloc::{AllocError, Global};
 

@@ -7,8 +7,8 @@ ghost use Rattle.sip_dialog.specs.Branch.{is_branch};
 ghost use Rattle.sip_dialog.specs.Request as request;
 
 use crate::branch::Branch;
+use sip_grammar::{DisplayText, Host, Parameters, Token, Uri};
 use sip_message::{Addr, NameAddr, Via, Vias, ip_text};
-use sip_parts::{DisplayText, Host, Parameters, Token, Uri};
 use sip_text::{ParameterText, Series, Text, decimal};
 use std::alloc::{AllocError, Global};
 

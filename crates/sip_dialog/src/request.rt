@@ -10,8 +10,8 @@ use crate::branch::Branch;
 use crate::dialog::{Dialog, DialogState};
 use crate::fault::DialogFault;
 use crate::own_headers::{ack, contacts_of, is_invite, own_via};
+use sip_grammar::Token;
 use sip_message::{Addr, CSeq, Content, MAX_FORWARDS, Message, StartLine};
-use sip_parts::Token;
 use std::alloc::AllocError;
 
 /// The highest CSeq of a request that the agent makes: it is below 2^31 (RFC 3261, section

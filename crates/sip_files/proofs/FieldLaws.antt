@@ -11,16 +11,16 @@ use Rattle.sip_text.proofs.Options.{bind_some, chosen, passed, same_some}
 use Rattle.sip_text.specs.Cut.{field_at}
 use Rattle.sip_text.specs.Number.{number_at}
 use Rattle.sip_text.specs.Options.{◌>>=◌}
-use Rattle.sip_parts.specs.Word.{is_word}
-use Rattle.sip_parts.specs.Reason.{is_reason}
-use Rattle.sip_parts.specs.Uri.{is_uri}
+use Rattle.sip_grammar.specs.Word.{is_word}
+use Rattle.sip_grammar.specs.Reason.{is_reason}
+use Rattle.sip_grammar.specs.Uri.{is_uri}
 use Rattle.sip_text.specs.Character.{is_token_byte}
 use Rattle.sip_text.specs.Token.{is_token}
 use Rattle.sip_message.specs.Addr.{addr_text, IsAddr}
-use Rattle.sip_common.specs.declared.command.Reliability.{Reliability}
-use Rattle.sip_common.specs.declared.command.Reliability.TheVariants as reliability
-use Rattle.sip_common.specs.declared.command.ProvisionalSupport.{ProvisionalSupport}
-use Rattle.sip_common.specs.declared.command.ProvisionalSupport.TheVariants as support
+use Rattle.sip_user.specs.declared.command.Reliability.{Reliability}
+use Rattle.sip_user.specs.declared.command.Reliability.TheVariants as reliability
+use Rattle.sip_user.specs.declared.command.ProvisionalSupport.{ProvisionalSupport}
+use Rattle.sip_user.specs.declared.command.ProvisionalSupport.TheVariants as support
 use Rattle.sip_files.specs.declared.fields.Dialog.{Dialog}
 use Rattle.sip_files.specs.declared.fields.Uris.{Uris}
 use Rattle.sip_files.specs.Word.{are_bytes, spelled_word, spelled_rest}

@@ -12,12 +12,12 @@ use Rattle.sip_text.proofs.Options.{bind_some, same_some, chosen, passed}
 use Rattle.sip_text.specs.Cut.{cut_at}
 use Rattle.sip_text.specs.Character.{is_token_byte}
 use Rattle.sip_text.specs.Token.{is_token}
-use Rattle.sip_parts.specs.Uri.{is_uri, is_uri_byte}
-use Rattle.sip_parts.specs.Word.{is_word, is_word_byte}
+use Rattle.sip_grammar.specs.Uri.{is_uri, is_uri_byte}
+use Rattle.sip_grammar.specs.Word.{is_word, is_word_byte}
 use Rattle.sip_message.specs.declared.addr.Addr.{Addr}
 use Rattle.sip_message.specs.Content.{content_of_body}
-use Rattle.sip_common.specs.declared.command.Plain.{Plain}
-use Rattle.sip_common.specs.declared.command.UserCommand.TheVariants as command
+use Rattle.sip_user.specs.declared.command.Plain.{Plain}
+use Rattle.sip_user.specs.declared.command.UserCommand.TheVariants as command
 use Rattle.sip_round.specs.declared.config.Config.{Config}
 use Rattle.sip_round.specs.declared.round.Event.{Event}
 use Rattle.sip_round.specs.declared.round.Event.TheVariants.{Command}

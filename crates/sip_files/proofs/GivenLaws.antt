@@ -3,15 +3,15 @@ use Rattle.std.proofs.Common.{◌≡◌, ◌⊎◌, inl, inr, ℕ, Bool, true, f
 use Rattle.std.specs.Option.{option_map, option_to_list}
 use Rattle.sip_text.proofs.Options.{same_some}
 use Rattle.sip_text.proofs.ReadForms.{Reads}
-use Rattle.sip_parts.specs.HeaderEntry.{header_named}
-use Rattle.sip_parts.specs.HeaderValue.{is_header_value}
-use Rattle.sip_parts.specs.OtherName.{is_other_name}
-use Rattle.sip_parts.specs.declared.header_name.HeaderName.{HeaderName}
-use Rattle.sip_parts.specs.declared.header_name.HeaderName.TheVariants as name
+use Rattle.sip_grammar.specs.HeaderEntry.{header_named}
+use Rattle.sip_grammar.specs.HeaderValue.{is_header_value}
+use Rattle.sip_grammar.specs.OtherName.{is_other_name}
+use Rattle.sip_grammar.specs.declared.header_name.HeaderName.{HeaderName}
+use Rattle.sip_grammar.specs.declared.header_name.HeaderName.TheVariants as name
 use Rattle.sip_message.specs.declared.header.Header.{Header}
-use Rattle.sip_values.specs.Address.{AreNameAddrs, name_addrs_from}
-use Rattle.sip_values.specs.Sequence.{AreTokens, tokens_from}
-use Rattle.sip_values.proofs.Rows.{name_addrs_reads, tokens_reads}
+use Rattle.sip_header_values.specs.Address.{AreNameAddrs, name_addrs_from}
+use Rattle.sip_header_values.specs.Sequence.{AreTokens, tokens_from}
+use Rattle.sip_header_values.proofs.Rows.{name_addrs_reads, tokens_reads}
 use Rattle.sip_headers.specs.Draft.{no_draft, with_value, with_class, with_line, long_name, other_from}
 use Rattle.sip_headers.specs.Slot.{listed}
 use Rattle.sip_headers.specs.HeaderLine.{Class, bad, known, other, IsHeaderLine, class_by_name, class_by_parts, class_from, line_from}

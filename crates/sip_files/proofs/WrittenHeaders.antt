@@ -12,21 +12,21 @@ use Rattle.sip_text.specs.Forms.{by_cut, both, told, passing, reading_of}
 use Rattle.sip_text.specs.Token.{is_token}
 use Rattle.sip_text.specs.Trimmed.{trimmed, trimmed_end}
 use Rattle.sip_text.specs.declared.separator.Separator.TheVariants.{Byte}
-use Rattle.sip_parts.specs.HeaderEntry.{header_named, is_named}
-use Rattle.sip_parts.specs.HeaderValue.{has_no_line_byte}
-use Rattle.sip_parts.specs.OtherName.{is_compact_name, is_other_name}
-use Rattle.sip_parts.specs.declared.header_name.HeaderName.{HeaderName}
+use Rattle.sip_grammar.specs.HeaderEntry.{header_named, is_named}
+use Rattle.sip_grammar.specs.HeaderValue.{has_no_line_byte}
+use Rattle.sip_grammar.specs.OtherName.{is_compact_name, is_other_name}
+use Rattle.sip_grammar.specs.declared.header_name.HeaderName.{HeaderName}
 use Rattle.sip_message.specs.Content.{Content}
 use Rattle.sip_message.specs.declared.header.Header.{Header}
 use Rattle.sip_message.specs.declared.name_addr.NameAddr.{NameAddr}
-use Rattle.sip_values.specs.Sequence.{tokens_from}
-use Rattle.sip_parts.proofs.Passing.{cut_here, token_passes}
-use Rattle.sip_values.proofs.Rows.{name_addrs_reads, tokens_reads}
-use Rattle.sip_parts.proofs.WrittenBytes.{solid_end, token_solid, header_value_kept, header_value_plain}
+use Rattle.sip_header_values.specs.Sequence.{tokens_from}
+use Rattle.sip_grammar.proofs.Passing.{cut_here, token_passes}
+use Rattle.sip_header_values.proofs.Rows.{name_addrs_reads, tokens_reads}
+use Rattle.sip_grammar.proofs.WrittenBytes.{solid_end, token_solid, header_value_kept, header_value_plain}
 use Rattle.sip_headers.specs.Draft.{long_name}
 use Rattle.sip_headers.specs.HeaderLine.{IsHeaderLine, line_from}
 use Rattle.sip_headers.proofs.NamedLines.{line_reads}
-use Rattle.sip_parts.proofs.TextEnds.{Good, Again, moved}
+use Rattle.sip_grammar.proofs.TextEnds.{Good, Again, moved}
 use Rattle.sip_headers.proofs.WrittenAddresses.{name_addr_again}
 use Rattle.sip_headers.proofs.WrittenTokens.{tokens_again}
 use Rattle.sip_files.specs.declared.event_line.EventLine.TheVariants as line

@@ -6,9 +6,9 @@ use Rattle.sip_message.specs.declared.id.Id.{Id}
 use Rattle.sip_message.specs.Fault.{fault_text}
 use Rattle.sip_transactions.specs.declared.output.DropReason.{DropReason}
 use Rattle.sip_transactions.specs.declared.output.DropReason.TheVariants.{NotOurs, NoTransaction, Unreadable}
-use Rattle.sip_common.specs.declared.notice.Notice.{Notice}
-use Rattle.sip_common.specs.declared.notice.Notice.TheVariants as notice
-use Rattle.sip_common.specs.Refusal.{number_of}
+use Rattle.sip_user.specs.declared.notice.Notice.{Notice}
+use Rattle.sip_user.specs.declared.notice.Notice.TheVariants as notice
+use Rattle.sip_user.specs.Refusal.{number_of}
 use Rattle.sip_round.specs.declared.output.Output.{Output}
 use Rattle.sip_round.specs.declared.output.Output.TheVariants as output
 use Rattle.sip_files.specs.Field.{plain_field, number_field, id_field, address_field, word_field, rest_field}

@@ -11,8 +11,8 @@ use crate::numbers::read_id;
 use crate::version::Version;
 use crate::words::read_word;
 use sip_message::Content;
-use sip_served::{Cancel, DialogBody, DialogRequest, Invite, Plain, Respond, UserCommand};
 use sip_text::Series;
+use sip_user::{Cancel, DialogBody, DialogRequest, Invite, Plain, Respond, UserCommand};
 use std::alloc::{AllocError, Global};
 
 /// What the line of a command says, by its first word, if a file of this version may have it.

@@ -1,7 +1,7 @@
 //! Writes the lines of the user's commands.
 
 ghost use Rattle.std.specs.Prelude.{◌≡◌, ◌++◌, OnOk};
-ghost use Rattle.sip_common.specs.declared.command.UserCommand.TheVariants as command;
+ghost use Rattle.sip_user.specs.declared.command.UserCommand.TheVariants as command;
 ghost use Rattle.sip_files.specs.Events as written;
 ghost use Rattle.sip_files.specs.Field as field;
 
@@ -9,7 +9,7 @@ use crate::field_writer::{
     push_address, push_id, push_number, push_plain, push_rest_field, push_text,
 };
 use sip_message::{Addr, CallId, Token, Uri};
-use sip_served::{
+use sip_user::{
     Cancel, DialogBody, DialogRequest, Invite, Plain, ProvisionalSupport, Reliability, Respond,
     UserCommand,
 };

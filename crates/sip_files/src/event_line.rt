@@ -1,7 +1,7 @@
 //! One line of an event file or of a session file.
 
 ghost use Rattle.std.specs.Prelude.{◌≡◌, IfNone, IfOk, IfSome};
-ghost use Rattle.sip_common.specs.declared.command.UserCommand as command;
+ghost use Rattle.sip_user.specs.declared.command.UserCommand as command;
 ghost use Rattle.sip_files.specs.Events.{SpellsHeader};
 ghost use Rattle.sip_files.specs.Steps.ReadLine as reading;
 ghost use Rattle.sip_files.specs.Written as written;
@@ -17,8 +17,8 @@ use crate::version::Version;
 use crate::words::read_rest;
 use sip_message::Addr;
 use sip_round::Event;
-use sip_served::UserCommand;
 use sip_text::{cut, number_up_to};
+use sip_user::UserCommand;
 use std::alloc::{AllocError, Global};
 
 /// The highest number of a first round.

@@ -14,8 +14,8 @@ use crate::field_writer::{push_address, push_number, push_plain, push_rest_field
 use crate::header_writer::push_headers;
 use crate::version::{FileKind, Version};
 use crate::words::push_hex;
+use sip_grammar::LowerText;
 use sip_message::{Addr, Key, SentBy, Token};
-use sip_parts::LowerText;
 use sip_round::{Config, Event, Round};
 use std::alloc::{AllocError, Global};
 

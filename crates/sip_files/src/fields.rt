@@ -10,8 +10,8 @@ ghost use Rattle.sip_files.specs.Steps.ReadLine as reading;
 use crate::numbers::{read_address, read_id};
 use crate::words::{read_rest, read_word};
 use sip_message::{Addr, CallId, Id, Reason, Token, Uri};
-use sip_served::{ProvisionalSupport, Reliability};
 use sip_text::{Text, cut, number_up_to};
+use sip_user::{ProvisionalSupport, Reliability};
 use std::alloc::{AllocError, Global};
 
 /// The highest status of a line.

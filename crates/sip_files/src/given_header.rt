@@ -8,10 +8,10 @@ ghost use Rattle.sip_headers.specs.Draft.{no_draft, with_line};
 
 use crate::version::Version;
 use crate::words::read_rest;
+use sip_header_values::{AddressListRow, Row, TokenListRow};
 use sip_headers::{Draft, LineClass, class_of};
 use sip_message::{Header, HeaderName, NameAddr, Token};
 use sip_text::Series;
-use sip_values::{AddressListRow, Row, TokenListRow};
 use std::alloc::{AllocError, Global};
 
 /// What a header line says. Of the headers that the profile reads, the user may give only these

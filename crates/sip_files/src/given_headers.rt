@@ -7,8 +7,8 @@ use crate::event_line::EventLine;
 use crate::given_header::GivenHeader;
 use sip_message::{Content, ContentHeaders, Header, NameAddr, Token};
 use sip_round::Event;
-use sip_served::{DialogBody, DialogRequest, Invite, Plain, Respond, UserCommand};
 use sip_text::Series;
+use sip_user::{DialogBody, DialogRequest, Invite, Plain, Respond, UserCommand};
 use std::alloc::{AllocError, Global};
 
 /// What header lines say, by header: for each, all values in the order of the lines.

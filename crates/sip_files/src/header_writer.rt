@@ -8,7 +8,7 @@ ghost use Rattle.sip_message.specs.Written as message;
 use crate::field_writer::push_rest_field;
 use sip_message::{Content, Header, NameAddr, Token};
 use sip_round::Event;
-use sip_served::UserCommand;
+use sip_user::UserCommand;
 use std::alloc::{AllocError, Global};
 
 /// The header line of a session file with this name and this value, with its end.

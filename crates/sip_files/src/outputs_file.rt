@@ -3,7 +3,7 @@
 ghost use Rattle.std.specs.Prelude.{◌≡◌, ◌++◌, IfOk, OnOk, codes};
 ghost use Rattle.std.specs.List.{flat_map};
 ghost use Rattle.sip_message.specs.Fault.{fault_text};
-ghost use Rattle.sip_common.specs.declared.notice.Notice.TheVariants as notice;
+ghost use Rattle.sip_user.specs.declared.notice.Notice.TheVariants as notice;
 ghost use Rattle.sip_files.specs.Field as field;
 ghost use Rattle.sip_files.specs.Outputs as written;
 
@@ -12,9 +12,9 @@ use crate::field_writer::{
 };
 use sip_message::{Addr, CallId, Id, ReadFault, StatusCode, Token};
 use sip_round::Output;
-use sip_served::{Notice, Refusal};
 use sip_text::Text;
 use sip_transactions::DropReason;
+use sip_user::{Notice, Refusal};
 use std::alloc::{AllocError, Global};
 
 /// The output file for the outputs of rounds, each with its round's moment.

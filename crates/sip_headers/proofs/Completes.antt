@@ -3,7 +3,7 @@ use Rattle.std.proofs.Common.{◌≡◌, Bool, true, false, ◌&&◌, List, [], 
 use Rattle.std.specs.Prelude.{is_none}
 use Rattle.std.specs.List.{AllByRecursion}
 use Rattle.std.proofs.lemmas.Bool.{or_parts}
-use Rattle.sip_parts.specs.HeaderEntry.{entry, headers, is_needed}
+use Rattle.sip_grammar.specs.HeaderEntry.{entry, headers, is_needed}
 use Rattle.sip_headers.specs.Complete.{slot_of, IsComplete, draft_with}
 use Rattle.sip_headers.specs.Headers.{Headers}
 use Rattle.sip_headers.specs.Presence.{slot_presence, list_presence, presence_of, is_nowhere, is_repeated, is_unfit, has_bad_header, missing, repeated}

@@ -4,10 +4,10 @@ use Rattle.std.specs.List.{AllZip, IsAmong, flat_map}
 use Rattle.std.proofs.lemmas.List.{append-nil, length-append}
 use Rattle.std.proofs.Math.ListN.{get_or-append}
 use Rattle.std.proofs.Math.Seq.{get_or-append_seam}
-use Rattle.sip_parts.specs.declared.header_name.HeaderName.{HeaderName}
-use Rattle.sip_parts.specs.declared.header_name.HeaderName.TheVariants as name
+use Rattle.sip_grammar.specs.declared.header_name.HeaderName.{HeaderName}
+use Rattle.sip_grammar.specs.declared.header_name.HeaderName.TheVariants as name
 use Rattle.sip_text.proofs.ReadForms.{Reads, not_read}
-use Rattle.sip_values.proofs.Rows.{numeral_reads, party_reads, name_addrs_reads, vias_reads, tokens_reads, call_id_reads, cseq_reads, rack_reads}
+use Rattle.sip_header_values.proofs.Rows.{numeral_reads, party_reads, name_addrs_reads, vias_reads, tokens_reads, call_id_reads, cseq_reads, rack_reads}
 use Rattle.sip_headers.specs.Steps.Columns.{continued}
 use Rattle.sip_headers.specs.Draft.{with_value, with_class, with_line, no_draft, draft_of}
 use Rattle.sip_headers.specs.HeaderLine.{Class, bad, known, other, class_from}

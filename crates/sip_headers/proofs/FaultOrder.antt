@@ -2,7 +2,7 @@
 use Rattle.std.proofs.Common.{◌≡◌, inl, inr, Bool, true, false, ◌&&◌, List, [], ◌∷◌, ◌++◌, map, cond, Option, Some, None, Result, Ok, Err, find, refl, sym, ap}
 use Rattle.std.specs.List.{AllByRecursion, filter}
 use Rattle.std.proofs.lemmas.Option.{same_Some, none-some}
-use Rattle.sip_parts.specs.declared.header_name.HeaderName.{HeaderName}
+use Rattle.sip_grammar.specs.declared.header_name.HeaderName.{HeaderName}
 use Rattle.sip_message.specs.declared.fault.ReadFault.{ReadFault}
 use Rattle.sip_headers.specs.Faults.{IsFirst, NoneHolds, Decides}
 

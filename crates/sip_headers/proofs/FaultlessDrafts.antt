@@ -1,8 +1,8 @@
 -- A draft with headers has no fault.
 use Rattle.std.proofs.Common.{◌≡◌, Bool, false, ◌&&◌, ◌||◌, List, [], ◌∷◌, cond, Option, Some, None, Ok, find, refl, ap, ◌∙◌}
 use Rattle.std.specs.List.{AllByRecursion, list_any}
-use Rattle.sip_parts.specs.HeaderEntry.{entry, headers, is_needed}
-use Rattle.sip_parts.specs.declared.header_name.HeaderName.{HeaderName}
+use Rattle.sip_grammar.specs.HeaderEntry.{entry, headers, is_needed}
+use Rattle.sip_grammar.specs.declared.header_name.HeaderName.{HeaderName}
 use Rattle.sip_message.specs.declared.fault.ReadFault.TheVariants as fault
 use Rattle.sip_headers.specs.Complete.{slot_of, draft_with, fault_in, first_fault, unless_fault, faultless}
 use Rattle.sip_headers.specs.Headers.{Headers}

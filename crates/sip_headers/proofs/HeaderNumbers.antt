@@ -10,10 +10,10 @@ use Rattle.sip_text.proofs.Separators.{and_then_some}
 use Rattle.sip_message.specs.declared.message.Message.{Message}
 use Rattle.sip_message.specs.declared.rack.RAck.{RAck}
 use Rattle.sip_message.specs.declared.via.Via.{Via}
-use Rattle.sip_values.specs.declared.numeral.Numeral.{Numeral}
-use Rattle.sip_values.specs.declared.numeral.Numeral.TheVariants.{Number, NotANumber}
-use Rattle.sip_values.specs.declared.sequence.RAckDraft.{RAckDraft}
-use Rattle.sip_values.specs.declared.via.ViaDraft.{ViaDraft}
+use Rattle.sip_header_values.specs.declared.numeral.Numeral.{Numeral}
+use Rattle.sip_header_values.specs.declared.numeral.Numeral.TheVariants.{Number, NotANumber}
+use Rattle.sip_header_values.specs.declared.sequence.RAckDraft.{RAckDraft}
+use Rattle.sip_header_values.specs.declared.via.ViaDraft.{ViaDraft}
 use Rattle.sip_text.specs.Options.{◌>>=◌}
 use Rattle.sip_headers.specs.Complete.{slot_of, draft_with}
 use Rattle.sip_headers.specs.Headers.{Headers}

@@ -4,8 +4,8 @@ use Rattle.std.specs.List.{AllZip, flat_map}
 use Rattle.std.proofs.lemmas.List.{append-nil}
 use Rattle.std.proofs.lemmas.Option.{same_Some}
 use Rattle.sip_text.proofs.ReadForms.{Reads}
-use Rattle.sip_parts.specs.declared.header_name.HeaderName.TheVariants as name
-use Rattle.sip_values.proofs.Rows.{numeral_reads, party_reads, name_addrs_reads, vias_reads, tokens_reads, call_id_reads, cseq_reads, rack_reads}
+use Rattle.sip_grammar.specs.declared.header_name.HeaderName.TheVariants as name
+use Rattle.sip_header_values.proofs.Rows.{numeral_reads, party_reads, name_addrs_reads, vias_reads, tokens_reads, call_id_reads, cseq_reads, rack_reads}
 use Rattle.sip_headers.specs.Complete.{slot_of, draft_with, faultless}
 use Rattle.sip_headers.specs.Draft.{no_draft, draft_of}
 use Rattle.sip_headers.specs.Headers.{Headers, One, AtMostOne, AreHeaders}

@@ -4,10 +4,10 @@ use Rattle.std.specs.Prelude.{is_none}
 use Rattle.std.specs.List.{AllZip, AllByRecursion}
 use Rattle.std.proofs.lemmas.List.{append-nil}
 use Rattle.std.proofs.lemmas.Option.{same_Some, none-some}
-use Rattle.sip_parts.specs.HeaderEntry.{header_named}
-use Rattle.sip_parts.specs.HeaderValue.{is_header_value}
-use Rattle.sip_parts.specs.OtherName.{is_other_name}
-use Rattle.sip_parts.specs.declared.header_name.HeaderName.{HeaderName}
+use Rattle.sip_grammar.specs.HeaderEntry.{header_named}
+use Rattle.sip_grammar.specs.HeaderValue.{is_header_value}
+use Rattle.sip_grammar.specs.OtherName.{is_other_name}
+use Rattle.sip_grammar.specs.declared.header_name.HeaderName.{HeaderName}
 use Rattle.sip_message.specs.declared.header.Header.{Header}
 use Rattle.sip_headers.specs.Draft.{long_name, other_from, no_draft, draft_of}
 use Rattle.sip_headers.specs.HeaderLine.{class_by_name, class_by_parts, line_from}

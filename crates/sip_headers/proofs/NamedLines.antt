@@ -7,9 +7,9 @@ use Rattle.sip_text.specs.Token.{is_token}
 use Rattle.sip_text.specs.Trimmed.{trimmed, trimmed_end}
 use Rattle.sip_text.specs.declared.separator.Separator.TheVariants.{Byte}
 use Rattle.sip_text.proofs.ReadForms.{Reads, passing_reads, never_reads, of_reads, told_reads, both_reads, cut_reads}
-use Rattle.sip_parts.specs.HeaderEntry.{header_named, is_named}
-use Rattle.sip_parts.specs.HeaderValue.{has_no_line_byte}
-use Rattle.sip_parts.specs.declared.header_name.HeaderName.{HeaderName}
+use Rattle.sip_grammar.specs.HeaderEntry.{header_named, is_named}
+use Rattle.sip_grammar.specs.HeaderValue.{has_no_line_byte}
+use Rattle.sip_grammar.specs.declared.header_name.HeaderName.{HeaderName}
 use Rattle.sip_headers.specs.HeaderLine.{IsHeaderLine, class_by_name, class_by_parts, line_from}
 use Rattle.sip_headers.specs.Headers.{AreHeaders, AreRows, Headers}
 use Rattle.sip_headers.specs.Named.{is_same, others_in, values_of}

@@ -4,10 +4,10 @@ use Rattle.sip_text.specs.Run.{run_before}
 use Rattle.sip_text.specs.Token.{is_token_byte}
 use Rattle.sip_text.specs.declared.separator.Separator.TheVariants.{Byte}
 use Rattle.sip_text.proofs.Runs.{run_found}
-use Rattle.sip_parts.proofs.Characters.{no_colon}
-use Rattle.sip_parts.proofs.Passing.{cut_here, token_passes}
-use Rattle.sip_parts.proofs.PlainRuns.{token_is}
-use Rattle.sip_parts.proofs.WrittenBytes.{solid_end, token_solid}
+use Rattle.sip_grammar.proofs.Characters.{no_colon}
+use Rattle.sip_grammar.proofs.Passing.{cut_here, token_passes}
+use Rattle.sip_grammar.proofs.PlainRuns.{token_is}
+use Rattle.sip_grammar.proofs.WrittenBytes.{solid_end, token_solid}
 use Rattle.sip_headers.specs.HeaderLine.{name_before_colon}
 
 pub name_first : (line : List ℕ) (p : List ℕ × List ℕ) → run_before is_token_byte 58 line ≡ Some p

@@ -6,10 +6,10 @@ use Rattle.std.specs.Cmp.Lexicographic.{pointwise}
 use Rattle.std.specs.Option.{option_map_or}
 use Rattle.std.proofs.lemmas.Option.{same_Some}
 use Rattle.std.proofs.lemmas.Bool.{and_parts, eqb-true, false_from_ne_true, or_cases, true≢false}
-use Rattle.sip_parts.specs.HeaderEntry.{entry, header_named, headers, is_named, is_word_of}
-use Rattle.sip_parts.specs.declared.header_name.HeaderName.{HeaderName}
-use Rattle.sip_parts.specs.declared.header_name.HeaderName.TheVariants as name
-use Rattle.sip_parts.proofs.HeaderNames.{long_names}
+use Rattle.sip_grammar.specs.HeaderEntry.{entry, header_named, headers, is_named, is_word_of}
+use Rattle.sip_grammar.specs.declared.header_name.HeaderName.{HeaderName}
+use Rattle.sip_grammar.specs.declared.header_name.HeaderName.TheVariants as name
+use Rattle.sip_grammar.proofs.HeaderNames.{long_names}
 use Rattle.sip_headers.specs.Named.{is_same}
 
 abbrev lower : List ℕ → List ℕ

@@ -7,11 +7,11 @@ use Rattle.std.proofs.lemmas.Bool.{and_parts}
 use Rattle.sip_text.specs.Character.{is_blank, is_line_byte, is_token_byte}
 use Rattle.sip_text.specs.Token.{is_token}
 use Rattle.sip_text.specs.Trimmed.{trimmed, trimmed_end, trimmed_start}
-use Rattle.sip_parts.proofs.BlankEnds.{trimmed_has_none}
-use Rattle.sip_parts.specs.HeaderEntry.{header_named, is_named}
-use Rattle.sip_parts.specs.HeaderValue.{has_no_blank_ends, has_no_line_byte, is_header_value}
-use Rattle.sip_parts.specs.OtherName.{is_compact_name, is_other_name}
-use Rattle.sip_parts.specs.declared.header_name.HeaderName.{HeaderName}
+use Rattle.sip_grammar.proofs.BlankEnds.{trimmed_has_none}
+use Rattle.sip_grammar.specs.HeaderEntry.{header_named, is_named}
+use Rattle.sip_grammar.specs.HeaderValue.{has_no_blank_ends, has_no_line_byte, is_header_value}
+use Rattle.sip_grammar.specs.OtherName.{is_compact_name, is_other_name}
+use Rattle.sip_grammar.specs.declared.header_name.HeaderName.{HeaderName}
 use Rattle.sip_message.specs.declared.header.Header.{Header}
 use Rattle.sip_headers.specs.Draft.{long_name}
 use Rattle.sip_headers.specs.HeaderLine.{Class, bad, known, other, IsHeaderLine, class_by_name, class_by_parts, class_from, line_from}

@@ -18,13 +18,13 @@ use Rattle.sip_text.specs.Unfolded.{begins_blank}
 use Rattle.sip_text.specs.declared.separator.Separator.TheVariants.{Byte}
 use Rattle.sip_text.proofs.LineParts.{line_takes}
 use Rattle.sip_text.proofs.Runs.{run_found}
-use Rattle.sip_parts.specs.HeaderEntry.{header_named}
-use Rattle.sip_parts.specs.HeaderValue.{has_no_line_byte}
-use Rattle.sip_parts.proofs.Characters.{no_colon}
-use Rattle.sip_parts.proofs.Cuts.{at_again}
-use Rattle.sip_parts.proofs.Passing.{cut_here, token_passes}
-use Rattle.sip_parts.proofs.PlainRuns.{token_is}
-use Rattle.sip_parts.proofs.WrittenBytes.{no_lf, solid_end, solid_line, token_solid}
+use Rattle.sip_grammar.specs.HeaderEntry.{header_named}
+use Rattle.sip_grammar.specs.HeaderValue.{has_no_line_byte}
+use Rattle.sip_grammar.proofs.Characters.{no_colon}
+use Rattle.sip_grammar.proofs.Cuts.{at_again}
+use Rattle.sip_grammar.proofs.Passing.{cut_here, token_passes}
+use Rattle.sip_grammar.proofs.PlainRuns.{token_is}
+use Rattle.sip_grammar.proofs.WrittenBytes.{no_lf, solid_end, solid_line, token_solid}
 use Rattle.sip_headers.specs.Draft.{with_class}
 use Rattle.sip_headers.specs.Steps.Drafted.{drafted_at}
 use Rattle.sip_headers.specs.HeaderLine.{Class, class_by_name, class_from}

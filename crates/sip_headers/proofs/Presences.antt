@@ -2,10 +2,10 @@
 use Rattle.std.proofs.Common.{◌≡◌, ℕ, Bool, false, ◌&&◌, ltb, List, [], ◌∷◌, ◌++◌, length, cond, Option, Some, None, find, refl, sym, ap, ◌∙◌, arith}
 use Rattle.std.specs.List.{AllByRecursion, flat_map, list_any}
 use Rattle.std.proofs.lemmas.Bool.{or_parts, lt-ltb}
-use Rattle.sip_parts.specs.HeaderEntry.{entry, headers, is_needed, is_single}
-use Rattle.sip_parts.specs.declared.header_name.HeaderName.TheVariants as name
-use Rattle.sip_values.specs.ViaValue.{AreVias}
-use Rattle.sip_values.specs.declared.via.ViaDraft.{ViaDraft}
+use Rattle.sip_grammar.specs.HeaderEntry.{entry, headers, is_needed, is_single}
+use Rattle.sip_grammar.specs.declared.header_name.HeaderName.TheVariants as name
+use Rattle.sip_header_values.specs.ViaValue.{AreVias}
+use Rattle.sip_header_values.specs.declared.via.ViaDraft.{ViaDraft}
 use Rattle.sip_headers.specs.Draft.{draft_of}
 use Rattle.sip_headers.specs.Presence.{slot_presence, list_presence, presence_of, is_nowhere, is_repeated, is_unfit, has_bad_header, missing, repeated}
 use Rattle.sip_headers.specs.Section.{IsDraftOf, has_no_values, values}

@@ -1,9 +1,9 @@
 -- A header is unfit in the draft exactly if it has a value that isn't in its form.
 use Rattle.std.proofs.Common.{◌≡◌, ◌<◌, ℕ, zero, suc, true, false, List, [], ◌∷◌, length, get_or, Option, Some, None, sym, subst, arith}
 use Rattle.std.specs.List.{AllZip, AllByRecursion}
-use Rattle.sip_parts.specs.HeaderEntry.{headers}
-use Rattle.sip_parts.specs.declared.header_name.HeaderName.{HeaderName}
-use Rattle.sip_parts.specs.declared.header_name.HeaderName.TheVariants as name
+use Rattle.sip_grammar.specs.HeaderEntry.{headers}
+use Rattle.sip_grammar.specs.declared.header_name.HeaderName.{HeaderName}
+use Rattle.sip_grammar.specs.declared.header_name.HeaderName.TheVariants as name
 use Rattle.sip_headers.specs.Faults.{HasBadValue}
 use Rattle.sip_headers.specs.Presence.{slot_presence, list_presence, presence_of, is_unfit}
 use Rattle.sip_headers.specs.Section.{IsDraftOf, values}

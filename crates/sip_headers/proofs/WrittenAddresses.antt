@@ -13,27 +13,27 @@ use Rattle.sip_text.specs.declared.separator.Separator.TheVariants.{Byte}
 use Rattle.sip_text.specs.declared.separator.Place.TheVariants.{Plain, Bracketed}
 use Rattle.sip_text.proofs.Ends.{trimmed_end-blank}
 use Rattle.sip_text.proofs.Splits.{split_none}
-use Rattle.sip_parts.proofs.BlankEnds.{ends_kept}
-use Rattle.sip_parts.specs.DisplayText.{is_display_text_byte, is_display_text}
-use Rattle.sip_parts.specs.HeaderValue.{has_no_blank_ends, has_no_line_byte}
-use Rattle.sip_parts.specs.PartyDisplay.{is_party_display_byte, is_party_display}
-use Rattle.sip_parts.specs.Tag.{has_good_tag}
-use Rattle.sip_parts.specs.Uri.{is_uri_byte, is_uri}
-use Rattle.sip_parts.specs.declared.parameter.Parameter.{Parameter}
+use Rattle.sip_grammar.proofs.BlankEnds.{ends_kept}
+use Rattle.sip_grammar.specs.DisplayText.{is_display_text_byte, is_display_text}
+use Rattle.sip_grammar.specs.HeaderValue.{has_no_blank_ends, has_no_line_byte}
+use Rattle.sip_grammar.specs.PartyDisplay.{is_party_display_byte, is_party_display}
+use Rattle.sip_grammar.specs.Tag.{has_good_tag}
+use Rattle.sip_grammar.specs.Uri.{is_uri_byte, is_uri}
+use Rattle.sip_grammar.specs.declared.parameter.Parameter.{Parameter}
 use Rattle.sip_message.specs.declared.name_addr.NameAddr.{NameAddr}
 use Rattle.sip_message.specs.declared.party.Party.{Party}
 use Rattle.sip_message.specs.Written.{parameters_text, display_part, address_text}
-use Rattle.sip_values.specs.Address as address
-use Rattle.sip_parts.specs.ParameterValues.{all_parameters}
+use Rattle.sip_header_values.specs.Address as address
+use Rattle.sip_grammar.specs.ParameterValues.{all_parameters}
 use Rattle.sip_message.specs.Rules.{IsParameter, IsParty, IsNameAddr}
-use Rattle.sip_parts.proofs.Blanks.{End, starts_full}
-use Rattle.sip_parts.proofs.Characters.{full_at}
-use Rattle.sip_parts.proofs.Cuts.{all_imply, run_all}
-use Rattle.sip_parts.proofs.Passing.{Passes, both_pass, place_append, cut_here, none_here, class_passes, comma_marks, quoted_begins, quoted_passes, quoted_plain}
-use Rattle.sip_parts.proofs.Pieces.{by_bool}
-use Rattle.sip_parts.proofs.WrittenBytes.{uri_solid, solid_line, solid_kept}
-use Rattle.sip_parts.proofs.TextEnds.{Good, full_cons, end_behind, kept_by, plain_both, end_after, passing_some, trimmed_some, Again, moved}
-use Rattle.sip_parts.proofs.WrittenParameters.{quoted_kept, quoted_trimmed, all_again, parameters_pass, parameters_plain, parameters_end}
+use Rattle.sip_grammar.proofs.Blanks.{End, starts_full}
+use Rattle.sip_grammar.proofs.Characters.{full_at}
+use Rattle.sip_grammar.proofs.Cuts.{all_imply, run_all}
+use Rattle.sip_grammar.proofs.Passing.{Passes, both_pass, place_append, cut_here, none_here, class_passes, comma_marks, quoted_begins, quoted_passes, quoted_plain}
+use Rattle.sip_grammar.proofs.Pieces.{by_bool}
+use Rattle.sip_grammar.proofs.WrittenBytes.{uri_solid, solid_line, solid_kept}
+use Rattle.sip_grammar.proofs.TextEnds.{Good, full_cons, end_behind, kept_by, plain_both, end_after, passing_some, trimmed_some, Again, moved}
+use Rattle.sip_grammar.proofs.WrittenParameters.{quoted_kept, quoted_trimmed, all_again, parameters_pass, parameters_plain, parameters_end}
 
 -- ---- addresses
 

@@ -10,20 +10,20 @@ use Rattle.sip_text.specs.Number.{number_of}
 use Rattle.sip_text.specs.Token.{is_token}
 use Rattle.sip_text.specs.Trimmed.{trimmed}
 use Rattle.sip_text.specs.declared.separator.Separator.TheVariants.{Blank}
-use Rattle.sip_parts.specs.Word.{is_word}
+use Rattle.sip_grammar.specs.Word.{is_word}
 use Rattle.sip_message.specs.declared.cseq.CSeq.{CSeq}
 use Rattle.sip_message.specs.declared.rack.RAck.{RAck}
 use Rattle.sip_message.specs.Written.{cseq_text, rack_text}
-use Rattle.sip_values.specs.declared.numeral.Numeral.TheVariants.{Number}
-use Rattle.sip_values.specs.Numeral.{numeral_from}
-use Rattle.sip_values.specs.Sequence as sequence
+use Rattle.sip_header_values.specs.declared.numeral.Numeral.TheVariants.{Number}
+use Rattle.sip_header_values.specs.Numeral.{numeral_from}
+use Rattle.sip_header_values.specs.Sequence as sequence
 use Rattle.sip_headers.specs.Numbers.{rack_draft}
 use Rattle.sip_message.specs.Rules.{IsRAck}
-use Rattle.sip_parts.proofs.Blanks.{End}
-use Rattle.sip_parts.proofs.Cuts.{run_all}
-use Rattle.sip_parts.proofs.Passing.{Passes, cut_here, class_passes_blank}
-use Rattle.sip_parts.proofs.WrittenBytes.{solid, token_solid, word_solid, digits_solid, solid_line, solid_end, decimal_digits, decimal_value, digits_word}
-use Rattle.sip_parts.proofs.TextEnds.{Good, Full, end_behind, kept_behind, solid_good, plain_both, token_is_full, digits_full, passing_some, trimmed_some, token_kept, Again, moved}
+use Rattle.sip_grammar.proofs.Blanks.{End}
+use Rattle.sip_grammar.proofs.Cuts.{run_all}
+use Rattle.sip_grammar.proofs.Passing.{Passes, cut_here, class_passes_blank}
+use Rattle.sip_grammar.proofs.WrittenBytes.{solid, token_solid, word_solid, digits_solid, solid_line, solid_end, decimal_digits, decimal_value, digits_word}
+use Rattle.sip_grammar.proofs.TextEnds.{Good, Full, end_behind, kept_behind, solid_good, plain_both, token_is_full, digits_full, passing_some, trimmed_some, token_kept, Again, moved}
 
 pub decimal_read : (n : ℕ) → n < 2 ^ 32 → numeral_from (decimal n) ≡ Some (Number n)
 unfolding number_of

@@ -9,13 +9,13 @@ use Rattle.sip_text.specs.Trimmed.{trimmed_end}
 use Rattle.sip_text.specs.declared.separator.Separator.TheVariants.{Byte}
 use Rattle.sip_text.specs.declared.separator.Place.TheVariants.{Plain}
 use Rattle.sip_text.proofs.Splits.{split_some}
-use Rattle.sip_parts.specs.HeaderValue.{has_no_line_byte}
+use Rattle.sip_grammar.specs.HeaderValue.{has_no_line_byte}
 use Rattle.sip_message.specs.Written.{joined}
-use Rattle.sip_values.specs.Sequence as sequence
-use Rattle.sip_parts.proofs.Blanks.{End}
-use Rattle.sip_parts.proofs.Passing.{Passes, both_pass, cut_here, comma_marks, token_passes}
-use Rattle.sip_parts.proofs.WrittenBytes.{token_solid, solid_line, solid_end}
-use Rattle.sip_parts.proofs.TextEnds.{Full, full_cons, end_behind, kept_behind, plain_both, token_is_full, full_front, Again}
+use Rattle.sip_header_values.specs.Sequence as sequence
+use Rattle.sip_grammar.proofs.Blanks.{End}
+use Rattle.sip_grammar.proofs.Passing.{Passes, both_pass, cut_here, comma_marks, token_passes}
+use Rattle.sip_grammar.proofs.WrittenBytes.{token_solid, solid_line, solid_end}
+use Rattle.sip_grammar.proofs.TextEnds.{Full, full_cons, end_behind, kept_behind, plain_both, token_is_full, full_front, Again}
 use Rattle.sip_headers.proofs.WrittenAddresses.{one_of_list}
 use Rattle.sip_headers.proofs.WrittenNumbers.{token_read}
 

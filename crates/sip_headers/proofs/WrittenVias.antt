@@ -7,24 +7,24 @@ use Rattle.sip_text.specs.OpenQuote.{has_open_quote, is_in_quotes}
 use Rattle.sip_text.specs.Trimmed.{trimmed}
 use Rattle.sip_text.specs.declared.separator.Separator.TheVariants.{Byte}
 use Rattle.sip_text.specs.declared.separator.Place.TheVariants.{Plain}
-use Rattle.sip_parts.specs.Host.{is_host}
+use Rattle.sip_grammar.specs.Host.{is_host}
 use Rattle.sip_message.specs.declared.via.Via.{Via}
 use Rattle.sip_message.specs.Written.{parameters_text, port_text, via_text}
-use Rattle.sip_values.specs.declared.numeral.Numeral.TheVariants.{Number}
-use Rattle.sip_values.specs.ViaValue as via
+use Rattle.sip_header_values.specs.declared.numeral.Numeral.TheVariants.{Number}
+use Rattle.sip_header_values.specs.ViaValue as via
 use Rattle.sip_headers.specs.Numbers.{via_draft}
 use Rattle.sip_message.specs.Rules.{IsVia}
-use Rattle.sip_parts.proofs.Blanks.{End}
-use Rattle.sip_parts.proofs.Cuts.{none_of, run_all}
-use Rattle.sip_values.proofs.Hosts.{host_solid, host_passes_comma}
-use Rattle.sip_parts.proofs.Passing.{Passes, both_pass, class_passes, comma_marks}
-use Rattle.sip_values.proofs.Quotes.{place_is}
-use Rattle.sip_values.proofs.Rows.{all_reads, numeral_reads, via_reads}
-use Rattle.sip_parts.proofs.WrittenBytes.{solid, token_solid, solid_both, solid_line, solid_end, decimal_digits}
-use Rattle.sip_parts.proofs.TextEnds.{Full, end_behind, plain_both, end_after, full_front, Again, moved}
+use Rattle.sip_grammar.proofs.Blanks.{End}
+use Rattle.sip_grammar.proofs.Cuts.{none_of, run_all}
+use Rattle.sip_header_values.proofs.Hosts.{host_solid, host_passes_comma}
+use Rattle.sip_grammar.proofs.Passing.{Passes, both_pass, class_passes, comma_marks}
+use Rattle.sip_header_values.proofs.Quotes.{place_is}
+use Rattle.sip_header_values.proofs.Rows.{all_reads, numeral_reads, via_reads}
+use Rattle.sip_grammar.proofs.WrittenBytes.{solid, token_solid, solid_both, solid_line, solid_end, decimal_digits}
+use Rattle.sip_grammar.proofs.TextEnds.{Full, end_behind, plain_both, end_after, full_front, Again, moved}
 use Rattle.sip_headers.proofs.WrittenAddresses.{one_of_list}
 use Rattle.sip_headers.proofs.WrittenNumbers.{decimal_read, decimal_solid}
-use Rattle.sip_parts.proofs.WrittenParameters.{all_again, parameters_pass, parameters_plain, parameters_end}
+use Rattle.sip_grammar.proofs.WrittenParameters.{all_again, parameters_pass, parameters_plain, parameters_end}
 use Rattle.sip_headers.proofs.WrittenTokens.{token_passes_comma}
 
 host_full : (host : List ℕ) → is_host host ≡ true → Full host

@@ -1,15 +1,15 @@
 -- The header lines of a message, by header (RFC 3261, section 7.3).
 use Rattle.std.specs.Prelude.{ℕ, true, false, List, [], ◌∷◌, Option, Some, None, codes, fold, if◌then◌else◌}
 use Rattle.std.specs.Str.{str_eq_ignore_ascii_case}
-use Rattle.sip_parts.specs.HeaderValue.{is_header_value}
-use Rattle.sip_parts.specs.OtherName.{is_other_name}
-use Rattle.sip_parts.specs.declared.header_name.HeaderName.{HeaderName}
-use Rattle.sip_parts.specs.declared.header_name.HeaderName.TheVariants as name
+use Rattle.sip_grammar.specs.HeaderValue.{is_header_value}
+use Rattle.sip_grammar.specs.OtherName.{is_other_name}
+use Rattle.sip_grammar.specs.declared.header_name.HeaderName.{HeaderName}
+use Rattle.sip_grammar.specs.declared.header_name.HeaderName.TheVariants as name
 use Rattle.sip_message.specs.declared.header.Header.{Header}
-use Rattle.sip_values.specs.Address.{name_addrs_from, party_from}
-use Rattle.sip_values.specs.Numeral.{numeral_from}
-use Rattle.sip_values.specs.Sequence.{call_id_from, cseq_from, rack_from, tokens_from}
-use Rattle.sip_values.specs.ViaValue.{vias_from}
+use Rattle.sip_header_values.specs.Address.{name_addrs_from, party_from}
+use Rattle.sip_header_values.specs.Numeral.{numeral_from}
+use Rattle.sip_header_values.specs.Sequence.{call_id_from, cseq_from, rack_from, tokens_from}
+use Rattle.sip_header_values.specs.ViaValue.{vias_from}
 use Rattle.sip_headers.specs.HeaderLine.{Class, bad, known, other, class_from}
 use Rattle.sip_headers.specs.Slot.{met, listed}
 use Rattle.sip_headers.specs.declared.draft.Draft.{Draft}

@@ -2,15 +2,15 @@
 -- 3261, sections 7.3 and 8.1.1).
 use Rattle.std.specs.Prelude.{◌≡◌, ◌<◌, ◌⊎◌, ℕ, List, [], ◌∷◌, ◌++◌, map, length, Result, Ok, Err}
 use Rattle.std.specs.List.{AllByRecursion}
-use Rattle.sip_parts.specs.HeaderEntry.{headers_where, is_needed, is_single}
-use Rattle.sip_parts.specs.declared.header_name.HeaderName.{HeaderName}
-use Rattle.sip_parts.specs.declared.header_name.HeaderName.TheVariants as name
+use Rattle.sip_grammar.specs.HeaderEntry.{headers_where, is_needed, is_single}
+use Rattle.sip_grammar.specs.declared.header_name.HeaderName.{HeaderName}
+use Rattle.sip_grammar.specs.declared.header_name.HeaderName.TheVariants as name
 use Rattle.sip_message.specs.declared.fault.ReadFault.{ReadFault}
 use Rattle.sip_message.specs.declared.fault.ReadFault.TheVariants as fault
-use Rattle.sip_values.specs.Address.{AreNameAddrs, IsPartyText}
-use Rattle.sip_values.specs.Numeral.{IsNumeral}
-use Rattle.sip_values.specs.Sequence.{AreTokens, IsCallId, IsCSeqText, IsRAckText}
-use Rattle.sip_values.specs.ViaValue.{AreVias}
+use Rattle.sip_header_values.specs.Address.{AreNameAddrs, IsPartyText}
+use Rattle.sip_header_values.specs.Numeral.{IsNumeral}
+use Rattle.sip_header_values.specs.Sequence.{AreTokens, IsCallId, IsCSeqText, IsRAckText}
+use Rattle.sip_header_values.specs.ViaValue.{AreVias}
 use Rattle.sip_headers.specs.HeaderLine.{IsHeaderLine}
 use Rattle.sip_headers.specs.Named.{OfHeaderLines, values_of}
 use Rattle.sip_headers.specs.Slot.{HasBad}

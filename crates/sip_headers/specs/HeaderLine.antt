@@ -4,9 +4,9 @@ use Rattle.sip_text.specs.Forms.{Passing, passing, Never, never, Of, reading_of,
 use Rattle.sip_text.specs.Token.{is_token}
 use Rattle.sip_text.specs.Trimmed.{trimmed, trimmed_end}
 use Rattle.sip_text.specs.declared.separator.Separator.TheVariants.{Byte}
-use Rattle.sip_parts.specs.HeaderEntry.{header_named}
-use Rattle.sip_parts.specs.HeaderValue.{has_no_line_byte}
-use Rattle.sip_parts.specs.declared.header_name.HeaderName.{HeaderName}
+use Rattle.sip_grammar.specs.HeaderEntry.{header_named}
+use Rattle.sip_grammar.specs.HeaderValue.{has_no_line_byte}
+use Rattle.sip_grammar.specs.declared.header_name.HeaderName.{HeaderName}
 use Rattle.sip_headers.specs.declared.header_line.LineClass.{LineClass}
 use Rattle.sip_headers.specs.declared.header_line.LineClass.TheVariants as declared
 

@@ -3,21 +3,21 @@
 use Rattle.std.specs.Prelude.{◌≡◌, ℕ, IsTrue, List, [], ◌∷◌, Option}
 use Rattle.std.specs.List.{AllZip}
 use Rattle.std.specs.Option.{option_to_list}
-use Rattle.sip_parts.specs.HeaderValue.{is_header_value}
-use Rattle.sip_parts.specs.OtherName.{is_other_name}
-use Rattle.sip_parts.specs.declared.header_name.HeaderName.{HeaderName}
-use Rattle.sip_parts.specs.declared.header_name.HeaderName.TheVariants as name
+use Rattle.sip_grammar.specs.HeaderValue.{is_header_value}
+use Rattle.sip_grammar.specs.OtherName.{is_other_name}
+use Rattle.sip_grammar.specs.declared.header_name.HeaderName.{HeaderName}
+use Rattle.sip_grammar.specs.declared.header_name.HeaderName.TheVariants as name
 use Rattle.sip_message.specs.declared.header.Header.{Header}
 use Rattle.sip_message.specs.declared.name_addr.NameAddr.{NameAddr}
 use Rattle.sip_message.specs.declared.party.Party.{Party}
-use Rattle.sip_values.specs.Address.{AreNameAddrs, IsPartyText}
-use Rattle.sip_values.specs.Numeral.{IsNumeral}
-use Rattle.sip_values.specs.Sequence.{AreTokens, IsCallId, IsCSeqText, IsRAckText}
-use Rattle.sip_values.specs.ViaValue.{AreVias}
-use Rattle.sip_values.specs.declared.numeral.Numeral.{Numeral}
-use Rattle.sip_values.specs.declared.sequence.CSeqDraft.{CSeqDraft}
-use Rattle.sip_values.specs.declared.sequence.RAckDraft.{RAckDraft}
-use Rattle.sip_values.specs.declared.via.ViaDraft.{ViaDraft}
+use Rattle.sip_header_values.specs.Address.{AreNameAddrs, IsPartyText}
+use Rattle.sip_header_values.specs.Numeral.{IsNumeral}
+use Rattle.sip_header_values.specs.Sequence.{AreTokens, IsCallId, IsCSeqText, IsRAckText}
+use Rattle.sip_header_values.specs.ViaValue.{AreVias}
+use Rattle.sip_header_values.specs.declared.numeral.Numeral.{Numeral}
+use Rattle.sip_header_values.specs.declared.sequence.CSeqDraft.{CSeqDraft}
+use Rattle.sip_header_values.specs.declared.sequence.RAckDraft.{RAckDraft}
+use Rattle.sip_header_values.specs.declared.via.ViaDraft.{ViaDraft}
 use Rattle.sip_headers.specs.Draft.{long_name}
 use Rattle.sip_headers.specs.Named.{OfHeaderLines, others_in, values_of}
 use Rattle.sip_headers.specs.Slot.{Many}

@@ -1,9 +1,9 @@
 -- Header lines by their names (RFC 3261, sections 7.3.1 and 7.3.3).
 use Rattle.std.specs.Prelude.{ℕ, Bool, true, false, List, map, is_none}
 use Rattle.std.specs.List.{AllZip, filter}
-use Rattle.sip_parts.specs.HeaderEntry.{header_named, is_named}
-use Rattle.sip_parts.specs.declared.header_name.HeaderName.{HeaderName}
-use Rattle.sip_parts.specs.declared.header_name.HeaderName.TheVariants as name
+use Rattle.sip_grammar.specs.HeaderEntry.{header_named, is_named}
+use Rattle.sip_grammar.specs.declared.header_name.HeaderName.{HeaderName}
+use Rattle.sip_grammar.specs.declared.header_name.HeaderName.TheVariants as name
 use Rattle.sip_headers.specs.HeaderLine.{IsHeaderLine}
 
 -- the same header of the table

@@ -6,10 +6,10 @@ use Rattle.sip_message.specs.declared.message.Message.{Message}
 use Rattle.sip_message.specs.declared.rack.RAck.{RAck}
 use Rattle.sip_message.specs.declared.start_line.StartLine.{StartLine}
 use Rattle.sip_message.specs.declared.via.Via.{Via}
-use Rattle.sip_values.specs.declared.numeral.Numeral.{Numeral}
-use Rattle.sip_values.specs.declared.numeral.Numeral.TheVariants.{Number, NotANumber}
-use Rattle.sip_values.specs.declared.sequence.RAckDraft.{RAckDraft}
-use Rattle.sip_values.specs.declared.via.ViaDraft.{ViaDraft}
+use Rattle.sip_header_values.specs.declared.numeral.Numeral.{Numeral}
+use Rattle.sip_header_values.specs.declared.numeral.Numeral.TheVariants.{Number, NotANumber}
+use Rattle.sip_header_values.specs.declared.sequence.RAckDraft.{RAckDraft}
+use Rattle.sip_header_values.specs.declared.via.ViaDraft.{ViaDraft}
 use Rattle.sip_text.specs.Options.{◌>>=◌}
 use Rattle.sip_headers.specs.Complete.{once}
 use Rattle.sip_headers.specs.Headers.{Headers}

@@ -1,9 +1,9 @@
 -- Headers that are missing, or occur more often than they may (RFC 3261, sections 7.3.1 and 8.1.1).
 use Rattle.std.specs.Prelude.{Bool, true, false, ◌&&◌, ◌||◌, List, [], ◌∷◌, Option, Some, None, find, is_none}
 use Rattle.std.specs.List.{list_any}
-use Rattle.sip_parts.specs.HeaderEntry.{entry, headers, is_needed}
-use Rattle.sip_parts.specs.declared.header_name.HeaderName.{HeaderName}
-use Rattle.sip_parts.specs.declared.header_name.HeaderName.TheVariants as name
+use Rattle.sip_grammar.specs.HeaderEntry.{entry, headers, is_needed}
+use Rattle.sip_grammar.specs.declared.header_name.HeaderName.{HeaderName}
+use Rattle.sip_grammar.specs.declared.header_name.HeaderName.TheVariants as name
 use Rattle.sip_headers.specs.declared.draft.Draft.{Draft}
 use Rattle.sip_headers.specs.declared.faults.Presence.{Presence}
 use Rattle.sip_headers.specs.declared.faults.Presence.TheVariants.{Nowhere, Fitting, Repeated, Unfit}

@@ -1,13 +1,13 @@
 -- What the header lines of a message say together (RFC 3261, section 7.3): the values of each
 -- header, in order.
 use Rattle.std.specs.Prelude.{◌≡◌, ℕ, Bool, true, false, List, [], ◌∷◌, Option, find, length, nat_lt, ◌&&◌, if◌then◌else◌}
-use Rattle.sip_parts.specs.HeaderEntry.{entry, headers, is_needed, is_single}
-use Rattle.sip_parts.specs.declared.header_name.HeaderName.{HeaderName}
-use Rattle.sip_parts.specs.declared.header_name.HeaderName.TheVariants as name
-use Rattle.sip_values.specs.Address.{AreNameAddrs, IsPartyText}
-use Rattle.sip_values.specs.Numeral.{IsNumeral}
-use Rattle.sip_values.specs.Sequence.{AreTokens, IsCallId, IsCSeqText, IsRAckText}
-use Rattle.sip_values.specs.ViaValue.{AreVias}
+use Rattle.sip_grammar.specs.HeaderEntry.{entry, headers, is_needed, is_single}
+use Rattle.sip_grammar.specs.declared.header_name.HeaderName.{HeaderName}
+use Rattle.sip_grammar.specs.declared.header_name.HeaderName.TheVariants as name
+use Rattle.sip_header_values.specs.Address.{AreNameAddrs, IsPartyText}
+use Rattle.sip_header_values.specs.Numeral.{IsNumeral}
+use Rattle.sip_header_values.specs.Sequence.{AreTokens, IsCallId, IsCSeqText, IsRAckText}
+use Rattle.sip_header_values.specs.ViaValue.{AreVias}
 use Rattle.sip_headers.specs.HeaderLine.{Class, bad, known, other, class_from}
 use Rattle.sip_headers.specs.Named.{is_same}
 use Rattle.sip_headers.specs.Slot.{IsSlot, IsList}

@@ -1,7 +1,7 @@
 //! All header lines of a message, by header.
 ghost use Rattle.std.specs.Prelude.{◌≡◌, ℕ, List, [], ◌∷◌, IfOk, IsTrue, OnOk, Some, true, is_some};
-ghost use Rattle.sip_parts.specs.HeaderValue.{is_header_value};
-ghost use Rattle.sip_parts.specs.OtherName.{is_other_name};
+ghost use Rattle.sip_grammar.specs.HeaderValue.{is_header_value};
+ghost use Rattle.sip_grammar.specs.OtherName.{is_other_name};
 ghost use Rattle.sip_headers.specs.Complete as complete;
 ghost use Rattle.sip_headers.specs.Draft as drafts;
 ghost use Rattle.sip_headers.specs.HeaderLine.{class_from, class_now};
@@ -10,13 +10,13 @@ ghost use Rattle.sip_headers.specs.Numbers as numbered;
 use crate::header_line::{LineClass, class_of};
 use crate::numbers::{Numbers, rack_with};
 use crate::slot::{Slot, read_list, read_once};
-use sip_message::{CSeq, Header, Message, NameAddr, Party, StartLine, Vias};
-use sip_parts::{CallId, HeaderName, HeaderValue, OtherName, Token};
-use sip_text::{Series, Text, token_eq};
-use sip_values::{
+use sip_grammar::{CallId, HeaderName, HeaderValue, OtherName, Token};
+use sip_header_values::{
     AddressListRow, CSeqDraft, CSeqRow, CallIdRow, NumberRow, Numeral, PartyRow, RAckDraft,
     RAckRow, TokenListRow, ViaDraft, ViaListRow,
 };
+use sip_message::{CSeq, Header, Message, NameAddr, Party, StartLine, Vias};
+use sip_text::{Series, Text, token_eq};
 use std::alloc::{AllocError, Global};
 
 /// What the header lines of a message say so far. A list is None if one of its lines isn't in the

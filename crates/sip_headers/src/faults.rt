@@ -3,13 +3,13 @@ ghost use Rattle.std.specs.Prelude.{◌≡◌, find, ◌&&◌, IfNone, is_some};
 ghost use Rattle.sip_headers.specs.Complete as complete;
 ghost use Rattle.sip_headers.specs.Steps.OneLook as one_look;
 ghost use Rattle.std.specs.List.{list_any};
-ghost use Rattle.sip_parts.specs.HeaderEntry as table;
+ghost use Rattle.sip_grammar.specs.HeaderEntry as table;
 ghost use Rattle.sip_headers.specs.Presence as presence;
 
 use crate::draft::Draft;
 use crate::slot::Slot;
+use sip_grammar::{HeaderKind, HeaderName};
 use sip_message::ReadFault;
-use sip_parts::{HeaderKind, HeaderName};
 use sip_text::Series;
 
 /// How often a header was found.

@@ -3,10 +3,10 @@ ghost use Rattle.std.specs.Prelude.{◌≡◌, IfSome};
 ghost use Rattle.std.specs.Option.{option_copied};
 ghost use Rattle.sip_headers.specs.HeaderLine as header_lines;
 ghost use Rattle.sip_headers.specs.Steps.PlainLine as plain;
-ghost use Rattle.sip_parts.specs.HeaderEntry.{header_named};
+ghost use Rattle.sip_grammar.specs.HeaderEntry.{header_named};
 ghost use Rattle.sip_text.specs.Cut.{both_now};
 
-use sip_parts::{HeaderName, has_no_line_byte};
+use sip_grammar::{HeaderName, has_no_line_byte};
 use sip_text::{
     Separator, TokenBytes, begins_blank, find_either, is_token, run_before, trimmed, trimmed_end,
 };

@@ -5,9 +5,9 @@ ghost use Rattle.sip_headers.specs.Numbers as numbered;
 
 use crate::draft::Draft;
 use crate::slot::Slot;
+use sip_header_values::{Numeral, RAckDraft, ViaDraft};
 use sip_message::{RAck, Via};
 use sip_text::Series;
-use sip_values::{Numeral, RAckDraft, ViaDraft};
 use std::alloc::{AllocError, Global};
 
 /// The numbers of a message, without the ports of its Via values.

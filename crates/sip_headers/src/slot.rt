@@ -2,8 +2,8 @@
 ghost use Rattle.std.specs.Prelude.{◌≡◌, ◌++◌, IfOk, OnOk};
 ghost use Rattle.sip_headers.specs.Slot as slots;
 
+use sip_header_values::Row;
 use sip_text::Series;
-use sip_values::Row;
 use std::alloc::{AllocError, Global};
 
 /// The value of a header that may occur once, by its lines so far.

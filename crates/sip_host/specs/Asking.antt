@@ -1,14 +1,14 @@
 -- Commands that a host makes of fields, and the headers that are given before one.
 use Rattle.std.specs.Prelude.{◌≡◌, ◌⊎◌, ◌<◌, ◌≤◌, ℕ, ◌+◌, Bool, ◌&&◌, true, List, [], ◌∷◌, ◌++◌, length, Option, None, Some, IfOk, IfSome, IsSome, IsSomeAnd, IsTrue, OnErr, OnOk, Result, Err, nat_le, if◌then◌else◌}
 use Rattle.sip_text.specs.Token.{is_token}
-use Rattle.sip_parts.specs.Reason.{is_reason}
-use Rattle.sip_parts.specs.Uri.{is_uri}
-use Rattle.sip_parts.specs.Word.{is_word}
+use Rattle.sip_grammar.specs.Reason.{is_reason}
+use Rattle.sip_grammar.specs.Uri.{is_uri}
+use Rattle.sip_grammar.specs.Word.{is_word}
 use Rattle.sip_message.specs.Content.{content_of_body}
 use Rattle.sip_message.specs.declared.id.Id.{Id}
-use Rattle.sip_common.specs.declared.command.DialogBody.{DialogBody}
-use Rattle.sip_common.specs.declared.command.UserCommand.{UserCommand}
-use Rattle.sip_common.specs.declared.command.UserCommand.TheVariants as command
+use Rattle.sip_user.specs.declared.command.DialogBody.{DialogBody}
+use Rattle.sip_user.specs.declared.command.UserCommand.{UserCommand}
+use Rattle.sip_user.specs.declared.command.UserCommand.TheVariants as command
 use Rattle.sip_round.specs.declared.round.Event.TheVariants.{Command}
 use Rattle.sip_files.specs.Given.{IsGiven, with_given}
 use Rattle.sip_files.specs.Written.{header_text}

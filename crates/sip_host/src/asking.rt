@@ -1,7 +1,7 @@
 //! Commands made of fields. Each rule is tested before any memory is taken.
 
 ghost use Rattle.std.specs.Prelude.{◌≡◌, Err, IfOk, IsTrue, Ok, if◌then◌else◌};
-ghost use Rattle.sip_parts.specs.Word.{is_word};
+ghost use Rattle.sip_grammar.specs.Word.{is_word};
 ghost use Rattle.sip_message.specs.Content.{content_of_body};
 ghost use Rattle.sip_host.specs.Asking as asking;
 ghost use Rattle.sip_host.specs.declared.host_fault.HostFault.TheVariants as fault;
@@ -11,10 +11,10 @@ use crate::fields::{
     BodyFields, CancelFields, InviteFields, PlainFields, RequestFields, RespondFields,
 };
 use crate::host_fault::HostFault;
+use sip_grammar::{has_no_line_byte, is_uri, is_word};
 use sip_message::{CallId, Content, Reason, Token, Uri};
-use sip_parts::{has_no_line_byte, is_uri, is_word};
-use sip_served::{Cancel, DialogBody, DialogRequest, Invite, Plain, Respond, UserCommand};
 use sip_text::{Series, Text, is_token};
+use sip_user::{Cancel, DialogBody, DialogRequest, Invite, Plain, Respond, UserCommand};
 use std::alloc::{AllocError, Global};
 
 /// The lowest and the highest status of a response that the user can send.

@@ -1,7 +1,7 @@
 //! The fields of commands, as texts that a host hasn't checked.
 
 use sip_message::{Addr, Id};
-use sip_served::{ProvisionalSupport, Reliability};
+use sip_user::{ProvisionalSupport, Reliability};
 
 /// The fields of a first INVITE, which goes to an address.
 #[derive(Clone, Copy)]

@@ -11,7 +11,7 @@ ghost use Rattle.sip_round.specs.declared.config.Config.{Config as AConfig};
 ghost use Rattle.sip_round.specs.declared.round.Round.{Round as ARound};
 ghost use Rattle.sip_reader.specs.Head.{HasHeaderLines};
 ghost use Rattle.sip_reader.specs.declared.first_line.FirstLine.{FirstLine as AFirstLine};
-ghost use Rattle.sip_common.specs.declared.command.UserCommand.{UserCommand as AUserCommand};
+ghost use Rattle.sip_user.specs.declared.command.UserCommand.{UserCommand as AUserCommand};
 ghost use Rattle.sip_files.specs.Given.{with_given};
 ghost use Rattle.sip_round.specs.declared.round.Event.TheVariants.{Command};
 ghost use Rattle.sip_host.specs.Asking.{Makes, TakesCommand, TakesHeader, ack_of, cancel_of, invite_of, plain_of, prack_of, request_of, respond_of, without_headers};
@@ -40,8 +40,8 @@ use sip_reader::{FirstLine, HeaderLine, header_lines, header_values, start_line}
 use sip_round::{
     Agent, Config, Event, MAX_EVENTS_OF_ROUND, NoMemory, PlacedOutput, Round, datagram_at, event_at,
 };
-use sip_served::UserCommand;
 use sip_text::{Series, Text};
+use sip_user::UserCommand;
 use std::alloc::{AllocError, Global};
 use std::mem;
 

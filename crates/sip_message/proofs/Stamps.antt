@@ -9,18 +9,18 @@ use Rattle.std.proofs.lemmas.Bool.{and_from, false_from_ne_true, or_right}
 use Rattle.std.proofs.lemmas.Fmt.{decimal_nonempty}
 use Rattle.sip_text.proofs.Numerals.{decimal_digits}
 use Rattle.sip_text.proofs.Runs.{run_from_all}
-use Rattle.sip_parts.specs.declared.parameter.Parameter.{Parameter}
+use Rattle.sip_grammar.specs.declared.parameter.Parameter.{Parameter}
 use Rattle.sip_message.specs.declared.via.Via.{Via}
 use Rattle.sip_text.specs.Parameter.{is_value_byte, is_value_word, is_parameter_value}
 use Rattle.sip_text.specs.Quoted.{is_quoted}
 use Rattle.sip_message.specs.Ip.{ip_text}
-use Rattle.sip_parts.specs.Parameters.{parameter_named, value_named, value_or_nothing}
+use Rattle.sip_grammar.specs.Parameters.{parameter_named, value_named, value_or_nothing}
 use Rattle.sip_message.specs.Via.{branch_of, has_cookie, are_vias, with_top_parameters, first_branch}
 use Rattle.std.specs.List.{slice_get}
 use Rattle.std.proofs.lemmas.Option.{same_Some}
 use Rattle.sip_message.specs.Source.{with_value, asks_port, with_received, with_port, stamped_parameters, stamped_via}
 use Rattle.sip_message.specs.declared.addr.Addr.{Addr}
-use Rattle.sip_parts.proofs.Bytes.{none_of, all_weaker}
+use Rattle.sip_grammar.proofs.Bytes.{none_of, all_weaker}
 
 digit_value_byte : (b : ℕ) → is_ascii_digit b ≡ true → is_value_byte b ≡ true
 unfolding is_value_byte

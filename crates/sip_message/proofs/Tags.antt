@@ -3,9 +3,9 @@ use Rattle.std.proofs.Common.{◌≡◌, ℕ, Bool, true, false, cond, List, [],
 use Rattle.std.specs.Prelude.{find}
 use Rattle.std.specs.Str.{str_eq_ignore_ascii_case}
 use Rattle.sip_text.specs.Token.{is_token}
-use Rattle.sip_parts.specs.declared.parameter.Parameter.{Parameter}
-use Rattle.sip_parts.specs.Parameters.{parameter_named}
-use Rattle.sip_parts.specs.Tag.{has_good_tag, is_good_tag}
+use Rattle.sip_grammar.specs.declared.parameter.Parameter.{Parameter}
+use Rattle.sip_grammar.specs.Parameters.{parameter_named}
+use Rattle.sip_grammar.specs.Tag.{has_good_tag, is_good_tag}
 use Rattle.sip_message.specs.Response.{tag_parameter}
 
 step : {X : Type 0} (p : X → Bool) (x : X) (xs : List X) (y : X) (b : Bool)

@@ -1,6 +1,6 @@
 -- The faults of reading as text.
 use Rattle.std.specs.Prelude.{ℕ, List, ◌++◌, codes}
-use Rattle.sip_parts.specs.HeaderName.{header_name}
+use Rattle.sip_grammar.specs.HeaderName.{header_name}
 use Rattle.sip_message.specs.declared.fault.ReadFault.{ReadFault}
 use Rattle.sip_message.specs.declared.fault.ReadFault.TheVariants.{TooLong, NoEmptyLine, BadStartLine, BadHeader, Missing, Repeated, BadNumber, OldBranch, MethodMismatch, Truncated, NoMemory}
 

@@ -1,8 +1,8 @@
 -- From and To (RFC 3261, sections 19.3, 20.20 and 20.39).
 use Rattle.std.specs.Prelude.{ℕ, List, [], ◌∷◌, Option, Some, None, codes}
-use Rattle.sip_parts.specs.declared.parameter.Parameter.{Parameter}
+use Rattle.sip_grammar.specs.declared.parameter.Parameter.{Parameter}
 use Rattle.sip_message.specs.declared.party.Party.{Party}
-use Rattle.sip_parts.specs.Tag.{tag_in}
+use Rattle.sip_grammar.specs.Tag.{tag_in}
 
 -- the tag, empty if there is none
 abbrev pub tag_of : Party → List ℕ

@@ -1,11 +1,11 @@
 -- The response that is made from a request (RFC 3261, section 8.2.6.2).
 use Rattle.std.specs.Prelude.{ℕ, Bool, List, [], ◌∷◌, ◌++◌, Some, codes, ◌==◌, is_some, if◌then◌else◌}
-use Rattle.sip_parts.specs.declared.parameter.Parameter.{Parameter}
+use Rattle.sip_grammar.specs.declared.parameter.Parameter.{Parameter}
 use Rattle.sip_message.specs.declared.party.Party.{Party}
 use Rattle.sip_message.specs.declared.start_line.StartLine.TheVariants.{Response}
 use Rattle.sip_message.specs.declared.message.Message.{Message}
 use Rattle.sip_message.specs.Message.{bare}
-use Rattle.sip_parts.specs.Parameters.{parameter_named}
+use Rattle.sip_grammar.specs.Parameters.{parameter_named}
 
 -- the parameter `tag` of this value
 abbrev pub tag_parameter : List ℕ → Parameter

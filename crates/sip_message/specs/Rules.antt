@@ -2,16 +2,16 @@
 use Rattle.std.specs.Prelude.{◌≤◌, ◌<◌, ◌^◌, IsTrue, IfSome}
 use Rattle.std.specs.List.{AllByRecursion}
 use Rattle.sip_text.specs.Token.{is_token}
-use Rattle.sip_parts.specs.DisplayText.{is_display_text}
-use Rattle.sip_parts.specs.HeaderValue.{is_header_value}
-use Rattle.sip_parts.specs.Host.{is_host}
-use Rattle.sip_parts.specs.OtherName.{is_other_name}
-use Rattle.sip_parts.specs.PartyDisplay.{is_party_display}
-use Rattle.sip_parts.specs.Reason.{is_reason}
-use Rattle.sip_parts.specs.Tag.{has_good_tag}
-use Rattle.sip_parts.specs.Uri.{is_uri}
-use Rattle.sip_parts.specs.Word.{is_word}
-pub use Rattle.sip_parts.specs.ParameterRules.{IsParameter}
+use Rattle.sip_grammar.specs.DisplayText.{is_display_text}
+use Rattle.sip_grammar.specs.HeaderValue.{is_header_value}
+use Rattle.sip_grammar.specs.Host.{is_host}
+use Rattle.sip_grammar.specs.OtherName.{is_other_name}
+use Rattle.sip_grammar.specs.PartyDisplay.{is_party_display}
+use Rattle.sip_grammar.specs.Reason.{is_reason}
+use Rattle.sip_grammar.specs.Tag.{has_good_tag}
+use Rattle.sip_grammar.specs.Uri.{is_uri}
+use Rattle.sip_grammar.specs.Word.{is_word}
+pub use Rattle.sip_grammar.specs.ParameterRules.{IsParameter}
 use Rattle.sip_message.specs.Via.{are_vias}
 use Rattle.sip_message.specs.declared.header.Header.{Header}
 use Rattle.sip_message.specs.declared.message.Message.{Message}

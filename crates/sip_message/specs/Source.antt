@@ -4,9 +4,9 @@ use Rattle.std.specs.Prelude.{Bool, false, List, [], ◌∷◌, Option, Some, No
 use Rattle.std.specs.Option.{option_map_or}
 use Rattle.std.specs.Str.{bytes_eq}
 use Rattle.sip_message.specs.declared.addr.Addr.{Addr}
-use Rattle.sip_parts.specs.Parameters.{parameter_named}
-pub use Rattle.sip_parts.specs.Parameters.{with_value}
-use Rattle.sip_parts.specs.declared.parameter.Parameter.{Parameter}
+use Rattle.sip_grammar.specs.Parameters.{parameter_named}
+pub use Rattle.sip_grammar.specs.Parameters.{with_value}
+use Rattle.sip_grammar.specs.declared.parameter.Parameter.{Parameter}
 use Rattle.sip_message.specs.declared.via.Via.{Via}
 use Rattle.sip_message.specs.declared.message.Message.{Message}
 use Rattle.sip_message.specs.Ip.{ip_text}

@@ -1,9 +1,9 @@
 -- Via values (RFC 3261, sections 8.1.1.7 and 20.42).
 use Rattle.std.specs.Prelude.{ℕ, Bool, false, List, [], ◌∷◌, codes, take}
 use Rattle.std.specs.Str.{str_eq_ignore_ascii_case}
-use Rattle.sip_parts.specs.declared.parameter.Parameter.{Parameter}
+use Rattle.sip_grammar.specs.declared.parameter.Parameter.{Parameter}
 use Rattle.sip_message.specs.declared.via.Via.{Via}
-use Rattle.sip_parts.specs.Parameters.{value_named}
+use Rattle.sip_grammar.specs.Parameters.{value_named}
 
 -- the branch, empty if there is none
 abbrev pub branch_of : Via → List ℕ

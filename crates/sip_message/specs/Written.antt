@@ -1,8 +1,8 @@
 -- The one text that is written for a message (RFC 3261, sections 7 and 20).
 use Rattle.std.specs.Prelude.{ℕ, List, [], ◌∷◌, ◌++◌, Option, Some, None, codes, decimal, length}
 use Rattle.std.specs.List.{flat_map}
-use Rattle.sip_parts.specs.declared.parameter.Parameter.{Parameter}
-pub use Rattle.sip_parts.specs.WrittenParameters.{value_text, parameter_text, parameters_text}
+use Rattle.sip_grammar.specs.declared.parameter.Parameter.{Parameter}
+pub use Rattle.sip_grammar.specs.WrittenParameters.{value_text, parameter_text, parameters_text}
 use Rattle.sip_message.specs.declared.via.Via.{Via}
 use Rattle.sip_message.specs.declared.name_addr.NameAddr.{NameAddr}
 use Rattle.sip_message.specs.declared.party.Party.{Party}

@@ -6,7 +6,7 @@ ghost use Rattle.sip_message.specs.Content as spec;
 use crate::header::Header;
 use crate::message::Message;
 use crate::name_addr::NameAddr;
-use sip_parts::{HeaderValue, OtherName, Token};
+use sip_grammar::{HeaderValue, OtherName, Token};
 use sip_text::{Boxed, Series, Text, token_eq};
 use std::alloc::{AllocError, Global};
 use std::marker::Model;
@@ -211,7 +211,7 @@ fn is_content_type(header: &Header) -> bool
     token_eq(header.name.as_slice(), b"Content-Type")
 }
 
-#[tactic(auto, unfolding(sip_parts::specs::HeaderValue::is_header_value))]
+#[tactic(auto, unfolding(sip_grammar::specs::HeaderValue::is_header_value))]
 fn content_type(alloc: Global) -> Result<Header, AllocError>
     ensures { IfOk result (λ header. header ≡ spec.content_type) }
 {

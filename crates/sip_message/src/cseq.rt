@@ -1,7 +1,7 @@
 //! The CSeq (RFC 3261, section 20.16).
 ghost use Rattle.std.specs.Prelude.{◌≡◌};
 
-use sip_parts::Token;
+use sip_grammar::Token;
 use std::alloc::AllocError;
 
 /// A sequence number and a method.

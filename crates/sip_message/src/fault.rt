@@ -2,7 +2,7 @@
 ghost use Rattle.std.specs.Prelude.{◌≡◌, Some};
 ghost use Rattle.sip_message.specs.Fault.{fault_name, fault_text};
 
-use sip_parts::HeaderName;
+use sip_grammar::HeaderName;
 use std::alloc::{AllocError, AllocFailed};
 use std::fmt;
 

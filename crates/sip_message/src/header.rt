@@ -1,7 +1,7 @@
 //! Headers that are kept as they are (RFC 3261, section 7.3.1).
 ghost use Rattle.std.specs.Prelude.{◌≡◌};
 
-use sip_parts::{HeaderValue, OtherName};
+use sip_grammar::{HeaderValue, OtherName};
 use std::alloc::AllocError;
 
 /// A header that isn't parsed into a field of its own.

@@ -7,7 +7,7 @@ use crate::cseq::CSeq;
 use crate::message::{MAX_FORWARDS, Message};
 use crate::party::Party;
 use crate::vias::Vias;
-use sip_parts::Token;
+use sip_grammar::Token;
 use sip_text::Series;
 use std::alloc::{AllocError, Global};
 

@@ -8,7 +8,7 @@ ghost use Rattle.sip_message.specs.Key as keys;
 
 use crate::sent_by::SentBy;
 use crate::shared_key::SharedKey;
-use sip_parts::{LowerText, Token};
+use sip_grammar::{LowerText, Token};
 use sip_text::byte_order;
 use std::alloc::{AllocError, Global};
 use std::cmp::Ordering;

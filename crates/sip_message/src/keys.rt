@@ -9,7 +9,7 @@ use crate::message::Message;
 use crate::shared_key::SharedKey;
 use crate::start_line::StartLine;
 use crate::via::Via;
-use sip_parts::Token;
+use sip_grammar::Token;
 use std::alloc::{AllocError, Global};
 
 /// The port of a Via that names none.

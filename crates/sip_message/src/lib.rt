@@ -44,7 +44,7 @@ pub use rack::RAck;
 pub use response::response_to;
 pub use sent_by::SentBy;
 pub use shared_key::SharedKey;
-pub use sip_parts::{
+pub use sip_grammar::{
     CallId, DisplayText, HeaderName, HeaderValue, Host, OtherName, Parameter, ParameterValue,
     Parameters, PartyDisplay, PartyParameters, Reason, RequestUri, StatusCode, Token, Uri,
 };

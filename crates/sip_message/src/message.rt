@@ -9,7 +9,7 @@ use crate::party::Party;
 use crate::rack::RAck;
 use crate::start_line::StartLine;
 use crate::vias::Vias;
-use sip_parts::{CallId, Token};
+use sip_grammar::{CallId, Token};
 use sip_text::{Series, Text};
 use std::alloc::{AllocError, Global};
 

@@ -1,7 +1,7 @@
 //! Addresses in lists: Contact, Record-Route and Route (RFC 3261, section 20.10).
 ghost use Rattle.std.specs.Prelude.{◌≡◌};
 
-use sip_parts::{DisplayText, Parameters, Uri};
+use sip_grammar::{DisplayText, Parameters, Uri};
 use std::alloc::AllocError;
 
 /// A display text, a URI and parameters.

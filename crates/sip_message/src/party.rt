@@ -3,7 +3,7 @@ ghost use Rattle.std.specs.Prelude.{◌≡◌, IfOk};
 ghost use Rattle.sip_message.specs.Party as party;
 
 use crate::response::with_tag;
-use sip_parts::{Parameters, PartyDisplay, PartyParameters, Token, Uri};
+use sip_grammar::{Parameters, PartyDisplay, PartyParameters, Token, Uri};
 use std::alloc::{AllocError, Global};
 
 /// The value of a From or a To: a display text, a URI and parameters, among them the tag.
@@ -35,7 +35,7 @@ impl Party {
     }
 }
 
-#[tactic(auto, unfolding(sip_parts::specs::Tag::has_good_tag))]
+#[tactic(auto, unfolding(sip_grammar::specs::Tag::has_good_tag))]
 fn tag_alone(alloc: Global, tag: Option<Token>) -> Result<PartyParameters, AllocError>
     ensures { IfOk result (λ parameters. parameters ≡ party.tag_alone tag) }
 {

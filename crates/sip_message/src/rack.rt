@@ -1,7 +1,7 @@
 //! The RAck (RFC 3262, section 7.2).
 ghost use Rattle.std.specs.Prelude.{◌≡◌};
 
-use sip_parts::Token;
+use sip_grammar::Token;
 use std::alloc::AllocError;
 
 /// The RSeq that a PRACK acknowledges, and the CSeq of the request that the acknowledged response

@@ -1,7 +1,7 @@
 //! Responses made from requests (RFC 3261, section 8.2.6).
 ghost use Rattle.std.specs.Prelude.{◌≡◌, ◌++◌, ◌∷◌, [], None, IfOk, OnOk, IsTrue, codes};
 ghost use Rattle.sip_text.specs.Token as token_rule;
-ghost use Rattle.sip_parts.specs.Parameters.{parameter_named};
+ghost use Rattle.sip_grammar.specs.Parameters.{parameter_named};
 ghost use Rattle.sip_message.specs.Response as response;
 
 use crate::cseq::CSeq;
@@ -9,7 +9,7 @@ use crate::message::Message;
 use crate::party::Party;
 use crate::start_line::StartLine;
 use crate::vias::Vias;
-use sip_parts::{CallId, Parameters, PartyParameters, Reason, StatusCode, Token};
+use sip_grammar::{CallId, Parameters, PartyParameters, Reason, StatusCode, Token};
 use sip_text::ParameterText;
 use std::alloc::{AllocError, Global};
 

@@ -1,7 +1,7 @@
 //! The sent-by of a key (RFC 3261, section 17.2.3).
 ghost use Rattle.std.specs.Prelude.{◌≡◌};
 
-use sip_parts::LowerText;
+use sip_grammar::LowerText;
 use std::alloc::AllocError;
 
 /// The host, in lower case, and the port of a Via.

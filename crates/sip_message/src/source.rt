@@ -8,7 +8,7 @@ use crate::addr::{Addr, ip_text};
 use crate::keys::port_of;
 use crate::message::Message;
 use crate::via::Via;
-use sip_parts::Parameters;
+use sip_grammar::Parameters;
 use sip_text::decimal;
 use std::alloc::{AllocError, Global};
 

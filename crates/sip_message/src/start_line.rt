@@ -1,7 +1,7 @@
 //! The start line (RFC 3261, sections 7.1 and 7.2).
 ghost use Rattle.std.specs.Prelude.{◌≡◌};
 
-use sip_parts::{Reason, RequestUri, StatusCode};
+use sip_grammar::{Reason, RequestUri, StatusCode};
 use std::alloc::AllocError;
 
 /// A request line or a status line. The method of a request line is that of the CSeq.

@@ -1,7 +1,7 @@
 //! Via values (RFC 3261, section 20.42).
 ghost use Rattle.std.specs.Prelude.{◌≡◌};
 
-use sip_parts::{Host, Parameters, Token};
+use sip_grammar::{Host, Parameters, Token};
 use std::alloc::AllocError;
 
 /// One value of a Via: a hop of the request.

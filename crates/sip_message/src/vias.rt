@@ -1,12 +1,12 @@
 //! The Via values of a message.
 ghost use Rattle.std.specs.Prelude.{◌≡◌, IsTrue, Some, codes, take};
-ghost use Rattle.sip_parts.specs.Parameters.{value_named};
+ghost use Rattle.sip_grammar.specs.Parameters.{value_named};
 ghost use Rattle.std.specs.List.{slice_get};
 ghost use Rattle.std.specs.Option.{SomeIff, option_copied};
 ghost use Rattle.sip_message.specs.Via as via;
 
 use crate::via::Via;
-use sip_parts::Parameters;
+use sip_grammar::Parameters;
 use sip_text::{Series, token_eq};
 use std::alloc::{AllocError, Global};
 use std::marker::Model;

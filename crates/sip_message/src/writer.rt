@@ -11,7 +11,7 @@ use crate::party::Party;
 use crate::rack::RAck;
 use crate::start_line::StartLine;
 use crate::via::Via;
-use sip_parts::{Parameters, Token};
+use sip_grammar::{Parameters, Token};
 use sip_text::decimal;
 use std::alloc::{AllocError, Global};
 

@@ -21,18 +21,11 @@ use crate::words::{self, CutName, ReplayWords, parse, replay_words};
 use sip_files::{FileKind, ReplayFault, read_all, replay};
 use sip_ladder::ladder;
 use sip_message::{First, Spread};
-use sip_round::Gate;
+use sip_round::OpenGate;
 use std::alloc::Global;
 use std::convert::AsStr;
 use std::io::{self, Read, Write};
 use std::thread::Threads;
-
-/// The gate of the program. It holds up no piece of work.
-struct Open;
-
-impl Gate for Open {
-    fn begin(&self, _shard: usize) {}
-}
 
 /// All that the program does, from its words to its status. The words don't include the program's
 /// own name.
@@ -123,7 +116,7 @@ pub fn ua<
         finish_file(end, input.error, errors)
     } else if words::asks_ladder(words) {
         let mut input = NotingRead::new(input);
-        let end = ladder(rt, alloc, kind, &mut input, output, &Open);
+        let end = ladder(rt, alloc, kind, &mut input, output, &OpenGate);
         finish_file(end, input.error, errors)
     } else {
         let end = talk_by(rt, alloc, &matches, notices, errors);
@@ -220,11 +213,11 @@ fn replay_all<T: Threads + Sync, R: Read, W: Write>(
     match cut {
         CutName::Spread => {
             replay(
-                rt, alloc, kind, input, output, shards, workers, Spread, &Open,
+                rt, alloc, kind, input, output, shards, workers, Spread, &OpenGate,
             )
         }
         CutName::First => replay(
-            rt, alloc, kind, input, output, shards, workers, First, &Open,
+            rt, alloc, kind, input, output, shards, workers, First, &OpenGate,
         ),
     }
 }

@@ -13,12 +13,10 @@ use crate::words::{
     listen_words,
 };
 use clap::ArgMatches;
+use sip_applications::{AnswerBody, CallPlan, ListenPlan, agent, call_from, listen_at};
 use sip_message::{Addr, CallId, Uri};
 use sip_text::Text;
-use sip_udp::{
-    AnswerBody, CallPlan, Endpoint, InputEnd, ListenPlan, NoticeWriter, UaFault, Written, agent,
-    call_from, listen_at,
-};
+use sip_udp::{Endpoint, InputEnd, NoticeWriter, UaFault, Written};
 use std::alloc::{AllocError, Global};
 use std::fs::{self, File};
 use std::io::{self, Write};

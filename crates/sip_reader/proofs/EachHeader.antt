@@ -4,20 +4,20 @@ use Rattle.std.specs.Prelude.{IfSome, IsTrue}
 use Rattle.std.specs.List.{flat_map, AllByRecursion}
 use Rattle.std.specs.Option.{option_map}
 use Rattle.sip_text.specs.Token.{is_token}
-use Rattle.sip_parts.specs.declared.header_name.HeaderName.TheVariants as name
+use Rattle.sip_grammar.specs.declared.header_name.HeaderName.TheVariants as name
 use Rattle.sip_message.specs.declared.header.Header.{Header}
 use Rattle.sip_message.specs.declared.message.Message.{Message}
 use Rattle.sip_message.specs.declared.name_addr.NameAddr.{NameAddr}
 use Rattle.sip_message.specs.declared.party.Party.{Party}
 use Rattle.sip_message.specs.declared.rack.RAck.{RAck}
 use Rattle.sip_message.specs.Written.{header_line, via_line, via_text, party_line, address_line, address_text, number_line, tokens_line, joined, cseq_text, rack_line, rack_text, other_line}
-use Rattle.sip_values.specs.Address.{name_addrs_from, party_from}
-use Rattle.sip_values.specs.Numeral.{numeral_from}
-use Rattle.sip_values.specs.Sequence.{call_id_from, cseq_from, rack_from, tokens_from}
-use Rattle.sip_values.specs.ViaValue.{vias_from}
-use Rattle.sip_values.specs.declared.numeral.Numeral.{Numeral}
-use Rattle.sip_values.specs.declared.numeral.Numeral.TheVariants.{Number}
-use Rattle.sip_values.specs.declared.via.ViaDraft.{ViaDraft}
+use Rattle.sip_header_values.specs.Address.{name_addrs_from, party_from}
+use Rattle.sip_header_values.specs.Numeral.{numeral_from}
+use Rattle.sip_header_values.specs.Sequence.{call_id_from, cseq_from, rack_from, tokens_from}
+use Rattle.sip_header_values.specs.ViaValue.{vias_from}
+use Rattle.sip_header_values.specs.declared.numeral.Numeral.{Numeral}
+use Rattle.sip_header_values.specs.declared.numeral.Numeral.TheVariants.{Number}
+use Rattle.sip_header_values.specs.declared.via.ViaDraft.{ViaDraft}
 use Rattle.sip_headers.specs.Complete.{slot_of, draft_with}
 use Rattle.sip_headers.specs.Draft.{no_draft}
 use Rattle.sip_headers.specs.Numbers.{via_draft, rack_draft, headers_with}
@@ -27,7 +27,7 @@ use Rattle.sip_headers.specs.declared.slot.Slot.{Slot}
 use Rattle.sip_headers.specs.declared.slot.Slot.TheVariants.{Absent, Once}
 use Rattle.sip_message.specs.Rules.{IsParty, IsNameAddr, IsRAck, IsVia, IsOtherHeader, IsMessage}
 use Rattle.sip_reader.proofs.WrittenLines.{Ready, Goes, no_lines, goes_to, header_goes, other_goes, list_goes}
-use Rattle.sip_parts.proofs.TextEnds.{Again}
+use Rattle.sip_grammar.proofs.TextEnds.{Again}
 use Rattle.sip_headers.proofs.WrittenAddresses.{party_again, name_addr_again}
 use Rattle.sip_headers.proofs.WrittenNumbers.{number_again, call_id_again, cseq_again, rack_again}
 use Rattle.sip_headers.proofs.WrittenTokens.{tokens_again}

@@ -2,17 +2,17 @@
 use Rattle.std.proofs.Common.{◌≡◌, ◌≤◌, ℕ, IsTrue, List, [], ◌∷◌, ◌++◌, drop, length, Option, Some, None, refl, sym, subst, arith}
 use Rattle.std.specs.List.{AllZip}
 use Rattle.std.specs.Option.{option_to_list}
-use Rattle.sip_parts.specs.HeaderEntry.{entry, header_named, is_single}
-use Rattle.sip_parts.specs.declared.header_name.HeaderName.{HeaderName}
-use Rattle.sip_parts.specs.declared.header_name.HeaderName.TheVariants as table
+use Rattle.sip_grammar.specs.HeaderEntry.{entry, header_named, is_single}
+use Rattle.sip_grammar.specs.declared.header_name.HeaderName.{HeaderName}
+use Rattle.sip_grammar.specs.declared.header_name.HeaderName.TheVariants as table
 use Rattle.sip_message.specs.Content.{Content, contacts_of_content, with_content_of, with_type_of}
 use Rattle.sip_message.specs.declared.message.Message.{Message}
 use Rattle.sip_headers.specs.Headers.{AreRows, Headers}
 use Rattle.sip_headers.specs.Slot.{Many}
 use Rattle.sip_headers.specs.Named.{others_in}
 use Rattle.sip_headers.specs.Numbers.{headers_with}
-use Rattle.sip_values.specs.Address.{AreNameAddrs, IsPartyText}
-use Rattle.sip_values.specs.Sequence.{AreTokens, IsCallId, IsCSeqText}
+use Rattle.sip_header_values.specs.Address.{AreNameAddrs, IsPartyText}
+use Rattle.sip_header_values.specs.Sequence.{AreTokens, IsCallId, IsCSeqText}
 use Rattle.sip_reader.specs.Head.{HasValues}
 use Rattle.sip_reader.specs.Steps.ReadHead.{head_at, values_at}
 use Rattle.sip_reader.specs.Spells.{Spells}

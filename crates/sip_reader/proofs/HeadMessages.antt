@@ -5,9 +5,9 @@ use Rattle.std.specs.List.{AllZip, cons_option, filter, filter_map}
 use Rattle.std.specs.Option.{option_map_or}
 use Rattle.std.specs.Str.{str_eq_ignore_ascii_case}
 use Rattle.sip_text.proofs.ReadForms.{only_one}
-use Rattle.sip_parts.specs.HeaderEntry.{entry, header_named, is_named}
-use Rattle.sip_parts.proofs.HeaderNames.{long_names}
-use Rattle.sip_parts.specs.declared.header_name.HeaderName.{HeaderName}
+use Rattle.sip_grammar.specs.HeaderEntry.{entry, header_named, is_named}
+use Rattle.sip_grammar.proofs.HeaderNames.{long_names}
+use Rattle.sip_grammar.specs.declared.header_name.HeaderName.{HeaderName}
 use Rattle.sip_message.specs.declared.header.Header.{Header}
 use Rattle.sip_message.specs.declared.message.Message.{Message}
 use Rattle.sip_headers.specs.Draft.{long_name}

@@ -2,16 +2,16 @@
 use Rattle.std.proofs.Common.{◌≡◌, inl, ℕ, ◌<◌, Bool, true, false, cond, List, [], ◌∷◌, length, codes, Option, Some, None, Result, Err, refl, sym, ap, subst, ◌∙◌, arith}
 use Rattle.std.proofs.lemmas.Bool.{true≢false}
 use Rattle.sip_text.specs.Forms.{each}
-use Rattle.sip_parts.specs.Parameters.{value_named}
+use Rattle.sip_grammar.specs.Parameters.{value_named}
 use Rattle.sip_message.specs.Via.{are_vias, has_cookie}
 use Rattle.sip_message.specs.declared.fault.ReadFault.{ReadFault}
 use Rattle.sip_message.specs.declared.fault.ReadFault.TheVariants as fault
 use Rattle.sip_message.specs.declared.message.Message.{Message}
 use Rattle.sip_message.specs.declared.start_line.StartLine.{StartLine}
 use Rattle.sip_message.specs.declared.via.Via.{Via}
-use Rattle.sip_values.specs.declared.numeral.Numeral.{Numeral}
-use Rattle.sip_values.specs.declared.numeral.Numeral.TheVariants.{Number, NotANumber}
-use Rattle.sip_values.specs.declared.via.ViaDraft.{ViaDraft}
+use Rattle.sip_header_values.specs.declared.numeral.Numeral.{Numeral}
+use Rattle.sip_header_values.specs.declared.numeral.Numeral.TheVariants.{Number, NotANumber}
+use Rattle.sip_header_values.specs.declared.via.ViaDraft.{ViaDraft}
 use Rattle.sip_headers.specs.Complete.{slot_of, draft_with}
 use Rattle.sip_headers.specs.Faults.{Decides}
 use Rattle.sip_headers.specs.Headers.{Headers, AreHeaders}
@@ -26,7 +26,7 @@ use Rattle.sip_reader.specs.ReadMessage.{◌>>=◌, or_fault, good_vias, vias_of
 use Rattle.sip_reader.specs.ReadStart.{start_at}
 use Rattle.sip_reader.proofs.Making.{other_method, own_method, body_short, body_long}
 use Rattle.sip_reader.proofs.Outcomes.{no_such, step_decides, step_again}
-use Rattle.sip_parts.proofs.Pieces.{by_bool}
+use Rattle.sip_grammar.proofs.Pieces.{by_bool}
 use Rattle.sip_reader.proofs.Spelled.{then_body, then_start, then_branch}
 use Rattle.sip_reader.specs.Head.{SpellsFirst}
 use Rattle.sip_reader.proofs.StartLines.{start_reads}

@@ -15,8 +15,8 @@ use Rattle.sip_headers.specs.Steps.Drafted.{onto_section}
 use Rattle.sip_headers.proofs.Folds.{one_line, no_line, whole_behind}
 use Rattle.sip_reader.specs.Layout.{Lays}
 use Rattle.sip_reader.specs.SkippedEnds.{without_line_ends}
-use Rattle.sip_parts.proofs.Cuts.{at_again}
-use Rattle.sip_parts.proofs.Pieces.{by_bool, map_some}
+use Rattle.sip_grammar.proofs.Cuts.{at_again}
+use Rattle.sip_grammar.proofs.Pieces.{by_bool, map_some}
 
 -- a line that isn't empty
 abbrev pub IsFull : List ℕ → Type 0

@@ -12,7 +12,7 @@ use Rattle.sip_reader.specs.ReadMessage.{start_line_of, body_of}
 use Rattle.sip_reader.specs.Spells.{IsBody}
 use Rattle.sip_reader.specs.Head.{SpellsFirst, first_of}
 use Rattle.sip_reader.specs.StartLine.{SpellsStart, IsRequestLine}
-use Rattle.sip_parts.proofs.Pieces.{guard_some, by_bool}
+use Rattle.sip_grammar.proofs.Pieces.{guard_some, by_bool}
 
 -- ---- the start line
 

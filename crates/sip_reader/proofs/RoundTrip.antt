@@ -12,8 +12,8 @@ use Rattle.sip_message.specs.declared.message.Message.{Message}
 use Rattle.sip_message.specs.declared.rack.RAck.{RAck}
 use Rattle.sip_message.specs.declared.via.Via.{Via}
 use Rattle.sip_message.specs.Written.{header_line, via_line, party_line, address_line, number_line, tokens_line, cseq_text, rack_line, other_line, head_text, identity_text, routes_text, extensions_text, content_text, written}
-use Rattle.sip_values.specs.declared.numeral.Numeral.{Numeral}
-use Rattle.sip_values.specs.declared.numeral.Numeral.TheVariants.{Number}
+use Rattle.sip_header_values.specs.declared.numeral.Numeral.{Numeral}
+use Rattle.sip_header_values.specs.declared.numeral.Numeral.TheVariants.{Number}
 use Rattle.sip_headers.specs.Complete.{draft_with, faultless}
 use Rattle.sip_headers.specs.Draft.{no_draft}
 use Rattle.sip_headers.specs.Numbers.{via_draft, rack_draft, headers_with, are_numbers}

@@ -11,8 +11,8 @@ use Rattle.sip_text.specs.Cut.{cut_at}
 use Rattle.sip_text.specs.Number.{is_digits, number_of}
 use Rattle.sip_text.specs.Token.{is_token}
 use Rattle.sip_text.specs.declared.fault.TextFault.{TextFault}
-use Rattle.sip_parts.specs.Reason.{is_reason}
-use Rattle.sip_parts.specs.Word.{is_word}
+use Rattle.sip_grammar.specs.Reason.{is_reason}
+use Rattle.sip_grammar.specs.Word.{is_word}
 use Rattle.sip_reader.specs.declared.first_line.FirstLine.{FirstLine}
 use Rattle.sip_reader.specs.declared.first_line.FirstLine.TheVariants as first
 use Rattle.sip_text.specs.Lines.{has_no}
@@ -21,10 +21,10 @@ use Rattle.sip_text.specs.Options.{◌>>=◌}
 use Rattle.sip_reader.specs.ReadStart.{request_at, code_in, code_at, reason_at, status_at, start_at}
 use Rattle.sip_reader.specs.Head.{SpellsFirst}
 use Rattle.sip_reader.specs.StartLine.{is_version, IsStatusCode}
-use Rattle.sip_parts.proofs.Characters.{same_lower, lower_without, token_without, no_space, no_slash, word_without_space}
-use Rattle.sip_parts.proofs.Cuts.{at_takes, at_again, run_all}
-use Rattle.sip_values.proofs.Digits.{is_number, all_digits, number_is, number_again}
-use Rattle.sip_parts.proofs.Pieces.{guard_some, by_bool}
+use Rattle.sip_grammar.proofs.Characters.{same_lower, lower_without, token_without, no_space, no_slash, word_without_space}
+use Rattle.sip_grammar.proofs.Cuts.{at_takes, at_again, run_all}
+use Rattle.sip_header_values.proofs.Digits.{is_number, all_digits, number_is, number_again}
+use Rattle.sip_grammar.proofs.Pieces.{guard_some, by_bool}
 
 -- a space and the reason, or nothing
 abbrev IsReasonPart : List ℕ → List ℕ → Type 0

@@ -15,8 +15,8 @@ use Rattle.sip_headers.specs.Folding.{folded_onto}
 use Rattle.sip_reader.specs.Layout.{Lays}
 use Rattle.sip_reader.specs.SkippedEnds.{without_line_ends}
 use Rattle.sip_reader.proofs.Layouts.{line_again, skip_again, strips_later}
-use Rattle.sip_parts.proofs.Cuts.{at_again}
-use Rattle.sip_parts.proofs.Pieces.{by_bool}
+use Rattle.sip_grammar.proofs.Cuts.{at_again}
+use Rattle.sip_grammar.proofs.Pieces.{by_bool}
 
 -- ---- the lines that are found
 

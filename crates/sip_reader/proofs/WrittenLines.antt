@@ -16,12 +16,12 @@ use Rattle.sip_text.specs.Token.{is_token}
 use Rattle.sip_text.specs.Trimmed.{trimmed, trimmed_end}
 use Rattle.sip_text.specs.Unfolded.{begins_blank}
 use Rattle.sip_text.specs.declared.separator.Separator.TheVariants.{Byte}
-use Rattle.sip_parts.specs.HeaderEntry.{entry, header_named}
-use Rattle.sip_parts.proofs.HeaderNames.{long_names}
-use Rattle.sip_parts.specs.HeaderValue.{has_no_line_byte, is_header_value}
-use Rattle.sip_parts.specs.OtherName.{is_compact_name, is_other_name}
-use Rattle.sip_parts.specs.declared.header_name.HeaderName.{HeaderName}
-use Rattle.sip_parts.specs.declared.header_name.HeaderName.TheVariants as name
+use Rattle.sip_grammar.specs.HeaderEntry.{entry, header_named}
+use Rattle.sip_grammar.proofs.HeaderNames.{long_names}
+use Rattle.sip_grammar.specs.HeaderValue.{has_no_line_byte, is_header_value}
+use Rattle.sip_grammar.specs.OtherName.{is_compact_name, is_other_name}
+use Rattle.sip_grammar.specs.declared.header_name.HeaderName.{HeaderName}
+use Rattle.sip_grammar.specs.declared.header_name.HeaderName.TheVariants as name
 use Rattle.sip_message.specs.declared.header.Header.{Header}
 use Rattle.sip_message.specs.Written.{header_line, other_line}
 use Rattle.sip_headers.specs.Draft.{with_value, with_class, with_line, long_name, other_from}
@@ -32,11 +32,11 @@ use Rattle.sip_headers.specs.Slot.{listed}
 use Rattle.sip_headers.specs.declared.draft.Draft.{Draft}
 use Rattle.sip_headers.proofs.Folds.{section_ends, section_goes_on, ends_here}
 use Rattle.sip_message.specs.Rules.{IsOtherHeader}
-use Rattle.sip_parts.proofs.Characters.{token_without, token_full}
+use Rattle.sip_grammar.proofs.Characters.{token_without, token_full}
 use Rattle.sip_reader.proofs.Layouts.{line_again}
-use Rattle.sip_parts.proofs.Passing.{cut_here, token_passes}
-use Rattle.sip_parts.proofs.WrittenBytes.{solid_end, token_solid, no_lf, header_value_kept, header_value_plain}
-use Rattle.sip_parts.proofs.TextEnds.{Good}
+use Rattle.sip_grammar.proofs.Passing.{cut_here, token_passes}
+use Rattle.sip_grammar.proofs.WrittenBytes.{solid_end, token_solid, no_lf, header_value_kept, header_value_plain}
+use Rattle.sip_grammar.proofs.TextEnds.{Good}
 
 -- ---- a line with its end
 

@@ -13,7 +13,7 @@ use Rattle.sip_reader.proofs.Layouts.{IsFull}
 use Rattle.sip_message.specs.Rules.{IsStartLine}
 use Rattle.sip_reader.specs.StartLine.{SpellsStart, IsStatusCode}
 use Rattle.sip_reader.proofs.StartLines.{is_three}
-use Rattle.sip_parts.proofs.WrittenBytes.{solid, token_solid, word_solid, digits_solid, solid_line, no_lf, decimal_digits, decimal_value}
+use Rattle.sip_grammar.proofs.WrittenBytes.{solid, token_solid, word_solid, digits_solid, solid_line, no_lf, decimal_digits, decimal_value}
 
 abbrev NoLf : List ℕ → Type 0
 NoLf line = has_no 10 line ≡ true

@@ -1,13 +1,13 @@
 -- Why a text spells no message: the faults in order, and the condition of each.
 use Rattle.std.specs.Prelude.{◌≡◌, ◌<◌, ℕ, IsFalse, List, [], ◌∷◌, ◌++◌, length, Option, Some, None, codes}
-use Rattle.sip_parts.specs.Parameters.{value_named}
+use Rattle.sip_grammar.specs.Parameters.{value_named}
 use Rattle.sip_message.specs.Via.{has_cookie}
 use Rattle.sip_message.specs.declared.fault.ReadFault.{ReadFault}
 use Rattle.sip_message.specs.declared.fault.ReadFault.TheVariants as fault
 use Rattle.sip_message.specs.declared.start_line.StartLine.{StartLine}
-use Rattle.sip_values.specs.declared.numeral.Numeral.{Numeral}
-use Rattle.sip_values.specs.declared.numeral.Numeral.TheVariants.{Number, NotANumber}
-use Rattle.sip_values.specs.declared.via.ViaDraft.{ViaDraft}
+use Rattle.sip_header_values.specs.declared.numeral.Numeral.{Numeral}
+use Rattle.sip_header_values.specs.declared.numeral.Numeral.TheVariants.{Number, NotANumber}
+use Rattle.sip_header_values.specs.declared.via.ViaDraft.{ViaDraft}
 use Rattle.sip_headers.specs.Faults.{IsFirst, HeaderCondition, header_faults}
 use Rattle.sip_headers.specs.Headers.{Headers, AreHeaders}
 use Rattle.sip_headers.specs.Numbers.{are_numbers}

@@ -5,8 +5,8 @@ use Rattle.std.specs.List.{AllZip, filter_map, take_while}
 use Rattle.std.specs.Option.{option_map}
 use Rattle.std.specs.Str.{str_eq_ignore_ascii_case}
 use Rattle.sip_text.specs.Lines.{AreLines}
-use Rattle.sip_parts.specs.HeaderEntry.{header_named}
-use Rattle.sip_parts.specs.declared.header_name.HeaderName.{HeaderName}
+use Rattle.sip_grammar.specs.HeaderEntry.{header_named}
+use Rattle.sip_grammar.specs.declared.header_name.HeaderName.{HeaderName}
 use Rattle.sip_message.specs.declared.start_line.StartLine.{StartLine}
 use Rattle.sip_message.specs.declared.start_line.StartLine.TheVariants.{Request, Response}
 use Rattle.sip_headers.specs.Draft.{long_name}

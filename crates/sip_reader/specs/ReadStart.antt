@@ -4,8 +4,8 @@ use Rattle.sip_text.specs.Cut.{cut_at}
 use Rattle.sip_text.specs.Token.{is_token}
 use Rattle.sip_text.specs.Number.{number_of}
 use Rattle.sip_text.specs.declared.fault.TextFault.{TextFault}
-use Rattle.sip_parts.specs.Word.{is_word}
-use Rattle.sip_parts.specs.Reason.{is_reason}
+use Rattle.sip_grammar.specs.Word.{is_word}
+use Rattle.sip_grammar.specs.Reason.{is_reason}
 use Rattle.sip_text.specs.Options.{◌>>=◌}
 use Rattle.sip_reader.specs.StartLine.{is_version}
 use Rattle.sip_reader.specs.declared.first_line.FirstLine.{FirstLine}

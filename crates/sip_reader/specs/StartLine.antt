@@ -4,8 +4,8 @@ use Rattle.std.specs.Str.{str_eq_ignore_ascii_case}
 use Rattle.std.specs.Str.Parse.{digits_value}
 use Rattle.sip_text.specs.Number.{is_digits}
 use Rattle.sip_text.specs.Token.{is_token}
-use Rattle.sip_parts.specs.Word.{is_word}
-use Rattle.sip_parts.specs.Reason.{is_reason}
+use Rattle.sip_grammar.specs.Word.{is_word}
+use Rattle.sip_grammar.specs.Reason.{is_reason}
 use Rattle.sip_message.specs.declared.start_line.StartLine.{StartLine}
 use Rattle.sip_message.specs.declared.start_line.StartLine.TheVariants.{Request, Response}
 

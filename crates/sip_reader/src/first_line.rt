@@ -4,8 +4,8 @@ ghost use Rattle.sip_text.specs.Token.{is_token};
 ghost use Rattle.sip_message.specs.declared.fault.ReadFault.TheVariants as fault;
 ghost use Rattle.sip_reader.specs.ReadMessage as reading;
 
+use sip_grammar::{Reason, RequestUri, StatusCode, Token};
 use sip_message::{ReadFault, StartLine};
-use sip_parts::{Reason, RequestUri, StatusCode, Token};
 use std::alloc::{AllocError, Global};
 use std::marker::Model;
 

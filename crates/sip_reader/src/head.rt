@@ -1,7 +1,7 @@
 //! What the head of a text says, whether the text spells a message or not (RFC 3261, section 7).
 ghost use Rattle.std.specs.Prelude.{◌≡◌, ◌<◌, IfOk, IfSome, length};
 ghost use Rattle.std.specs.Option.{option_copied};
-ghost use Rattle.sip_parts.specs.HeaderEntry.{header_named};
+ghost use Rattle.sip_grammar.specs.HeaderEntry.{header_named};
 ghost use Rattle.sip_headers.specs.HeaderLine.{line_from};
 ghost use Rattle.sip_reader.specs.Head as head;
 ghost use Rattle.sip_reader.specs.Steps.ReadHead as reading;
@@ -10,8 +10,8 @@ use crate::first_line::FirstLine;
 use crate::header_line::HeaderLine;
 use crate::layout::without_line_ends;
 use crate::start_reader::start_of;
+use sip_grammar::{HeaderName, Token};
 use sip_headers::{LineClass, Whole, class_of, long_name, whole_line};
-use sip_parts::{HeaderName, Token};
 use sip_text::{Series, Text, next_line, token_eq};
 use std::alloc::{AllocError, Global};
 

@@ -6,7 +6,7 @@ ghost use Rattle.sip_text.specs.Token.{is_token};
 ghost use Rattle.sip_headers.specs.HeaderLine.{line_from};
 ghost use Rattle.sip_reader.specs.Head.{header_line};
 
-use sip_parts::{Token, has_no_line_byte};
+use sip_grammar::{Token, has_no_line_byte};
 use sip_text::{Separator, Text, is_token, trimmed, trimmed_end};
 use std::alloc::{AllocError, Global};
 

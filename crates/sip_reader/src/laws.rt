@@ -3,11 +3,11 @@ ghost use Rattle.std.specs.Prelude.{◌≡◌, ◌≤◌, ℕ, IfOk, IsTrue, Lis
 ghost use Rattle.std.specs.List.{filter};
 ghost use Rattle.sip_text.specs.Lines.{AreLines};
 ghost use Rattle.sip_text.specs.Unfolded.{unfolded};
-ghost use Rattle.sip_parts.specs.HeaderEntry.{entry, header_named, is_single};
-ghost use Rattle.sip_parts.specs.declared.header_name.HeaderName.{HeaderName};
-ghost use Rattle.sip_parts.specs.declared.header_name.HeaderName.TheVariants as table;
-ghost use Rattle.sip_values.specs.Address.{AreNameAddrs};
-ghost use Rattle.sip_values.specs.Sequence.{AreTokens};
+ghost use Rattle.sip_grammar.specs.HeaderEntry.{entry, header_named, is_single};
+ghost use Rattle.sip_grammar.specs.declared.header_name.HeaderName.{HeaderName};
+ghost use Rattle.sip_grammar.specs.declared.header_name.HeaderName.TheVariants as table;
+ghost use Rattle.sip_header_values.specs.Address.{AreNameAddrs};
+ghost use Rattle.sip_header_values.specs.Sequence.{AreTokens};
 ghost use Rattle.sip_headers.specs.Faults.{Decides};
 ghost use Rattle.sip_headers.specs.Headers.{AreRows};
 ghost use Rattle.sip_headers.specs.Numbers.{headers_with};

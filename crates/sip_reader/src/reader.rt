@@ -9,10 +9,10 @@ ghost use Rattle.sip_reader.specs.Spells.{Spells, Answers};
 
 use crate::layout::without_line_ends;
 use crate::start_reader::start_of;
+use sip_header_values::ViaDraft;
 use sip_headers::{Draft, Faultless, Numbers, gather, whole_line, with_ports};
 use sip_message::{Message, ReadFault, Vias};
 use sip_text::{Series, Text, next_line};
-use sip_values::ViaDraft;
 use std::alloc::Global;
 
 /// The largest number of bytes of a message.

@@ -4,8 +4,8 @@ ghost use Rattle.std.specs.List.{AllByRecursion};
 ghost use Rattle.sip_text.specs.Token.{is_token};
 ghost use Rattle.sip_message.specs.Rules as rules;
 
+use sip_grammar::Token;
 use sip_message::{Header, Message, NameAddr, Party, RAck, StartLine, Via};
-use sip_parts::Token;
 
 /// A message satisfies the rules of its parts.
 pub fn keeps_rules(message: &Message)

@@ -3,7 +3,7 @@ ghost use Rattle.std.specs.Prelude.{◌≡◌, ◌≤◌, IfOk};
 ghost use Rattle.sip_reader.specs.ReadStart as reading;
 
 use crate::first_line::{FirstLine, Method};
-use sip_parts::{Reason, RequestUri, StatusCode};
+use sip_grammar::{Reason, RequestUri, StatusCode};
 use sip_text::{Text, cut, is_token, number_u32, token_eq};
 use std::alloc::{AllocError, Global};
 

@@ -11,21 +11,21 @@ use Rattle.std.proofs.lemmas.List.Folds.{list_any-append}
 use Rattle.sip_message.specs.declared.id.Id.{Id}
 use Rattle.sip_message.specs.declared.key.Key.{Key}
 use Rattle.sip_message.specs.Key.{key_cmp}
-use Rattle.sip_model.specs.Laws.{EachKeyAlone, said_by}
-use Rattle.sip_model.specs.Machine.{LifeIn, Timed, outputs_from, said_after, state_after, state_from, state_left, tick_at}
-use Rattle.sip_model.specs.Phase.{Phase, history, inputs_of, own_inputs, states_after, timed_items}
-use Rattle.sip_model.specs.Rules.{said_since}
-use Rattle.sip_model.proofs.Ordered.{by_bool}
-use Rattle.sip_model.proofs.Phases.{state_from-append}
+use Rattle.keyed_machine.specs.Laws.{EachKeyAlone, said_by}
+use Rattle.keyed_machine.specs.Machine.{LifeIn, Timed, outputs_from, said_after, state_after, state_from, state_left, tick_at}
+use Rattle.keyed_machine.specs.Phase.{Phase, history, inputs_of, own_inputs, states_after, timed_items}
+use Rattle.keyed_machine.specs.Rules.{said_since}
+use Rattle.keyed_machine.proofs.Ordered.{by_bool}
+use Rattle.keyed_machine.proofs.Phases.{state_from-append}
 use Rattle.sip_transactions.specs.declared.input.Input.{Input}
 use Rattle.sip_transactions.specs.declared.output.Out.{Out}
 use Rattle.sip_transactions.specs.declared.output.Out.TheVariants as out
 use Rattle.sip_transactions.specs.Ids.{is_id}
 use Rattle.sip_transactions.specs.Laws.{carries}
 use Rattle.sip_transactions.specs.Machine.{transaction_machine}
-use Rattle.sip_common.specs.Command.{call_of_item}
-use Rattle.sip_common.specs.declared.item.Item.{Item}
-use Rattle.sip_common.proofs.Each.{both}
+use Rattle.sip_user.specs.Command.{call_of_item}
+use Rattle.sip_user.specs.declared.item.Item.{Item}
+use Rattle.sip_held_dialogs.proofs.Each.{both}
 use Rattle.sip_calls.specs.Call.{call_machine, CallItem}
 use Rattle.sip_calls.specs.CallShard.{call_cmp, item_input}
 use Rattle.sip_transactions.specs.Steps.Output.{up_out}

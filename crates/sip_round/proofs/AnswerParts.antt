@@ -5,9 +5,9 @@ use Rattle.std.proofs.lemmas.Grind.{flat_map-append}
 use Rattle.std.proofs.lemmas.List.{map-append}
 use Rattle.sip_message.specs.declared.id.Id.{Id}
 use Rattle.sip_message.specs.declared.key.Key.{Key}
-use Rattle.sip_model.specs.Phase.{PhaseOutputs}
+use Rattle.keyed_machine.specs.Phase.{PhaseOutputs}
 use Rattle.sip_transactions.specs.declared.output.Out.{Out}
-use Rattle.sip_common.specs.declared.item.CallOut.{CallOut}
+use Rattle.sip_user.specs.declared.item.CallOut.{CallOut}
 use Rattle.sip_round.specs.Arrivals.{Arrival}
 use Rattle.sip_round.specs.declared.config.Config.{Config}
 use Rattle.sip_round.specs.declared.output.Output.{Output}

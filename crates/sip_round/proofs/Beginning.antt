@@ -4,9 +4,9 @@ use Rattle.std.specs.Prelude.{None, Some, IsSome}
 use Rattle.std.specs.declared.cmp.Ordering.{Ordering}
 use Rattle.std.proofs.lemmas.List.Elements.{All-head, All-tail}
 use Rattle.sip_message.specs.Key.{branch_in, key_cmp}
-use Rattle.sip_model.specs.Machine.{Machine, tick_at}
-use Rattle.sip_model.specs.Table.{Held, state_at}
-use Rattle.sip_model.specs.Shards.{HoldFrom}
+use Rattle.keyed_machine.specs.Machine.{Machine, tick_at}
+use Rattle.keyed_machine.specs.Table.{Held, state_at}
+use Rattle.keyed_machine.specs.Shards.{HoldFrom}
 use Rattle.sip_calls.specs.Call.{call_machine}
 use Rattle.sip_calls.specs.CallShard.{call_cmp}
 use Rattle.sip_transactions.specs.Machine.{transaction_machine}

@@ -5,11 +5,11 @@ use Rattle.std.specs.List.{flat_map}
 use Rattle.std.proofs.lemmas.Grind.{common_steps, flat_map-append}
 use Rattle.sip_message.specs.declared.id.Id.{Id}
 use Rattle.sip_message.specs.declared.key.Key.{Key}
-use Rattle.sip_model.specs.declared.item.Item as model
-use Rattle.sip_model.specs.Phase.{by_place}
+use Rattle.keyed_machine.specs.declared.item.Item as model
+use Rattle.keyed_machine.specs.Phase.{by_place}
 use Rattle.sip_transactions.specs.declared.input.Input.{Input}
 use Rattle.sip_transactions.specs.declared.output.Out.{Out}
-use Rattle.sip_common.specs.declared.item.Item.{Item}
+use Rattle.sip_user.specs.declared.item.Item.{Item}
 use Rattle.sip_round.specs.Arrivals.{Arrival}
 use Rattle.sip_round.specs.Arrivals as arrival
 use Rattle.sip_round.specs.Steps.Arrived.{ArePlaced}

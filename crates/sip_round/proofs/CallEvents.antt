@@ -9,17 +9,17 @@ use Rattle.sip_message.specs.declared.addr.Addr.{Addr}
 use Rattle.sip_message.specs.declared.id.Id.{Id}
 use Rattle.sip_message.specs.declared.key.Key.{Key}
 use Rattle.sip_message.specs.Key.{key_cmp}
-use Rattle.sip_model.specs.declared.item.Item as model
-use Rattle.sip_model.specs.Machine.{adds, next, Timed, tick_at}
-use Rattle.sip_model.specs.Phase.{Phase, history, inputs_of, keys_of_phases, own_inputs, states_after, stepped, told_items, timed_items}
-use Rattle.sip_model.specs.Groups.{speaks}
-use Rattle.sip_model.proofs.Ordered.{by_bool}
+use Rattle.keyed_machine.specs.declared.item.Item as model
+use Rattle.keyed_machine.specs.Machine.{adds, next, Timed, tick_at}
+use Rattle.keyed_machine.specs.Phase.{Phase, history, inputs_of, keys_of_phases, own_inputs, states_after, stepped, told_items, timed_items}
+use Rattle.keyed_machine.specs.Groups.{speaks}
+use Rattle.keyed_machine.proofs.Ordered.{by_bool}
 use Rattle.sip_transactions.specs.declared.input.Input.{Input}
 use Rattle.sip_transactions.specs.declared.life.Life.{Life}
 use Rattle.sip_transactions.specs.declared.output.Out.{Out}
 use Rattle.sip_transactions.specs.Machine.{transaction_machine}
-use Rattle.sip_common.specs.Command.{call_of_item}
-use Rattle.sip_common.specs.declared.item.Item.{Item}
+use Rattle.sip_user.specs.Command.{call_of_item}
+use Rattle.sip_user.specs.declared.item.Item.{Item}
 use Rattle.sip_calls.specs.Call.{CallItem}
 use Rattle.sip_calls.specs.CallShard.{call_cmp, item_input}
 use Rattle.sip_calls.specs.Provisionals.{EventsDiffer, event_in}

@@ -5,15 +5,15 @@ use Rattle.std.specs.List.{AllByRecursion, IsDistinct}
 use Rattle.std.proofs.lemmas.List.Elements.{filter_map-append}
 use Rattle.std.proofs.lemmas.Map.Keys.{IsDistinct-cons, IsDistinct-head, IsDistinct-tail}
 use Rattle.sip_message.specs.declared.id.Id.{Id}
-use Rattle.sip_model.specs.Laws.{EachKeyAlone}
-use Rattle.sip_model.specs.Machine.{Timed, state_from, tick_at}
+use Rattle.keyed_machine.specs.Laws.{EachKeyAlone}
+use Rattle.keyed_machine.specs.Machine.{Timed, state_from, tick_at}
 use Rattle.sip_dialog.specs.Life.{accepted_number, greater, routes_by, target_by}
 use Rattle.sip_dialog.specs.Opening.{opened}
 use Rattle.sip_transactions.specs.Ids.{IdsRise}
-use Rattle.sip_common.specs.Dialogs.{dialog_at}
-use Rattle.sip_common.specs.Ids.{is_id}
-use Rattle.sip_common.specs.Sent.{NumberedAfter, cseqs_in}
-use Rattle.sip_common.proofs.Entries.{none_apart}
+use Rattle.sip_held_dialogs.specs.Dialogs.{dialog_at}
+use Rattle.sip_held_dialogs.specs.Ids.{is_id}
+use Rattle.sip_held_dialogs.specs.Sent.{NumberedAfter, cseqs_in}
+use Rattle.sip_held_dialogs.proofs.Entries.{none_apart}
 use Rattle.sip_served.specs.State.{has_id}
 use Rattle.sip_calls.specs.declared.call.Call.{Call}
 use Rattle.sip_calls.specs.declared.calls.Calls.{Calls}

@@ -4,8 +4,8 @@ use Rattle.std.specs.List.{AllByRecursion, IsDistinct}
 use Rattle.std.proofs.lemmas.Grind.{common_steps}
 use Rattle.std.proofs.lemmas.Map.Keys.{IsDistinct-cons}
 use Rattle.sip_message.specs.declared.id.Id.{Id}
-use Rattle.sip_common.proofs.Entries.{none_apart}
-use Rattle.sip_common.specs.Ids.{is_id}
+use Rattle.sip_held_dialogs.proofs.Entries.{none_apart}
+use Rattle.sip_held_dialogs.specs.Ids.{is_id}
 
 -- each belongs to this round, at this place or later, and above those before it
 abbrev pub Places : ℕ → ℕ → List Id → Type 0

@@ -6,24 +6,24 @@ use Rattle.std.specs.Option.{option_map, option_to_list}
 use Rattle.sip_message.specs.declared.addr.Addr.{Addr}
 use Rattle.sip_message.specs.declared.id.Id.{Id}
 use Rattle.sip_message.specs.declared.key.Key.{Key}
-use Rattle.sip_model.specs.Machine.{adds, Timed, tick_at, Machine}
+use Rattle.keyed_machine.specs.Machine.{adds, Timed, tick_at, Machine}
 use Rattle.sip_transactions.specs.declared.input.Input.{Input}
 use Rattle.sip_transactions.specs.declared.life.Context.{Context}
 use Rattle.sip_transactions.specs.declared.life.Life.{Life}
-use Rattle.sip_transactions.specs.declared.output.Kind.{Kind}
-use Rattle.sip_transactions.specs.declared.output.Kind.TheVariants as kind
+use Rattle.sip_transactions.specs.declared.output.UpKind.{UpKind}
+use Rattle.sip_transactions.specs.declared.output.UpKind.TheVariants as kind
 use Rattle.sip_transactions.specs.declared.output.Out.{Out}
 use Rattle.sip_transactions.specs.declared.output.Out.TheVariants as out
 use Rattle.sip_transactions.specs.declared.state.State.{State}
-use Rattle.sip_transactions.specs.declared.step.Handed.{Handed}
-use Rattle.sip_transactions.specs.declared.step.Handed.TheVariants as handed
+use Rattle.sip_transactions.specs.declared.step.UpAction.{UpAction}
+use Rattle.sip_transactions.specs.declared.step.UpAction.TheVariants as handed
 use Rattle.sip_transactions.specs.declared.step.Step.{Step}
 use Rattle.sip_transactions.specs.Steps.Input.{arrived_in, message_in, role_of}
 use Rattle.sip_transactions.specs.Steps.Life.{acted_if, context_of, state_of, step_for, stepped, stepped_by}
 use Rattle.sip_transactions.specs.Machine.{transaction_machine}
 use Rattle.sip_transactions.proofs.Rules.{machine_is}
 use Rattle.sip_transactions.specs.Steps.Output.{handed_out, made_bytes, outputs_of, send_out, sent_bytes}
-use Rattle.sip_common.specs.declared.item.Item.{Item}
+use Rattle.sip_user.specs.declared.item.Item.{Item}
 use Rattle.sip_calls.specs.Provisionals.{event_in, event_of_kind}
 use Rattle.sip_round.specs.Outputs.{raised_of}
 
@@ -38,7 +38,7 @@ raised id outs = events_of (flat_map (raised_of id) outs)
 abbrev pub Few : Id → List Id → Type 0
 Few id events = (events ≡ []) ⊎ (events ≡ id ∷ [])
 
-few_of_kind : (id : Id) (k : Kind) → Few id (cons_option (event_of_kind id k) [])
+few_of_kind : (id : Id) (k : UpKind) → Few id (cons_option (event_of_kind id k) [])
 few_of_kind id (kind.Request request reply_to) = inr refl
 few_of_kind id (kind.Ack ack) = inr refl
 few_of_kind id (kind.Response response) = inr refl
@@ -57,7 +57,7 @@ few_told id key to (Some (out.Send other there bytes)) (Some more) = inl refl
 few_told id key to (Some (out.Dropped place why)) None = inl refl
 few_told id key to (Some (out.Dropped place why)) (Some bytes) = inl refl
 
-none_told : (id : Id) (key : Key) (context : Context) (h : Handed) (sent : Option (List ℕ))
+none_told : (id : Id) (key : Key) (context : Context) (h : UpAction) (sent : Option (List ℕ))
     → raised id (option_to_list (handed_out key context h None)
     ++ option_to_list (option_map (send_out key context.to) sent)) ≡ []
 unfolding handed_out

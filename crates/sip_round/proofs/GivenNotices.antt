@@ -5,12 +5,12 @@ use Rattle.std.proofs.lemmas.Cmp.{nat_list_cmp_total}
 use Rattle.std.proofs.lemmas.Grind.{flat_map-append}
 use Rattle.std.proofs.lemmas.List.Elements.{filter-append}
 use Rattle.std.proofs.lemmas.Map.Lookups.{exact_bytes}
-use Rattle.sip_model.specs.Laws.{said_by}
-use Rattle.sip_model.specs.Machine.{Timed, tick_at}
-use Rattle.sip_model.specs.Phase.{Phase, states_after}
-use Rattle.sip_model.specs.Rules.{said_since}
-use Rattle.sip_model.proofs.Spoken.{own_after, spoken}
-use Rattle.sip_common.specs.declared.item.CallOut.{CallOut}
+use Rattle.keyed_machine.specs.Laws.{said_by}
+use Rattle.keyed_machine.specs.Machine.{Timed, tick_at}
+use Rattle.keyed_machine.specs.Phase.{Phase, states_after}
+use Rattle.keyed_machine.specs.Rules.{said_since}
+use Rattle.keyed_machine.proofs.Spoken.{own_after, spoken}
+use Rattle.sip_user.specs.declared.item.CallOut.{CallOut}
 use Rattle.sip_calls.specs.Call.{call_machine, CallItem}
 use Rattle.sip_calls.specs.CallShard.{call_cmp}
 use Rattle.sip_calls.specs.OwnCall.{IsCallOf}

@@ -9,17 +9,17 @@ use Rattle.sip_message.specs.declared.addr.Addr.{Addr}
 use Rattle.sip_message.specs.declared.id.Id.{Id}
 use Rattle.sip_message.specs.declared.key.Key.{Key}
 use Rattle.sip_message.specs.Key.{key_cmp}
-use Rattle.sip_model.specs.declared.item.Item as model
-use Rattle.sip_model.specs.Laws.{said_by}
-use Rattle.sip_model.specs.Machine.{Timed, adds, given_at, next, tick_at}
-use Rattle.sip_model.specs.Phase.{Phase, states_after, stepped, timed_items, told_items}
-use Rattle.sip_model.specs.Rules.{said_since}
+use Rattle.keyed_machine.specs.declared.item.Item as model
+use Rattle.keyed_machine.specs.Laws.{said_by}
+use Rattle.keyed_machine.specs.Machine.{Timed, adds, given_at, next, tick_at}
+use Rattle.keyed_machine.specs.Phase.{Phase, states_after, stepped, timed_items, told_items}
+use Rattle.keyed_machine.specs.Rules.{said_since}
 use Rattle.sip_transactions.specs.declared.input.Input.{Input}
 use Rattle.sip_transactions.specs.declared.life.Life.{Life}
 use Rattle.sip_transactions.specs.declared.output.Out.{Out}
 use Rattle.sip_transactions.specs.Machine.{transaction_machine}
-use Rattle.sip_common.specs.declared.item.CallOut.{CallOut}
-use Rattle.sip_common.specs.declared.item.CallOut.TheVariants as call_out
+use Rattle.sip_user.specs.declared.item.CallOut.{CallOut}
+use Rattle.sip_user.specs.declared.item.CallOut.TheVariants as call_out
 use Rattle.sip_round.specs.Arrivals as arrival
 use Rattle.sip_round.specs.declared.config.Config.{Config}
 use Rattle.sip_round.specs.declared.output.Output.{Output}

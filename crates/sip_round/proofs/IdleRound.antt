@@ -4,8 +4,8 @@ use Rattle.std.specs.List.{AllByRecursion}
 use Rattle.std.specs.List.Sorted.{IsStrictlySortedBy}
 use Rattle.sip_message.specs.declared.key.Key.{Key}
 use Rattle.sip_message.specs.Key.{key_cmp, branch_in}
-use Rattle.sip_model.specs.Laws.{ToldInOrder}
-use Rattle.sip_model.specs.Shards.{ShardsTellAll}
+use Rattle.keyed_machine.specs.Laws.{ToldInOrder}
+use Rattle.keyed_machine.specs.Shards.{ShardsTellAll}
 use Rattle.sip_transactions.specs.Machine.{transaction_machine}
 use Rattle.sip_calls.specs.declared.calls.Calls.{Calls}
 use Rattle.sip_calls.specs.Call.{call_machine}
@@ -19,7 +19,7 @@ use Rattle.sip_shards.specs.AllShards.{IsIdle}
 use Rattle.sip_round.specs.Steps.Led.{Deals, LedFirst}
 use Rattle.sip_shards.proofs.IdleShards.{cut_nothing, idle_shards}
 use Rattle.sip_round.proofs.Leading.{deals, led_first, led_second, led_third}
-use Rattle.sip_model.specs.Machine.{tick_at}
+use Rattle.keyed_machine.specs.Machine.{tick_at}
 
 pub idle_round : (shared : Calls) (shard_of : List ℕ → ℕ → ℕ) (number : ℕ) (round : Round)
     (shards : ShardTables) → round.events ≡ []

@@ -4,22 +4,22 @@ use Rattle.std.specs.List.{flat_map}
 use Rattle.std.specs.List.Sorted.{IsStrictlySortedBy}
 use Rattle.std.specs.Ordering.{nat_cmp}
 use Rattle.std.specs.declared.cmp.Ordering.{Ordering}
-use Rattle.sip_model.specs.Machine.{Machine, Timed, tick_at}
+use Rattle.keyed_machine.specs.Machine.{Machine, Timed, tick_at}
 use Rattle.sip_message.specs.declared.id.Id.{Id}
 use Rattle.sip_message.specs.declared.key.Key.{Key}
 use Rattle.sip_message.specs.Key.{key_cmp, branch_in}
-use Rattle.sip_model.specs.Laws.{ToldInOrder}
-use Rattle.sip_model.specs.declared.item.Item.{Item as ShardItem}
-use Rattle.sip_model.specs.Phase.{Phase, PhaseOutputs, by_place, phase_at}
-use Rattle.sip_model.specs.Shards.{HoldFrom}
-use Rattle.sip_model.specs.Table.{Held}
+use Rattle.keyed_machine.specs.Laws.{ToldInOrder}
+use Rattle.keyed_machine.specs.declared.item.Item.{Item as ShardItem}
+use Rattle.keyed_machine.specs.Phase.{Phase, PhaseOutputs, by_place, phase_at}
+use Rattle.keyed_machine.specs.Shards.{HoldFrom}
+use Rattle.keyed_machine.specs.Table.{Held}
 use Rattle.sip_transactions.specs.declared.input.Command.{Command}
 use Rattle.sip_transactions.specs.declared.input.Input.{Input}
 use Rattle.sip_transactions.specs.declared.life.Life.{Life}
 use Rattle.sip_transactions.specs.declared.output.Out.{Out}
 use Rattle.sip_transactions.specs.Machine.{transaction_machine}
-use Rattle.sip_common.specs.declared.item.Item.{Item}
-use Rattle.sip_common.specs.declared.item.CallOut.{CallOut}
+use Rattle.sip_user.specs.declared.item.Item.{Item}
+use Rattle.sip_user.specs.declared.item.CallOut.{CallOut}
 use Rattle.sip_calls.specs.declared.call.Call.{Call}
 use Rattle.sip_calls.specs.declared.calls.Calls.{Calls}
 use Rattle.sip_calls.specs.Call.{call_machine}

@@ -8,7 +8,7 @@ use Rattle.sip_calls.specs.CallShard.{call_cmp}
 use Rattle.sip_calls.specs.Idle as calls
 use Rattle.sip_message.specs.Key.{branch_in, key_cmp, keys_total}
 use Rattle.sip_message.specs.declared.key.Key.{Key}
-use Rattle.sip_model.specs.Table.{Covers, state_at}
+use Rattle.keyed_machine.specs.Table.{Covers, state_at}
 use Rattle.sip_transactions.specs.Idle as transactions
 use Rattle.sip_transactions.specs.Keys.{exact_keys}
 use Rattle.sip_transactions.specs.Machine.{life_due, transaction_machine}
@@ -20,7 +20,7 @@ use Rattle.sip_round.specs.Live.{live_of}
 use Rattle.sip_shards.specs.Parts.{owner_of}
 use Rattle.sip_round.proofs.Living.{counted}
 use Rattle.sip_round.proofs.HeldInShards.{some_calls, some_lives}
-use Rattle.sip_model.specs.Machine.{tick_at}
+use Rattle.keyed_machine.specs.Machine.{tick_at}
 
 pub live_shards : {C : Type 0} (shard_of : C → List ℕ → ℕ → ℕ)
     → ((name : List ℕ) (n : ℕ) (cut : C) → 0 < n → shard_of cut name n < n)

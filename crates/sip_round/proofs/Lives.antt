@@ -1,7 +1,7 @@
 -- Each life among the inputs of a run.
 use Rattle.std.proofs.Common.{◌≡◌, List, [], ◌∷◌, ◌++◌, refl, sym, ◌∙◌, ap, append_assoc}
 use Rattle.std.specs.Prelude.{Option, None}
-use Rattle.sip_model.specs.Machine.{LifeIn, Machine, adds, next, outputs_from, said_after, said_at_first, said_in_rest, state_from}
+use Rattle.keyed_machine.specs.Machine.{LifeIn, Machine, adds, next, outputs_from, said_after, said_at_first, said_in_rest, state_from}
 
 module _ {K S I O : Type 0} (machine : Machine K S I O) (key : K) where
   pub outputs_append : (state : Option S) (before after : List I)

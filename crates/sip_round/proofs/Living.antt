@@ -8,12 +8,12 @@ use Rattle.std.proofs.lemmas.List.Elements.{All-nil, All-cons}
 use Rattle.std.proofs.lemmas.List.Sums.{sum_by-append, sum_by-cons}
 use Rattle.std.proofs.Math.Seq.{take-suc}
 use Rattle.std.proofs.lemmas.Map.Lookups.{CmpEqualImpliesEq}
-use Rattle.sip_model.specs.Machine.{Machine, IsIdle}
-use Rattle.sip_model.specs.Table.{Covers, Held, state_at}
-use Rattle.sip_model.specs.Phase.{Phase, keys_of_phases, states_after}
-use Rattle.sip_model.specs.Shards.{HoldFrom, is_owned}
-use Rattle.sip_model.proofs.Apart.{owned_states}
-use Rattle.sip_model.proofs.Phases.{phases_cover}
+use Rattle.keyed_machine.specs.Machine.{Machine, IsIdle}
+use Rattle.keyed_machine.specs.Table.{Covers, Held, state_at}
+use Rattle.keyed_machine.specs.Phase.{Phase, keys_of_phases, states_after}
+use Rattle.keyed_machine.specs.Shards.{HoldFrom, is_owned}
+use Rattle.keyed_machine.proofs.Apart.{owned_states}
+use Rattle.keyed_machine.proofs.Phases.{phases_cover}
 
 sums_add : {X : Type 0} (f g h : X → ℕ) → ((x : X) → f x + g x ≡ h x) → (xs : List X)
     → sum_by f xs + sum_by g xs ≡ sum_by h xs

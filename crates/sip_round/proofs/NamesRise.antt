@@ -19,12 +19,12 @@ use Rattle.sip_message.specs.Key.{key_cmp}
 use Rattle.sip_message.specs.Message.{is_request_message}
 use Rattle.sip_message.specs.MessageKey.{key_at, key_of_message}
 use Rattle.sip_message.specs.Source.{answer_address, stamped}
-use Rattle.sip_model.specs.declared.item.Item as model
-use Rattle.sip_model.specs.Machine.{adds, next, Timed, tick_at}
-use Rattle.sip_model.specs.Phase.{Phase, history, inputs_of, keys_of_phases, own_inputs, states_after, timed_items, told_items}
-use Rattle.sip_model.specs.Phase as phases
-use Rattle.sip_model.specs.Groups.{speaks}
-use Rattle.sip_model.proofs.Ordered.{by_bool}
+use Rattle.keyed_machine.specs.declared.item.Item as model
+use Rattle.keyed_machine.specs.Machine.{adds, next, Timed, tick_at}
+use Rattle.keyed_machine.specs.Phase.{Phase, history, inputs_of, keys_of_phases, own_inputs, states_after, timed_items, told_items}
+use Rattle.keyed_machine.specs.Phase as phases
+use Rattle.keyed_machine.specs.Groups.{speaks}
+use Rattle.keyed_machine.proofs.Ordered.{by_bool}
 use Rattle.sip_reader.specs.ReadMessage.{message_at}
 use Rattle.sip_transactions.specs.declared.input.Command.{Command}
 use Rattle.sip_transactions.specs.declared.input.Command.TheVariants as command
@@ -33,11 +33,11 @@ use Rattle.sip_transactions.specs.declared.input.Input.TheVariants.{Receive}
 use Rattle.sip_transactions.specs.Ids.{is_id}
 use Rattle.sip_transactions.specs.Laws.{IsServer, arrival_id, naming_id}
 use Rattle.sip_transactions.specs.Shard.{is_stray, order, received}
-use Rattle.sip_common.specs.Command.{call_of_item}
-use Rattle.sip_common.specs.declared.item.CallOut.{CallOut}
-use Rattle.sip_common.specs.declared.item.CallOut.TheVariants as call_out
-use Rattle.sip_common.specs.declared.item.Item.{Item}
-use Rattle.sip_common.proofs.Starts.{start_in, start_of, starts}
+use Rattle.sip_user.specs.Command.{call_of_item}
+use Rattle.sip_user.specs.declared.item.CallOut.{CallOut}
+use Rattle.sip_user.specs.declared.item.CallOut.TheVariants as call_out
+use Rattle.sip_user.specs.declared.item.Item.{Item}
+use Rattle.sip_held_dialogs.proofs.Starts.{start_in, start_of, starts}
 use Rattle.sip_calls.specs.declared.call.Call.{Call}
 use Rattle.sip_calls.specs.declared.calls.Calls.{Calls}
 use Rattle.sip_calls.specs.Call.{call_machine}

@@ -9,14 +9,14 @@ use Rattle.std.proofs.lemmas.Grind.{common_steps}
 use Rattle.std.proofs.lemmas.Map.Lookups.{CmpEqualImpliesEq, exact_bytes}
 use Rattle.sip_message.specs.Key.{branch_in, key_cmp, keys_total}
 use Rattle.sip_message.specs.declared.key.Key.{Key}
-use Rattle.sip_model.specs.Machine as machines
-use Rattle.sip_model.specs.Machine.{Machine, due_of, tick_at}
-use Rattle.sip_model.specs.Laws.{ToldInOrder}
-use Rattle.sip_model.specs.Phase.{Phase, states_after}
-use Rattle.sip_model.specs.Shards.{HoldFrom, ShardsTellAll, is_owned}
-use Rattle.sip_model.specs.Table.{Held, state_at}
-use Rattle.sip_model.proofs.Apart.{owned_states}
-use Rattle.sip_model.proofs.Ordered.{by_bool}
+use Rattle.keyed_machine.specs.Machine as machines
+use Rattle.keyed_machine.specs.Machine.{Machine, due_of, tick_at}
+use Rattle.keyed_machine.specs.Laws.{ToldInOrder}
+use Rattle.keyed_machine.specs.Phase.{Phase, states_after}
+use Rattle.keyed_machine.specs.Shards.{HoldFrom, ShardsTellAll, is_owned}
+use Rattle.keyed_machine.specs.Table.{Held, state_at}
+use Rattle.keyed_machine.proofs.Apart.{owned_states}
+use Rattle.keyed_machine.proofs.Ordered.{by_bool}
 use Rattle.sip_transactions.specs.Idle as transactions
 use Rattle.sip_transactions.specs.Keys.{exact_keys}
 use Rattle.sip_transactions.specs.Machine.{life_due, transaction_machine}

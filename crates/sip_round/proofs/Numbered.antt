@@ -1,8 +1,8 @@
 -- Items at the places of their numbers.
 use Rattle.std.proofs.Common.{◌≡◌, ℕ, suc, List, [], ◌∷◌, map, arith}
 use Rattle.sip_message.specs.declared.id.Id.{Id}
-use Rattle.sip_model.specs.declared.item.Item.{Item}
-use Rattle.sip_common.specs.declared.item.Item as served
+use Rattle.keyed_machine.specs.declared.item.Item.{Item}
+use Rattle.sip_user.specs.declared.item.Item as served
 use Rattle.sip_transactions.specs.declared.input.Command.{Command}
 use Rattle.sip_round.specs.Phases.{call_items, command_items}
 use Rattle.sip_shards.proofs.Climbing.{Climbs}

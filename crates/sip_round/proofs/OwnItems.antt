@@ -7,22 +7,22 @@ use Rattle.sip_message.specs.declared.addr.Addr.{Addr}
 use Rattle.sip_message.specs.declared.id.Id.{Id}
 use Rattle.sip_message.specs.declared.key.Key.{Key}
 use Rattle.sip_message.specs.Key.{key_cmp}
-use Rattle.sip_model.specs.declared.item.Item as model
-use Rattle.sip_model.specs.Machine.{Timed, adds, next, tick_at}
-use Rattle.sip_model.specs.Phase.{keys_of_phases, states_after, stepped, timed_items, told_items}
-use Rattle.sip_model.specs.Groups.{speaks}
+use Rattle.keyed_machine.specs.declared.item.Item as model
+use Rattle.keyed_machine.specs.Machine.{Timed, adds, next, tick_at}
+use Rattle.keyed_machine.specs.Phase.{keys_of_phases, states_after, stepped, timed_items, told_items}
+use Rattle.keyed_machine.specs.Groups.{speaks}
 use Rattle.sip_transactions.specs.declared.input.Input.{Input}
 use Rattle.sip_transactions.specs.declared.life.Life.{Life}
-use Rattle.sip_transactions.specs.declared.output.Kind.{Kind}
-use Rattle.sip_transactions.specs.declared.output.Kind.TheVariants as kind
+use Rattle.sip_transactions.specs.declared.output.UpKind.{UpKind}
+use Rattle.sip_transactions.specs.declared.output.UpKind.TheVariants as kind
 use Rattle.sip_transactions.specs.declared.output.Out.{Out}
 use Rattle.sip_transactions.specs.declared.output.Out.TheVariants as out
 use Rattle.sip_transactions.specs.Laws.{naming_id}
 use Rattle.sip_transactions.specs.Machine.{transaction_machine}
-use Rattle.sip_common.specs.Command.{call_of_item}
-use Rattle.sip_common.specs.declared.item.Item.{Item}
-use Rattle.sip_common.specs.declared.item.Item.TheVariants.{Up, User}
-use Rattle.sip_common.proofs.Each.{both}
+use Rattle.sip_user.specs.Command.{call_of_item}
+use Rattle.sip_user.specs.declared.item.Item.{Item}
+use Rattle.sip_user.specs.declared.item.Item.TheVariants.{Up, User}
+use Rattle.sip_held_dialogs.proofs.Each.{both}
 use Rattle.sip_calls.specs.Call.{CallItem}
 use Rattle.sip_calls.specs.OwnCall.{IsInputOf, IsItemOf}
 use Rattle.sip_round.specs.Arrivals as arrival
@@ -61,7 +61,7 @@ named_alone id key input (inr one) own is = sym one.1 ∙ is
 
 -- ---- what transactions hand up
 
-kind_by : (id : Id) (event : Option Id) (own : Id) (k : Kind) → NamesAlone id event
+kind_by : (id : Id) (event : Option Id) (own : Id) (k : UpKind) → NamesAlone id event
     → IsKindBy event own k → IsKindBy (Some id) own k
 kind_by id event own (kind.Request request reply_to) alone is = alone own is
 kind_by id event own (kind.Ack ack) alone is = tt

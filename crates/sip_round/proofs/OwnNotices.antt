@@ -2,10 +2,10 @@
 use Rattle.std.proofs.Common.{◌≡◌, ℕ, Bool, true, false, cond, List, [], ◌∷◌, ◌++◌, refl, ◌∙◌}
 use Rattle.std.specs.BTreeMap.{is_at}
 use Rattle.std.specs.List.{AllByRecursion, flat_map}
-use Rattle.sip_model.specs.Machine.{Timed, adds}
-use Rattle.sip_model.proofs.Spoken.{KeepsOwn, SpeaksForItself}
-use Rattle.sip_common.specs.declared.item.CallOut.{CallOut}
-use Rattle.sip_common.specs.declared.item.CallOut.TheVariants as call_out
+use Rattle.keyed_machine.specs.Machine.{Timed, adds}
+use Rattle.keyed_machine.proofs.Spoken.{KeepsOwn, SpeaksForItself}
+use Rattle.sip_user.specs.declared.item.CallOut.{CallOut}
+use Rattle.sip_user.specs.declared.item.CallOut.TheVariants as call_out
 use Rattle.sip_calls.specs.declared.calls.Calls.{Calls}
 use Rattle.sip_calls.specs.Call.{call_machine, CallItem}
 use Rattle.sip_calls.specs.CallShard.{call_cmp}

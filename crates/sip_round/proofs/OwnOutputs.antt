@@ -8,22 +8,22 @@ use Rattle.sip_message.specs.declared.addr.Addr.{Addr}
 use Rattle.sip_message.specs.declared.key.Key.{Key}
 use Rattle.sip_message.specs.declared.message.Message.{Message}
 use Rattle.sip_message.specs.Key.{key_cmp, keys_total}
-use Rattle.sip_model.specs.declared.item.Item.{Item}
-use Rattle.sip_model.specs.Laws.{said_by}
-use Rattle.sip_model.specs.Machine.{Timed, tick_at, Machine}
-use Rattle.sip_model.specs.Phase.{Phase}
-use Rattle.sip_model.proofs.Spoken.{FitItems, SpeaksForItself, spoken}
+use Rattle.keyed_machine.specs.declared.item.Item.{Item}
+use Rattle.keyed_machine.specs.Laws.{said_by}
+use Rattle.keyed_machine.specs.Machine.{Timed, tick_at, Machine}
+use Rattle.keyed_machine.specs.Phase.{Phase}
+use Rattle.keyed_machine.proofs.Spoken.{FitItems, SpeaksForItself, spoken}
 use Rattle.sip_transactions.specs.declared.input.Input.{Input}
 use Rattle.sip_transactions.specs.declared.life.Context.{Context}
 use Rattle.sip_transactions.specs.declared.life.Life.{Life}
 use Rattle.sip_transactions.specs.declared.output.DropReason.TheVariants as reason
-use Rattle.sip_transactions.specs.declared.output.Kind.{Kind}
-use Rattle.sip_transactions.specs.declared.output.Kind.TheVariants as kind
+use Rattle.sip_transactions.specs.declared.output.UpKind.{UpKind}
+use Rattle.sip_transactions.specs.declared.output.UpKind.TheVariants as kind
 use Rattle.sip_transactions.specs.declared.output.Out.{Out}
 use Rattle.sip_transactions.specs.declared.output.Out.TheVariants as out
 use Rattle.sip_transactions.specs.declared.state.State.{State}
-use Rattle.sip_transactions.specs.declared.step.Handed.{Handed}
-use Rattle.sip_transactions.specs.declared.step.Handed.TheVariants as handed
+use Rattle.sip_transactions.specs.declared.step.UpAction.{UpAction}
+use Rattle.sip_transactions.specs.declared.step.UpAction.TheVariants as handed
 use Rattle.sip_transactions.specs.declared.step.Step.{Step}
 use Rattle.sip_transactions.specs.Steps.Input.{arrived_in, message_in, role_of}
 use Rattle.sip_transactions.specs.Keys.{exact_keys}
@@ -62,7 +62,7 @@ pub record AreAllOwn (X : Type 0) (chosen : Out → List X) (picked : Key → Ou
     : Type 0 where
   pub sends : (q key : Key) (to : Addr) (bytes : List ℕ)
       → IsOwn X chosen picked q key (send_out key to bytes)
-  pub ups : (q key : Key) (context : Context) (kind : Kind)
+  pub ups : (q key : Key) (context : Context) (kind : UpKind)
       → IsOwn X chosen picked q key (up_out key context kind)
   pub drops : (q key : Key) (place : ℕ)
       → IsOwn X chosen picked q key (out.Dropped place reason.NoTransaction)
@@ -81,7 +81,7 @@ module _ (X : Type 0) (chosen : Out → List X) (picked : Key → Out → List X
         more_own X own _ _ _ _ (all.sends q key to bytes) (none_own X own)
 
     -- what a row hands up or drops, and what it sends
-    own_told : (q key : Key) (context : Context) (h : Handed) (arrived : Option (Message × Addr))
+    own_told : (q key : Key) (context : Context) (h : UpAction) (arrived : Option (Message × Addr))
         (sent : Option (List ℕ))
         → Own q key (option_to_list (handed_out key context h arrived)
         ++ option_to_list (option_map (send_out key context.to) sent))

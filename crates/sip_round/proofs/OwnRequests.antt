@@ -12,18 +12,18 @@ use Rattle.sip_message.specs.declared.key.Key.{Key}
 use Rattle.sip_message.specs.declared.message.Message.{Message}
 use Rattle.sip_message.specs.declared.start_line.StartLine.{StartLine}
 use Rattle.sip_message.specs.declared.start_line.StartLine.TheVariants as start
-use Rattle.sip_model.specs.Machine.{adds, Timed, Machine}
-use Rattle.sip_model.proofs.Ordered.{by_bool}
+use Rattle.keyed_machine.specs.Machine.{adds, Timed, Machine}
+use Rattle.keyed_machine.proofs.Ordered.{by_bool}
 use Rattle.sip_transactions.specs.declared.input.Input.{Input}
 use Rattle.sip_transactions.specs.declared.input.Input.TheVariants.{Receive, Start, Answer, Failed}
 use Rattle.sip_transactions.specs.declared.life.Context.{Context}
 use Rattle.sip_transactions.specs.declared.life.Life.{Life}
-use Rattle.sip_transactions.specs.declared.output.Kind.{Kind}
-use Rattle.sip_transactions.specs.declared.output.Kind.TheVariants as kind
+use Rattle.sip_transactions.specs.declared.output.UpKind.{UpKind}
+use Rattle.sip_transactions.specs.declared.output.UpKind.TheVariants as kind
 use Rattle.sip_transactions.specs.declared.output.Out.{Out}
 use Rattle.sip_transactions.specs.declared.output.Out.TheVariants as out
-use Rattle.sip_transactions.specs.declared.step.Handed.{Handed}
-use Rattle.sip_transactions.specs.declared.step.Handed.TheVariants as handed
+use Rattle.sip_transactions.specs.declared.step.UpAction.{UpAction}
+use Rattle.sip_transactions.specs.declared.step.UpAction.TheVariants as handed
 use Rattle.sip_transactions.specs.declared.step.Step.{Step}
 use Rattle.sip_transactions.specs.Steps.Input.{is_same_method, message_in, role_of}
 use Rattle.sip_transactions.specs.Laws.{arrival_id, is_request_kind, is_request_up, naming_id, requests_in}
@@ -32,11 +32,11 @@ use Rattle.sip_transactions.specs.Machine.{transaction_machine}
 use Rattle.sip_transactions.proofs.Rules.{machine_is}
 use Rattle.sip_transactions.specs.Steps.Output.{handed_out, kind_of, made_bytes, outputs_of, send_out, sent_bytes}
 use Rattle.sip_transactions.proofs.OneRequest.{held_silent}
-use Rattle.sip_common.specs.OwnCall.{IsKindOf}
-use Rattle.sip_common.proofs.Each.{both}
+use Rattle.sip_user.specs.OwnCall.{IsKindOf}
+use Rattle.sip_held_dialogs.proofs.Each.{both}
 
 -- a request belongs to this event
-abbrev pub IsKindBy : Option Id → Id → Kind → Type 0
+abbrev pub IsKindBy : Option Id → Id → UpKind → Type 0
 IsKindBy event id (kind.Request request reply_to) = event ≡ Some id
 IsKindBy event id (kind.Ack ack) = Unit {0}
 IsKindBy event id (kind.Response response) = Unit {0}
@@ -72,7 +72,7 @@ none_later : (o : Out) (outs : List Out) → requests_in (o ∷ outs) ≡ 0 → 
 none_later o outs none =
     omega (arith, none, sum_by-cons (λ o. cond (is_request_up o) 1 0) o outs)
 
-kind_own : (event : Option Id) (call_id : List ℕ) (id : Id) (k : Kind)
+kind_own : (event : Option Id) (call_id : List ℕ) (id : Id) (k : UpKind)
     → is_request_kind k ≡ false → IsKindOf call_id k × IsKindBy event id k
 kind_own event call_id id (kind.Request request reply_to) isnt = absurd (false≢true (sym isnt))
 kind_own event call_id id (kind.Ack ack) isnt = (tt, tt)
@@ -104,7 +104,7 @@ message_own id (start.Request uri) message reply_to =
     ]
 message_own id (start.Response status reason) message reply_to = (tt, tt)
 
-handed_own : (key : Key) (context : Context) (h : Handed) (message : Message) (reply_to : Addr)
+handed_own : (key : Key) (context : Context) (h : UpAction) (message : Message) (reply_to : Addr)
     → context.call_id ≡ message.call_id
     → AreOwnUps (arrival_id message.start context.id)
     (option_to_list (handed_out key context h (Some (message, reply_to))))
@@ -122,7 +122,7 @@ handed_own key context handed.Timeout message reply_to same = ((tt, tt), tt)
 handed_own key context handed.Failed message reply_to same = ((tt, tt), tt)
 handed_own key context handed.NoTransaction message reply_to same = (tt, tt)
 
-handed_nothing : (event : Option Id) (key : Key) (context : Context) (h : Handed)
+handed_nothing : (event : Option Id) (key : Key) (context : Context) (h : UpAction)
     → AreOwnUps event (option_to_list (handed_out key context h None))
 unfolding handed_out
 handed_nothing event key context handed.Nothing = tt

@@ -8,18 +8,18 @@ use Rattle.std.specs.List.Sorted.{IsStrictlySortedBy}
 use Rattle.std.specs.declared.cmp.Ordering.TheVariants.{Less}
 use Rattle.std.proofs.lemmas.Map.Keys.{IsDistinct-cons, IsDistinct-head, IsDistinct-tail}
 use Rattle.sip_message.specs.declared.id.Id.{Id}
-use Rattle.sip_model.specs.Machine.{Timed, tick_at}
-use Rattle.sip_model.specs.Phase.{history, inputs_of, own_inputs, timed_items}
-use Rattle.sip_model.proofs.Ordered.{by_bool}
+use Rattle.keyed_machine.specs.Machine.{Timed, tick_at}
+use Rattle.keyed_machine.specs.Phase.{history, inputs_of, own_inputs, timed_items}
+use Rattle.keyed_machine.proofs.Ordered.{by_bool}
 use Rattle.sip_transactions.specs.Ids.{IdsRise, id_cmp}
-use Rattle.sip_transactions.specs.declared.output.Kind.{Kind}
-use Rattle.sip_transactions.specs.declared.output.Kind.TheVariants as kind
-use Rattle.sip_common.specs.declared.item.Item.{Item}
-use Rattle.sip_common.specs.declared.item.Item.TheVariants.{Up, User}
-use Rattle.sip_common.specs.Command.{call_of_item}
-use Rattle.sip_common.specs.Ids.{is_id}
-use Rattle.sip_common.proofs.Each.{both}
-use Rattle.sip_common.proofs.Entries.{none_apart}
+use Rattle.sip_transactions.specs.declared.output.UpKind.{UpKind}
+use Rattle.sip_transactions.specs.declared.output.UpKind.TheVariants as kind
+use Rattle.sip_user.specs.declared.item.Item.{Item}
+use Rattle.sip_user.specs.declared.item.Item.TheVariants.{Up, User}
+use Rattle.sip_user.specs.Command.{call_of_item}
+use Rattle.sip_held_dialogs.specs.Ids.{is_id}
+use Rattle.sip_held_dialogs.proofs.Each.{both}
+use Rattle.sip_held_dialogs.proofs.Entries.{none_apart}
 use Rattle.sip_calls.specs.HeldRequests.{RequestsDiffer, id_of_kind, request_brought}
 use Rattle.sip_calls.specs.Call.{CallItem}
 use Rattle.sip_calls.specs.CallShard.{call_cmp, item_input}
@@ -43,7 +43,7 @@ abbrev BringsItsOwn : Timed CallItem → Type 0
 BringsItsOwn timed = (request_brought timed.input ≡ None)
     ⊎ (request_brought timed.input ≡ event_in timed.input)
 
-kind_brings : (id own : Id) (k : Kind) → IsKindBy (Some id) own k
+kind_brings : (id own : Id) (k : UpKind) → IsKindBy (Some id) own k
     → (id_of_kind own k ≡ None) ⊎ (id_of_kind own k ≡ event_of_kind id k)
 kind_brings id own (kind.Request request reply_to) is = inr (sym is)
 kind_brings id own (kind.Ack ack) is = inl refl

@@ -6,21 +6,21 @@ use Rattle.std.specs.List.{flat_map}
 use Rattle.std.proofs.lemmas.List.{length-append}
 use Rattle.std.proofs.lemmas.List.Elements.{filter-append, filter_map-append}
 use Rattle.sip_message.specs.declared.id.Id.{Id}
-use Rattle.sip_model.specs.Machine.{adds, next, tick_at}
-use Rattle.sip_model.specs.Phase.{keys_of_phases, states_after, stepped, timed_items, told_items}
-use Rattle.sip_model.specs.Groups.{speaks}
-use Rattle.sip_transactions.specs.declared.output.Kind.{Kind}
-use Rattle.sip_transactions.specs.declared.output.Kind.TheVariants as kind
-use Rattle.sip_common.specs.declared.item.CallOut.{CallOut}
-use Rattle.sip_common.specs.declared.item.CallOut.TheVariants as call_out
-use Rattle.sip_common.specs.declared.item.Item.{Item}
-use Rattle.sip_common.specs.declared.item.Item.TheVariants.{Up, User}
-use Rattle.sip_common.specs.declared.notice.Notice.{Notice as ANotice}
-use Rattle.sip_common.specs.declared.notice.Notice.TheVariants as notice
-use Rattle.sip_common.specs.Command.{call_of_item}
-use Rattle.sip_common.specs.Notices.{request_told_by}
+use Rattle.keyed_machine.specs.Machine.{adds, next, tick_at}
+use Rattle.keyed_machine.specs.Phase.{keys_of_phases, states_after, stepped, timed_items, told_items}
+use Rattle.keyed_machine.specs.Groups.{speaks}
+use Rattle.sip_transactions.specs.declared.output.UpKind.{UpKind}
+use Rattle.sip_transactions.specs.declared.output.UpKind.TheVariants as kind
+use Rattle.sip_user.specs.declared.item.CallOut.{CallOut}
+use Rattle.sip_user.specs.declared.item.CallOut.TheVariants as call_out
+use Rattle.sip_user.specs.declared.item.Item.{Item}
+use Rattle.sip_user.specs.declared.item.Item.TheVariants.{Up, User}
+use Rattle.sip_user.specs.declared.notice.Notice.{Notice as ANotice}
+use Rattle.sip_user.specs.declared.notice.Notice.TheVariants as notice
+use Rattle.sip_user.specs.Command.{call_of_item}
+use Rattle.sip_user.specs.Notices.{request_told_by}
 use Rattle.sip_served.specs.ForUser.{is_request}
-use Rattle.sip_common.specs.Ids.{is_id}
+use Rattle.sip_held_dialogs.specs.Ids.{is_id}
 use Rattle.sip_calls.specs.declared.call.Call.{Call}
 use Rattle.sip_calls.specs.declared.calls.Calls.{Calls}
 use Rattle.sip_calls.specs.Call.{call_machine}
@@ -180,7 +180,7 @@ module _ (x : Id) where
   same_event : (id own : Id) → Some id ≡ Some own → own ≡ id
   same_event id own is = sym (ap (λ o. unwrap_or o id) is)
 
-  kind_weighs : (id own : Id) (k : Kind) → IsKindBy (Some id) own k
+  kind_weighs : (id own : Id) (k : UpKind) → IsKindBy (Some id) own k
       → cond (is_request k (is_id x own)) 1 0 ≤ weight (is_id x) (event_of_kind id k)
   kind_weighs id own (kind.Request request reply_to) is =
       subst (λ e. cond (is_id x e) 1 0 ≤ cond (is_id x id) 1 0) (sym (same_event id own is))

@@ -8,22 +8,22 @@ use Rattle.std.specs.declared.cmp.Ordering.TheVariants.{Less}
 use Rattle.std.proofs.lemmas.Grind.{common_steps}
 use Rattle.std.proofs.lemmas.List.Elements.{filter_map-append}
 use Rattle.sip_message.specs.declared.id.Id.{Id}
-use Rattle.sip_model.specs.Machine.{adds, next, tick_at}
-use Rattle.sip_model.specs.Phase.{keys_of_phases, states_after, stepped, timed_items, told_items}
-use Rattle.sip_model.specs.Groups.{speaks}
-use Rattle.sip_model.proofs.Ordered.{by_bool}
+use Rattle.keyed_machine.specs.Machine.{adds, next, tick_at}
+use Rattle.keyed_machine.specs.Phase.{keys_of_phases, states_after, stepped, timed_items, told_items}
+use Rattle.keyed_machine.specs.Groups.{speaks}
+use Rattle.keyed_machine.proofs.Ordered.{by_bool}
 use Rattle.sip_transactions.specs.Ids.{IdsRise, id_cmp}
-use Rattle.sip_transactions.specs.declared.output.Kind.{Kind}
-use Rattle.sip_transactions.specs.declared.output.Kind.TheVariants as kind
-use Rattle.sip_common.specs.declared.item.CallOut.{CallOut}
-use Rattle.sip_common.specs.declared.item.CallOut.TheVariants as call_out
-use Rattle.sip_common.specs.declared.item.Item.{Item}
-use Rattle.sip_common.specs.declared.item.Item.TheVariants.{Up, User}
-use Rattle.sip_common.specs.declared.notice.Notice.{Notice as ANotice}
-use Rattle.sip_common.specs.declared.notice.Notice.TheVariants as notice
-use Rattle.sip_common.specs.Command.{call_of_item}
-use Rattle.sip_common.specs.Ids.{is_id}
-use Rattle.sip_common.specs.Notices.{request_told_by}
+use Rattle.sip_transactions.specs.declared.output.UpKind.{UpKind}
+use Rattle.sip_transactions.specs.declared.output.UpKind.TheVariants as kind
+use Rattle.sip_user.specs.declared.item.CallOut.{CallOut}
+use Rattle.sip_user.specs.declared.item.CallOut.TheVariants as call_out
+use Rattle.sip_user.specs.declared.item.Item.{Item}
+use Rattle.sip_user.specs.declared.item.Item.TheVariants.{Up, User}
+use Rattle.sip_user.specs.declared.notice.Notice.{Notice as ANotice}
+use Rattle.sip_user.specs.declared.notice.Notice.TheVariants as notice
+use Rattle.sip_user.specs.Command.{call_of_item}
+use Rattle.sip_held_dialogs.specs.Ids.{is_id}
+use Rattle.sip_user.specs.Notices.{request_told_by}
 use Rattle.sip_served.specs.ForUser.{is_request}
 use Rattle.sip_calls.specs.declared.call.Call.{Call}
 use Rattle.sip_calls.specs.declared.calls.Calls.{Calls}
@@ -196,7 +196,7 @@ few_are own (y ∷ ys) few =
 abbrev AskedBy : Option Id → List Id → Type 0
 AskedBy event ids = (ids ≡ []) ⊎ (ids ≡ cons_option event [])
 
-kind_asks : (id own : Id) (k : Kind) (ids : List Id) → IsKindBy (Some id) own k
+kind_asks : (id own : Id) (k : UpKind) (ids : List Id) → IsKindBy (Some id) own k
     → ((x : Id) → how_many x ids ≤ cond (is_request k (is_id x own)) 1 0)
     → AskedBy (event_of_kind id k) ids
 kind_asks id own (kind.Request request reply_to) ids is few =

@@ -4,16 +4,16 @@ use Rattle.std.proofs.lemmas.Cmp.{nat_list_cmp_total}
 use Rattle.std.proofs.lemmas.Map.Lookups.{exact_bytes}
 use Rattle.sip_message.specs.declared.key.Key.{Key}
 use Rattle.sip_message.specs.Key.{key_cmp, keys_total}
-use Rattle.sip_model.specs.Laws.{EachKeyAlone}
-use Rattle.sip_model.specs.Machine.{Timed, outputs_from, tick_at}
-use Rattle.sip_model.specs.Phase.{Phase, PhaseOutputs, history, states_after, told_next}
-use Rattle.sip_model.specs.Rules.{said_since}
-use Rattle.sip_model.proofs.Rules.{said_by_a_key, said_by_histories}
+use Rattle.keyed_machine.specs.Laws.{EachKeyAlone}
+use Rattle.keyed_machine.specs.Machine.{Timed, outputs_from, tick_at}
+use Rattle.keyed_machine.specs.Phase.{Phase, PhaseOutputs, history, states_after, told_next}
+use Rattle.keyed_machine.specs.Rules.{said_since}
+use Rattle.keyed_machine.proofs.Rules.{said_by_a_key, said_by_histories}
 use Rattle.sip_transactions.specs.Keys.{exact_keys}
 use Rattle.sip_transactions.specs.declared.input.Input.{Input}
 use Rattle.sip_transactions.specs.declared.output.Out.{Out}
 use Rattle.sip_transactions.specs.Machine.{transaction_machine}
-use Rattle.sip_common.specs.declared.item.CallOut.{CallOut}
+use Rattle.sip_user.specs.declared.item.CallOut.{CallOut}
 use Rattle.sip_calls.specs.declared.calls.Calls.{Calls}
 use Rattle.sip_calls.specs.Call.{CallItem, call_machine}
 use Rattle.sip_calls.specs.CallShard.{call_cmp}

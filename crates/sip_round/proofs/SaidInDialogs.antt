@@ -4,13 +4,13 @@ use Rattle.std.proofs.Common.{◌≡◌, ℕ, Bool, true, false, List, [], ◌�
 use Rattle.std.specs.Prelude.{Option, None, Some, if◌then◌else◌}
 use Rattle.std.specs.Option.{option_map}
 use Rattle.sip_message.specs.declared.cseq.CSeq.{CSeq}
-use Rattle.sip_model.specs.Machine.{Timed, outputs_from}
+use Rattle.keyed_machine.specs.Machine.{Timed, outputs_from}
 use Rattle.sip_dialog.specs.Life.{Happening}
 use Rattle.sip_dialog.specs.Opening.{Opening}
-use Rattle.sip_common.specs.declared.held_dialog.DialogId.{DialogId}
-use Rattle.sip_common.specs.Dialogs.{dialog_at}
-use Rattle.sip_common.specs.Sent.{cseqs_in}
-use Rattle.sip_common.proofs.Starts.{cseqs_both}
+use Rattle.sip_held_dialogs.specs.declared.held_dialog.DialogId.{DialogId}
+use Rattle.sip_held_dialogs.specs.Dialogs.{dialog_at}
+use Rattle.sip_held_dialogs.specs.Sent.{cseqs_in}
+use Rattle.sip_held_dialogs.proofs.Starts.{cseqs_both}
 use Rattle.std.specs.Option.{option_map_or}
 use Rattle.sip_calls.specs.declared.call.Call.{Call}
 use Rattle.sip_calls.specs.declared.calls.Calls.{Calls}

@@ -11,17 +11,17 @@ use Rattle.std.proofs.lemmas.List.Sums.{sum_by-append, sum_by-cons}
 use Rattle.std.proofs.lemmas.Map.Lookups.{exact_bytes}
 use Rattle.std.proofs.lemmas.Map.Keys.{IsDistinct-cons, IsDistinct-head, IsDistinct-tail}
 use Rattle.sip_message.specs.declared.id.Id.{Id}
-use Rattle.sip_model.specs.Machine.{Machine, adds, next, Timed, tick_at}
-use Rattle.sip_model.specs.Phase.{keys_of_phases, states_after, states_then, timed_items}
-use Rattle.sip_model.specs.Groups.{speaks}
-use Rattle.sip_model.proofs.Ordered.{by_bool}
-use Rattle.sip_model.proofs.Phases.{states_after_phase}
-use Rattle.sip_model.proofs.Token.{Budget, KeepsToken, Spent, budget_from, budget_kept, coming_with, spend_items}
-use Rattle.sip_common.specs.declared.item.CallOut.{CallOut}
-use Rattle.sip_common.specs.declared.item.Item.{Item}
-use Rattle.sip_common.specs.Ids.{is_id}
-use Rattle.sip_common.proofs.Entries.{none_apart}
-use Rattle.sip_common.proofs.Starts.{start_in, starts}
+use Rattle.keyed_machine.specs.Machine.{Machine, adds, next, Timed, tick_at}
+use Rattle.keyed_machine.specs.Phase.{keys_of_phases, states_after, states_then, timed_items}
+use Rattle.keyed_machine.specs.Groups.{speaks}
+use Rattle.keyed_machine.proofs.Ordered.{by_bool}
+use Rattle.keyed_machine.proofs.Phases.{states_after_phase}
+use Rattle.keyed_machine.proofs.Token.{Budget, KeepsToken, Spent, budget_from, budget_kept, coming_with, spend_items}
+use Rattle.sip_user.specs.declared.item.CallOut.{CallOut}
+use Rattle.sip_user.specs.declared.item.Item.{Item}
+use Rattle.sip_held_dialogs.specs.Ids.{is_id}
+use Rattle.sip_held_dialogs.proofs.Entries.{none_apart}
+use Rattle.sip_held_dialogs.proofs.Starts.{start_in, starts}
 use Rattle.sip_calls.specs.declared.call.Call.{Call}
 use Rattle.sip_calls.specs.declared.calls.Calls.{Calls}
 use Rattle.sip_calls.specs.Call.{call_machine, CallItem}

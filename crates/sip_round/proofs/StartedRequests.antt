@@ -14,9 +14,9 @@ use Rattle.sip_message.specs.declared.start_line.StartLine.{StartLine}
 use Rattle.sip_message.specs.declared.start_line.StartLine.TheVariants as start
 use Rattle.sip_message.specs.Key.{key_cmp}
 use Rattle.sip_message.specs.Written.{written}
-use Rattle.sip_model.specs.Laws.{EachKeyAlone}
-use Rattle.sip_model.specs.Machine.{Timed, adds, given_at, outputs_from, said_after, said_in_rest, tick_at}
-use Rattle.sip_model.proofs.Ordered.{by_bool}
+use Rattle.keyed_machine.specs.Laws.{EachKeyAlone}
+use Rattle.keyed_machine.specs.Machine.{Timed, adds, given_at, outputs_from, said_after, said_in_rest, tick_at}
+use Rattle.keyed_machine.proofs.Ordered.{by_bool}
 use Rattle.sip_transactions.specs.declared.input.Input.{Input}
 use Rattle.sip_transactions.specs.declared.input.Input.TheVariants.{Receive, Start, Answer, Failed}
 use Rattle.sip_transactions.specs.declared.life.Context.{Context}
@@ -26,8 +26,8 @@ use Rattle.sip_transactions.specs.declared.output.Out.TheVariants as out
 use Rattle.sip_transactions.specs.declared.state.Role.TheVariants as role
 use Rattle.sip_transactions.specs.declared.state.State.{State}
 use Rattle.sip_transactions.specs.declared.step.Due.{Due}
-use Rattle.sip_transactions.specs.declared.step.Handed.{Handed}
-use Rattle.sip_transactions.specs.declared.step.Handed.TheVariants as up
+use Rattle.sip_transactions.specs.declared.step.UpAction.{UpAction}
+use Rattle.sip_transactions.specs.declared.step.UpAction.TheVariants as up
 use Rattle.sip_transactions.specs.declared.step.Next.{Next}
 use Rattle.sip_transactions.specs.declared.step.Next.TheVariants.{Same, Ended, Become}
 use Rattle.sip_transactions.specs.declared.step.Sent.{Sent}
@@ -62,7 +62,7 @@ is_start on.Ack = false
 is_start (on.Response c) = false
 is_start (on.Answer c) = false
 
-abbrev is_nothing : Handed → Bool
+abbrev is_nothing : UpAction → Bool
 is_nothing up.Nothing = true
 is_nothing up.Message = false
 is_nothing up.Timeout = false
@@ -92,7 +92,7 @@ tables_start branch method =
 
 -- ---- what a start sends
 
-given_out : (key : Key) (context : Context) (n : Next) (h : Handed) (s : Sent) (d : Due)
+given_out : (key : Key) (context : Context) (n : Next) (h : UpAction) (s : Sent) (d : Due)
     (message : Message) → is_nothing h ≡ true → is_given s ≡ true
     → outputs_of key context (record { next = n; handed = h; sent = s; due = d })
     (made_bytes context.request s (Some message)) None

@@ -5,7 +5,7 @@ use Rattle.sip_calls.specs.CallShard.{HeldCalls}
 use Rattle.sip_calls.specs.declared.call.Call.{Call}
 use Rattle.sip_calls.specs.declared.calls.Calls.{Calls}
 use Rattle.sip_message.specs.declared.key.Key.{Key}
-use Rattle.sip_model.specs.Table.{Held}
+use Rattle.keyed_machine.specs.Table.{Held}
 use Rattle.sip_transactions.specs.Shard.{Lives}
 use Rattle.sip_transactions.specs.declared.life.Life.{Life}
 use Rattle.sip_round.specs.declared.round_fault.RoundFault.{RoundFault}

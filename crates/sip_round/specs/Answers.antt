@@ -2,18 +2,18 @@
 -- in stamp order.
 use Rattle.std.specs.Prelude.{suc, ◌≡◌, ◌⊎◌, ◌<◌, ℕ, ◌+◌, zero, Bool, true, List, [], ◌∷◌, ◌++◌, length, map, take, Option, Some, None}
 use Rattle.std.specs.List.{flat_map}
-use Rattle.sip_model.specs.Machine.{Timed, tick_at}
+use Rattle.keyed_machine.specs.Machine.{Timed, tick_at}
 use Rattle.sip_message.specs.declared.id.Id.{Id}
 use Rattle.sip_message.specs.declared.key.Key.{Key}
 use Rattle.sip_message.specs.Key.{key_cmp, branch_in}
-use Rattle.sip_model.specs.Phase.{Phase, PhaseOutputs}
-use Rattle.sip_model.specs.Rules.{said_in}
-use Rattle.sip_model.specs.Shards.{HoldFrom}
+use Rattle.keyed_machine.specs.Phase.{Phase, PhaseOutputs}
+use Rattle.keyed_machine.specs.Rules.{said_in}
+use Rattle.keyed_machine.specs.Shards.{HoldFrom}
 use Rattle.sip_transactions.specs.declared.input.Input.{Input}
 use Rattle.sip_transactions.specs.declared.output.Out.{Out}
 use Rattle.sip_transactions.specs.Machine.{transaction_machine}
-use Rattle.sip_common.specs.declared.item.Item.{Item}
-use Rattle.sip_common.specs.declared.item.CallOut.{CallOut}
+use Rattle.sip_user.specs.declared.item.Item.{Item}
+use Rattle.sip_user.specs.declared.item.CallOut.{CallOut}
 use Rattle.sip_calls.specs.declared.calls.Calls.{Calls}
 use Rattle.sip_calls.specs.Call.{call_machine, CallItem}
 use Rattle.sip_calls.specs.CallShard.{call_cmp}

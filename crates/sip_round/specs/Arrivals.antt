@@ -14,7 +14,7 @@ use Rattle.sip_transactions.specs.declared.input.Input.TheVariants.{Failed}
 use Rattle.sip_transactions.specs.declared.output.DropReason.{DropReason}
 use Rattle.sip_transactions.specs.declared.output.DropReason.TheVariants.{NotOurs, Unreadable}
 use Rattle.sip_transactions.specs.Shard.{received}
-use Rattle.sip_common.specs.declared.command.UserCommand.{UserCommand}
+use Rattle.sip_user.specs.declared.command.UserCommand.{UserCommand}
 use Rattle.sip_round.specs.declared.round.Event.{Event}
 use Rattle.sip_round.specs.declared.round.Event.TheVariants as event
 

@@ -4,16 +4,16 @@
 use Rattle.std.specs.Prelude.{◌≡◌, ℕ, ◌+◌, true, false, List, [], ◌∷◌, ◌++◌, Option, None, Some, filter_map, find, fold, length, map}
 use Rattle.sip_message.specs.declared.cseq.CSeq.{CSeq}
 use Rattle.sip_message.specs.declared.id.Id.{Id}
-use Rattle.sip_model.specs.Machine.{Timed, tick_at}
-use Rattle.sip_model.specs.Phase.{states_after}
+use Rattle.keyed_machine.specs.Machine.{Timed, tick_at}
+use Rattle.keyed_machine.specs.Phase.{states_after}
 use Rattle.sip_dialog.specs.declared.dialog.Dialog.{Dialog}
 use Rattle.sip_dialog.specs.Life.{accepted_number, dialog_after, greater, routes_by, target_by}
 use Rattle.sip_dialog.specs.Opening.{opened}
 use Rattle.sip_transactions.specs.Ids.{IdsRise}
-use Rattle.sip_common.specs.declared.held_dialog.DialogId.{DialogId}
-use Rattle.sip_common.specs.declared.held_dialog.HeldDialog.{HeldDialog}
-use Rattle.sip_common.specs.Dialogs.{dialog_at, is_dialog_id}
-use Rattle.sip_common.specs.Sent.{NumberedAfter, NumberedFrom, cseqs_in, name_of_dialog, number_before}
+use Rattle.sip_held_dialogs.specs.declared.held_dialog.DialogId.{DialogId}
+use Rattle.sip_held_dialogs.specs.declared.held_dialog.HeldDialog.{HeldDialog}
+use Rattle.sip_held_dialogs.specs.Dialogs.{dialog_at, is_dialog_id}
+use Rattle.sip_held_dialogs.specs.Sent.{NumberedAfter, NumberedFrom, cseqs_in, name_of_dialog, number_before}
 use Rattle.sip_served.specs.declared.held_request.HeldRequest.{HeldRequest}
 use Rattle.sip_served.specs.Acknowledgment.{awaits_ack}
 use Rattle.sip_served.specs.Awaiting.{awaits_by}

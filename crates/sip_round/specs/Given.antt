@@ -9,19 +9,19 @@ use Rattle.sip_message.specs.declared.key.Key.TheVariants as key
 use Rattle.sip_message.specs.declared.message.Message.{Message}
 use Rattle.sip_message.specs.Key.{key_cmp}
 use Rattle.sip_message.specs.Written.{written}
-use Rattle.sip_model.specs.Machine.{LifeIn, Timed, given_at, outputs_from, said_after, said_in_rest, state_from, state_left}
+use Rattle.keyed_machine.specs.Machine.{LifeIn, Timed, given_at, outputs_from, said_after, said_in_rest, state_from, state_left}
 use Rattle.sip_transactions.specs.declared.input.Input.TheVariants.{Start}
 use Rattle.sip_transactions.specs.declared.output.Out.{Out}
 use Rattle.sip_transactions.specs.declared.output.Out.TheVariants as out
 use Rattle.sip_transactions.specs.Ids.{IdsRise}
 use Rattle.sip_transactions.specs.Laws.{id_of}
 use Rattle.sip_transactions.specs.Machine.{transaction_machine}
-use Rattle.sip_common.specs.declared.held_dialog.DialogReference.{DialogReference}
-use Rattle.sip_common.specs.declared.item.CallOut.{CallOut}
-use Rattle.sip_common.specs.declared.item.CallOut.TheVariants as call_out
-use Rattle.sip_common.specs.declared.item.Item.TheVariants.{Up}
-use Rattle.sip_common.specs.declared.notice.Notice.TheVariants as notice
-use Rattle.sip_common.specs.Ids.{is_id}
+use Rattle.sip_held_dialogs.specs.declared.held_dialog.DialogReference.{DialogReference}
+use Rattle.sip_user.specs.declared.item.CallOut.{CallOut}
+use Rattle.sip_user.specs.declared.item.CallOut.TheVariants as call_out
+use Rattle.sip_user.specs.declared.item.Item.TheVariants.{Up}
+use Rattle.sip_user.specs.declared.notice.Notice.TheVariants as notice
+use Rattle.sip_held_dialogs.specs.Ids.{is_id}
 use Rattle.sip_calls.specs.Call.{call_machine, CallItem}
 use Rattle.sip_calls.specs.CallShard.{call_cmp}
 use Rattle.sip_calls.specs.OwnCall.{call_of_notice}

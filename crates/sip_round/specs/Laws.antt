@@ -4,15 +4,15 @@ use Rattle.std.specs.List.{list_any}
 use Rattle.sip_message.specs.declared.id.Id.{Id}
 use Rattle.sip_message.specs.Key.{key_cmp}
 use Rattle.sip_message.specs.declared.key.Key.{Key}
-use Rattle.sip_model.specs.Machine.{LifeIn, Timed, outputs_from, said_after, said_at_first, said_in_rest, state_left, tick_at}
-use Rattle.sip_model.specs.Phase.{history}
-use Rattle.sip_model.specs.Rules.{said_since}
+use Rattle.keyed_machine.specs.Machine.{LifeIn, Timed, outputs_from, said_after, said_at_first, said_in_rest, state_left, tick_at}
+use Rattle.keyed_machine.specs.Phase.{history}
+use Rattle.keyed_machine.specs.Rules.{said_since}
 use Rattle.sip_transactions.specs.declared.input.Input.{Input}
 use Rattle.sip_transactions.specs.declared.output.Out.{Out}
 use Rattle.sip_transactions.specs.Laws.{IsServer, carries, id_of, requests_in}
 use Rattle.sip_transactions.specs.Machine.{transaction_machine}
-use Rattle.sip_common.specs.declared.held_dialog.DialogReference.{DialogReference}
-use Rattle.sip_common.specs.declared.item.CallOut.{CallOut}
+use Rattle.sip_held_dialogs.specs.declared.held_dialog.DialogReference.{DialogReference}
+use Rattle.sip_user.specs.declared.item.CallOut.{CallOut}
 use Rattle.sip_calls.specs.Call.{call_machine, CallItem}
 use Rattle.sip_calls.specs.CallShard.{call_cmp}
 use Rattle.sip_calls.specs.Provisionals.{AnInvite, IsConsecutive, came, in_order, shown}

@@ -4,8 +4,8 @@ use Rattle.std.specs.declared.cmp.Ordering.{Ordering}
 use Rattle.sip_calls.specs.Call.{call_machine}
 use Rattle.sip_calls.specs.CallShard.{call_cmp}
 use Rattle.sip_message.specs.Key.{key_cmp}
-use Rattle.sip_model.specs.Machine.{Machine, tick_at}
-use Rattle.sip_model.specs.Phase.{Phase, keys_of_phases, states_after}
+use Rattle.keyed_machine.specs.Machine.{Machine, tick_at}
+use Rattle.keyed_machine.specs.Phase.{Phase, keys_of_phases, states_after}
 use Rattle.sip_transactions.specs.Machine.{transaction_machine}
 use Rattle.sip_round.specs.declared.config.Config.{Config}
 use Rattle.sip_round.specs.Answers.{Past, calls_of}

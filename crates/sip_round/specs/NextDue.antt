@@ -4,8 +4,8 @@ use Rattle.sip_calls.specs.Call.{call_due, call_machine}
 use Rattle.sip_calls.specs.CallShard.{call_cmp}
 use Rattle.sip_message.specs.Key.{key_cmp}
 use Rattle.sip_message.specs.declared.key.Key.{Key}
-use Rattle.sip_model.specs.Machine.{due_of, tick_at}
-use Rattle.sip_model.specs.Phase.{states_after}
+use Rattle.keyed_machine.specs.Machine.{due_of, tick_at}
+use Rattle.keyed_machine.specs.Phase.{states_after}
 use Rattle.sip_transactions.specs.Machine.{life_due, transaction_machine}
 use Rattle.sip_round.specs.declared.config.Config.{Config}
 use Rattle.sip_round.specs.declared.round.Round.{Round}

@@ -2,17 +2,17 @@
 -- transactions.
 use Rattle.std.specs.Prelude.{ℕ, suc, true, false, List, [], ◌∷◌}
 use Rattle.std.specs.List.{flat_map}
-use Rattle.sip_model.specs.Machine.{Timed}
+use Rattle.keyed_machine.specs.Machine.{Timed}
 use Rattle.sip_message.specs.declared.id.Id.{Id}
 use Rattle.sip_message.specs.declared.key.Key.{Key}
 use Rattle.sip_transactions.specs.declared.input.Command.{Command}
 use Rattle.sip_transactions.specs.declared.input.Input.{Input}
 use Rattle.sip_transactions.specs.Shard.{asked_by, command_key}
-use Rattle.sip_common.specs.Command.{call_of_item}
-use Rattle.sip_common.specs.declared.item.Item as served
+use Rattle.sip_user.specs.Command.{call_of_item}
+use Rattle.sip_user.specs.declared.item.Item as served
 use Rattle.sip_calls.specs.Call.{CallItem}
-use Rattle.sip_model.specs.declared.item.Item.{Item}
-use Rattle.sip_model.specs.Phase.{Phase, phase_at}
+use Rattle.keyed_machine.specs.declared.item.Item.{Item}
+use Rattle.keyed_machine.specs.Phase.{Phase, phase_at}
 use Rattle.sip_round.specs.Arrivals.{Arrival}
 use Rattle.sip_round.specs.Arrivals as arrival
 

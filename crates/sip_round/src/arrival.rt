@@ -9,8 +9,8 @@ ghost use Rattle.sip_round.specs.Steps.Waiting.{waiting_of};
 
 use crate::round::Event;
 use crate::waiting::Waiting;
+use keyed_machine::Item;
 use sip_message::{Addr, Id, Message, ReadFault, SharedKey, stamp_source};
-use sip_model::Item;
 use sip_reader::read;
 use sip_transactions::{DropReason, Input, received};
 use std::alloc::{AllocError, Global};

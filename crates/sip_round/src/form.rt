@@ -6,7 +6,7 @@ ghost use Rattle.sip_round.specs.Steps.Form.{ArePlacesOf};
 
 use crate::output::{Output, PlacedOutput};
 use sip_message::Id;
-use sip_served::Item;
+use sip_user::Item;
 use std::alloc::{AllocError, Global};
 
 /// How a round gives its outputs: by themselves, or each with the place of its event.

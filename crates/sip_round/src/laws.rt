@@ -9,8 +9,8 @@ ghost use Rattle.sip_round.specs.declared.config.Config.{Config};
 ghost use Rattle.sip_round.specs.declared.round.Round.{Round};
 
 use crate::config::Config;
+use keyed_machine::laws_of_phases;
 use sip_calls::{Calls, provisionals_shown_in_order};
-use sip_model::laws_of_phases;
 use sip_transactions::Transactions;
 use sip_transactions::laws::{nothing_after_the_end, one_request_up};
 

@@ -1,9 +1,9 @@
 //! The outputs of a round.
 
 use sip_message::{Addr, SharedKey};
-use sip_served::Notice;
 use sip_text::Text;
 use sip_transactions::DropReason;
+use sip_user::Notice;
 
 /// One output of a round.
 #[derive(Drop)]

@@ -2,15 +2,15 @@
 
 ghost use Rattle.std.specs.Prelude.{◌≡◌, ◌++◌, OnOk, option_to_list};
 ghost use Rattle.std.specs.List.{flat_map};
-ghost use Rattle.sip_model.specs.Groups.{groups};
+ghost use Rattle.keyed_machine.specs.Groups.{groups};
 ghost use Rattle.sip_round.specs.Outputs.{command_of, raised_of, sent_of};
 ghost use Rattle.sip_round.specs.Steps.Form.{sent_as, shown_as};
 
 use crate::form::Form;
 use crate::output::Output;
 use sip_message::Id;
-use sip_served::{CallOut, Item};
 use sip_transactions::{Command, Out};
+use sip_user::{CallOut, Item};
 use std::alloc::AllocError;
 
 /// What transactions say. Sends and drops go out with the place of this id; what is handed up

@@ -12,8 +12,7 @@ use crate::event_run::EventRun;
 use crate::round::Event;
 use crate::waiting::{SetOut, set_out};
 use sip_message::Addr;
-use sip_shards::Unwatched;
-use sip_workers::{Job, NoMemory, Piece, dones_in_order, gather, run_pieces};
+use sip_workers::{Job, NoMemory, OpenGate, Piece, dones_in_order, gather, run_pieces};
 use std::alloc::{AllocError, Global};
 use std::thread::Threads;
 
@@ -57,7 +56,7 @@ pub(crate) fn set_out_by<R: Threads + Sync>(
     }
     dones_in_order::<EventRun>();
     let runs = runs_of(alloc, local, round, events)?;
-    let dones = run_pieces(rt, alloc, runs, workers, &Unwatched)?;
+    let dones = run_pieces(rt, alloc, runs, workers, &OpenGate)?;
     Ok(joined(alloc, events.len(), gather(alloc, dones)?)?)
 }
 

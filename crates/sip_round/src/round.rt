@@ -5,8 +5,8 @@ ghost use Rattle.std.specs.Option.{option_copied};
 ghost use Rattle.sip_round.specs.Places as spec;
 
 use sip_message::{Addr, SharedKey};
-use sip_served::UserCommand;
 use sip_text::{Series, Text};
+use sip_user::UserCommand;
 
 /// One event of a round.
 #[derive(Drop)]

@@ -6,15 +6,15 @@ ghost use Rattle.sip_calls.specs.Call.{call_due, call_machine, CallItem};
 ghost use Rattle.sip_calls.specs.CallShard.{call_cmp};
 ghost use Rattle.sip_message.specs.Key.{key_cmp};
 ghost use Rattle.sip_message.specs.declared.key.Key.{Key};
-ghost use Rattle.sip_model.specs.Table.{Covers, state_at};
+ghost use Rattle.keyed_machine.specs.Table.{Covers, state_at};
 ghost use Rattle.sip_shards.specs.AllShards.{IsIdle};
 ghost use Rattle.sip_shards.specs.Steps.Dues.{IsDueIn};
 ghost use Rattle.sip_timers.specs.Queue.{is_due};
 ghost use Rattle.sip_transactions.specs.Machine.{life_due, transaction_machine};
 
+use keyed_machine::KeyShard;
 use sip_calls::{CallShard, Calls};
 use sip_message::{Addr, Cut};
-use sip_model::KeyShard;
 use sip_shards::{are_idle, next_due_in, transfer};
 use sip_timers::earlier;
 use sip_transactions::{Shard, Transactions};
@@ -50,10 +50,10 @@ impl Drop for Shards {
 }
 
 impl Shards {
-    ghost use Rattle.sip_model.specs.Phase.{Phase};
+    ghost use Rattle.keyed_machine.specs.Phase.{Phase};
     ghost use Rattle.sip_round.specs.AgentState.{ShardTables, AreShards, calls_held, lives_held};
     ghost use Rattle.sip_round.specs.Answers.{HoldCalls, HoldTransactions};
-    ghost use Rattle.sip_model.specs.Machine.{Timed, tick_at};
+    ghost use Rattle.keyed_machine.specs.Machine.{Timed, tick_at};
     ghost use Rattle.sip_transactions.specs.declared.input.Input.{Input};
 
     /// `shards` shards that hold nothing. Their calls share `calls`.

@@ -3,7 +3,7 @@
 ghost use Rattle.std.specs.Prelude.{◌≡◌, ◌≤◌, ◌+◌, ◌++◌, IfOk, OnOk, length};
 ghost use Rattle.std.specs.List.{flat_map};
 ghost use Rattle.std.specs.Vec.Iter.{into_iter_items};
-ghost use Rattle.sip_model.specs.Groups.{groups};
+ghost use Rattle.keyed_machine.specs.Groups.{groups};
 ghost use Rattle.sip_round.specs.Arrivals.{arrivals_from};
 ghost use Rattle.sip_round.specs.Outputs.{joined, raised_of};
 ghost use Rattle.sip_round.specs.Steps.Form.{sent_as};
@@ -15,10 +15,10 @@ use crate::form::Form;
 use crate::output::Output;
 use crate::outs::{part, part_all};
 use crate::round::Event;
+use keyed_machine::{self as model, PhaseOutputs};
 use sip_message::{Addr, Id, SharedKey};
-use sip_model::{self as model, PhaseOutputs};
-use sip_served::{Item, UserCommand};
 use sip_transactions::{DropReason, Input, Out};
+use sip_user::{Item, UserCommand};
 use std::alloc::{AllocError, Global};
 use std::vec::IntoIter;
 

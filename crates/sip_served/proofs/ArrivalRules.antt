@@ -12,21 +12,21 @@ use Rattle.sip_message.specs.declared.message.Message.{Message}
 use Rattle.sip_message.specs.declared.rack.RAck.{RAck}
 use Rattle.sip_message.specs.Party.{tag_of}
 use Rattle.sip_reliable.specs.Ledger.{closed_now, waits_for}
-use Rattle.sip_transactions.specs.declared.output.Kind.{Kind}
-use Rattle.sip_transactions.specs.declared.output.Kind.TheVariants as kind
+use Rattle.sip_transactions.specs.declared.output.UpKind.{UpKind}
+use Rattle.sip_transactions.specs.declared.output.UpKind.TheVariants as kind
 use Rattle.sip_transactions.specs.declared.output.Up.{Up}
-use Rattle.sip_common.specs.declared.command.UserCommand.TheVariants as command
-use Rattle.sip_common.specs.declared.held_dialog.DialogId.{DialogId}
-use Rattle.sip_common.specs.declared.held_dialog.HeldDialog.{HeldDialog}
-use Rattle.sip_common.specs.declared.item.CallOut.{CallOut}
-use Rattle.sip_common.specs.declared.item.Item.{Item}
-use Rattle.sip_common.specs.declared.item.Item.TheVariants as item
-use Rattle.sip_common.specs.Dialogs.{Dialogs, dialog_at, dialog_changed, early_ended, ended_at, is_dialog_id, lived, refreshes, retargets, takes, visited}
+use Rattle.sip_user.specs.declared.command.UserCommand.TheVariants as command
+use Rattle.sip_held_dialogs.specs.declared.held_dialog.DialogId.{DialogId}
+use Rattle.sip_held_dialogs.specs.declared.held_dialog.HeldDialog.{HeldDialog}
+use Rattle.sip_user.specs.declared.item.CallOut.{CallOut}
+use Rattle.sip_user.specs.declared.item.Item.{Item}
+use Rattle.sip_user.specs.declared.item.Item.TheVariants as item
+use Rattle.sip_held_dialogs.specs.Dialogs.{Dialogs, dialog_at, dialog_changed, early_ended, ended_at, is_dialog_id, lived, refreshes, retargets, takes, visited}
 use Rattle.sip_dialog.specs.Dialog.{is_ended}
 use Rattle.sip_dialog.specs.Life.{Accepts, Refreshes}
 use Rattle.sip_dialog.specs.Opening.{contact_uri}
 use Rattle.sip_dialog.specs.declared.fault.DialogFault.TheVariants as fault
-use Rattle.sip_common.specs.Requests.{dialog_id_of, is_bye, is_cancel, has_to_tag, is_invite, is_prack, is_unknown_option}
+use Rattle.sip_held_dialogs.specs.Requests.{dialog_id_of, is_bye, is_cancel, has_to_tag, is_invite, is_prack, is_unknown_option}
 use Rattle.sip_served.specs.declared.arrival.Arrival.{Arrival}
 use Rattle.sip_served.specs.declared.arrival.ArrivalCase.TheVariants.{Merged, BadExtension, Acknowledges, AcknowledgesNothing, ForUser}
 use Rattle.sip_served.specs.declared.held_request.HeldRequest.{HeldRequest}
@@ -323,7 +323,7 @@ ack_same state call_id ack =
         (str_eq_ignore_ascii_case (tag_of ack.from) (tag_of held.request.from))
         (ack.cseq.number == held.request.cseq.number)
 
-pub kind_same : (state : State) (tag : List ℕ) (up : Up) (kind : Kind) (now : ℕ)
+pub kind_same : (state : State) (tag : List ℕ) (up : Up) (kind : UpKind) (now : ℕ)
     → server_received state tag up kind now ≡ kind_taken state tag up kind now
 kind_same state tag up (kind.Request request reply_to) now =
     sym (arrival_same state up.call_id (arrival_of up request reply_to tag) now)

@@ -4,7 +4,7 @@ use Rattle.std.specs.Prelude.{None, Some, Result, Ok, Err, IfOk, find}
 use Rattle.std.specs.List.{slice_get, slice_set}
 use Rattle.std.proofs.lemmas.Option.{slice_get_read}
 use Rattle.sip_message.specs.declared.id.Id.{Id}
-use Rattle.sip_common.specs.declared.command.Respond.{Respond}
+use Rattle.sip_user.specs.declared.command.Respond.{Respond}
 use Rattle.sip_served.specs.declared.held_request.HeldRequest.{HeldRequest}
 use Rattle.sip_served.specs.Respond.{answer_given_at, by_refusal, by_request, refusal_for, respond_taken}
 use Rattle.sip_served.specs.State.{State, changed_at, has_id}

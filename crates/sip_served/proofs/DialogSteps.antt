@@ -6,7 +6,7 @@ use Rattle.std.specs.Cmp.{first_so, second_so}
 use Rattle.std.specs.List.{flat_map, list_any}
 use Rattle.std.specs.Option.{option_map, option_map_or}
 use Rattle.indexmap.specs.IndexMap.{insert_entry}
-use Rattle.sip_model.proofs.Ordered.{by_bool}
+use Rattle.keyed_machine.proofs.Ordered.{by_bool}
 use Rattle.sip_message.specs.declared.addr.Addr.{Addr}
 use Rattle.sip_message.specs.declared.id.Id.{Id}
 use Rattle.sip_message.specs.declared.message.Message.{Message}
@@ -15,31 +15,31 @@ use Rattle.sip_message.specs.Party.{tag_of}
 use Rattle.sip_dialog.specs.Life.{Happening}
 use Rattle.sip_dialog.specs.Opening.{ByRequest, Opening, opened}
 use Rattle.sip_transactions.specs.declared.input.Command.TheVariants as order
-use Rattle.sip_transactions.specs.declared.output.Kind.TheVariants.{Request}
+use Rattle.sip_transactions.specs.declared.output.UpKind.TheVariants.{Request}
 use Rattle.sip_transactions.specs.declared.output.Up.{Up}
 use Rattle.sip_served.specs.declared.arrival.Arrival.{Arrival}
 use Rattle.sip_served.specs.declared.arrival.ArrivalCase.{ArrivalCase}
 use Rattle.sip_served.specs.declared.arrival.ArrivalCase.TheVariants.{Merged, BadExtension, NoDialog, OutOfOrder, Acknowledges, AcknowledgesNothing, ForUser}
-use Rattle.sip_common.specs.declared.command.Respond.{Respond as Answer}
-use Rattle.sip_common.specs.declared.held_dialog.DialogId.{DialogId}
-use Rattle.sip_common.specs.declared.held_dialog.HeldDialog.{HeldDialog}
+use Rattle.sip_user.specs.declared.command.Respond.{Respond as Answer}
+use Rattle.sip_held_dialogs.specs.declared.held_dialog.DialogId.{DialogId}
+use Rattle.sip_held_dialogs.specs.declared.held_dialog.HeldDialog.{HeldDialog}
 use Rattle.sip_served.specs.declared.held_request.HeldRequest.{HeldRequest}
-use Rattle.sip_common.specs.declared.item.CallOut.{CallOut}
-use Rattle.sip_common.specs.declared.item.CallOut.TheVariants as out
-use Rattle.sip_common.specs.declared.refusal.Refusal.{Refusal}
+use Rattle.sip_user.specs.declared.item.CallOut.{CallOut}
+use Rattle.sip_user.specs.declared.item.CallOut.TheVariants as out
+use Rattle.sip_user.specs.declared.refusal.Refusal.{Refusal}
 use Rattle.sip_served.specs.Acknowledgment.{ack_noted, ack_taken, acknowledged_invite}
 use Rattle.sip_served.specs.Arrival.{arrival_of, by_case, bye_taken, case_inside, case_of, case_outside, is_merged, named_invite, noted, prack_case, request_held}
 use Rattle.sip_served.specs.Cancel.{by_cancelled, cancelled_request, is_unanswered_invite}
 use Rattle.sip_served.specs.Happenings.{accepts, answer_confirms, answer_opens, is_of_name, success_confirms}
-use Rattle.sip_common.specs.Dialogs.{confirmed, confirms, dialog_at, dialog_changed, early_ended, ended_at, is_early_of, is_dialog_id, takes, visited, happenings_by_request, Dialogs}
-use Rattle.sip_common.specs.Requests.{dialog_id_of, is_bye, is_cancel, has_to_tag, is_prack, is_unknown_option, dialog_id_of_tags}
-use Rattle.sip_common.specs.Sent.{name_of_dialog, responses_out}
+use Rattle.sip_held_dialogs.specs.Dialogs.{confirmed, confirms, dialog_at, dialog_changed, early_ended, ended_at, is_early_of, is_dialog_id, takes, visited, happenings_by_request, Dialogs}
+use Rattle.sip_held_dialogs.specs.Requests.{dialog_id_of, is_bye, is_cancel, has_to_tag, is_prack, is_unknown_option, dialog_id_of_tags}
+use Rattle.sip_held_dialogs.specs.Sent.{name_of_dialog, responses_out}
 use Rattle.sip_served.specs.Respond.{answer_to, by_refusal, by_request, confirms_dialog, makes_or_confirms_dialog, made_dialog, makes_dialog, refusal_for, rejects, respond_taken}
 use Rattle.sip_served.specs.State.{State, ServedTaken, has_id}
 use Rattle.sip_served.specs.Step.{arrival_taken, kind_taken}
-use Rattle.sip_common.proofs.Entries.{same_key}
-use Rattle.sip_common.proofs.Heard.{AreApart, Leads, Lives, Moves, in_one, leads_as, leads_changed, leads_filtered, leads_removed, leads_same, leads_then, moves_led, moves_made, name_laws, none_came, none_either, quiet, tag_kept}
-use Rattle.sip_common.proofs.Lives.{cases_fit}
+use Rattle.sip_held_dialogs.proofs.Entries.{same_key}
+use Rattle.sip_held_dialogs.proofs.Heard.{AreApart, Leads, Lives, Moves, in_one, leads_as, leads_changed, leads_filtered, leads_removed, leads_same, leads_then, moves_led, moves_made, name_laws, none_came, none_either, quiet, tag_kept}
+use Rattle.sip_held_dialogs.proofs.Lives.{cases_fit}
 
 -- ---- a request that comes up, and an ACK
 

@@ -6,10 +6,10 @@ use Rattle.std.specs.Option.{is_some, option_and_then, option_map_or}
 use Rattle.std.proofs.lemmas.Grind.{common_steps}
 use Rattle.sip_timers.specs.Queue.{is_due}
 use Rattle.sip_timers.specs.Earlier.{earlier}
-use Rattle.sip_model.specs.Groups.{speaks}
+use Rattle.keyed_machine.specs.Groups.{speaks}
 use Rattle.sip_message.specs.declared.message.Message.{Message}
 use Rattle.sip_reliable.specs.Ledger.{next_moment, tick_answer}
-use Rattle.sip_common.proofs.Dues.{earlier_due, earliest, or_assoc, or_false}
+use Rattle.sip_held_dialogs.proofs.Dues.{earlier_due, earliest, or_assoc, or_false}
 use Rattle.sip_served.specs.declared.held_request.HeldRequest.{HeldRequest}
 use Rattle.sip_served.specs.declared.held_request.Success.{Success}
 use Rattle.sip_served.specs.declared.tick.SuccessDue.{SuccessDue}

@@ -8,7 +8,7 @@ use Rattle.std.specs.Str.{bytes_eq}
 use Rattle.std.proofs.lemmas.Grind.{common_steps}
 use Rattle.std.proofs.lemmas.Slice.Eq.{bytes_eq-Decides}
 use Rattle.indexmap.specs.IndexMap.{insert_entry}
-use Rattle.sip_model.proofs.Ordered.{by_bool}
+use Rattle.keyed_machine.proofs.Ordered.{by_bool}
 use Rattle.sip_message.specs.declared.addr.Addr.{Addr}
 use Rattle.sip_message.specs.declared.id.Id.{Id}
 use Rattle.sip_message.specs.declared.message.Message.{Message}
@@ -17,7 +17,7 @@ use Rattle.sip_reliable.specs.declared.tick.Tick.{Tick}
 use Rattle.sip_reliable.specs.declared.tick.Tick.TheVariants as tick
 use Rattle.sip_reliable.specs.Ledger.{tick_answer}
 use Rattle.sip_transactions.specs.declared.input.Command.TheVariants as order
-use Rattle.sip_transactions.specs.declared.output.Kind.TheVariants.{Request}
+use Rattle.sip_transactions.specs.declared.output.UpKind.TheVariants.{Request}
 use Rattle.sip_transactions.specs.declared.output.Up.{Up}
 use Rattle.sip_served.specs.declared.arrival.Arrival.{Arrival}
 use Rattle.sip_served.specs.declared.arrival.ArrivalCase.{ArrivalCase}
@@ -27,27 +27,27 @@ use Rattle.sip_served.specs.declared.held_request.Success.{Success}
 use Rattle.sip_served.specs.declared.provisionals.ReliableResponse.{ReliableResponse}
 use Rattle.sip_served.specs.declared.tick.SuccessDue.{SuccessDue}
 use Rattle.sip_served.specs.declared.tick.SuccessDue.TheVariants as repeat
-use Rattle.sip_common.specs.declared.command.Respond.{Respond as Answer}
-use Rattle.sip_common.specs.declared.held_dialog.DialogId.{DialogId}
-use Rattle.sip_common.specs.declared.held_dialog.HeldDialog.{HeldDialog}
-use Rattle.sip_common.specs.declared.item.CallOut.{CallOut}
-use Rattle.sip_common.specs.declared.item.CallOut.TheVariants as out
-use Rattle.sip_common.specs.declared.refusal.Refusal.{Refusal}
-use Rattle.sip_common.specs.Dialogs.{Dialogs, confirmed, dialog_at, dialog_changed, early_ended, ended_at, is_early_of, is_dialog_id, takes, visited, happenings_by_request}
-use Rattle.sip_common.specs.Requests.{dialog_id_of, is_bye, is_cancel, has_to_tag, is_invite, is_prack, is_provisional, is_success, is_unknown_option, dialog_id_of_tags}
+use Rattle.sip_user.specs.declared.command.Respond.{Respond as Answer}
+use Rattle.sip_held_dialogs.specs.declared.held_dialog.DialogId.{DialogId}
+use Rattle.sip_held_dialogs.specs.declared.held_dialog.HeldDialog.{HeldDialog}
+use Rattle.sip_user.specs.declared.item.CallOut.{CallOut}
+use Rattle.sip_user.specs.declared.item.CallOut.TheVariants as out
+use Rattle.sip_user.specs.declared.refusal.Refusal.{Refusal}
+use Rattle.sip_held_dialogs.specs.Dialogs.{Dialogs, confirmed, dialog_at, dialog_changed, early_ended, ended_at, is_early_of, is_dialog_id, takes, visited, happenings_by_request}
+use Rattle.sip_held_dialogs.specs.Requests.{dialog_id_of, is_bye, is_cancel, has_to_tag, is_invite, is_prack, is_provisional, is_success, is_unknown_option, dialog_id_of_tags}
 use Rattle.sip_served.specs.Acknowledgment.{ack_noted, ack_taken, acknowledged_invite}
 use Rattle.sip_served.specs.Arrival.{arrival_of, by_case, bye_taken, case_inside, case_of, case_outside, is_merged, noted, prack_case, request_held, request_taken}
 use Rattle.sip_served.specs.Cancel.{by_cancelled, cancel_taken, cancelled_request, is_unanswered_invite, request_terminated, termination_told}
-use Rattle.sip_common.specs.Sent.{response_in}
+use Rattle.sip_held_dialogs.specs.Sent.{response_in}
 use Rattle.sip_served.specs.Endings.{ended_by_answer, ended_by_bye, ended_by_cancel, ended_by_request, opened_by_answer}
 use Rattle.sip_served.specs.Provisionals.{of_numbers}
 use Rattle.sip_served.specs.Respond.{answer_to, by_refusal, by_request, confirms_dialog, makes_or_confirms_dialog, made_dialog, makes_dialog, refusal_for, rejects, respond_taken}
 use Rattle.sip_served.specs.State.{State, ServedTaken, has_id}
 use Rattle.sip_served.specs.Step.{arrival_taken, kind_taken}
 use Rattle.sip_served.specs.Tick.{provisionals_ticked, provisionals_told, request_ticked, success_answer, success_at_tick, success_ticked, success_told, tick_taken}
-use Rattle.sip_common.proofs.Entries as entries
-use Rattle.sip_common.proofs.Heard.{AreApart, name_laws}
-use Rattle.sip_common.proofs.EndedDialogs.{AreNamed, Goes, Which, changed_held, changed_named, ended_none, goes_as, goes_before, goes_changed, goes_early, goes_kept, goes_named_then, goes_removed, goes_same, left_of, lived_name, names_ended, no_name, none_ends, silent_both}
+use Rattle.sip_held_dialogs.proofs.Entries as entries
+use Rattle.sip_held_dialogs.proofs.Heard.{AreApart, name_laws}
+use Rattle.sip_held_dialogs.proofs.EndedDialogs.{AreNamed, Goes, Which, changed_held, changed_named, ended_none, goes_as, goes_before, goes_changed, goes_early, goes_kept, goes_named_then, goes_removed, goes_same, left_of, lived_name, names_ended, no_name, none_ends, silent_both}
 
 -- nothing is opened
 abbrev pub Closes : Which → State → ServedTaken → Type 0

@@ -2,7 +2,7 @@
 use Rattle.std.proofs.Common.{◌≡◌, ℕ, not, ◌==◌, List, [], ◌∷◌, map, refl, sym, subst}
 use Rattle.std.specs.Prelude.{Option, None, Some, find, fold}
 use Rattle.std.specs.List.{AllByRecursion}
-use Rattle.sip_model.proofs.Ordered.{by_bool}
+use Rattle.keyed_machine.proofs.Ordered.{by_bool}
 use Rattle.sip_message.specs.declared.addr.Addr.{Addr}
 use Rattle.sip_message.specs.declared.id.Id.{Id}
 use Rattle.sip_message.specs.declared.message.Message.{Message}
@@ -12,31 +12,31 @@ use Rattle.sip_reliable.specs.declared.tick.Tick.TheVariants as tick
 use Rattle.sip_reliable.specs.Ledger.{FewWait, ok_unless, send_fault, tick_answer}
 use Rattle.sip_reliable.specs.Sound.{IsSound}
 use Rattle.sip_reliable.proofs.Sounds.{few_wait as few_by, free, sound_given_up, sound_kept, sound_new, sound_repeated, sound_sent}
-use Rattle.sip_transactions.specs.declared.output.Kind.{Kind}
-use Rattle.sip_transactions.specs.declared.output.Kind.TheVariants.{Request, Ack, Response, Timeout, Failed}
+use Rattle.sip_transactions.specs.declared.output.UpKind.{UpKind}
+use Rattle.sip_transactions.specs.declared.output.UpKind.TheVariants.{Request, Ack, Response, Timeout, Failed}
 use Rattle.sip_transactions.specs.declared.output.Up.{Up}
 use Rattle.sip_served.specs.declared.arrival.Arrival.{Arrival}
 use Rattle.sip_served.specs.declared.arrival.ArrivalCase.{ArrivalCase}
 use Rattle.sip_served.specs.declared.arrival.ArrivalCase.TheVariants.{Merged, BadExtension, NoDialog, OutOfOrder, Acknowledges, AcknowledgesNothing, ForUser}
-use Rattle.sip_common.specs.declared.command.Respond.{Respond as Answer}
-use Rattle.sip_common.specs.declared.command.UserCommand.{UserCommand}
-use Rattle.sip_common.specs.declared.command.UserCommand.TheVariants as command
-use Rattle.sip_common.specs.declared.held_dialog.DialogId.{DialogId}
+use Rattle.sip_user.specs.declared.command.Respond.{Respond as Answer}
+use Rattle.sip_user.specs.declared.command.UserCommand.{UserCommand}
+use Rattle.sip_user.specs.declared.command.UserCommand.TheVariants as command
+use Rattle.sip_held_dialogs.specs.declared.held_dialog.DialogId.{DialogId}
 use Rattle.sip_served.specs.declared.held_request.HeldRequest.{HeldRequest}
 use Rattle.sip_served.specs.declared.held_request.Success.{Success}
-use Rattle.sip_common.specs.declared.item.Item.TheVariants as item
-use Rattle.sip_common.specs.declared.refusal.Refusal.{Refusal}
+use Rattle.sip_user.specs.declared.item.Item.TheVariants as item
+use Rattle.sip_user.specs.declared.refusal.Refusal.{Refusal}
 use Rattle.sip_served.specs.Acknowledgment.{ack_noted, acknowledged_invite, success_ended}
 use Rattle.sip_served.specs.declared.held_request.SuccessEnd.TheVariants.{Acknowledged}
 use Rattle.sip_served.specs.Arrival.{arrival_of, by_case, bye_taken, case_of, first_rseq, noted, pracked}
 use Rattle.sip_served.specs.Cancel.{by_cancelled, cancelled_request, is_unanswered_invite, request_terminated}
-use Rattle.sip_common.specs.Requests.{dialog_id_of, is_bye, is_cancel, has_to_tag, is_final}
+use Rattle.sip_held_dialogs.specs.Requests.{dialog_id_of, is_bye, is_cancel, has_to_tag, is_final}
 use Rattle.sip_served.specs.Respond.{after_answer, answered, by_refusal, by_request, finished, is_sent_reliably, makes_dialog, refusal_for, sent_as, with_dialog}
 use Rattle.sip_served.specs.Run.{Event, Takes, Ticks, FewWaitEach, event_taken, server_state_after}
 use Rattle.sip_served.specs.State.{State, empty_at, has_id}
 use Rattle.sip_served.specs.Step.{arrival_taken, server_command_taken, kind_taken}
 use Rattle.sip_served.specs.Tick.{is_kept_at, provisionals_by, request_ticked, success_at_tick, success_ticked}
-use Rattle.sip_common.proofs.Each as each
+use Rattle.sip_held_dialogs.proofs.Each as each
 use Rattle.sip_served.proofs.FirstChanged.{first_changed}
 use Rattle.sip_served.proofs.RequestLives.{success_alone}
 
@@ -164,7 +164,7 @@ respond_keeps state event r now None all = all
 respond_keeps state event r now (Some held) all =
     refusal_keeps state event r now held (refusal_for state.dialogs r held) all
 
-kind_keeps : (state : State) (tag : List ℕ) (up : Up) (kind : Kind) (now : ℕ)
+kind_keeps : (state : State) (tag : List ℕ) (up : Up) (kind : UpKind) (now : ℕ)
     → IsKeptEach state → IsKeptEach (kind_taken state tag up kind now).0
 kind_keeps state tag up (Request request reply_to) now all =
     arrival_keeps state up.call_id (arrival_of up request reply_to tag) now all

@@ -6,11 +6,11 @@ use Rattle.std.proofs.lemmas.Grind.{common_steps, flat_map-append}
 use Rattle.std.proofs.lemmas.Bool.{true≢false}
 use Rattle.std.proofs.lemmas.List.{append-nil, get_or-append-add}
 use Rattle.std.proofs.lemmas.List.Folds.{list_all_at, list_all-append}
-use Rattle.sip_model.proofs.Ordered.{by_bool}
+use Rattle.keyed_machine.proofs.Ordered.{by_bool}
 use Rattle.sip_text.specs.Character.{is_blank, is_line_byte, is_token_byte}
 use Rattle.sip_text.specs.Token.{is_token}
-use Rattle.sip_parts.proofs.BlankEnds.{full_has_none, has_full_ends}
-use Rattle.sip_parts.specs.HeaderValue.{has_no_blank_ends, has_no_line_byte, is_header_value}
+use Rattle.sip_grammar.proofs.BlankEnds.{full_has_none, has_full_ends}
+use Rattle.sip_grammar.specs.HeaderValue.{has_no_blank_ends, has_no_line_byte, is_header_value}
 
 abbrev pub joined : List (List ℕ) → List ℕ
 joined options = join_by (λ option. option) (codes ", ") options

@@ -2,8 +2,8 @@
 -- that isn't parsed.
 use Rattle.std.proofs.Common.{refl}
 use Rattle.std.specs.Prelude.{IsTrue, codes}
-use Rattle.sip_parts.specs.HeaderEntry.{is_named}
-use Rattle.sip_parts.specs.OtherName.{is_compact_name, is_other_name}
+use Rattle.sip_grammar.specs.HeaderEntry.{is_named}
+use Rattle.sip_grammar.specs.OtherName.{is_compact_name, is_other_name}
 use Rattle.sip_text.specs.Character.{is_token_byte}
 use Rattle.sip_text.specs.Token.{is_token}
 

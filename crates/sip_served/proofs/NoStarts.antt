@@ -2,36 +2,36 @@
 use Rattle.std.proofs.Common.{◌≡◌, ℕ, Bool, true, false, ◌&&◌, cond, List, [], ◌∷◌, map, refl}
 use Rattle.std.specs.Prelude.{Option, None, Some, find}
 use Rattle.indexmap.specs.IndexMap.{insert_entry}
-use Rattle.sip_model.proofs.Ordered.{by_bool}
+use Rattle.keyed_machine.proofs.Ordered.{by_bool}
 use Rattle.sip_message.specs.declared.id.Id.{Id}
 use Rattle.sip_message.specs.declared.message.Message.{Message}
 use Rattle.sip_reliable.specs.declared.tick.Tick.{Tick}
 use Rattle.sip_reliable.specs.declared.tick.Tick.TheVariants as tick
 use Rattle.sip_reliable.specs.Ledger.{tick_answer}
 use Rattle.sip_transactions.specs.declared.input.Command.TheVariants as order
-use Rattle.sip_transactions.specs.declared.output.Kind.{Kind}
-use Rattle.sip_transactions.specs.declared.output.Kind.TheVariants.{Request, Ack, Response, Timeout, Failed}
+use Rattle.sip_transactions.specs.declared.output.UpKind.{UpKind}
+use Rattle.sip_transactions.specs.declared.output.UpKind.TheVariants.{Request, Ack, Response, Timeout, Failed}
 use Rattle.sip_transactions.specs.declared.output.Up.{Up}
-use Rattle.sip_common.proofs.Starts.{early_starts, ended_starts, none_of_all, none_of_both, starts}
+use Rattle.sip_held_dialogs.proofs.Starts.{early_starts, ended_starts, none_of_all, none_of_both, starts}
 use Rattle.sip_served.specs.declared.arrival.Arrival.{Arrival}
 use Rattle.sip_served.specs.declared.arrival.ArrivalCase.{ArrivalCase}
 use Rattle.sip_served.specs.declared.arrival.ArrivalCase.TheVariants.{Merged, BadExtension, NoDialog, OutOfOrder, Acknowledges, AcknowledgesNothing, ForUser}
-use Rattle.sip_common.specs.declared.command.Respond.{Respond as Answer}
-use Rattle.sip_common.specs.declared.held_dialog.DialogId.{DialogId}
+use Rattle.sip_user.specs.declared.command.Respond.{Respond as Answer}
+use Rattle.sip_held_dialogs.specs.declared.held_dialog.DialogId.{DialogId}
 use Rattle.sip_served.specs.declared.held_request.HeldRequest.{HeldRequest}
 use Rattle.sip_served.specs.declared.held_request.Success.{Success}
-use Rattle.sip_common.specs.declared.item.CallOut.{CallOut}
-use Rattle.sip_common.specs.declared.item.CallOut.TheVariants as out
+use Rattle.sip_user.specs.declared.item.CallOut.{CallOut}
+use Rattle.sip_user.specs.declared.item.CallOut.TheVariants as out
 use Rattle.sip_served.specs.declared.provisionals.ReliableResponse.{ReliableResponse}
-use Rattle.sip_common.specs.declared.refusal.Refusal.{Refusal}
+use Rattle.sip_user.specs.declared.refusal.Refusal.{Refusal}
 use Rattle.sip_served.specs.declared.tick.SuccessDue.{SuccessDue}
 use Rattle.sip_served.specs.declared.tick.SuccessDue.TheVariants as repeat
 use Rattle.sip_served.specs.Provisionals.{of_numbers}
 use Rattle.sip_served.specs.Acknowledgment.{ack_noted, acknowledged_invite}
 use Rattle.sip_served.specs.Arrival.{arrival_of, by_case, case_of, noted, request_held}
 use Rattle.sip_served.specs.Cancel.{by_cancelled, cancelled_request, is_unanswered_invite}
-use Rattle.sip_common.specs.Dialogs.{confirmed, dialog_changed, early_ended, ended_at, is_dialog_id, Dialogs}
-use Rattle.sip_common.specs.Requests.{dialog_id_of, is_bye, is_cancel, has_to_tag}
+use Rattle.sip_held_dialogs.specs.Dialogs.{confirmed, dialog_changed, early_ended, ended_at, is_dialog_id, Dialogs}
+use Rattle.sip_held_dialogs.specs.Requests.{dialog_id_of, is_bye, is_cancel, has_to_tag}
 use Rattle.sip_served.specs.Respond.{answer_to, by_refusal, by_request, confirms_dialog, made_dialog, makes_dialog, refusal_for, rejects, respond_taken}
 use Rattle.sip_served.specs.State.{State, ServedTaken, has_id}
 use Rattle.sip_served.specs.Step.{arrival_taken, kind_taken}
@@ -76,7 +76,7 @@ arrival_starts state call_id arrival now =
     (λ e. rw e (case_starts (case_of state.requests state.dialogs name arrival.request) state
     call_id name arrival))
 
-pub kind_starts : (state : State) (tag : List ℕ) (up : Up) (kind : Kind) (now : ℕ)
+pub kind_starts : (state : State) (tag : List ℕ) (up : Up) (kind : UpKind) (now : ℕ)
     → starts (kind_taken state tag up kind now).1 ≡ []
 kind_starts state tag up (Request request reply_to) now =
     arrival_starts state up.call_id (arrival_of up request reply_to tag) now

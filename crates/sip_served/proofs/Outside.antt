@@ -2,9 +2,9 @@
 use Rattle.std.proofs.Common.{◌≡◌, ℕ, not, ◌&&◌, ◌||◌, Bool, true, false, List, [], ◌∷◌, ◌++◌, refl, ap, ◌∙◌}
 use Rattle.std.specs.Prelude.{codes, None, if◌then◌else◌}
 use Rattle.std.specs.List.{list_any}
-use Rattle.sip_common.specs.Dialogs.{dialog_at}
-use Rattle.sip_common.specs.Requests.{dialog_id_of, has_to_tag, is_bye, is_prack, is_unknown_option}
-use Rattle.sip_common.specs.declared.item.CallOut.TheVariants.{Notice}
+use Rattle.sip_held_dialogs.specs.Dialogs.{dialog_at}
+use Rattle.sip_held_dialogs.specs.Requests.{dialog_id_of, has_to_tag, is_bye, is_prack, is_unknown_option}
+use Rattle.sip_user.specs.declared.item.CallOut.TheVariants.{Notice}
 use Rattle.sip_served.specs.Arrival.{answered_with, by_case, case_inside, held_first, is_merged, no_such_dialog, refused_extension, request_notice, request_taken}
 use Rattle.sip_served.specs.declared.arrival.Arrival.{Arrival}
 use Rattle.sip_served.specs.declared.arrival.ArrivalCase.{ArrivalCase}

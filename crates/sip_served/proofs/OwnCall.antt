@@ -1,7 +1,7 @@
 -- What the server side of a call holds and tells has its own Call-ID.
 use Rattle.std.proofs.Common.{◌≡◌, ℕ, ◌&&◌, List, [], ◌∷◌, map, refl, ap, ◌∙◌}
 use Rattle.std.specs.Prelude.{Option, None, Some, find}
-use Rattle.sip_model.proofs.Ordered.{by_bool}
+use Rattle.keyed_machine.proofs.Ordered.{by_bool}
 use Rattle.sip_message.specs.declared.addr.Addr.{Addr}
 use Rattle.sip_message.specs.declared.id.Id.{Id}
 use Rattle.sip_message.specs.declared.message.Message.{Message}
@@ -9,42 +9,43 @@ use Rattle.sip_reliable.specs.declared.tick.Tick.{Tick}
 use Rattle.sip_reliable.specs.declared.tick.Tick.TheVariants as tick
 use Rattle.sip_reliable.specs.Ledger.{tick_answer}
 use Rattle.sip_transactions.specs.declared.input.Command.TheVariants.{Answer as ByAnswer}
-use Rattle.sip_transactions.specs.declared.output.Kind.{Kind}
-use Rattle.sip_transactions.specs.declared.output.Kind.TheVariants.{Request, Ack, Response, Timeout, Failed}
+use Rattle.sip_transactions.specs.declared.output.UpKind.{UpKind}
+use Rattle.sip_transactions.specs.declared.output.UpKind.TheVariants.{Request, Ack, Response, Timeout, Failed}
 use Rattle.sip_transactions.specs.declared.output.Up.{Up}
-use Rattle.sip_common.proofs.OwnDialogs.{changed_dialog, early_own, ended_own, lived_keeps}
+use Rattle.sip_held_dialogs.proofs.OwnDialogs.{changed_dialog, early_own, ended_own, lived_keeps}
 use Rattle.sip_served.specs.declared.arrival.Arrival.{Arrival}
 use Rattle.sip_served.specs.declared.arrival.ArrivalCase.{ArrivalCase}
 use Rattle.sip_served.specs.declared.arrival.ArrivalCase.TheVariants.{Merged, BadExtension, NoDialog, OutOfOrder, Acknowledges, AcknowledgesNothing, ForUser}
-use Rattle.sip_common.specs.declared.command.Respond.{Respond as Answer}
-use Rattle.sip_common.specs.declared.command.UserCommand.{UserCommand}
-use Rattle.sip_common.specs.declared.command.UserCommand.TheVariants as command
-use Rattle.sip_common.specs.declared.held_dialog.DialogId.{DialogId}
+use Rattle.sip_user.specs.declared.command.Respond.{Respond as Answer}
+use Rattle.sip_user.specs.declared.command.UserCommand.{UserCommand}
+use Rattle.sip_user.specs.declared.command.UserCommand.TheVariants as command
+use Rattle.sip_held_dialogs.specs.declared.held_dialog.DialogId.{DialogId}
 use Rattle.sip_served.specs.declared.held_request.HeldRequest.{HeldRequest}
 use Rattle.sip_served.specs.declared.held_request.Success.{Success}
-use Rattle.sip_common.specs.declared.item.CallOut.TheVariants.{Command}
-use Rattle.sip_common.specs.declared.item.Item.{Item}
-use Rattle.sip_common.specs.declared.item.Item.TheVariants as item
+use Rattle.sip_user.specs.declared.item.CallOut.TheVariants.{Command}
+use Rattle.sip_user.specs.declared.item.Item.{Item}
+use Rattle.sip_user.specs.declared.item.Item.TheVariants as item
 use Rattle.sip_served.specs.declared.provisionals.ReliableResponse.{ReliableResponse}
-use Rattle.sip_common.specs.declared.refusal.Refusal.{Refusal}
+use Rattle.sip_user.specs.declared.refusal.Refusal.{Refusal}
 use Rattle.sip_served.specs.declared.tick.SuccessDue.{SuccessDue}
 use Rattle.sip_served.specs.declared.tick.SuccessDue.TheVariants as repeat
 use Rattle.sip_served.specs.Acknowledgment.{ack_noted, acknowledged_invite, success_ended}
 use Rattle.sip_served.specs.declared.held_request.SuccessEnd.TheVariants.{Acknowledged}
 use Rattle.sip_served.specs.Arrival.{arrival_of, by_case, bye_taken, case_of, noted, pracked, request_held}
 use Rattle.sip_served.specs.Cancel.{by_cancelled, cancelled_request, invite_terminated, is_unanswered_invite, request_terminated}
-use Rattle.sip_common.specs.Dialogs.{confirmed, confirms, is_dialog_id, visited, happenings_by_request, Dialogs}
-use Rattle.sip_common.specs.OwnCall.{AreDialogsOf, AreNoticesOf, IsDialogOf, IsItemOf, IsKindOf, IsNoticeOf}
+use Rattle.sip_held_dialogs.specs.Dialogs.{confirmed, confirms, is_dialog_id, visited, happenings_by_request, Dialogs}
+use Rattle.sip_user.specs.OwnCall.{AreNoticesOf, IsItemOf, IsKindOf, IsNoticeOf}
+use Rattle.sip_held_dialogs.specs.OwnDialogs.{AreDialogsOf, IsDialogOf}
 use Rattle.sip_served.specs.OwnCall.{AreRequestsOf, IsEventOf, IsStateOf}
 use Rattle.sip_served.specs.Provisionals.{of_numbers}
-use Rattle.sip_common.specs.Requests.{dialog_id_of, is_bye, is_cancel, has_to_tag}
+use Rattle.sip_held_dialogs.specs.Requests.{dialog_id_of, is_bye, is_cancel, has_to_tag}
 use Rattle.sip_served.specs.Respond.{after_answer, answer_to, answers, by_refusal, by_request, confirms_dialog, dialogs_answered, finished, made_dialog, makes, makes_dialog, refusal_for, rejects, respond_taken, with_dialog}
 use Rattle.sip_served.specs.Run.{Event, Takes, Ticks, event_taken}
 use Rattle.sip_served.specs.State.{State, ServedTaken, changed_at, empty_at, followed, has_id}
 use Rattle.sip_served.specs.Step.{arrival_taken, server_command_taken, server_item_taken, kind_taken}
-use Rattle.sip_common.specs.Command.{call_of_command}
+use Rattle.sip_user.specs.Command.{call_of_command}
 use Rattle.sip_served.specs.Tick.{is_kept_at, provisionals_go, provisionals_ticked, provisionals_told, request_ticked, success_answer, success_at_tick, success_ticked, success_told, tick_taken}
-use Rattle.sip_common.proofs.Each as each
+use Rattle.sip_held_dialogs.proofs.Each as each
 use Rattle.sip_served.proofs.FirstChanged.{first_changed}
 use Rattle.sip_served.proofs.RequestLives.{lives_request, success_alone}
 
@@ -312,7 +313,7 @@ module _ (call_id : List ℕ) where
 
   -- ---- all of it
 
-  pub kind_is : (state : State) (tag : List ℕ) (up : Up) (kind : Kind) (now : ℕ)
+  pub kind_is : (state : State) (tag : List ℕ) (up : Up) (kind : UpKind) (now : ℕ)
       → up.call_id ≡ call_id → IsKindOf call_id kind → IsStateOf call_id state
       → IsTakenOf (kind_taken state tag up kind now)
   kind_is state tag up (Request request reply_to) now of_call of_request its =

@@ -6,8 +6,8 @@ use Rattle.std.specs.Option.{option_and_then, option_map, option_map_or}
 use Rattle.std.proofs.lemmas.Bool.{true≢false}
 use Rattle.std.proofs.lemmas.List.{length-map}
 use Rattle.sip_timers.specs.Queue.{is_due}
-use Rattle.sip_model.specs.Groups.{speaks}
-use Rattle.sip_model.proofs.Ordered.{by_bool}
+use Rattle.keyed_machine.specs.Groups.{speaks}
+use Rattle.keyed_machine.proofs.Ordered.{by_bool}
 use Rattle.arrayvec.specs.ArrayVec.{ArrayVec}
 use Rattle.sip_reliable.specs.declared.provisional.Retransmission.{Retransmission as Resending}
 use Rattle.sip_reliable.specs.declared.tick.Tick.{Tick}
@@ -18,7 +18,7 @@ use Rattle.sip_reliable.proofs.Dues.{is_something, ledger_due, nothing_from as n
 use Rattle.sip_reliable.proofs.Sounds.{not_longer}
 use Rattle.sip_served.specs.declared.held_request.HeldRequest.{HeldRequest}
 use Rattle.sip_served.specs.declared.held_request.Success.{Success}
-use Rattle.sip_common.specs.declared.item.CallOut.{CallOut}
+use Rattle.sip_user.specs.declared.item.CallOut.{CallOut}
 use Rattle.sip_served.specs.declared.tick.SuccessDue.TheVariants as repeat
 use Rattle.sip_served.specs.RequestLife.{went_on}
 use Rattle.sip_served.specs.State.{State, ServedTaken, quiet}

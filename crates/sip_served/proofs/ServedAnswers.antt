@@ -1,22 +1,22 @@
 -- What the server side of a call gives: notices other than of responses, and answers to requests
 -- that came up. Each answer is the user's or its own, and may be sent again.
 use Rattle.indexmap.specs.IndexMap.{insert_entry}
-use Rattle.sip_common.proofs.Each.{both, filtered, found}
+use Rattle.sip_held_dialogs.proofs.Each.{both, filtered, found}
 use mathlib.Core.List.{reverse-cons}
-use Rattle.sip_common.specs.Dialogs.{Dialogs, confirmed, dialog_changed, early_ended, is_dialog_id, dialog_at, ended_at, ended_notice, is_early_of, tag_text}
-use Rattle.sip_common.specs.Requests.{dialog_id_of, is_bye, is_cancel, is_final, has_to_tag, is_invite, is_success, is_unknown_option}
-use Rattle.sip_common.specs.declared.command.Respond.{Respond as RespondCommand}
-use Rattle.sip_common.specs.declared.held_dialog.DialogReference.{DialogReference}
-use Rattle.sip_common.specs.declared.held_dialog.DialogId.{DialogId}
-use Rattle.sip_common.specs.declared.item.CallOut.{CallOut}
-use Rattle.sip_common.specs.declared.notice.Notice.{Notice}
-use Rattle.sip_common.specs.declared.refusal.Refusal.{Refusal}
+use Rattle.sip_held_dialogs.specs.Dialogs.{Dialogs, confirmed, dialog_changed, early_ended, is_dialog_id, dialog_at, ended_at, ended_notice, is_early_of, tag_text}
+use Rattle.sip_held_dialogs.specs.Requests.{dialog_id_of, is_bye, is_cancel, is_final, has_to_tag, is_invite, is_success, is_unknown_option}
+use Rattle.sip_user.specs.declared.command.Respond.{Respond as RespondCommand}
+use Rattle.sip_held_dialogs.specs.declared.held_dialog.DialogReference.{DialogReference}
+use Rattle.sip_held_dialogs.specs.declared.held_dialog.DialogId.{DialogId}
+use Rattle.sip_user.specs.declared.item.CallOut.{CallOut}
+use Rattle.sip_user.specs.declared.notice.Notice.{Notice}
+use Rattle.sip_user.specs.declared.refusal.Refusal.{Refusal}
 use Rattle.sip_message.specs.Response.{response_of}
 use Rattle.sip_message.specs.declared.addr.Addr.{Addr}
 use Rattle.sip_message.specs.declared.header.Header.{Header}
 use Rattle.sip_message.specs.declared.id.Id.{Id}
 use Rattle.sip_message.specs.declared.message.Message.{Message}
-use Rattle.sip_model.proofs.Ordered.{by_bool}
+use Rattle.keyed_machine.proofs.Ordered.{by_bool}
 use Rattle.sip_reliable.specs.Ledger.{tick_answer, send_answer}
 use Rattle.sip_reliable.specs.declared.send_fault.SendFault.{SendFault}
 use Rattle.sip_reliable.specs.declared.tick.Tick.{Tick}
@@ -38,7 +38,7 @@ use Rattle.sip_served.specs.declared.held_request.SuccessEnd.TheVariants.{Acknow
 use Rattle.sip_served.specs.declared.provisionals.ReliableResponse.{ReliableResponse}
 use Rattle.sip_served.specs.declared.tick.SuccessDue.{SuccessDue}
 use Rattle.sip_transactions.specs.declared.input.Command.{Command}
-use Rattle.sip_transactions.specs.declared.output.Kind.{Kind}
+use Rattle.sip_transactions.specs.declared.output.UpKind.{UpKind}
 use Rattle.sip_transactions.specs.declared.output.Up.{Up as AnUp}
 use Rattle.std.proofs.Common.{◌≡◌, ℕ, Bool, true, false, ◌&&◌, cond, List, [], ◌∷◌, map, refl, sym, subst}
 use Rattle.std.specs.List.{AllByRecursion, flat_map}
@@ -47,16 +47,16 @@ use Rattle.std.specs.Option.{option_map, option_map_or}
 use Rattle.std.specs.Prelude.{Option, None, Some, codes, find, reverse, IfSome, Result, Ok, Err, not, ◌==◌, filter}
 use Rattle.sip_message.specs.declared.key.Key.{Key}
 use Rattle.std.specs.Map.{values_of}
-use Rattle.sip_common.specs.declared.held_dialog.HeldDialog.{HeldDialog}
-use Rattle.sip_common.specs.declared.refusal.Refusal.TheVariants.{NoSuchRequest}
-use Rattle.sip_common.specs.declared.item.CallOut.TheVariants as out
-use Rattle.sip_common.specs.declared.notice.Notice.TheVariants as notice
+use Rattle.sip_held_dialogs.specs.declared.held_dialog.HeldDialog.{HeldDialog}
+use Rattle.sip_user.specs.declared.refusal.Refusal.TheVariants.{NoSuchRequest}
+use Rattle.sip_user.specs.declared.item.CallOut.TheVariants as out
+use Rattle.sip_user.specs.declared.notice.Notice.TheVariants as notice
 use Rattle.sip_reliable.specs.declared.tick.Tick.TheVariants as tick
 use Rattle.sip_served.specs.RequestLife as happens
 use Rattle.sip_served.specs.declared.arrival.ArrivalCase.TheVariants as case
 use Rattle.sip_served.specs.declared.tick.SuccessDue.TheVariants as repeat
 use Rattle.sip_transactions.specs.declared.input.Command.TheVariants as order
-use Rattle.sip_transactions.specs.declared.output.Kind.TheVariants as kind
+use Rattle.sip_transactions.specs.declared.output.UpKind.TheVariants as kind
 
 -- a notice of anything but a response
 abbrev pub IsOther : Notice → Type 0
@@ -72,7 +72,7 @@ module _ (P : CallOut → Type 0) (Given : Message → Type 0) where
 
 module _ (Came : Message → Type 0) where
   -- a request that comes up is one of those that came
-  abbrev pub KindGiven : Kind → Type 0
+  abbrev pub KindGiven : UpKind → Type 0
   KindGiven (kind.Request request reply_to) = Came request
   KindGiven (kind.Ack ack) = Unit {0}
   KindGiven (kind.Response response) = Unit {0}
@@ -334,7 +334,7 @@ module _ (P : CallOut → Type 0) (Came Given : Message → Type 0) (allows : Al
         (allows.told (notice.Ack call_id invite ack.body) tt, tt),
       )
 
-      pub kind_fits : (state : State) (tag : List ℕ) (up : AnUp) (k : Kind) (now : ℕ)
+      pub kind_fits : (state : State) (tag : List ℕ) (up : AnUp) (k : UpKind) (now : ℕ)
           → KindGiven Came k → StateGiven state → ServedFits (kind_taken state tag up k now)
       kind_fits state tag up (kind.Request request reply_to) now came given =
           arrival_fits state up.call_id (arrival_of up request reply_to tag) now came given

@@ -3,42 +3,42 @@ use Rattle.std.proofs.Common.{◌≡◌, ℕ, ◌+◌, ◌≤◌, Bool, true, fa
 use Rattle.std.specs.Prelude.{Option, None, Some, count_by, find, filter}
 use Rattle.std.specs.List.{flat_map}
 use Rattle.std.proofs.lemmas.List.Sums.{length-filter}
-use Rattle.sip_model.proofs.Ordered.{by_bool}
+use Rattle.keyed_machine.proofs.Ordered.{by_bool}
 use Rattle.sip_message.specs.declared.id.Id.{Id}
 use Rattle.sip_message.specs.declared.message.Message.{Message}
 use Rattle.sip_reliable.specs.declared.tick.Tick.{Tick}
 use Rattle.sip_reliable.specs.declared.tick.Tick.TheVariants as tick
 use Rattle.sip_reliable.specs.Ledger.{tick_answer}
 use Rattle.sip_transactions.specs.declared.input.Command.TheVariants.{Answer as ByAnswer}
-use Rattle.sip_transactions.specs.declared.output.Kind.{Kind}
-use Rattle.sip_transactions.specs.declared.output.Kind.TheVariants.{Request, Ack, Response, Timeout, Failed}
+use Rattle.sip_transactions.specs.declared.output.UpKind.{UpKind}
+use Rattle.sip_transactions.specs.declared.output.UpKind.TheVariants.{Request, Ack, Response, Timeout, Failed}
 use Rattle.sip_transactions.specs.declared.output.Up.{Up}
-use Rattle.sip_common.proofs.ToldRequests.{early_shown, end_shown, none_of_both, shown}
+use Rattle.sip_held_dialogs.proofs.ToldRequests.{early_shown, end_shown, none_of_both, shown}
 use Rattle.sip_served.specs.declared.arrival.Arrival.{Arrival}
 use Rattle.sip_served.specs.declared.arrival.ArrivalCase.{ArrivalCase}
 use Rattle.sip_served.specs.declared.arrival.ArrivalCase.TheVariants.{Merged, BadExtension, NoDialog, OutOfOrder, Acknowledges, AcknowledgesNothing, ForUser}
-use Rattle.sip_common.specs.declared.command.Respond.{Respond as Answer}
-use Rattle.sip_common.specs.declared.command.UserCommand.{UserCommand}
-use Rattle.sip_common.specs.declared.command.UserCommand.TheVariants as command
-use Rattle.sip_common.specs.declared.held_dialog.DialogId.{DialogId}
+use Rattle.sip_user.specs.declared.command.Respond.{Respond as Answer}
+use Rattle.sip_user.specs.declared.command.UserCommand.{UserCommand}
+use Rattle.sip_user.specs.declared.command.UserCommand.TheVariants as command
+use Rattle.sip_held_dialogs.specs.declared.held_dialog.DialogId.{DialogId}
 use Rattle.sip_served.specs.declared.held_request.HeldRequest.{HeldRequest}
 use Rattle.sip_served.specs.declared.held_request.Success.{Success}
-use Rattle.sip_common.specs.declared.item.CallOut.TheVariants.{Command}
-use Rattle.sip_common.specs.declared.item.Item.TheVariants as item
+use Rattle.sip_user.specs.declared.item.CallOut.TheVariants.{Command}
+use Rattle.sip_user.specs.declared.item.Item.TheVariants as item
 use Rattle.sip_served.specs.declared.provisionals.ReliableResponse.{ReliableResponse}
-use Rattle.sip_common.specs.declared.refusal.Refusal.{Refusal}
+use Rattle.sip_user.specs.declared.refusal.Refusal.{Refusal}
 use Rattle.sip_served.specs.declared.tick.SuccessDue.{SuccessDue}
 use Rattle.sip_served.specs.declared.tick.SuccessDue.TheVariants as repeat
 use Rattle.sip_served.specs.Acknowledgment.{ack_noted, acknowledged_invite}
 use Rattle.sip_served.specs.Arrival.{arrival_of, by_case, bye_taken, case_of}
 use Rattle.sip_served.specs.Cancel.{by_cancelled, cancelled_request, is_unanswered_invite}
-use Rattle.sip_common.specs.Dialogs.{Dialogs}
-use Rattle.sip_common.specs.Requests.{dialog_id_of, is_bye, is_cancel, has_to_tag}
+use Rattle.sip_held_dialogs.specs.Dialogs.{Dialogs}
+use Rattle.sip_held_dialogs.specs.Requests.{dialog_id_of, is_bye, is_cancel, has_to_tag}
 use Rattle.sip_served.specs.Provisionals.{of_numbers}
 use Rattle.sip_served.specs.Respond.{answer_to, by_refusal, by_request, confirms_dialog, dialogs_answered, makes_dialog, refusal_for, rejects}
 use Rattle.sip_served.specs.Run.{Event, Takes, Ticks, event_taken}
 use Rattle.sip_served.specs.ForUser.{brings, ids_for_user, for_user_of, if_for_user, is_request, told_from}
-use Rattle.sip_common.specs.Ids.{is_id}
+use Rattle.sip_held_dialogs.specs.Ids.{is_id}
 use Rattle.sip_served.specs.State.{State, has_id}
 use Rattle.sip_served.specs.Step.{server_command_taken, kind_taken}
 use Rattle.sip_served.specs.Tick.{provisionals_ticked, provisionals_told, request_ticked, success_answer, success_at_tick, success_ticked, success_told}
@@ -133,7 +133,7 @@ respond_shows state event r now None = refl
 respond_shows state event r now (Some held) =
     refusal_shows state event r now held (refusal_for state.dialogs r held)
 
-kind_shows : (state : State) (tag : List ℕ) (up : Up) (kind : Kind) (now : ℕ)
+kind_shows : (state : State) (tag : List ℕ) (up : Up) (kind : UpKind) (now : ℕ)
     → shown (kind_taken state tag up kind now).1 ≡ for_user_of state tag up kind
 kind_shows state tag up (Request request reply_to) now =
     let arrival = arrival_of up request reply_to tag in
@@ -201,7 +201,7 @@ case_often p one AcknowledgesNothing b is = omega arith
 case_often p one ForUser true is = rw is (omega arith)
 case_often p one ForUser false is = rw is (omega arith)
 
-kind_often : (state : State) (id : Id) (tag : List ℕ) (up : Up) (kind : Kind)
+kind_often : (state : State) (id : Id) (tag : List ℕ) (up : Up) (kind : UpKind)
     → often (is_id id) (for_user_of state tag up kind) ≤ cond (is_request kind (is_id id up.id)) 1 0
 kind_often state id tag up (Request request reply_to) =
     let name = dialog_id_of request (arrival_of up request reply_to tag).tag in

@@ -1,19 +1,19 @@
 -- A 487 of the user does the same to an INVITE as a CANCEL.
 use Rattle.std.proofs.Common.{◌≡◌, ℕ, Bool, true, false, ◌&&◌, List, [], ◌∷◌, refl, ap, ◌∙◌}
 use Rattle.std.specs.Prelude.{Option, None, Some, find, is_none, is_some}
-use Rattle.sip_model.proofs.Ordered.{by_bool}
+use Rattle.keyed_machine.proofs.Ordered.{by_bool}
 use Rattle.sip_message.specs.declared.addr.Addr.{Addr}
 use Rattle.sip_message.specs.declared.id.Id.{Id}
 use Rattle.sip_message.specs.declared.message.Message.{Message}
 use Rattle.sip_message.specs.Content.{with_content_of}
 use Rattle.sip_transactions.specs.declared.input.Command.TheVariants.{Answer}
-use Rattle.sip_common.specs.declared.command.Reliability.TheVariants.{Plain}
+use Rattle.sip_user.specs.declared.command.Reliability.TheVariants.{Plain}
 use Rattle.sip_served.specs.declared.held_request.HeldRequest.{HeldRequest}
-use Rattle.sip_common.specs.declared.item.CallOut.{CallOut}
-use Rattle.sip_common.specs.declared.item.CallOut.TheVariants.{Command}
+use Rattle.sip_user.specs.declared.item.CallOut.{CallOut}
+use Rattle.sip_user.specs.declared.item.CallOut.TheVariants.{Command}
 use Rattle.sip_served.specs.Cancel.{invite_terminated, is_unanswered_invite, request_terminated, user_termination}
-use Rattle.sip_common.specs.Dialogs.{early_ended, Dialogs}
-use Rattle.sip_common.specs.Requests.{is_invite}
+use Rattle.sip_held_dialogs.specs.Dialogs.{early_ended, Dialogs}
+use Rattle.sip_held_dialogs.specs.Requests.{is_invite}
 use Rattle.sip_served.specs.RequestLife.{Finishes, went_on}
 use Rattle.sip_served.specs.Respond.{answer_given, answer_to, answered, answers, by_refusal, by_request, dialogs_answered, finished, refusal_for, respond_taken, with_dialog}
 use Rattle.sip_served.specs.State.{State, ServedTaken, changed_at, followed, has_id}

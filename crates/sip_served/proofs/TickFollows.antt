@@ -5,9 +5,9 @@ use Rattle.std.specs.Prelude.{Option, None, Some, filter, find, fold}
 use Rattle.std.specs.List.{AllByRecursion, IsDistinct, flat_map}
 use Rattle.std.proofs.lemmas.Map.Keys.{IsDistinct-head, IsDistinct-tail}
 use Rattle.sip_message.specs.declared.id.Id.{Id}
-use Rattle.sip_common.specs.declared.item.CallOut.{CallOut}
-use Rattle.sip_common.specs.Ids.{is_id}
-use Rattle.sip_common.proofs.Heard.{id_laws}
+use Rattle.sip_user.specs.declared.item.CallOut.{CallOut}
+use Rattle.sip_held_dialogs.specs.Ids.{is_id}
+use Rattle.sip_held_dialogs.proofs.Heard.{id_laws}
 use Rattle.sip_served.specs.declared.held_request.HeldRequest.{HeldRequest}
 use Rattle.sip_served.specs.State.{has_id}
 use Rattle.sip_served.specs.Tick.{is_kept_at, request_ticked}

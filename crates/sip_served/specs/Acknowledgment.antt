@@ -8,9 +8,9 @@ use Rattle.sip_message.specs.Party.{tag_of}
 use Rattle.sip_served.specs.declared.held_request.HeldRequest.{HeldRequest}
 use Rattle.sip_served.specs.declared.held_request.SuccessEnd.{SuccessEnd}
 use Rattle.sip_served.specs.declared.held_request.SuccessEnd.TheVariants.{Acknowledged}
-use Rattle.sip_common.specs.declared.item.CallOut.TheVariants.{Notice}
-use Rattle.sip_common.specs.declared.notice.Notice.TheVariants.{Ack}
-use Rattle.sip_common.specs.Requests.{is_invite}
+use Rattle.sip_user.specs.declared.item.CallOut.TheVariants.{Notice}
+use Rattle.sip_user.specs.declared.notice.Notice.TheVariants.{Ack}
+use Rattle.sip_held_dialogs.specs.Requests.{is_invite}
 use Rattle.sip_served.specs.RequestLife.{EndsSuccess, went_on}
 use Rattle.sip_served.specs.State.{State, ServedTaken, changed_at, quiet}
 

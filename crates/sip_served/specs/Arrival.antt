@@ -17,17 +17,17 @@ use Rattle.sip_transactions.specs.declared.output.Up.{Up}
 use Rattle.sip_served.specs.declared.arrival.Arrival.{Arrival}
 use Rattle.sip_served.specs.declared.arrival.ArrivalCase.{ArrivalCase}
 use Rattle.sip_served.specs.declared.arrival.ArrivalCase.TheVariants.{Merged, BadExtension, NoDialog, OutOfOrder, Acknowledges, AcknowledgesNothing, ForUser}
-use Rattle.sip_common.specs.declared.held_dialog.DialogReference.{DialogReference}
-use Rattle.sip_common.specs.declared.held_dialog.DialogId.{DialogId}
-use Rattle.sip_common.specs.declared.held_dialog.HeldDialog.{HeldDialog}
+use Rattle.sip_held_dialogs.specs.declared.held_dialog.DialogReference.{DialogReference}
+use Rattle.sip_held_dialogs.specs.declared.held_dialog.DialogId.{DialogId}
+use Rattle.sip_held_dialogs.specs.declared.held_dialog.HeldDialog.{HeldDialog}
 use Rattle.sip_served.specs.declared.held_request.HeldRequest.{HeldRequest}
-use Rattle.sip_common.specs.declared.item.CallOut.{CallOut}
-use Rattle.sip_common.specs.declared.item.CallOut.TheVariants.{Notice, Command}
-use Rattle.sip_common.specs.declared.notice.Notice.{Notice as ANotice}
-use Rattle.sip_common.specs.declared.notice.Notice.TheVariants.{Prack, Request}
-use Rattle.sip_common.specs.Dialogs.{dialog_at, dialog_changed, ended_at, is_dialog_id, dialog_of_request, takes, visited, Dialogs}
-use Rattle.sip_common.specs.Requests.{dialog_id_of, is_bye, has_to_tag, is_invite, is_prack, is_unknown_option, local_tag_of, supports_100rel}
-use Rattle.sip_common.specs.Ids.{is_id}
+use Rattle.sip_user.specs.declared.item.CallOut.{CallOut}
+use Rattle.sip_user.specs.declared.item.CallOut.TheVariants.{Notice, Command}
+use Rattle.sip_user.specs.declared.notice.Notice.{Notice as ANotice}
+use Rattle.sip_user.specs.declared.notice.Notice.TheVariants.{Prack, Request}
+use Rattle.sip_held_dialogs.specs.Dialogs.{dialog_at, dialog_changed, ended_at, is_dialog_id, dialog_of_request, takes, visited, Dialogs}
+use Rattle.sip_held_dialogs.specs.Requests.{dialog_id_of, is_bye, has_to_tag, is_invite, is_prack, is_unknown_option, local_tag_of, supports_100rel}
+use Rattle.sip_held_dialogs.specs.Ids.{is_id}
 use Rattle.sip_served.specs.RequestLife.{TakesPrack, went_on}
 use Rattle.sip_served.specs.State.{State, ServedTaken, changed_at, followed, quiet}
 

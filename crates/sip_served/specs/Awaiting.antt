@@ -5,12 +5,12 @@ use Rattle.sip_message.specs.declared.start_line.StartLine.{StartLine}
 use Rattle.sip_message.specs.declared.start_line.StartLine.TheVariants as start
 use Rattle.sip_transactions.specs.declared.input.Command.{Command as Order}
 use Rattle.sip_transactions.specs.declared.input.Command.TheVariants as order
-use Rattle.sip_common.specs.declared.item.CallOut.{CallOut}
-use Rattle.sip_common.specs.declared.item.CallOut.TheVariants as out
-use Rattle.sip_common.specs.declared.notice.Notice.{Notice}
-use Rattle.sip_common.specs.declared.notice.Notice.TheVariants.{Request, Response, Ack, Prack, Timeout, Failed, NoAck, NoPrack, Cancel, Ended, Refused}
-use Rattle.sip_common.specs.Ids.{is_id}
-use Rattle.sip_common.specs.Requests.{is_invite, is_success}
+use Rattle.sip_user.specs.declared.item.CallOut.{CallOut}
+use Rattle.sip_user.specs.declared.item.CallOut.TheVariants as out
+use Rattle.sip_user.specs.declared.notice.Notice.{Notice}
+use Rattle.sip_user.specs.declared.notice.Notice.TheVariants.{Request, Response, Ack, Prack, Timeout, Failed, NoAck, NoPrack, Cancel, Ended, Refused}
+use Rattle.sip_held_dialogs.specs.Ids.{is_id}
+use Rattle.sip_held_dialogs.specs.Requests.{is_invite, is_success}
 
 -- a 2xx
 abbrev pub has_success : StartLine → Bool

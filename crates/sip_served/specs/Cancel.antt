@@ -8,16 +8,16 @@ use Rattle.sip_message.specs.declared.message.Message.{Message}
 use Rattle.sip_message.specs.Content.{content_of_body}
 use Rattle.sip_message.specs.Response.{response_of}
 use Rattle.sip_transactions.specs.declared.input.Command.TheVariants.{Answer}
-use Rattle.sip_common.specs.declared.command.Reliability.TheVariants.{Plain}
-use Rattle.sip_common.specs.declared.command.Respond.{Respond}
+use Rattle.sip_user.specs.declared.command.Reliability.TheVariants.{Plain}
+use Rattle.sip_user.specs.declared.command.Respond.{Respond}
 use Rattle.sip_served.specs.declared.arrival.Arrival.{Arrival}
 use Rattle.sip_served.specs.declared.held_request.HeldRequest.{HeldRequest}
-use Rattle.sip_common.specs.declared.item.CallOut.{CallOut}
-use Rattle.sip_common.specs.declared.item.CallOut.TheVariants.{Command, Notice}
-use Rattle.sip_common.specs.declared.notice.Notice.TheVariants.{Cancel}
+use Rattle.sip_user.specs.declared.item.CallOut.{CallOut}
+use Rattle.sip_user.specs.declared.item.CallOut.TheVariants.{Command, Notice}
+use Rattle.sip_user.specs.declared.notice.Notice.TheVariants.{Cancel}
 use Rattle.sip_served.specs.Arrival.{command_for, no_such_dialog}
-use Rattle.sip_common.specs.Dialogs.{early_ended}
-use Rattle.sip_common.specs.Requests.{is_invite}
+use Rattle.sip_held_dialogs.specs.Dialogs.{early_ended}
+use Rattle.sip_held_dialogs.specs.Requests.{is_invite}
 use Rattle.sip_served.specs.RequestLife.{RequestHappening, Finishes, went_on}
 use Rattle.sip_served.specs.State.{State, ServedTaken, changed_at, followed}
 

@@ -5,13 +5,13 @@ use Rattle.std.specs.List.{list_any}
 use Rattle.std.specs.Option.{option_map_or}
 use Rattle.sip_message.specs.declared.key.Key.{Key}
 use Rattle.sip_message.specs.declared.message.Message.{Message}
-use Rattle.sip_common.specs.declared.command.Respond.{Respond}
-use Rattle.sip_common.specs.declared.held_dialog.DialogId.{DialogId}
-use Rattle.sip_common.specs.declared.held_dialog.HeldDialog.{HeldDialog}
-use Rattle.sip_common.specs.declared.item.CallOut.{CallOut}
-use Rattle.sip_common.specs.Dialogs.{is_early_of, is_dialog_id, takes}
-use Rattle.sip_common.specs.Requests.{dialog_id_of, is_bye, is_cancel, is_unknown_option}
-use Rattle.sip_common.specs.Sent.{response_in}
+use Rattle.sip_user.specs.declared.command.Respond.{Respond}
+use Rattle.sip_held_dialogs.specs.declared.held_dialog.DialogId.{DialogId}
+use Rattle.sip_held_dialogs.specs.declared.held_dialog.HeldDialog.{HeldDialog}
+use Rattle.sip_user.specs.declared.item.CallOut.{CallOut}
+use Rattle.sip_held_dialogs.specs.Dialogs.{is_early_of, is_dialog_id, takes}
+use Rattle.sip_held_dialogs.specs.Requests.{dialog_id_of, is_bye, is_cancel, is_unknown_option}
+use Rattle.sip_held_dialogs.specs.Sent.{response_in}
 use Rattle.sip_served.specs.Cancel.{cancelled_request, is_unanswered_invite}
 use Rattle.sip_served.specs.Happenings.{is_of_name}
 use Rattle.sip_served.specs.Respond.{makes_dialog, rejects}

@@ -2,15 +2,15 @@
 use Rattle.std.specs.Prelude.{ℕ, Bool, false, List, [], ◌∷◌, ◌++◌, if◌then◌else◌}
 use Rattle.std.specs.List.{filter_map}
 use Rattle.sip_message.specs.declared.id.Id.{Id}
-use Rattle.sip_transactions.specs.declared.output.Kind.{Kind}
-use Rattle.sip_transactions.specs.declared.output.Kind.TheVariants.{Request}
+use Rattle.sip_transactions.specs.declared.output.UpKind.{UpKind}
+use Rattle.sip_transactions.specs.declared.output.UpKind.TheVariants.{Request}
 use Rattle.sip_transactions.specs.declared.output.Up.{Up}
 use Rattle.sip_served.specs.declared.arrival.ArrivalCase.{ArrivalCase}
 use Rattle.sip_served.specs.declared.arrival.ArrivalCase.TheVariants.{ForUser}
-use Rattle.sip_common.specs.declared.item.Item.TheVariants.{Up as FromBelow}
-use Rattle.sip_common.specs.Ids.{is_id}
-use Rattle.sip_common.specs.Notices.{request_told_by}
-use Rattle.sip_common.specs.Requests.{dialog_id_of, is_cancel}
+use Rattle.sip_user.specs.declared.item.Item.TheVariants.{Up as FromBelow}
+use Rattle.sip_held_dialogs.specs.Ids.{is_id}
+use Rattle.sip_user.specs.Notices.{request_told_by}
+use Rattle.sip_held_dialogs.specs.Requests.{dialog_id_of, is_cancel}
 use Rattle.sip_served.specs.Arrival.{arrival_of, case_of}
 use Rattle.sip_served.specs.Run.{Event, Takes, event_taken}
 use Rattle.sip_served.specs.State.{State}
@@ -29,7 +29,7 @@ abbrev pub if_for_user : Id → ArrivalCase → List Id
 if_for_user id ForUser = id ∷ []
 if_for_user id _ = []
 
-abbrev pub for_user_of : State → List ℕ → Up → Kind → List Id
+abbrev pub for_user_of : State → List ℕ → Up → UpKind → List Id
 for_user_of state tag up (Request request reply_to) =
     let name = dialog_id_of request (arrival_of up request reply_to tag).tag in
     if is_cancel request then []
@@ -41,7 +41,7 @@ ids_for_user state (Takes tag id (FromBelow up) now) = for_user_of state tag up 
 ids_for_user state _ = []
 
 -- the request of an id comes up
-abbrev pub is_request : Kind → Bool → Bool
+abbrev pub is_request : UpKind → Bool → Bool
 is_request (Request request reply_to) is_it = is_it
 is_request _ is_it = false
 

@@ -7,13 +7,13 @@ use Rattle.sip_message.specs.declared.message.Message.{Message}
 use Rattle.sip_message.specs.Party.{tag_of}
 use Rattle.sip_dialog.specs.Life.{Happening}
 use Rattle.sip_dialog.specs.Opening.{Opening, ByRequest}
-use Rattle.sip_common.specs.declared.command.Respond.{Respond}
-use Rattle.sip_common.specs.declared.held_dialog.DialogId.{DialogId}
-use Rattle.sip_common.specs.declared.held_dialog.HeldDialog.{HeldDialog}
-use Rattle.sip_common.specs.declared.item.CallOut.{CallOut}
-use Rattle.sip_common.specs.Dialogs.{confirms, is_dialog_id, takes, happenings_by_request}
-use Rattle.sip_common.specs.Requests.{dialog_id_of, is_cancel, has_to_tag, is_unknown_option, dialog_id_of_tags}
-use Rattle.sip_common.specs.Sent.{responses_out}
+use Rattle.sip_user.specs.declared.command.Respond.{Respond}
+use Rattle.sip_held_dialogs.specs.declared.held_dialog.DialogId.{DialogId}
+use Rattle.sip_held_dialogs.specs.declared.held_dialog.HeldDialog.{HeldDialog}
+use Rattle.sip_user.specs.declared.item.CallOut.{CallOut}
+use Rattle.sip_held_dialogs.specs.Dialogs.{confirms, is_dialog_id, takes, happenings_by_request}
+use Rattle.sip_held_dialogs.specs.Requests.{dialog_id_of, is_cancel, has_to_tag, is_unknown_option, dialog_id_of_tags}
+use Rattle.sip_held_dialogs.specs.Sent.{responses_out}
 use Rattle.sip_served.specs.declared.held_request.HeldRequest.{HeldRequest}
 use Rattle.sip_served.specs.Respond.{confirms_dialog}
 use Rattle.sip_served.specs.State.{State, has_id}

@@ -9,10 +9,10 @@ use Rattle.std.specs.contracts.prelude.BuildHasherDefaultBuildHasher.TheImpl as 
 use Rattle.std.specs.contracts.prelude.FoldHasherHasher.TheImpl as hasher
 use Rattle.std.below.core.specs.contracts.clone.Clone+copy.TheImpl as copied
 use Rattle.indexmap.specs.contracts.map.IndexMap as index_map
-use Rattle.sip_common.specs.contracts.held_dialog.DialogId as dialog_id_of
-use Rattle.sip_common.specs.contracts.held_dialog.DialogIdHash.TheImpl as name_hash
-use Rattle.sip_common.specs.contracts.held_dialog.DialogIdPartialEq.TheImpl as name_eq
-use Rattle.sip_common.specs.contracts.held_dialog.HeldDialog as held_dialog
+use Rattle.sip_held_dialogs.specs.contracts.held_dialog.DialogId as dialog_id_of
+use Rattle.sip_held_dialogs.specs.contracts.held_dialog.DialogIdHash.TheImpl as name_hash
+use Rattle.sip_held_dialogs.specs.contracts.held_dialog.DialogIdPartialEq.TheImpl as name_eq
+use Rattle.sip_held_dialogs.specs.contracts.held_dialog.HeldDialog as held_dialog
 use Rattle.sip_served.specs.contracts.served.Served as served
 use Rattle.sip_served.specs.contracts.server_side.ServerSide as server_side
 use Rattle.sip_served.specs.Served.{ServedState}

@@ -1,7 +1,8 @@
 -- What of the server side of a call belongs to one Call-ID (RFC 3261, section 8.1.1.4).
 use Rattle.std.specs.Prelude.{◌≡◌, ℕ, List}
 use Rattle.std.specs.List.{AllByRecursion}
-use Rattle.sip_common.specs.OwnCall.{AreDialogsOf, IsItemOf}
+use Rattle.sip_user.specs.OwnCall.{IsItemOf}
+use Rattle.sip_held_dialogs.specs.OwnDialogs.{AreDialogsOf}
 use Rattle.sip_served.specs.declared.held_request.HeldRequest.{HeldRequest}
 use Rattle.sip_served.specs.Run.{Event, Takes, Ticks}
 use Rattle.sip_served.specs.State.{State}

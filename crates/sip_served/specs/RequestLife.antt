@@ -7,8 +7,8 @@ use Rattle.sip_reliable.specs.declared.tick.Tick.TheVariants as tick
 use Rattle.sip_reliable.specs.Ledger.{acknowledged, closed_now, ticked, with_sent}
 use Rattle.sip_timers.specs.declared.estimate.TheConstants.{LIFETIME, T1}
 use Rattle.sip_transactions.specs.declared.timers.TheConstants.{T2}
-use Rattle.sip_common.specs.declared.held_dialog.DialogReference.{DialogReference}
-use Rattle.sip_common.specs.Requests.{is_invite, is_success}
+use Rattle.sip_held_dialogs.specs.declared.held_dialog.DialogReference.{DialogReference}
+use Rattle.sip_held_dialogs.specs.Requests.{is_invite, is_success}
 use Rattle.sip_served.specs.declared.held_request.HeldRequest.{HeldRequest}
 use Rattle.sip_served.specs.declared.held_request.Retransmission.{Retransmission}
 use Rattle.sip_served.specs.declared.held_request.Success.{Success}

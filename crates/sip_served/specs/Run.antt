@@ -4,7 +4,7 @@ use Rattle.std.specs.List.{AllByRecursion}
 use Rattle.sip_message.specs.declared.addr.Addr.{Addr}
 use Rattle.sip_message.specs.declared.id.Id.{Id}
 use Rattle.sip_reliable.specs.Ledger.{FewWait}
-use Rattle.sip_common.specs.declared.item.Item.{Item}
+use Rattle.sip_user.specs.declared.item.Item.{Item}
 use Rattle.sip_served.specs.State.{State, ServedTaken, empty_at}
 use Rattle.sip_served.specs.Step.{server_item_taken}
 use Rattle.sip_served.specs.Tick.{tick_taken}

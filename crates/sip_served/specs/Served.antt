@@ -1,6 +1,6 @@
 -- What a contract sees of `Served`.
 use Rattle.std.specs.Prelude.{Bool, true, List}
-use Rattle.sip_common.specs.declared.item.CallOut.{CallOut}
+use Rattle.sip_user.specs.declared.item.CallOut.{CallOut}
 use Rattle.sip_served.specs.State.{State, ServedTaken, empty_at}
 
 -- whether memory ran out in an earlier call, and what is held

@@ -2,9 +2,9 @@
 use Rattle.std.specs.Prelude.{Bool, List, [], ◌∷◌, ◌++◌, ◌||◌, length, nat_lt, if◌then◌else◌}
 use Rattle.sip_message.specs.declared.addr.Addr.{Addr}
 use Rattle.sip_message.specs.declared.id.Id.{Id}
-use Rattle.sip_common.specs.declared.item.CallOut.{CallOut}
-use Rattle.sip_common.specs.Dialogs.{Dialogs}
-use Rattle.sip_common.specs.Ids.{is_id}
+use Rattle.sip_user.specs.declared.item.CallOut.{CallOut}
+use Rattle.sip_held_dialogs.specs.Dialogs.{Dialogs}
+use Rattle.sip_held_dialogs.specs.Ids.{is_id}
 use Rattle.sip_served.specs.declared.held_request.HeldRequest.{HeldRequest}
 
 -- the agent's own address, the held requests in the order of their arrival, and the held dialogs

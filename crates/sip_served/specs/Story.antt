@@ -9,8 +9,8 @@ use Rattle.sip_reliable.specs.Ledger.{Ledger, ledger_after}
 use Rattle.sip_timers.specs.declared.estimate.TheConstants.{T1}
 use Rattle.sip_transactions.specs.declared.step.Pace.TheVariants.{Capped}
 use Rattle.sip_transactions.specs.Timers.{interval}
-use Rattle.sip_common.specs.declared.held_dialog.DialogReference.{DialogReference}
-use Rattle.sip_common.specs.Requests.{is_invite, is_success, supports_100rel}
+use Rattle.sip_held_dialogs.specs.declared.held_dialog.DialogReference.{DialogReference}
+use Rattle.sip_held_dialogs.specs.Requests.{is_invite, is_success, supports_100rel}
 use Rattle.sip_served.specs.declared.held_request.HeldRequest.{HeldRequest}
 use Rattle.sip_served.specs.declared.held_request.Retransmission.{Retransmission}
 use Rattle.sip_served.specs.declared.held_request.Success.{Success}

@@ -3,15 +3,15 @@
 use Rattle.std.specs.Prelude.{ℕ, List, [], ◌∷◌, ◌++◌, map, filter, find, Option, None, Some, if◌then◌else◌}
 use Rattle.std.specs.Option.{is_some, option_map_or}
 use Rattle.sip_message.specs.declared.id.Id.{Id}
-use Rattle.sip_transactions.specs.declared.output.Kind.{Kind}
-use Rattle.sip_transactions.specs.declared.output.Kind.TheVariants.{Request, Ack}
+use Rattle.sip_transactions.specs.declared.output.UpKind.{UpKind}
+use Rattle.sip_transactions.specs.declared.output.UpKind.TheVariants.{Request, Ack}
 use Rattle.sip_transactions.specs.declared.output.Up.{Up}
-use Rattle.sip_common.specs.declared.command.Respond.{Respond}
-use Rattle.sip_common.specs.declared.command.UserCommand.TheVariants as command
-use Rattle.sip_common.specs.declared.held_dialog.DialogId.{DialogId}
-use Rattle.sip_common.specs.declared.item.Item.{Item}
-use Rattle.sip_common.specs.declared.item.Item.TheVariants as item
-use Rattle.sip_common.specs.Requests.{dialog_id_of, is_cancel}
+use Rattle.sip_user.specs.declared.command.Respond.{Respond}
+use Rattle.sip_user.specs.declared.command.UserCommand.TheVariants as command
+use Rattle.sip_held_dialogs.specs.declared.held_dialog.DialogId.{DialogId}
+use Rattle.sip_user.specs.declared.item.Item.{Item}
+use Rattle.sip_user.specs.declared.item.Item.TheVariants as item
+use Rattle.sip_held_dialogs.specs.Requests.{dialog_id_of, is_cancel}
 use Rattle.sip_served.specs.declared.arrival.Arrival.{Arrival}
 use Rattle.sip_served.specs.declared.arrival.ArrivalCase.{ArrivalCase}
 use Rattle.sip_served.specs.declared.arrival.ArrivalCase.TheVariants.{Acknowledges, ForUser}
@@ -62,7 +62,7 @@ arrival_told state arrival now stories =
     stories
 
 -- what a transaction hands up
-abbrev pub kind_told : State → List ℕ → Up → Kind → ℕ → Stories → Stories
+abbrev pub kind_told : State → List ℕ → Up → UpKind → ℕ → Stories → Stories
 kind_told state tag up (Request request reply_to) now stories =
     arrival_told state (arrival_of up request reply_to tag) now stories
 kind_told state tag up (Ack ack) now stories =

@@ -7,12 +7,12 @@ use Rattle.sip_message.specs.declared.start_line.StartLine.TheVariants as start
 use Rattle.sip_reliable.specs.Provisional.{is_given_up}
 use Rattle.sip_transactions.specs.declared.input.Command.{Command as Order}
 use Rattle.sip_transactions.specs.declared.input.Command.TheVariants as order
-use Rattle.sip_common.specs.declared.item.CallOut.{CallOut}
-use Rattle.sip_common.specs.declared.item.CallOut.TheVariants as out
-use Rattle.sip_common.specs.declared.notice.Notice.{Notice}
-use Rattle.sip_common.specs.declared.notice.Notice.TheVariants.{Request, Response, Ack, Prack, Timeout, Failed, NoAck, NoPrack, Cancel, Ended, Refused}
-use Rattle.sip_common.specs.Ids.{is_id}
-use Rattle.sip_common.specs.Requests.{is_final}
+use Rattle.sip_user.specs.declared.item.CallOut.{CallOut}
+use Rattle.sip_user.specs.declared.item.CallOut.TheVariants as out
+use Rattle.sip_user.specs.declared.notice.Notice.{Notice}
+use Rattle.sip_user.specs.declared.notice.Notice.TheVariants.{Request, Response, Ack, Prack, Timeout, Failed, NoAck, NoPrack, Cancel, Ended, Refused}
+use Rattle.sip_held_dialogs.specs.Ids.{is_id}
+use Rattle.sip_held_dialogs.specs.Requests.{is_final}
 use Rattle.sip_served.specs.declared.held_request.HeldRequest.{HeldRequest}
 
 -- ---- what is held

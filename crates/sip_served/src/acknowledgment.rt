@@ -10,7 +10,7 @@ ghost use Rattle.sip_served.specs.declared.held_request.SuccessEnd.TheVariants.{
 
 use crate::held_request::{HeldRequest, SuccessEnd};
 use crate::requests::place_of;
-use sip_common::request::is_invite;
+use sip_held_dialogs::request::is_invite;
 use sip_message::{Id, Message};
 use sip_reliable::Outbound;
 use sip_text::token_eq;

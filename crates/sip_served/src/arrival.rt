@@ -4,12 +4,12 @@ ghost use Rattle.std.specs.Prelude.{◌≡◌, find, option_map};
 ghost use Rattle.std.specs.List.{list_any};
 ghost use Rattle.std.specs.Option.{option_copied};
 ghost use Rattle.sip_served.specs.Arrival as arrival;
-ghost use Rattle.sip_common.specs.Requests.{is_unknown_option};
+ghost use Rattle.sip_held_dialogs.specs.Requests.{is_unknown_option};
 
 use crate::held_request::HeldRequest;
-use sip_common::dialogs::takes;
-use sip_common::request::{has_to_tag, is_bye, is_invite, is_prack, is_unknown_option};
-use sip_common::{DialogId, Dialogs, HeldDialog};
+use sip_held_dialogs::dialogs::takes;
+use sip_held_dialogs::request::{has_to_tag, is_bye, is_invite, is_prack, is_unknown_option};
+use sip_held_dialogs::{DialogId, Dialogs, HeldDialog};
 use sip_message::{Addr, Id, Message, RAck, SharedKey, Token};
 use sip_text::{Boxed, token_eq};
 

@@ -11,10 +11,10 @@ use crate::held_request::HeldRequest;
 use crate::outputs::{command_for, ok_with_tag};
 use crate::requests::place_of;
 use crate::respond::finish;
-use sip_common::outputs::one;
-use sip_common::request::is_invite;
-use sip_common::{CallOut, Notice};
+use sip_held_dialogs::request::is_invite;
 use sip_message::{CallId, Id, Key, Message, Reason, StatusCode, response_to};
+use sip_user::outputs::one;
+use sip_user::{CallOut, Notice};
 use std::alloc::{AllocError, Global};
 
 /// The status of the final response to an INVITE that is cancelled.

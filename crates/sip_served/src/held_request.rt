@@ -5,8 +5,8 @@ ghost use Rattle.sip_served.specs.Arrival.{held_first};
 
 use crate::arrival::Arrival;
 use crate::provisionals::Provisionals;
-use sip_common::DialogReference;
-use sip_common::request::supports_100rel;
+use sip_held_dialogs::DialogReference;
+use sip_held_dialogs::request::supports_100rel;
 use sip_message::{Addr, Id, Message, SharedKey, Token};
 use sip_reliable::Outbound;
 use sip_text::Boxed;

@@ -5,18 +5,18 @@ ghost use Rattle.std.specs.List.{AllByRecursion};
 ghost use Rattle.sip_message.specs.declared.id.Id.{Id};
 ghost use Rattle.sip_message.specs.declared.addr.Addr.{Addr};
 ghost use Rattle.sip_timers.specs.Queue.{is_due};
-ghost use Rattle.sip_transactions.specs.declared.output.Kind.{Kind};
+ghost use Rattle.sip_transactions.specs.declared.output.UpKind.{UpKind};
 ghost use Rattle.sip_transactions.specs.declared.output.Up.{Up};
 ghost use Rattle.sip_transactions.specs.declared.input.Command.TheVariants.{Answer};
 ghost use Rattle.sip_served.specs.Cancel.{invite_terminated, is_unanswered_invite, request_terminated, user_termination};
-ghost use Rattle.sip_common.specs.OwnCall.{IsNoticeOf};
-ghost use Rattle.sip_common.specs.declared.command.Respond.{Respond};
-ghost use Rattle.sip_common.specs.declared.item.Item.{Item};
+ghost use Rattle.sip_user.specs.OwnCall.{IsNoticeOf};
+ghost use Rattle.sip_user.specs.declared.command.Respond.{Respond};
+ghost use Rattle.sip_user.specs.declared.item.Item.{Item};
 ghost use Rattle.sip_served.specs.OwnCall.{IsEventOf, IsStateOf};
 ghost use Rattle.sip_served.specs.Respond.{respond_taken};
 ghost use Rattle.sip_served.specs.Run.{Event, FewWaitEach, event_taken, server_state_after};
 ghost use Rattle.sip_served.specs.ForUser.{brings, ids_for_user, told_by, told_from};
-ghost use Rattle.sip_common.specs.Ids.{is_id};
+ghost use Rattle.sip_held_dialogs.specs.Ids.{is_id};
 ghost use Rattle.sip_served.specs.Rules.Arrivals.{server_received, server_item};
 ghost use Rattle.sip_served.specs.Rules.Responses.{respond_command};
 ghost use Rattle.sip_served.specs.Rules.Ticks.{server_due, server_tick};
@@ -24,7 +24,7 @@ ghost use Rattle.sip_served.specs.Step.{kind_taken, server_item_taken};
 ghost use Rattle.sip_served.specs.State.{State, empty_at, followed, has_id, quiet};
 ghost use Rattle.sip_served.specs.Tick.{next_server_due, tick_taken};
 ghost use Rattle.sip_served.specs.declared.held_request.HeldRequest.{HeldRequest};
-ghost use Rattle.sip_common.specs.declared.item.CallOut.TheVariants.{Command};
+ghost use Rattle.sip_user.specs.declared.item.CallOut.TheVariants.{Command};
 
 /// Before the moment at which something is due, a tick does nothing and says nothing; from then on
 /// it does or says something. If nothing is due ever, no tick does anything.
@@ -79,7 +79,7 @@ pub fn each_notice_is_of_its_call()
 pub fn the_rules_say_the_steps()
     ensures item { (state : State) (tag : List ℕ) (id : Id) (item : Item) (now : ℕ)
         → server_item state tag id item now ≡ server_item_taken state tag id item now }
-    ensures kind { (state : State) (tag : List ℕ) (up : Up) (kind : Kind) (now : ℕ)
+    ensures kind { (state : State) (tag : List ℕ) (up : Up) (kind : UpKind) (now : ℕ)
         → server_received state tag up kind now ≡ kind_taken state tag up kind now }
     ensures answer { (state : State) (event : Id) (respond : Respond) (now : ℕ)
         → respond_command state event respond now ≡ respond_taken state event respond now }

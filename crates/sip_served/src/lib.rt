@@ -24,8 +24,4 @@ pub use laws::{
 pub use provisionals::{Provisionals, ReliableResponse};
 pub use served::Served;
 pub use server_side::ServerSide;
-pub use sip_common::{
-    CallOut, Cancel, DialogBody, DialogId, DialogReference, DialogRequest, Dialogs, HeldDialog,
-    Invite, Item, Notice, PendingRequest, Plain, ProvisionalSupport, Refusal, Reliability, Respond,
-    UserCommand,
-};
+pub use sip_user::{CallOut, Item, Notice, UserCommand};

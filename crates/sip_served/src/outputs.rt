@@ -2,19 +2,19 @@
 
 ghost use Rattle.std.specs.Prelude.{◌≡◌, ◌≤◌, IfOk, OnOk, filter, codes, IsTrue};
 ghost use Rattle.sip_message.specs.Response.{response_of};
-ghost use Rattle.sip_parts.specs.Reason.{is_reason};
+ghost use Rattle.sip_grammar.specs.Reason.{is_reason};
 ghost use Rattle.sip_served.specs.Arrival as arrived;
-ghost use Rattle.sip_common.specs.Requests.{is_unknown_option};
-ghost use Rattle.sip_common.specs.declared.item.CallOut.TheVariants as call_out;
+ghost use Rattle.sip_held_dialogs.specs.Requests.{is_unknown_option};
+ghost use Rattle.sip_user.specs.declared.item.CallOut.TheVariants as call_out;
 ghost use Rattle.sip_transactions.specs.declared.input.Command.TheVariants.{Answer};
 
 use crate::arrival::Arrival;
 use crate::unsupported::unsupported;
-use sip_common::outputs::one;
-use sip_common::{CallOut, Notice};
 use sip_message::{CallId, Header, Id, Message, Reason, SharedKey, StatusCode, Token, response_to};
 use sip_text::{Boxed, Text};
 use sip_transactions::Command;
+use sip_user::outputs::one;
+use sip_user::{CallOut, Notice};
 use std::alloc::{AllocError, Global};
 
 /// The command that gives a response to the transaction of its request.

@@ -2,24 +2,25 @@
 
 ghost use Rattle.std.specs.Prelude.{◌≡◌, ◌≤◌, ◌^◌, IfOk, OnOk, Some, codes};
 ghost use Rattle.indexmap.specs.IndexMap.{insert_entry};
-ghost use Rattle.sip_common.specs.Dialogs.{is_dialog_id};
-ghost use Rattle.sip_common.specs.Requests.{dialog_id_of};
+ghost use Rattle.sip_held_dialogs.specs.Dialogs.{is_dialog_id};
+ghost use Rattle.sip_held_dialogs.specs.Requests.{dialog_id_of};
 ghost use Rattle.sip_served.specs.RequestLife as life;
 ghost use Rattle.sip_served.specs.Respond as spec;
 
 use crate::held_request::{HeldRequest, Retransmission, Success};
 use crate::provisionals::ReliableResponse;
-use sip_common::dialogs::{confirm, end_early, lives};
-use sip_common::request::{
+use sip_dialog::{Dialog, own_contact};
+use sip_held_dialogs::dialogs::{confirm, end_early, lives};
+use sip_held_dialogs::request::{
     dialog_id_of, has_to_tag, is_final, is_invite, is_provisional, is_success, requires_100rel,
     supports_100rel,
 };
-use sip_common::{CallOut, DialogReference, Dialogs, HeldDialog, Refusal, Reliability, Respond};
-use sip_dialog::{Dialog, own_contact};
+use sip_held_dialogs::{DialogReference, Dialogs, HeldDialog};
 use sip_message::{Addr, Id, Message, StatusCode, Token, response_to};
 use sip_reliable::{Inbound, SendFault};
 use sip_text::{Boxed, Series};
 use sip_timers::{LIFETIME, T1};
+use sip_user::{CallOut, Refusal, Reliability, Respond};
 use std::alloc::{AllocError, Global};
 
 /// The lowest status that the user may answer with.

@@ -3,9 +3,10 @@
 ghost use Rattle.std.specs.Prelude.{◌≡◌, ◌≤◌, ◌^◌, true, false, Ok, Err, IfErr, IfOk, IsTrue, if◌then◌else◌};
 
 use crate::server_side::ServerSide;
-use sip_common::{CallOut, Dialogs, Item};
+use keyed_machine::ShardFault;
+use sip_held_dialogs::Dialogs;
 use sip_message::{Addr, Id, Token};
-use sip_model::ShardFault;
+use sip_user::{CallOut, Item};
 use std::alloc::{AllocError, Global};
 use std::marker::Model;
 

@@ -1,8 +1,8 @@
 //! The server side of one Call-ID: what it holds, and how each item changes it.
 
 ghost use Rattle.std.specs.Prelude.{◌≡◌, ◌<◌, ◌≤◌, ◌^◌, [], ◌∷◌, ◌++◌, IfOk, OnOk, Some, false, filter, length, slice_set};
-ghost use Rattle.sip_common.specs.Requests.{has_to_tag};
-ghost use Rattle.sip_common.specs.declared.item.CallOut.TheVariants as call_out;
+ghost use Rattle.sip_held_dialogs.specs.Requests.{has_to_tag};
+ghost use Rattle.sip_user.specs.declared.item.CallOut.TheVariants as call_out;
 ghost use Rattle.sip_served.specs.Acknowledgment.{ack_taken};
 ghost use Rattle.sip_served.specs.Arrival as arrived;
 ghost use Rattle.sip_served.specs.Cancel as cancels;
@@ -30,15 +30,14 @@ use crate::requests::place_of;
 use crate::respond::{answer_dialogs, answer_to, note_answer, refusal_for};
 use crate::tick::{is_kept, next_due, tick_requests};
 use indexmap::IndexMap;
-use sip_common::dialogs::{dialog_of_request, end, end_early, visit};
-use sip_common::outputs::{joined, one, refused, tell};
-use sip_common::request::{dialog_id_of, has_to_tag, is_bye, is_cancel, is_prack, own_tag};
-use sip_common::{
-    CallOut, DialogId, DialogReference, Dialogs, Item, Notice, Refusal, Respond, UserCommand,
-};
+use sip_held_dialogs::dialogs::{dialog_of_request, end, end_early, visit};
+use sip_held_dialogs::request::{dialog_id_of, has_to_tag, is_bye, is_cancel, is_prack, own_tag};
+use sip_held_dialogs::{DialogId, DialogReference, Dialogs};
 use sip_message::{Addr, CallId, Id, Message, Token};
 use sip_text::Boxed;
-use sip_transactions::{Command, Kind, Up};
+use sip_transactions::{Command, Up, UpKind};
+use sip_user::outputs::{joined, one, refused, tell};
+use sip_user::{CallOut, Item, Notice, Refusal, Respond, UserCommand};
 use std::alloc::{AllocError, Global};
 use std::marker::Model;
 
@@ -153,7 +152,7 @@ impl ServerSide {
             kind,
         } = up;
         match kind {
-            Kind::Request(request, reply_to) => {
+            UpKind::Request(request, reply_to) => {
                 let tag = own_tag(self.alloc, request.get())?.unwrap_or(tag);
                 let arrival = Arrival {
                     id,
@@ -164,8 +163,8 @@ impl ServerSide {
                 };
                 self.request(call_id, arrival, now)
             }
-            Kind::Ack(ack) => self.ack(call_id, ack.get()),
-            Kind::Response(_) | Kind::Timeout | Kind::Failed => Ok(Vec::new(self.alloc)),
+            UpKind::Ack(ack) => self.ack(call_id, ack.get()),
+            UpKind::Response(_) | UpKind::Timeout | UpKind::Failed => Ok(Vec::new(self.alloc)),
         }
     }
 

@@ -6,15 +6,15 @@ ghost use Rattle.std.specs.Option.{option_and_then};
 ghost use Rattle.sip_reliable.specs.Happening.{is_among};
 ghost use Rattle.sip_served.specs.RequestLife as life;
 ghost use Rattle.sip_served.specs.Tick as spec;
-ghost use Rattle.sip_common.specs.declared.notice.Notice.TheVariants as notices;
+ghost use Rattle.sip_user.specs.declared.notice.Notice.TheVariants as notices;
 
 use crate::acknowledgment::end_success;
 use crate::held_request::{HeldRequest, Retransmission, Success, SuccessEnd};
 use crate::outputs::command_for;
-use sip_common::{CallOut, Notice};
 use sip_reliable::Tick;
 use sip_timers::earlier;
 use sip_transactions::T2;
+use sip_user::{CallOut, Notice};
 use std::alloc::{AllocError, Global};
 
 /// What is due of the 2xx to an INVITE (RFC 3261, section 13.3.1.4).

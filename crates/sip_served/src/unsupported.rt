@@ -4,9 +4,9 @@ ghost use Rattle.std.specs.Prelude.{◌≡◌, ◌==◌, ◌++◌, IfOk, OnOk, I
 ghost use Rattle.sip_text.specs.Token.{is_token};
 ghost use Rattle.std.specs.List.{join_by};
 ghost use Rattle.sip_served.specs.Arrival.{unsupported};
-ghost use Rattle.sip_common.specs.Requests.{is_unknown_option};
+ghost use Rattle.sip_held_dialogs.specs.Requests.{is_unknown_option};
 
-use sip_common::request::is_unknown_option;
+use sip_held_dialogs::request::is_unknown_option;
 use sip_message::{Header, HeaderValue, OtherName, Token};
 use sip_text::Text;
 use std::alloc::{AllocError, Global};

@@ -3,12 +3,12 @@ use Rattle.std.proofs.Common.{◌≡◌, ℕ, zero, ◌<◌, Bool, List, [], ◌
 use Rattle.std.proofs.lemmas.List.{nil_from_length}
 use Rattle.std.specs.List.{AllByRecursion}
 use Rattle.std.specs.declared.cmp.Ordering.{Ordering}
-use Rattle.sip_model.specs.Laws.{owned_phase}
-use Rattle.sip_model.specs.declared.item.Item.{Item}
-use Rattle.sip_model.specs.Machine.{Machine, Timed}
-use Rattle.sip_model.specs.Phase.{Phase, AddsPhase, HoldsAfter, phase_at}
-use Rattle.sip_model.specs.Shards.{HoldFrom, is_owned}
-use Rattle.sip_model.specs.Table.{Held}
+use Rattle.keyed_machine.specs.Laws.{owned_phase}
+use Rattle.keyed_machine.specs.declared.item.Item.{Item}
+use Rattle.keyed_machine.specs.Machine.{Machine, Timed}
+use Rattle.keyed_machine.specs.Phase.{Phase, AddsPhase, HoldsAfter, phase_at}
+use Rattle.keyed_machine.specs.Shards.{HoldFrom, is_owned}
+use Rattle.keyed_machine.specs.Table.{Held}
 use Rattle.sip_shards.specs.AllShards.{DealsAll, DealsParts}
 use Rattle.sip_shards.proofs.Cutting.{all_in_one}
 use Rattle.sip_shards.proofs.Together.{first_of}

@@ -3,9 +3,9 @@ use Rattle.std.proofs.Common.{◌≡◌, ℕ, zero, suc, ◌+◌, ◌<◌, true,
 use Rattle.std.specs.Prelude.{filter, All, slice_set}
 use Rattle.std.proofs.lemmas.Grind.{common_steps}
 use Rattle.std.proofs.lemmas.List.{get_or-set_same, get_or-set_other, get_or-map}
-use Rattle.sip_model.specs.declared.item.Item.{Item}
-use Rattle.sip_model.specs.Shards.{is_owned}
-use Rattle.sip_model.proofs.Ordered.{by_bool}
+use Rattle.keyed_machine.specs.declared.item.Item.{Item}
+use Rattle.keyed_machine.specs.Shards.{is_owned}
+use Rattle.keyed_machine.proofs.Ordered.{by_bool}
 use Rattle.sip_shards.specs.Parts.{cut_by}
 use Rattle.sip_shards.specs.Steps.Put.{with_item}
 

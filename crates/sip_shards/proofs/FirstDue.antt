@@ -5,9 +5,9 @@ use Rattle.std.specs.List.{AllByRecursion}
 use Rattle.std.specs.declared.cmp.Ordering.{Ordering}
 use Rattle.std.proofs.lemmas.Grind.{common_steps}
 use Rattle.std.proofs.lemmas.List.{take_all}
-use Rattle.sip_model.specs.Machine.{due_of}
-use Rattle.sip_model.specs.Table.{Held, state_at}
-use Rattle.sip_model.proofs.Ordered.{by_bool}
+use Rattle.keyed_machine.specs.Machine.{due_of}
+use Rattle.keyed_machine.specs.Table.{Held, state_at}
+use Rattle.keyed_machine.proofs.Ordered.{by_bool}
 use Rattle.sip_timers.specs.Earlier.{earlier}
 use Rattle.sip_timers.specs.Queue.{is_due}
 use Rattle.sip_shards.specs.Steps.Dues.{IsDueIn}

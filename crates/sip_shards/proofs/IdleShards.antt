@@ -7,12 +7,12 @@ use Rattle.std.specs.List.{AllByRecursion, AllZip, flat_map}
 use Rattle.std.specs.List.Sorted.{IsStrictlySortedBy}
 use Rattle.std.proofs.lemmas.List.{nil_from_length, map-id}
 use Rattle.std.proofs.lemmas.List.Sorted.{length_permutation}
-use Rattle.sip_model.specs.declared.item.Item.{Item}
-use Rattle.sip_model.specs.Machine.{Machine, Timed}
-use Rattle.sip_model.specs.Table.{Held}
-use Rattle.sip_model.specs.Groups.{Sorts}
-use Rattle.sip_model.specs.Phase.{AddsPhase, phase_at}
-use Rattle.sip_model.specs.Shards.{ShardsTellAll}
+use Rattle.keyed_machine.specs.declared.item.Item.{Item}
+use Rattle.keyed_machine.specs.Machine.{Machine, Timed}
+use Rattle.keyed_machine.specs.Table.{Held}
+use Rattle.keyed_machine.specs.Groups.{Sorts}
+use Rattle.keyed_machine.specs.Phase.{AddsPhase, phase_at}
+use Rattle.keyed_machine.specs.Shards.{ShardsTellAll}
 use Rattle.sip_shards.specs.Parts.{cut_by}
 use Rattle.sip_shards.specs.AllShards.{DealsAll, IsIdle}
 use Rattle.sip_shards.proofs.Numbered.{parts_timed, places_timed}

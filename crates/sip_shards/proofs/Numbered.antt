@@ -1,10 +1,10 @@
 -- Items at a moment, and how many parts there are.
 use Rattle.std.proofs.Common.{◌≡◌, ℕ, zero, suc, Bool, List, [], ◌∷◌, length, map, refl, sym, ◌∙◌, ap}
 use Rattle.std.specs.Prelude.{filter}
-use Rattle.sip_model.specs.declared.item.Item.{Item}
-use Rattle.sip_model.specs.Phase.{timed_item, timed_items}
-use Rattle.sip_model.specs.Shards.{is_owned}
-use Rattle.sip_model.proofs.Ordered.{by_bool}
+use Rattle.keyed_machine.specs.declared.item.Item.{Item}
+use Rattle.keyed_machine.specs.Phase.{timed_item, timed_items}
+use Rattle.keyed_machine.specs.Shards.{is_owned}
+use Rattle.keyed_machine.proofs.Ordered.{by_bool}
 use Rattle.sip_shards.specs.Parts.{cut_by}
 use Rattle.sip_shards.proofs.Cutting.{map_long}
 

@@ -7,11 +7,11 @@ use Rattle.std.specs.List.{AllByRecursion, AllZip}
 use Rattle.std.specs.List.Sorted.{IsStrictlySortedBy}
 use Rattle.std.specs.Ordering.{nat_cmp}
 use Rattle.std.specs.declared.cmp.Ordering.{Ordering}
-use Rattle.sip_model.specs.Machine.{Machine, Timed, tick_at}
-use Rattle.sip_model.specs.Phase.{AddsPhase, phase_at, timed_items}
-use Rattle.sip_model.specs.Shards.{ShardsTellAll}
-use Rattle.sip_model.specs.Table.{Held}
-use Rattle.sip_model.specs.declared.item.Item.{Item}
+use Rattle.keyed_machine.specs.Machine.{Machine, Timed, tick_at}
+use Rattle.keyed_machine.specs.Phase.{AddsPhase, phase_at, timed_items}
+use Rattle.keyed_machine.specs.Shards.{ShardsTellAll}
+use Rattle.keyed_machine.specs.Table.{Held}
+use Rattle.keyed_machine.specs.declared.item.Item.{Item}
 use Rattle.sip_shards.specs.AllShards.{DealsParts, IsApart, IsEnded}
 use Rattle.sip_shards.proofs.Numbered.{map_twice, parts_timed, places_timed}
 use Rattle.sip_shards.proofs.Together.{deals_all}

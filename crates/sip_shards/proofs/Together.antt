@@ -5,12 +5,12 @@ use Rattle.std.specs.declared.cmp.Ordering.{Ordering}
 use Rattle.std.specs.Ordering.{nat_cmp}
 use Rattle.std.specs.List.{AllByRecursion, AllZip, flat_map, zip}
 use Rattle.std.specs.List.Sorted.{IsStrictlySortedBy}
-use Rattle.sip_model.specs.declared.item.Item.{Item}
-use Rattle.sip_model.specs.Machine.{Machine}
-use Rattle.sip_model.specs.Table.{Held}
-use Rattle.sip_model.specs.Groups.{Sorts}
-use Rattle.sip_model.specs.Phase.{Phase, AddsPhase}
-use Rattle.sip_model.specs.Shards.{EachDeals, ShardPhase, HoldFrom, ShardsTellAll, TellAll}
+use Rattle.keyed_machine.specs.declared.item.Item.{Item}
+use Rattle.keyed_machine.specs.Machine.{Machine}
+use Rattle.keyed_machine.specs.Table.{Held}
+use Rattle.keyed_machine.specs.Groups.{Sorts}
+use Rattle.keyed_machine.specs.Phase.{Phase, AddsPhase}
+use Rattle.keyed_machine.specs.Shards.{EachDeals, ShardPhase, HoldFrom, ShardsTellAll, TellAll}
 use Rattle.sip_shards.specs.Parts.{cut_by}
 use Rattle.sip_shards.specs.AllShards.{DealsAll, IsApart}
 use Rattle.sip_shards.proofs.Cutting.{map_long}

@@ -8,12 +8,12 @@ use Rattle.std.specs.BTreeMap.{is_at}
 use Rattle.std.proofs.lemmas.Grind.{common_steps}
 use Rattle.std.proofs.lemmas.List.{get_or-set_same, get_or-set_other}
 use Rattle.std.proofs.lemmas.Map.Lookups.{CmpEqualImpliesEq}
-use Rattle.sip_model.specs.Laws.{ShardsHoldApart}
-use Rattle.sip_model.specs.Machine.{Machine}
-use Rattle.sip_model.specs.Phase.{Phase, states_after}
-use Rattle.sip_model.specs.Shards.{HoldFrom, is_owned}
-use Rattle.sip_model.specs.Table.{Held, state_at}
-use Rattle.sip_model.proofs.Ordered.{by_bool, exact_at}
+use Rattle.keyed_machine.specs.Laws.{ShardsHoldApart}
+use Rattle.keyed_machine.specs.Machine.{Machine}
+use Rattle.keyed_machine.specs.Phase.{Phase, states_after}
+use Rattle.keyed_machine.specs.Shards.{HoldFrom, is_owned}
+use Rattle.keyed_machine.specs.Table.{Held, state_at}
+use Rattle.keyed_machine.proofs.Ordered.{by_bool, exact_at}
 use Rattle.sip_shards.specs.Steps.Transfer.{AreOwners, held_by_owner}
 use Rattle.sip_shards.proofs.Cutting.{nat_eq_true, nat_eq_false, set_long}
 

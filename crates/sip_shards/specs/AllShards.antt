@@ -4,12 +4,12 @@ use Rattle.std.specs.List.{flat_map}
 use Rattle.std.specs.List.Sorted.{IsStrictlySortedBy}
 use Rattle.std.specs.Ordering.{nat_cmp}
 use Rattle.std.specs.declared.cmp.Ordering.{Ordering}
-use Rattle.sip_model.specs.Machine.{Machine, Timed}
-use Rattle.sip_model.specs.Table.{Held}
-use Rattle.sip_model.specs.Groups.{Sorts}
-use Rattle.sip_model.specs.Phase.{Phase, AddsPhase, by_place, phase_at, told_next}
-use Rattle.sip_model.specs.Shards.{HoldFrom}
-use Rattle.sip_model.specs.declared.item.Item.{Item}
+use Rattle.keyed_machine.specs.Machine.{Machine, Timed}
+use Rattle.keyed_machine.specs.Table.{Held}
+use Rattle.keyed_machine.specs.Groups.{Sorts}
+use Rattle.keyed_machine.specs.Phase.{Phase, AddsPhase, by_place, phase_at, told_next}
+use Rattle.keyed_machine.specs.Shards.{HoldFrom}
+use Rattle.keyed_machine.specs.declared.item.Item.{Item}
 use Rattle.sip_workers.specs.Ran.{IsGathered}
 use Rattle.sip_shards.specs.Parts.{cut_by}
 

@@ -1,7 +1,7 @@
 -- The items of a phase, cut into the parts of the shards.
 use Rattle.std.specs.Prelude.{ℕ, zero, suc, List, [], ◌∷◌, filter}
-use Rattle.sip_model.specs.declared.item.Item.{Item}
-use Rattle.sip_model.specs.Shards.{is_owned}
+use Rattle.keyed_machine.specs.declared.item.Item.{Item}
+use Rattle.keyed_machine.specs.Shards.{is_owned}
 
 -- the shard of a key, among so many, by the way in which names are cut
 abbrev pub owner_of : {K : Type 0} → (List ℕ → ℕ → ℕ) → (K → List ℕ) → ℕ → K → ℕ

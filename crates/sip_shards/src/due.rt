@@ -5,9 +5,9 @@ ghost use Rattle.std.specs.List.{AllByRecursion};
 ghost use Rattle.sip_timers.specs.Queue.{is_due};
 ghost use Rattle.sip_shards.specs.AllShards.{IsIdle};
 ghost use Rattle.sip_shards.specs.Steps.Dues.{IsDueIn};
-ghost use Rattle.sip_model.specs.Machine.{tick_at};
+ghost use Rattle.keyed_machine.specs.Machine.{tick_at};
 
-use sip_model::KeyShard;
+use keyed_machine::KeyShard;
 use sip_timers::earlier;
 
 /// The first moment, in ms, at which a key in any of these shards is due. Takes no memory.

@@ -10,5 +10,5 @@ mod transfers;
 
 pub use due::next_due_in;
 pub use parts::{Named, empty_parts, parts_of, put};
-pub use phase::{Phase, Unwatched, are_idle, deal_phase, tell_of_each};
+pub use phase::{Phase, are_idle, deal_phase, tell_of_each};
 pub use transfers::transfer;

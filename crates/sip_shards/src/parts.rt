@@ -5,8 +5,8 @@ ghost use Rattle.sip_message.specs.Key.{branch_in};
 ghost use Rattle.sip_shards.specs.Parts.{cut_by, owner_of};
 ghost use Rattle.sip_shards.specs.Steps.Put.{with_item};
 
+use keyed_machine::Item;
 use sip_message::{CallId, Cut, SharedKey};
-use sip_model::Item;
 use std::alloc::{AllocError, Global};
 
 /// A key with a name, by which it is cut among shards.

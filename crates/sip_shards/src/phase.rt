@@ -2,23 +2,16 @@
 
 ghost use Rattle.std.specs.Prelude.{◌≡◌, ◌<◌, ◌≤◌, ◌^◌, [], IfOk, IsTrue, length, map, nat_eq};
 ghost use Rattle.std.specs.List.{AllByRecursion, IsDistinct};
-ghost use Rattle.sip_model.specs.Groups.{groups};
-ghost use Rattle.sip_model.specs.Machine.{tick_at};
+ghost use Rattle.keyed_machine.specs.Groups.{groups};
+ghost use Rattle.keyed_machine.specs.Machine.{tick_at};
 ghost use Rattle.sip_workers.specs.Ran.{IsNumbered};
 ghost use Rattle.sip_shards.specs.AllShards.{DealsParts, IsApart, IsEnded, IsIdle};
 
 use crate::shard_work::{ShardDone, ShardWork};
-use sip_model::{Item, KeyShard, PhaseOutputs, ShardFault, StateMachine, laws_of_phases};
-use sip_workers::{Gate, NoMemory, Piece, dones_in_order, gather, run_alone, run_pieces};
+use keyed_machine::{Item, KeyShard, PhaseOutputs, ShardFault, StateMachine, laws_of_phases};
+use sip_workers::{Gate, NoMemory, OpenGate, Piece, dones_in_order, gather, run_alone, run_pieces};
 use std::alloc::{AllocError, Global};
 use std::thread::Threads;
-
-/// The gate of work that nobody watches.
-pub struct Unwatched;
-
-impl Gate for Unwatched {
-    fn begin(&self, _: usize) {}
-}
 
 /// A phase before it is dealt with: each shard with its part of the items, at a moment in ms, with
 /// a tick or without.
@@ -170,14 +163,14 @@ where
             (groups dealt.1.items.items)) }
     {
         if self.shards.len() == 1 {
-            return self.deal_alone(&Unwatched);
+            return self.deal_alone(&OpenGate);
         }
         if self.is_idle() {
             return Ok(self.unchanged(alloc));
         }
         laws_of_phases(&self.machine);
         dones_in_order::<ShardWork<S>>();
-        let dones = run_alone(alloc, self.pieces(alloc)?, &Unwatched)?;
+        let dones = run_alone(alloc, self.pieces(alloc)?, &OpenGate)?;
         end_phase(alloc, dones)
     }
 }

@@ -1,11 +1,11 @@
 //! The work of one shard in a phase.
 
 ghost use Rattle.std.specs.Prelude.{◌≡◌, ◌≤◌, ◌^◌, IfOk};
-ghost use Rattle.sip_model.specs.Phase.{AddsPhase, phase_at};
-ghost use Rattle.sip_model.specs.Groups.{groups};
-ghost use Rattle.sip_model.specs.Machine.{tick_at};
+ghost use Rattle.keyed_machine.specs.Phase.{AddsPhase, phase_at};
+ghost use Rattle.keyed_machine.specs.Groups.{groups};
+ghost use Rattle.keyed_machine.specs.Machine.{tick_at};
 
-use sip_model::{Item, KeyShard, PhaseOutputs, ShardFault, StateMachine};
+use keyed_machine::{Item, KeyShard, PhaseOutputs, ShardFault, StateMachine};
 use sip_workers::Job;
 
 /// A shard, and its part of a phase.

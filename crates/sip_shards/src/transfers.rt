@@ -2,16 +2,16 @@
 
 ghost use Rattle.std.specs.Prelude.{◌≡◌, ◌<◌, ◌≤◌, ℕ, List, Some, [], All, IfOk, OnOk, length, map, vec_len};
 ghost use Rattle.std.specs.Option.{option_or};
-ghost use Rattle.sip_model.specs.Machine.{Timed, tick_at};
-ghost use Rattle.sip_model.specs.Phase.{Phase};
-ghost use Rattle.sip_model.specs.Shards.{HoldFrom};
-ghost use Rattle.sip_model.specs.Table.{state_at};
+ghost use Rattle.keyed_machine.specs.Machine.{Timed, tick_at};
+ghost use Rattle.keyed_machine.specs.Phase.{Phase};
+ghost use Rattle.keyed_machine.specs.Shards.{HoldFrom};
+ghost use Rattle.keyed_machine.specs.Table.{state_at};
 ghost use Rattle.sip_shards.specs.Parts.{owner_of};
 ghost use Rattle.sip_shards.specs.Steps.Transfer.{AreOwners, held_by_owner};
 
 use crate::parts::Named;
+use keyed_machine::{KeyShard, StateMachine, laws_of_phases};
 use sip_message::Cut;
-use sip_model::{KeyShard, StateMachine, laws_of_phases};
 use sip_workers::NoMemory;
 
 /// Moves all that shards of a machine hold to other shards, which hold nothing: each key goes to

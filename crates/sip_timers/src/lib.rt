@@ -3,12 +3,11 @@
 
 mod estimate;
 mod first_of;
-mod no_memory;
 mod queue;
 mod schedule;
 
 pub use estimate::{LIFETIME, T1};
 pub use first_of::earlier;
-pub use no_memory::NoMemory;
+pub use out_of_memory::NoMemory;
 pub use queue::Queue;
 pub use schedule::Schedule;

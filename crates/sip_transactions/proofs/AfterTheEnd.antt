@@ -12,7 +12,7 @@ use Rattle.sip_message.specs.declared.key.Key.{Key}
 use Rattle.sip_message.specs.declared.message.Message.{Message}
 use Rattle.sip_message.specs.declared.start_line.StartLine.{StartLine}
 use Rattle.sip_message.specs.declared.start_line.StartLine.TheVariants as start
-use Rattle.sip_model.specs.Machine.{outputs_from, state_left, Timed}
+use Rattle.keyed_machine.specs.Machine.{outputs_from, state_left, Timed}
 use Rattle.sip_transactions.specs.declared.input.Input.{Input}
 use Rattle.sip_transactions.specs.declared.input.Input.TheVariants.{Receive, Start, Answer, Failed}
 use Rattle.sip_transactions.specs.declared.life.Context.{Context}
@@ -20,8 +20,8 @@ use Rattle.sip_transactions.specs.declared.life.Life.{Life}
 use Rattle.sip_transactions.specs.declared.output.Out.{Out}
 use Rattle.sip_transactions.specs.declared.state.State.{State}
 use Rattle.sip_transactions.specs.declared.step.Step.{Step}
-use Rattle.sip_transactions.specs.declared.step.Handed.{Handed}
-use Rattle.sip_transactions.specs.declared.step.Handed.TheVariants as up
+use Rattle.sip_transactions.specs.declared.step.UpAction.{UpAction}
+use Rattle.sip_transactions.specs.declared.step.UpAction.TheVariants as up
 use Rattle.sip_transactions.specs.declared.trigger.Trigger.{Trigger}
 use Rattle.sip_transactions.specs.Rows.{rows_of}
 use Rattle.sip_transactions.specs.Ids.{is_id}
@@ -57,7 +57,7 @@ sends_none : (id : Id) (key : Key) (context : Context) (o : Option (List ℕ))
 sends_none id key context None = refl
 sends_none id key context (Some bytes) = refl
 
-handed_other : (id : Id) (key : Key) (context : Context) (handed : Handed)
+handed_other : (id : Id) (key : Key) (context : Context) (handed : UpAction)
     (arrived : Option (Message × Addr)) → is_id id context.id ≡ false
     → list_any (carries id) (option_to_list (handed_out key context handed arrived)) ≡ false
 unfolding handed_out
@@ -105,7 +105,7 @@ acted_other id key now input state context step other = record {
 }
 
 -- a response without a life: nothing is handed up, and no life begins
-not_handed : (id : Id) (key : Key) (context : Context) (handed : Handed)
+not_handed : (id : Id) (key : Key) (context : Context) (handed : UpAction)
     (arrived : Option (Message × Addr)) → not (is_message handed || is_report handed) ≡ true
     → list_any (carries id) (option_to_list (handed_out key context handed arrived)) ≡ false
 unfolding handed_out

@@ -23,8 +23,8 @@ use Rattle.sip_transactions.specs.declared.state.State.{State}
 use Rattle.sip_transactions.specs.declared.state.State.TheVariants.{Completed}
 use Rattle.sip_transactions.specs.declared.step.Due.{Due}
 use Rattle.sip_transactions.specs.declared.step.Due.TheVariants.{Keep, Clear, Ending, Both, Again}
-use Rattle.sip_transactions.specs.declared.step.Handed.{Handed}
-use Rattle.sip_transactions.specs.declared.step.Handed.TheVariants as up
+use Rattle.sip_transactions.specs.declared.step.UpAction.{UpAction}
+use Rattle.sip_transactions.specs.declared.step.UpAction.TheVariants as up
 use Rattle.sip_transactions.specs.declared.step.Next.{Next}
 use Rattle.sip_transactions.specs.declared.step.Next.TheVariants.{Same, Ended, Become}
 use Rattle.sip_transactions.specs.declared.step.Sent.{Sent}
@@ -123,7 +123,7 @@ client_tables InviteServer client = absurd (false≢true client)
 client_tables Server client = absurd (false≢true client)
 
 -- what is handed up or dropped isn't sent
-none_sent : (text : List ℕ) (key : Key) (context : Context) (handed : Handed)
+none_sent : (text : List ℕ) (key : Key) (context : Context) (handed : UpAction)
     (arrived : Option (Message × Addr))
     → sends_of text (option_to_list (handed_out key context handed arrived)) ≡ 0
 unfolding handed_out

@@ -12,8 +12,8 @@ use Rattle.sip_message.specs.declared.key.Key.TheVariants as key
 use Rattle.sip_message.specs.declared.message.Message.{Message}
 use Rattle.sip_message.specs.Message.{is_request_message}
 use Rattle.sip_message.specs.Written.{written}
-use Rattle.sip_model.specs.Machine.{outputs_from, Timed, given_at}
-use Rattle.sip_model.proofs.Lives.{IsWithinLife, is_within}
+use Rattle.keyed_machine.specs.Machine.{outputs_from, Timed, given_at}
+use Rattle.keyed_machine.proofs.Lives.{IsWithinLife, is_within}
 use Rattle.sip_transactions.specs.declared.input.Input.{Input}
 use Rattle.sip_transactions.specs.declared.input.Input.TheVariants.{Start}
 use Rattle.sip_transactions.specs.declared.life.Context.{Context}
@@ -22,7 +22,7 @@ use Rattle.sip_transactions.specs.declared.state.Role.{Role}
 use Rattle.sip_transactions.specs.declared.state.Role.TheVariants.{InviteClient, Client}
 use Rattle.sip_transactions.specs.declared.step.Due.{Due}
 use Rattle.sip_transactions.specs.declared.step.Due.TheVariants.{Keep, Clear, Ending, Both, Again}
-use Rattle.sip_transactions.specs.declared.step.Handed.{Handed}
+use Rattle.sip_transactions.specs.declared.step.UpAction.{UpAction}
 use Rattle.sip_transactions.specs.declared.step.Next.{Next}
 use Rattle.sip_transactions.specs.declared.step.Next.TheVariants.{Same, Ended, Become}
 use Rattle.sip_transactions.specs.declared.step.Pace.{Pace}
@@ -55,7 +55,7 @@ module _ (role : Role) (client : is_client role ≡ true) (key : Key) (text : Li
   armed_fit due now life fit l = record { paced = l.paced; apart = fit.apart; keeps = fit.keeps }
 
   -- the request is sent again
-  repeated : (life : Life) (now : ℕ) (handed : Handed) (pace : Pace)
+  repeated : (life : Life) (now : ℕ) (handed : UpAction) (pace : Pace)
       (arrived : Option (Message × Addr)) → Fit role text life
       → Fired role life.context.timers (Again pace) now
       → Few role text (room life) (
@@ -81,7 +81,7 @@ module _ (role : Role) (client : is_client role ≡ true) (key : Key) (text : Li
 
   row_few : (life : Life) (now : ℕ) (input : Option Input) (trigger : Trigger)
       → trigger_of (Some life) now input ≡ Some trigger → Fit role text life
-      → (next : Next) (handed : Handed) (sent : Sent) (due : Due)
+      → (next : Next) (handed : UpAction) (sent : Sent) (due : Due)
       → sends_well role life.state trigger next sent due ≡ true
       → Few role text (room life) (acted_if key now input (Some life.state) (Some life.context)
       (record { next = next; handed = handed; sent = sent; due = due }))
@@ -196,7 +196,7 @@ module _ (role : Role) (client : is_client role ≡ true) (key : Key) (text : Li
 
   -- the start
   start_few : (now : ℕ) (id : Id) (call_id : List ℕ) (request : Message) (to : Addr) (next : Next)
-      (handed : Handed) (sent : Sent) (due : Due) → starts_well role on.Start next sent due ≡ true
+      (handed : UpAction) (sent : Sent) (due : Due) → starts_well role on.Start next sent due ≡ true
       → Few role text (1 + most_repeats role)
       (acted_if key now (Some (Start id call_id request to)) None
       (begun role (Some (Start id call_id request to)))

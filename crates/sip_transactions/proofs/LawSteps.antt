@@ -15,7 +15,7 @@ use Rattle.sip_message.specs.declared.start_line.StartLine.TheVariants as start
 use Rattle.sip_transactions.specs.declared.input.Command.{Command}
 use Rattle.sip_transactions.specs.declared.input.Command.TheVariants as command
 use Rattle.sip_transactions.specs.declared.input.Input.{Input}
-use Rattle.sip_model.specs.Machine.{Timed}
+use Rattle.keyed_machine.specs.Machine.{Timed}
 use Rattle.sip_transactions.specs.declared.life.Context.{Context}
 use Rattle.sip_transactions.specs.declared.life.Life.{Life}
 use Rattle.sip_transactions.specs.declared.output.Out.{Out}
@@ -25,8 +25,8 @@ use Rattle.sip_transactions.specs.declared.state.Role.TheVariants.{InviteClient,
 use Rattle.sip_transactions.specs.declared.step.Step.{Step}
 use Rattle.sip_transactions.specs.declared.step.Next.{Next}
 use Rattle.sip_transactions.specs.declared.step.Next.TheVariants.{Same, Ended, Become}
-use Rattle.sip_transactions.specs.declared.step.Handed.{Handed}
-use Rattle.sip_transactions.specs.declared.step.Handed.TheVariants as up
+use Rattle.sip_transactions.specs.declared.step.UpAction.{UpAction}
+use Rattle.sip_transactions.specs.declared.step.UpAction.TheVariants as up
 use Rattle.sip_transactions.specs.declared.trigger.Trigger.{Trigger}
 use Rattle.sip_transactions.specs.declared.trigger.Trigger.TheVariants as on
 use Rattle.sip_transactions.specs.Rows.{row_of, rows_of}
@@ -109,14 +109,14 @@ is_ended Same = false
 is_ended Ended = true
 is_ended (Become s) = false
 
-abbrev pub is_message : Handed → Bool
+abbrev pub is_message : UpAction → Bool
 is_message up.Nothing = false
 is_message up.Message = true
 is_message up.Timeout = false
 is_message up.Failed = false
 is_message up.NoTransaction = false
 
-abbrev pub is_report : Handed → Bool
+abbrev pub is_report : UpAction → Bool
 is_report up.Nothing = false
 is_report up.Message = false
 is_report up.Timeout = true
@@ -124,7 +124,7 @@ is_report up.Failed = true
 is_report up.NoTransaction = false
 
 -- a row hands up a report, or drops the message that came
-abbrev is_told : Handed → Bool
+abbrev is_told : UpAction → Bool
 is_told up.Nothing = false
 is_told up.Message = false
 is_told up.Timeout = true
@@ -202,7 +202,7 @@ sends_only : (key : Key) (context : Context) (o : Option (List ℕ))
 sends_only key context None = tt
 sends_only key context (Some bytes) = (tt, tt)
 
-order_handed : (key : Key) (context : Context) (handed : Handed) → not (is_told handed) ≡ true
+order_handed : (key : Key) (context : Context) (handed : UpAction) → not (is_told handed) ≡ true
     → handed_out key context handed None ≡ None
 unfolding handed_out
 order_handed key context up.Nothing quiet = refl

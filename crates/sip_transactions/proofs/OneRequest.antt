@@ -8,19 +8,19 @@ use Rattle.sip_message.specs.declared.key.Key.{Key}
 use Rattle.sip_message.specs.declared.message.Message.{Message}
 use Rattle.sip_message.specs.declared.start_line.StartLine.{StartLine}
 use Rattle.sip_message.specs.declared.start_line.StartLine.TheVariants as start
-use Rattle.sip_model.specs.Machine.{outputs_from, Timed}
-use Rattle.sip_model.proofs.Lives.{IsWithinLife, is_within}
+use Rattle.keyed_machine.specs.Machine.{outputs_from, Timed}
+use Rattle.keyed_machine.proofs.Lives.{IsWithinLife, is_within}
 use Rattle.sip_transactions.specs.declared.input.Input.{Input}
 use Rattle.sip_transactions.specs.declared.input.Input.TheVariants.{Receive, Start, Answer, Failed}
 use Rattle.sip_transactions.specs.declared.life.Context.{Context}
 use Rattle.sip_transactions.specs.declared.life.Life.{Life}
-use Rattle.sip_transactions.specs.declared.output.Kind.TheVariants as kind
+use Rattle.sip_transactions.specs.declared.output.UpKind.TheVariants as kind
 use Rattle.sip_transactions.specs.declared.state.State.{State}
 use Rattle.sip_transactions.specs.declared.step.Step.{Step}
 use Rattle.sip_transactions.specs.declared.step.Next.{Next}
 use Rattle.sip_transactions.specs.declared.step.Next.TheVariants.{Same, Ended, Become}
-use Rattle.sip_transactions.specs.declared.step.Handed.{Handed}
-use Rattle.sip_transactions.specs.declared.step.Handed.TheVariants as up
+use Rattle.sip_transactions.specs.declared.step.UpAction.{UpAction}
+use Rattle.sip_transactions.specs.declared.step.UpAction.TheVariants as up
 use Rattle.sip_transactions.specs.declared.trigger.Trigger.{Trigger}
 use Rattle.sip_transactions.specs.declared.trigger.Trigger.TheVariants as on
 use Rattle.sip_transactions.specs.Rows.{rows_of}
@@ -51,7 +51,7 @@ none_is_none : {T : Type 0} (o : Option T) → o ≡ None → IsSome o → ⊥
 none_is_none o none some = false≢true (sym (ap is_some none) ∙ some)
 
 -- a request that came is handed up as one
-up_request : (key : Key) (context : Context) (handed : Handed) (message : Message) (reply_to : Addr)
+up_request : (key : Key) (context : Context) (handed : UpAction) (message : Message) (reply_to : Addr)
     (line : StartLine) → message.start ≡ line → is_message handed ≡ true
     → is_request (arrival_of line message.cseq.method) ≡ true
     → requests_in (option_to_list (handed_out key context handed (Some (message, reply_to)))) ≡ 1
@@ -144,7 +144,7 @@ later_receive key context message reply_to (start.Request uri) is other =
     (λ plain. absurd (false≢true (sym (ap (λ b. not (is_request (cond b on.Ack on.Request))) plain)
     ∙ other)))
 
-pub later_once : (key : Key) (held : Option Life) (context : Context) (handed : Handed) (now : ℕ)
+pub later_once : (key : Key) (held : Option Life) (context : Context) (handed : UpAction) (now : ℕ)
     (input : Option Input) (trigger : Trigger) → trigger_of held now input ≡ Some trigger
     → not (is_message handed && is_request trigger) ≡ true
     → requests_in (option_to_list (handed_out key context handed (arrived_in input))) ≡ 0

@@ -12,16 +12,16 @@ use Rattle.sip_message.specs.declared.key.Key.{Key}
 use Rattle.sip_message.specs.declared.message.Message.{Message}
 use Rattle.sip_message.specs.declared.start_line.StartLine.{StartLine}
 use Rattle.sip_message.specs.declared.start_line.StartLine.TheVariants as start
-use Rattle.sip_model.specs.Machine.{outputs_from, Timed}
+use Rattle.keyed_machine.specs.Machine.{outputs_from, Timed}
 use Rattle.sip_transactions.specs.declared.input.Input.{Input}
 use Rattle.sip_transactions.specs.declared.input.Input.TheVariants.{Receive, Start, Answer, Failed}
 use Rattle.sip_transactions.specs.declared.life.Context.{Context}
 use Rattle.sip_transactions.specs.declared.life.Life.{Life}
-use Rattle.sip_transactions.specs.declared.output.Kind.TheVariants as kind
+use Rattle.sip_transactions.specs.declared.output.UpKind.TheVariants as kind
 use Rattle.sip_transactions.specs.declared.output.Out.{Out}
 use Rattle.sip_transactions.specs.declared.output.Out.TheVariants as out
-use Rattle.sip_transactions.specs.declared.step.Handed.{Handed}
-use Rattle.sip_transactions.specs.declared.step.Handed.TheVariants as up
+use Rattle.sip_transactions.specs.declared.step.UpAction.{UpAction}
+use Rattle.sip_transactions.specs.declared.step.UpAction.TheVariants as up
 use Rattle.sip_transactions.specs.declared.step.Step.{Step}
 use Rattle.sip_transactions.specs.Ids.{IdsRise, id_cmp}
 use Rattle.sip_transactions.specs.Steps.Input.{role_of, is_same_method}
@@ -81,7 +81,7 @@ held_ids key life timed =
     (later_in_tables (role_of key)) (Some life.state) row.trigger step row.row)))
 
 -- a message that came
-handed_ids : (key : Key) (context : Context) (handed : Handed) (message : Message)
+handed_ids : (key : Key) (context : Context) (handed : UpAction) (message : Message)
     (reply_to : Addr) (line : StartLine) → message.start ≡ line
     → Named (arrival_id line context.id)
     (request_ids (option_to_list (handed_out key context handed (Some (message, reply_to)))))
@@ -100,7 +100,7 @@ handed_ids key context up.Message message reply_to (start.Request uri) is =
     (λ ack. inl (by_line ∙ ap by_kind ack))
     (λ other. inr (by_line ∙ ap by_kind other))
 
-nothing_handed : (key : Key) (context : Context) (handed : Handed)
+nothing_handed : (key : Key) (context : Context) (handed : UpAction)
     → request_ids (option_to_list (handed_out key context handed None)) ≡ []
 unfolding handed_out
 nothing_handed key context up.Nothing = refl

@@ -14,13 +14,13 @@ use Rattle.sip_message.specs.declared.sent_by.SentBy.{SentBy}
 use Rattle.sip_message.specs.declared.start_line.StartLine.{StartLine}
 use Rattle.sip_message.specs.declared.start_line.StartLine.TheVariants as start
 use Rattle.sip_timers.specs.Queue.{is_due}
-use Rattle.sip_model.specs.Machine.{Machine, Timed}
+use Rattle.keyed_machine.specs.Machine.{Machine, Timed}
 use Rattle.sip_transactions.specs.declared.input.Input.{Input}
 use Rattle.sip_transactions.specs.declared.input.Input.TheVariants as input
 use Rattle.sip_transactions.specs.declared.life.Context.{Context}
 use Rattle.sip_transactions.specs.declared.life.Life.{Life}
-use Rattle.sip_transactions.specs.declared.output.Kind.{Kind}
-use Rattle.sip_transactions.specs.declared.output.Kind.TheVariants as kind
+use Rattle.sip_transactions.specs.declared.output.UpKind.{UpKind}
+use Rattle.sip_transactions.specs.declared.output.UpKind.TheVariants as kind
 use Rattle.sip_transactions.specs.declared.output.Out.{Out}
 use Rattle.sip_transactions.specs.declared.output.Out.TheVariants.{Up, Send}
 use Rattle.sip_transactions.specs.declared.state.Role.TheVariants.{InviteClient, Client, InviteServer, Server}
@@ -28,8 +28,8 @@ use Rattle.sip_transactions.specs.declared.state.State.{State}
 use Rattle.sip_transactions.specs.declared.state.State.TheVariants.{Calling, Trying, Proceeding, Completed, Accepted, Confirmed}
 use Rattle.sip_transactions.specs.declared.step.Due.{Due}
 use Rattle.sip_transactions.specs.declared.step.Due.TheVariants.{Keep, Clear, Ending, Both, Again}
-use Rattle.sip_transactions.specs.declared.step.Handed.{Handed}
-use Rattle.sip_transactions.specs.declared.step.Handed.TheVariants as up
+use Rattle.sip_transactions.specs.declared.step.UpAction.{UpAction}
+use Rattle.sip_transactions.specs.declared.step.UpAction.TheVariants as up
 use Rattle.sip_transactions.specs.declared.step.Next.{Next}
 use Rattle.sip_transactions.specs.declared.step.Next.TheVariants.{Same, Ended, Become}
 use Rattle.sip_transactions.specs.declared.step.Pace.TheVariants.{Doubled, Capped, Even}
@@ -247,14 +247,14 @@ next_is Ended state = refl
 next_is (Become new) state = refl
 
 -- how a message that came is handed up
-abbrev kind_in : Option Input → Option Kind
+abbrev kind_in : Option Input → Option UpKind
 kind_in input = option_map (λ a. kind_of a.0.start a.0 a.1) (arrived_in input)
 
-abbrev hand : Key → Context → Kind → Out
+abbrev hand : Key → Context → UpKind → Out
 hand key context kind =
     Up (record { key = key; id = context.id; call_id = context.call_id; kind = kind })
 
-up_is : (key : Key) (context : Context) (arrived : Option (Message × Addr)) (handed : Handed)
+up_is : (key : Key) (context : Context) (arrived : Option (Message × Addr)) (handed : UpAction)
     → handed_up (hand key context) context
     (option_map (λ a. kind_of a.0.start a.0 a.1) arrived) handed
     ≡ handed_out key context handed arrived
@@ -267,7 +267,7 @@ up_is key context arrived up.Failed = refl
 up_is key context arrived up.NoTransaction = refl
 
 -- what a row does to a state and a context, in the words of the rules
-abbrev by_row : Key → ℕ → Option State → Context → Option Message → Option Kind → Step
+abbrev by_row : Key → ℕ → Option State → Context → Option Message → Option UpKind → Step
     → Option Life × List Out
 by_row key now state context message trigger_of_message row = (
   option_map (life_in (moved context (option_or (text_sent context message row.sent) context.last)
@@ -299,7 +299,7 @@ context_in held context_at_first = option_map_or (λ life. life.context) held co
 
 idle_is : (key : Key) (now : ℕ) (held : Option Life) (context_at_first : Context)
     (message : Option Message)
-    (trigger_of_message : Option Kind)
+    (trigger_of_message : Option UpKind)
     → by_row key now (state_of held) (context_in held context_at_first) message trigger_of_message
     (row_or None)
     ≡ (held, [])
@@ -336,7 +336,7 @@ acted_is key now input held context_at_first trigger has =
     (row_of (rows_of (role_of key)) (state_of held) trigger)
 
 by_ack : (ack : Bool) (message : Message) (reply_to : Addr)
-    → ◌≡◌ {A = Trigger × Kind}
+    → ◌≡◌ {A = Trigger × UpKind}
     (if ack then (on.Ack, kind.Ack message) else (on.Request, kind.Request message reply_to)) (
       (if ack then on.Ack else on.Request),
       (if ack then kind.Ack message else kind.Request message reply_to),

@@ -1,7 +1,7 @@
 -- If no timer of a life is due, a tick does nothing.
 use Rattle.std.proofs.Common.{ℕ, refl}
 use Rattle.std.specs.Prelude.{None, Some}
-use Rattle.sip_model.specs.Machine.{IsIdle, tick_at}
+use Rattle.keyed_machine.specs.Machine.{IsIdle, tick_at}
 use Rattle.sip_timers.proofs.DueFirst.{neither_due}
 use Rattle.sip_transactions.specs.Machine.{transaction_machine, life_due}
 use Rattle.sip_transactions.specs.Rules.Step.{step_at}

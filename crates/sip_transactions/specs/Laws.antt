@@ -11,13 +11,13 @@ use Rattle.sip_message.specs.declared.addr.Addr.{Addr}
 use Rattle.sip_message.specs.declared.message.Message.{Message}
 use Rattle.sip_message.specs.Message.{is_request_message}
 use Rattle.sip_message.specs.Written.{written}
-use Rattle.sip_model.specs.Machine.{LifeIn, Machine, Timed, adds, given_at, outputs_from, said_after, said_at_first, said_in_rest, state_left}
+use Rattle.keyed_machine.specs.Machine.{LifeIn, Machine, Timed, adds, given_at, outputs_from, said_after, said_at_first, said_in_rest, state_left}
 use Rattle.sip_transactions.specs.declared.input.Command.{Command}
 use Rattle.sip_transactions.specs.declared.input.Input.{Input}
 use Rattle.sip_transactions.specs.declared.input.Input.TheVariants.{Receive, Start, Answer, Failed}
 use Rattle.sip_transactions.specs.declared.life.Life.{Life}
-use Rattle.sip_transactions.specs.declared.output.Kind.{Kind}
-use Rattle.sip_transactions.specs.declared.output.Kind.TheVariants as kind
+use Rattle.sip_transactions.specs.declared.output.UpKind.{UpKind}
+use Rattle.sip_transactions.specs.declared.output.UpKind.TheVariants as kind
 use Rattle.sip_transactions.specs.declared.output.Out.{Out}
 use Rattle.sip_transactions.specs.declared.output.Out.TheVariants as out
 use Rattle.sip_transactions.specs.declared.state.Role.{Role}
@@ -51,7 +51,7 @@ IsServer (key.Client branch method) = ⊥
 IsServer (key.Server branch sent_by method) = Unit {0}
 
 -- a request that is handed up, other than an ACK
-abbrev pub is_request_kind : Kind → Bool
+abbrev pub is_request_kind : UpKind → Bool
 is_request_kind (kind.Request message reply_to) = true
 is_request_kind other = false
 

@@ -6,7 +6,7 @@ use Rattle.sip_transactions.specs.declared.input.Input.{Input}
 use Rattle.sip_transactions.specs.declared.life.Life.{Life}
 use Rattle.sip_transactions.specs.declared.output.Out.{Out}
 use Rattle.sip_transactions.specs.Rules.Step.{step_at}
-use Rattle.sip_model.specs.Machine.{Machine, Timed}
+use Rattle.keyed_machine.specs.Machine.{Machine, Timed}
 
 -- one transaction: each input leads from a life to the next
 abbrev pub transaction_machine : Machine Key Life (Timed Input) Out

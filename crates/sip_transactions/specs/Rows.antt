@@ -16,8 +16,8 @@ use Rattle.sip_transactions.specs.declared.trigger.Trigger.TheVariants.{Start, R
 use Rattle.sip_transactions.specs.declared.step.Step.{Step}
 use Rattle.sip_transactions.specs.declared.step.Next.{Next}
 use Rattle.sip_transactions.specs.declared.step.Next.TheVariants.{Same, Ended, Become}
-use Rattle.sip_transactions.specs.declared.step.Handed.{Handed}
-use Rattle.sip_transactions.specs.declared.step.Handed.TheVariants as up
+use Rattle.sip_transactions.specs.declared.step.UpAction.{UpAction}
+use Rattle.sip_transactions.specs.declared.step.UpAction.TheVariants as up
 use Rattle.sip_transactions.specs.declared.step.Sent.{Sent}
 use Rattle.sip_transactions.specs.declared.step.Sent.TheVariants as send
 use Rattle.sip_transactions.specs.declared.step.Due.{Due}
@@ -32,7 +32,7 @@ pub record Row : Type 0 where
 
 -- a row: its states, its triggers, the state after it, what it hands up, what it sends, and the due
 -- moments after it
-abbrev pub row : List (Option State) → List Trigger → Next → Handed → Sent → Due → Row
+abbrev pub row : List (Option State) → List Trigger → Next → UpAction → Sent → Due → Row
 row from on next handed sent due = record {
   from = from;
   on = on;

@@ -9,7 +9,7 @@ use Rattle.sip_transactions.specs.declared.output.Out.{Out}
 use Rattle.sip_transactions.specs.declared.output.Out.TheVariants.{Send}
 use Rattle.sip_transactions.specs.declared.input.Input.TheVariants as input
 use Rattle.sip_transactions.specs.declared.input.Input.{Input}
-use Rattle.sip_model.specs.Machine.{Machine, Timed}
+use Rattle.keyed_machine.specs.Machine.{Machine, Timed}
 use Rattle.sip_transactions.specs.declared.state.Role.TheVariants as role
 use Rattle.sip_transactions.specs.declared.state.State.{State}
 use Rattle.sip_transactions.specs.declared.state.State.TheVariants.{Calling, Trying, Proceeding, Completed, Accepted, Confirmed}
@@ -19,7 +19,7 @@ use Rattle.sip_transactions.specs.declared.trigger.Trigger.{Trigger}
 use Rattle.sip_transactions.specs.declared.trigger.Trigger.TheVariants as on
 use Rattle.sip_transactions.specs.Steps.Input.{answer_of, arrival_of, role_of}
 use Rattle.sip_transactions.specs.Laws.{IsServer}
-use Rattle.sip_model.specs.Machine.{tick_at}
+use Rattle.keyed_machine.specs.Machine.{tick_at}
 use Rattle.sip_transactions.specs.Shard.{failed_send, receipt}
 
 -- a response was sent, and a retransmitted request gets it again

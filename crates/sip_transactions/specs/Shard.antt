@@ -12,9 +12,9 @@ use Rattle.sip_transactions.specs.declared.input.Command.{Command}
 use Rattle.sip_transactions.specs.declared.input.Command.TheVariants as command
 use Rattle.sip_transactions.specs.declared.input.Input.TheVariants.{Receive, Start, Answer, Failed}
 use Rattle.sip_transactions.specs.declared.input.Input.{Input}
-use Rattle.sip_model.specs.Machine.{Timed, given_at}
+use Rattle.keyed_machine.specs.Machine.{Timed, given_at}
 use Rattle.sip_transactions.specs.declared.life.Life.{Life}
-use Rattle.sip_model.specs.Table.{Held, state_at}
+use Rattle.keyed_machine.specs.Table.{Held, state_at}
 
 -- a response whose top Via names a sender other than the agent (RFC 3261, section 18.1.2)
 abbrev pub is_stray : Addr → Message → Bool

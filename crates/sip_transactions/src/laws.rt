@@ -2,7 +2,7 @@
 
 ghost use Rattle.std.specs.Prelude.{◌≡◌, Option};
 ghost use Rattle.sip_message.specs.declared.key.Key.{Key};
-ghost use Rattle.sip_model.specs.Machine.{Timed};
+ghost use Rattle.keyed_machine.specs.Machine.{Timed};
 ghost use Rattle.sip_transactions.specs.declared.input.Input.{Input};
 ghost use Rattle.sip_transactions.specs.declared.life.Life.{Life};
 ghost use Rattle.sip_transactions.specs.Laws.{AtMostOneRow, CommandsOnlySend, OneRequestUp, RequestsComeUpById, NothingAfterTheEnd, FewSends};

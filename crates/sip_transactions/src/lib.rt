@@ -17,10 +17,10 @@ mod timers;
 mod trigger;
 
 pub use input::{Command, Input};
+pub use keyed_machine::ShardFault;
 pub use machine::Transactions;
-pub use output::{DropReason, Kind, Out, Up};
+pub use output::{DropReason, Out, Up, UpKind};
 pub use shard::Shard;
-pub use sip_model::ShardFault;
 pub use state::State;
 pub use stray::{is_stray, received};
 pub use timers::T2;

@@ -17,8 +17,8 @@ use crate::said::{passed_on, said};
 use crate::state::Role;
 use crate::step::{Next, Sent, Step};
 use crate::trigger::trigger_of;
+use keyed_machine::StateMachine;
 use sip_message::{Addr, Id, Key, Message, SharedKey};
-use sip_model::StateMachine;
 use sip_text::{Boxed, Text};
 use std::alloc::{AllocError, Global};
 

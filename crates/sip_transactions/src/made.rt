@@ -54,7 +54,7 @@ fn trying_for(alloc: Global, request: &Message) -> Result<Message, AllocError>
     response_to(alloc, request, status, trying(alloc)?, request.method())
 }
 
-#[tactic(auto, unfolding(sip_parts::specs::Reason::is_reason))]
+#[tactic(auto, unfolding(sip_grammar::specs::Reason::is_reason))]
 fn trying(alloc: Global) -> Result<Reason, AllocError>
     ensures { IfOk result (λ reason. reason ≡ codes "Trying") }
 {

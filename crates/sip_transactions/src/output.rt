@@ -5,7 +5,7 @@ use sip_text::{Boxed, Text};
 
 /// What is handed up to the call.
 #[derive(Drop)]
-pub enum Kind {
+pub enum UpKind {
     /// The request that began the transaction, and the address of its answers.
     Request(Boxed<Message>, Addr),
     /// An ACK.
@@ -25,7 +25,7 @@ pub struct Up {
     pub key: SharedKey,
     pub id: Id,
     pub call_id: CallId,
-    pub kind: Kind,
+    pub kind: UpKind,
 }
 
 /// Why a datagram was dropped.

@@ -7,7 +7,7 @@ ghost use Rattle.sip_transactions.specs.Rows.{row_of, rows_of, invite_client_row
 
 use crate::state::Role;
 use crate::state::State::{self, Accepted, Calling, Completed, Confirmed, Proceeding, Trying};
-use crate::step::{Due, Handed, Pace, Sent, Step};
+use crate::step::{Due, Pace, Sent, Step, UpAction};
 use crate::timers::T4;
 use crate::trigger::Class;
 use crate::trigger::Trigger::{
@@ -34,32 +34,32 @@ fn invite_client_step(state: Option<State>, trigger: Trigger) -> Option<Step>
     ensures repeat { IfSome result (λ step. FiresWhenDue step.due trigger) }
 {
     let step = match (state, trigger) {
-        (None, Start) => Step::enter(Calling, Handed::Nothing, Sent::Given, Due::Both), // +A +B
+        (None, Start) => Step::enter(Calling, UpAction::Nothing, Sent::Given, Due::Both), // +A +B
         (Some(Calling), RetransmitDue) => Step::repeat(Pace::Doubled), // !A +A
-        (Some(Calling), TimeoutDue) => Step::end(Handed::Timeout), // !B
-        (Some(Calling | Completed), Failed) => Step::end(Handed::Failed),
+        (Some(Calling), TimeoutDue) => Step::end(UpAction::Timeout), // !B
+        (Some(Calling | Completed), Failed) => Step::end(UpAction::Failed),
         (Some(Calling | Proceeding), Response(Class::Trying | Class::Provisional)) => Step::enter(
             Proceeding,
-            Handed::Message,
+            UpAction::Message,
             Sent::Nothing,
             Due::Clear,
         ),
         (Some(Calling | Proceeding), Response(Class::Success)) => Step::enter(
             Accepted,
-            Handed::Message,
+            UpAction::Message,
             Sent::Nothing,
             Due::Ending(LIFETIME),
         ), // +M
         (Some(Calling | Proceeding), Response(Class::Failure)) => Step::enter(
             Completed,
-            Handed::Message,
+            UpAction::Message,
             Sent::Ack,
             Due::Ending(LIFETIME),
         ), // +D
-        (Some(Completed), Response(Class::Failure)) => Step::stay(Handed::Nothing, Sent::Latest),
-        (Some(Accepted), Response(Class::Success)) => Step::stay(Handed::Message, Sent::Nothing),
-        (Some(Completed | Accepted), TimeoutDue) => Step::end(Handed::Nothing), // !D !M
-        (None, Response(_)) => Step::end(Handed::NoTransaction),
+        (Some(Completed), Response(Class::Failure)) => Step::stay(UpAction::Nothing, Sent::Latest),
+        (Some(Accepted), Response(Class::Success)) => Step::stay(UpAction::Message, Sent::Nothing),
+        (Some(Completed | Accepted), TimeoutDue) => Step::end(UpAction::Nothing), // !D !M
+        (None, Response(_)) => Step::end(UpAction::NoTransaction),
         _ => return None,
     };
     Some(step)
@@ -71,25 +71,25 @@ fn client_step(state: Option<State>, trigger: Trigger) -> Option<Step>
     ensures repeat { IfSome result (λ step. FiresWhenDue step.due trigger) }
 {
     let step = match (state, trigger) {
-        (None, Start) => Step::enter(Trying, Handed::Nothing, Sent::Given, Due::Both), // +E +F
+        (None, Start) => Step::enter(Trying, UpAction::Nothing, Sent::Given, Due::Both), // +E +F
         (Some(Trying), RetransmitDue) => Step::repeat(Pace::Capped), // !E +E
         (Some(Proceeding), RetransmitDue) => Step::repeat(Pace::Even), // !E +E
-        (Some(Trying | Proceeding), TimeoutDue) => Step::end(Handed::Timeout), // !F
-        (Some(Trying | Proceeding), Failed) => Step::end(Handed::Failed),
+        (Some(Trying | Proceeding), TimeoutDue) => Step::end(UpAction::Timeout), // !F
+        (Some(Trying | Proceeding), Failed) => Step::end(UpAction::Failed),
         (Some(Trying | Proceeding), Response(Class::Trying | Class::Provisional)) => Step::enter(
             Proceeding,
-            Handed::Message,
+            UpAction::Message,
             Sent::Nothing,
             Due::Keep,
         ),
         (Some(Trying | Proceeding), Response(Class::Success | Class::Failure)) => Step::enter(
             Completed,
-            Handed::Message,
+            UpAction::Message,
             Sent::Nothing,
             Due::Ending(T4),
         ), // +K
-        (Some(Completed), TimeoutDue) => Step::end(Handed::Nothing), // !K
-        (None, Response(_)) => Step::end(Handed::NoTransaction),
+        (Some(Completed), TimeoutDue) => Step::end(UpAction::Nothing), // !K
+        (None, Response(_)) => Step::end(UpAction::NoTransaction),
         _ => return None,
     };
     Some(step)
@@ -101,37 +101,40 @@ fn invite_server_step(state: Option<State>, trigger: Trigger) -> Option<Step>
     ensures repeat { IfSome result (λ step. FiresWhenDue step.due trigger) }
 {
     let step = match (state, trigger) {
-        (None, Request) => Step::enter(Proceeding, Handed::Message, Sent::Trying, Due::Clear),
-        (Some(Proceeding | Completed), Request) => Step::stay(Handed::Nothing, Sent::Latest),
-        (Some(Proceeding), Answer(Class::Provisional)) => Step::stay(Handed::Nothing, Sent::Given),
+        (None, Request) => Step::enter(Proceeding, UpAction::Message, Sent::Trying, Due::Clear),
+        (Some(Proceeding | Completed), Request) => Step::stay(UpAction::Nothing, Sent::Latest),
+        (Some(Proceeding), Answer(Class::Provisional)) => Step::stay(
+            UpAction::Nothing,
+            Sent::Given,
+        ),
         (Some(Proceeding), Answer(Class::Success)) => Step::enter(
             Accepted,
-            Handed::Nothing,
+            UpAction::Nothing,
             Sent::Given,
             Due::Ending(LIFETIME),
         ), // +L
         (Some(Proceeding), Answer(Class::Failure)) => Step::enter(
             Completed,
-            Handed::Nothing,
+            UpAction::Nothing,
             Sent::Given,
             Due::Both,
         ), // +G +H
         (Some(Completed), RetransmitDue) => Step::repeat(Pace::Capped), // !G +G
         (Some(Completed), Ack) => Step::enter(
             Confirmed,
-            Handed::Nothing,
+            UpAction::Nothing,
             Sent::Nothing,
             Due::Ending(T4),
         ), // +I
-        (Some(Completed), TimeoutDue) => Step::end(Handed::Timeout), // !H
-        (Some(Accepted), Ack) => Step::stay(Handed::Message, Sent::Nothing),
-        (Some(Accepted), Answer(Class::Success)) => Step::stay(Handed::Nothing, Sent::Given),
-        (Some(Confirmed | Accepted), TimeoutDue) => Step::end(Handed::Nothing), // !I !L
+        (Some(Completed), TimeoutDue) => Step::end(UpAction::Timeout), // !H
+        (Some(Accepted), Ack) => Step::stay(UpAction::Message, Sent::Nothing),
+        (Some(Accepted), Answer(Class::Success)) => Step::stay(UpAction::Nothing, Sent::Given),
+        (Some(Confirmed | Accepted), TimeoutDue) => Step::end(UpAction::Nothing), // !I !L
         (Some(Proceeding | Completed | Accepted | Confirmed), Failed) => Step::stay(
-            Handed::Failed,
+            UpAction::Failed,
             Sent::Nothing,
         ),
-        (None, Ack) => Step::end(Handed::Message),
+        (None, Ack) => Step::end(UpAction::Message),
         _ => return None,
     };
     Some(step)
@@ -143,23 +146,23 @@ fn server_step(state: Option<State>, trigger: Trigger) -> Option<Step>
     ensures repeat { IfSome result (λ step. FiresWhenDue step.due trigger) }
 {
     let step = match (state, trigger) {
-        (None, Request) => Step::enter(Trying, Handed::Message, Sent::Nothing, Due::Clear),
+        (None, Request) => Step::enter(Trying, UpAction::Message, Sent::Nothing, Due::Clear),
         (Some(Trying | Proceeding), Answer(Class::Provisional)) => Step::enter(
             Proceeding,
-            Handed::Nothing,
+            UpAction::Nothing,
             Sent::Given,
             Due::Clear,
         ),
         (Some(Trying | Proceeding), Answer(Class::Success | Class::Failure)) => Step::enter(
             Completed,
-            Handed::Nothing,
+            UpAction::Nothing,
             Sent::Given,
             Due::Ending(LIFETIME),
         ), // +J
-        (Some(Proceeding | Completed), Request) => Step::stay(Handed::Nothing, Sent::Latest),
-        (Some(Completed), TimeoutDue) => Step::end(Handed::Nothing), // !J
+        (Some(Proceeding | Completed), Request) => Step::stay(UpAction::Nothing, Sent::Latest),
+        (Some(Completed), TimeoutDue) => Step::end(UpAction::Nothing), // !J
         (Some(Trying | Proceeding | Completed), Failed) => Step::stay(
-            Handed::Failed,
+            UpAction::Failed,
             Sent::Nothing,
         ),
         _ => return None,

@@ -6,8 +6,8 @@ ghost use Rattle.sip_transactions.specs.Steps.Life.{context_by};
 ghost use Rattle.sip_transactions.specs.Steps.Output.{handed_out, sent_bytes, outputs_of, up_out, send_out, kind_of};
 
 use crate::life::Context;
-use crate::output::{DropReason, Kind, Out, Up};
-use crate::step::{Handed, Sent, Step};
+use crate::output::{DropReason, Out, Up, UpKind};
+use crate::step::{Sent, Step, UpAction};
 use crate::trigger::is_ack;
 use sip_message::{Addr, CallId, Id, Message, SharedKey, StartLine};
 use sip_text::{Boxed, Text};
@@ -46,7 +46,7 @@ pub(crate) fn passed_on(
     id: Id,
     message: Boxed<Message>,
     reply_to: Addr,
-    handed: Handed,
+    handed: UpAction,
 ) -> Result<Vec<Out>, AllocError>
     ensures { let context = context_by id message.call_id reply_to None in
         let out = handed_out key.now context handed (Some (message, reply_to)) in
@@ -66,25 +66,30 @@ fn pass_on(
     id: Id,
     message: Boxed<Message>,
     reply_to: Addr,
-    handed: Handed,
+    handed: UpAction,
 ) -> Result<Option<Out>, AllocError>
     ensures { let context = context_by id message.call_id reply_to None in
         IfOk result (λ out. out ≡ handed_out key.now context handed (Some (message, reply_to))) }
 {
     match handed {
-        Handed::Nothing => Ok(None),
-        Handed::NoTransaction => Ok(Some(no_transaction(id))),
-        Handed::Message => {
+        UpAction::Nothing => Ok(None),
+        UpAction::NoTransaction => Ok(Some(no_transaction(id))),
+        UpAction::Message => {
             let call_id = message.get().call_id.clone()?;
             Ok(Some(up_out(key, id, call_id, kind_of(message, reply_to))?))
         }
-        Handed::Timeout => Ok(Some(up_out(
+        UpAction::Timeout => Ok(Some(up_out(
             key,
             id,
             message.get().call_id.clone()?,
-            Kind::Timeout,
+            UpKind::Timeout,
         )?)),
-        Handed::Failed => Ok(Some(up_out(key, id, message.get().call_id.clone()?, Kind::Failed)?)),
+        UpAction::Failed => Ok(Some(up_out(
+            key,
+            id,
+            message.get().call_id.clone()?,
+            UpKind::Failed,
+        )?)),
     }
 }
 
@@ -93,22 +98,22 @@ fn pass_on(
 fn hand_up(
     key: &SharedKey,
     context: &Context,
-    handed: Handed,
+    handed: UpAction,
     arrived: Option<(Boxed<Message>, Addr)>,
 ) -> Result<Option<Out>, AllocError>
     ensures { IfOk result (λ out. out ≡ handed_out key.now context.now handed arrived) }
 {
     let kind = match (handed, arrived) {
-        (Handed::Nothing, _) | (Handed::Message, None) => return Ok(None),
-        (Handed::NoTransaction, _) => return Ok(Some(no_transaction(context.id))),
-        (Handed::Message, Some((message, reply_to))) => kind_of(message, reply_to),
-        (Handed::Timeout, _) => Kind::Timeout,
-        (Handed::Failed, _) => Kind::Failed,
+        (UpAction::Nothing, _) | (UpAction::Message, None) => return Ok(None),
+        (UpAction::NoTransaction, _) => return Ok(Some(no_transaction(context.id))),
+        (UpAction::Message, Some((message, reply_to))) => kind_of(message, reply_to),
+        (UpAction::Timeout, _) => UpKind::Timeout,
+        (UpAction::Failed, _) => UpKind::Failed,
     };
     Ok(Some(up_out(key, context.id, context.call_id.clone()?, kind)?))
 }
 
-fn up_out(key: &SharedKey, id: Id, call_id: CallId, kind: Kind) -> Result<Out, AllocError>
+fn up_out(key: &SharedKey, id: Id, call_id: CallId, kind: UpKind) -> Result<Out, AllocError>
     ensures { IfOk result (λ out. out
         ≡ Out.Up (record { key = key.now; id = id; call_id = call_id; kind = kind })) }
 {
@@ -129,13 +134,13 @@ fn no_transaction(id: Id) -> Out
     }
 }
 
-fn kind_of(message: Boxed<Message>, reply_to: Addr) -> Kind
+fn kind_of(message: Boxed<Message>, reply_to: Addr) -> UpKind
     ensures { result ≡ kind_of message.start message reply_to }
 {
     match &message.get().start {
-        StartLine::Request { .. } if is_ack(message.get()) => Kind::Ack(message),
-        StartLine::Request { .. } => Kind::Request(message, reply_to),
-        StartLine::Response { .. } => Kind::Response(message),
+        StartLine::Request { .. } if is_ack(message.get()) => UpKind::Ack(message),
+        StartLine::Request { .. } => UpKind::Request(message, reply_to),
+        StartLine::Response { .. } => UpKind::Response(message),
     }
 }
 

@@ -1,13 +1,13 @@
 //! A shard: the transactions of some keys.
 
 ghost use Rattle.std.specs.Prelude.{◌≡◌, ◌≤◌, ◌^◌, [], ◌∷◌, List, Some, None, length, count_by, option_map, is_some, true, false, IfOk, OnErr};
-ghost use Rattle.sip_model.specs.Table.{state_at, entries_of, Covers, StepsKey, StepsAll};
-ghost use Rattle.sip_model.specs.History.{AddsInput, AddsInputs};
+ghost use Rattle.keyed_machine.specs.Table.{state_at, entries_of, Covers, StepsKey, StepsAll};
+ghost use Rattle.keyed_machine.specs.History.{AddsInput, AddsInputs};
 ghost use Rattle.sip_message.specs.Key.{key_cmp};
 ghost use Rattle.sip_message.specs.declared.key.Key.{Key};
 ghost use Rattle.sip_message.specs.MessageKey.{key_of_message};
 ghost use Rattle.sip_transactions.specs.Machine.{transaction_machine};
-ghost use Rattle.sip_model.specs.Machine.{tick_at};
+ghost use Rattle.keyed_machine.specs.Machine.{tick_at};
 
 use crate::input::{Command, Input};
 use crate::life::Life;
@@ -15,8 +15,8 @@ use crate::machine::Transactions;
 use crate::output::{DropReason, Out};
 use crate::state::State;
 use crate::stray::received;
+use keyed_machine::{Item, KeyShard, PhaseOutputs, ShardFault, Table};
 use sip_message::{Addr, Id, Message, SharedKey};
-use sip_model::{Item, KeyShard, PhaseOutputs, ShardFault, Table};
 use std::alloc::{AllocError, Global};
 use std::collections::BTreeMap;
 use std::marker::Model;
@@ -162,8 +162,8 @@ impl Shard {
 }
 
 impl KeyShard for Shard {
-    ghost use Rattle.sip_model.specs.Groups.{groups};
-    ghost use Rattle.sip_model.specs.Phase.{AddsPhase, phase_at};
+    ghost use Rattle.keyed_machine.specs.Groups.{groups};
+    ghost use Rattle.keyed_machine.specs.Phase.{AddsPhase, phase_at};
 
     type Machine = Transactions;
 

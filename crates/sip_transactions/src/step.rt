@@ -17,7 +17,7 @@ pub enum Next {
 
 /// What a row hands up.
 #[derive(Clone, Copy)]
-pub enum Handed {
+pub enum UpAction {
     /// Nothing.
     Nothing,
     /// The message that came.
@@ -75,14 +75,14 @@ pub enum Due {
 #[derive(Clone, Copy)]
 pub struct Step {
     pub next: Next,
-    pub handed: Handed,
+    pub handed: UpAction,
     pub sent: Sent,
     pub due: Due,
 }
 
 impl Step {
     /// The transaction enters a state.
-    pub fn enter(state: State, handed: Handed, sent: Sent, due: Due) -> Step
+    pub fn enter(state: State, handed: UpAction, sent: Sent, due: Due) -> Step
         ensures { result ≡ record {
           next = Next.Become state;
           handed = handed;
@@ -99,7 +99,7 @@ impl Step {
     }
 
     /// The state and both due moments stay.
-    pub fn stay(handed: Handed, sent: Sent) -> Step
+    pub fn stay(handed: UpAction, sent: Sent) -> Step
         ensures { result ≡ record {
           next = Next.Same;
           handed = handed;
@@ -120,21 +120,21 @@ impl Step {
         ensures { result
             ≡ record {
               next = Next.Same;
-              handed = Handed.Nothing;
+              handed = UpAction.Nothing;
               sent = Sent.Latest;
               due = Due.Again pace;
             } }
     {
         Step {
             next: Next::Same,
-            handed: Handed::Nothing,
+            handed: UpAction::Nothing,
             sent: Sent::Latest,
             due: Due::Again(pace),
         }
     }
 
     /// The transaction ends.
-    pub fn end(handed: Handed) -> Step
+    pub fn end(handed: UpAction) -> Step
         ensures { let quiet = Sent.Nothing in
             result ≡ record { next = Next.Ended; handed = handed; sent = quiet; due = Due.Clear } }
     {

@@ -1,7 +1,7 @@
 -- A text without a byte at its end.
 use Rattle.std.proofs.Common.{◌≡◌, ℕ, Bool, true, false, List, [], ◌∷◌, ◌++◌, ap, refl, ◌∙◌}
 use Rattle.std.specs.Prelude.{◌==◌, if◌then◌else◌}
-use Rattle.sip_udp.specs.Piping.{without_last}
+use Rattle.sip_udp.specs.LineEnd.{without_last}
 
 inside : (b : ℕ) (is : Bool) (xs ys : List ℕ)
     → b ∷ (if is then xs else ys) ≡ (if is then b ∷ xs else b ∷ ys)

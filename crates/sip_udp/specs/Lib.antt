@@ -1,5 +1,5 @@
 pub mod KeepAlive
-pub mod Piping
+pub mod LineEnd
 pub mod Prepared
 pub mod Receiving
 pub mod Recording

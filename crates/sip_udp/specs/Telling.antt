@@ -19,7 +19,7 @@ use Rattle.sip_files.specs.declared.event_line.EventLine.TheVariants as line
 use Rattle.sip_files.specs.declared.version.FileKind.{FileKind}
 use Rattle.sip_files.specs.declared.version.FileKind.TheVariants as file_kind
 use Rattle.sip_udp.specs.KeepAlive.{is_keep_alive}
-use Rattle.sip_udp.specs.Piping.{first_line}
+use Rattle.sip_udp.specs.LineEnd.{first_line}
 
 -- an id: the round, a dot and the place
 abbrev pub told_id : Id → List ℕ

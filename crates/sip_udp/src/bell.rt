@@ -29,7 +29,7 @@ impl Bell {
     }
 
     /// Wakes the thread that waits, or the next one that does.
-    pub(crate) fn ring(&self) {
+    pub fn ring(&self) {
         if !self.is_rung.swap(true, Ordering::SeqCst) {
             let _ = (&self.hammer).write(b"!");
         }
@@ -37,7 +37,7 @@ impl Bell {
 
     /// Waits until the bell rings, but at most `most`. What was posted before it rang can be
     /// collected then.
-    pub(crate) fn wait(&self, most: Duration) -> io::Result<()> {
+    pub fn wait(&self, most: Duration) -> io::Result<()> {
         self.ear.set_read_timeout(Some(most))?;
         let heard = (&self.ear).read(&mut [0; 8]);
         self.is_rung.store(false, Ordering::SeqCst);

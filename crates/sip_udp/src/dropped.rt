@@ -6,10 +6,10 @@ ghost use Rattle.sip_udp.specs.KeepAlive as spec;
 ghost use Rattle.sip_files.specs.Outputs.{reason_text};
 ghost use Rattle.sip_message.specs.Fault.{fault_text};
 ghost use Rattle.sip_text.specs.Cut.{cut_at};
-ghost use Rattle.sip_udp.specs.Piping.{before_cut, first_line};
+ghost use Rattle.sip_udp.specs.LineEnd.{before_cut, first_line};
 ghost use Rattle.sip_udp.specs.Telling.{dropped_head, dropped_line, told_id};
 
-use crate::pipe::without;
+use crate::line_end::without;
 use sip_files::write_event;
 use sip_message::{Addr, Id, ReadFault};
 use sip_round::Event;

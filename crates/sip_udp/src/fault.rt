@@ -38,16 +38,6 @@ impl From<AllocError> for UaFault {
     }
 }
 
-impl From<sip_desk::NoMemory> for UaFault {
-    ghost use Rattle.sip_udp.specs.declared.fault.UaFault.TheVariants.{NoMemory};
-
-    ghost from_gives = { λ _ fault. fault ≡ NoMemory };
-
-    fn from(_error: sip_desk::NoMemory) -> UaFault {
-        UaFault::NoMemory
-    }
-}
-
 impl From<sip_round::NoMemory> for UaFault {
     ghost use Rattle.sip_udp.specs.declared.fault.UaFault.TheVariants.{NoMemory};
 

@@ -35,7 +35,7 @@ impl Flags {
     }
 
     /// The same. The turns wait at this bell.
-    pub(crate) fn with_bell(bell: Option<Arc<Bell>>) -> Flags {
+    pub fn with_bell(bell: Option<Arc<Bell>>) -> Flags {
         Flags {
             stop: AtomicBool::new(false),
             ended: AtomicBool::new(false),
@@ -44,14 +44,14 @@ impl Flags {
     }
 
     /// Wakes the turns.
-    pub(crate) fn ring(&self) {
+    pub fn ring(&self) {
         if let Some(bell) = &self.bell {
             bell.ring();
         }
     }
 
     /// Says that the listener has ended.
-    pub(crate) fn end(&self) {
+    pub fn end(&self) {
         self.ended.store(true, Ordering::SeqCst);
         self.ring();
     }

@@ -2,7 +2,7 @@
 
 use sip_message::Id;
 use sip_round::{Event, Output, PlacedOutput};
-use sip_served::{Notice, UserCommand};
+use sip_user::{Notice, UserCommand};
 use std::alloc::{AllocError, Global};
 use std::collections::BTreeSet;
 use std::fmt;

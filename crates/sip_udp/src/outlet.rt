@@ -41,9 +41,9 @@ impl Outlet for UdpSocket {
 
 /// A socket that counts the sends that failed.
 #[derive(Drop)]
-pub(crate) struct CountedSocket {
-    pub(crate) socket: UdpSocket,
-    pub(crate) failed: u64,
+pub struct CountedSocket {
+    pub socket: UdpSocket,
+    pub failed: u64,
 }
 
 /// It doesn't tell what it was asked to send.

@@ -12,14 +12,14 @@ use std::io::Write;
 
 /// Where a run is recorded, as long as no write fails.
 #[derive(Drop)]
-pub(crate) struct Record<F> {
+pub struct Record<F> {
     file: Option<F>,
-    pub(crate) kind: FileKind,
+    pub kind: FileKind,
 }
 
 impl<F: Write + Drop> Record<F> {
     /// A record in this kind of file, if there is a file.
-    pub(crate) fn new(kind: FileKind, file: Option<F>) -> Record<F> {
+    pub fn new(kind: FileKind, file: Option<F>) -> Record<F> {
         Record { file, kind }
     }
 
@@ -28,7 +28,7 @@ impl<F: Write + Drop> Record<F> {
     /// # Errors
     ///
     /// Memory ran out.
-    pub(crate) fn begin<E: Write>(
+    pub fn begin<E: Write>(
         &mut self,
         alloc: Global,
         config: &Config,
@@ -49,7 +49,7 @@ impl<F: Write + Drop> Record<F> {
     /// # Errors
     ///
     /// Memory ran out.
-    pub(crate) fn add<E: Write>(
+    pub fn add<E: Write>(
         &mut self,
         alloc: Global,
         round: &Round,

@@ -17,7 +17,7 @@ use crate::sending::send_all;
 use crate::user::User;
 use sip_desk::Desk;
 use sip_message::Spread;
-use sip_round::{Agent, Config, Event, Gate, MAX_EVENTS_OF_ROUND, Output, PlacedOutput, Round};
+use sip_round::{Agent, Config, Event, MAX_EVENTS_OF_ROUND, OpenGate, Output, PlacedOutput, Round};
 use sip_text::Series;
 use std::alloc::{AllocError, Global};
 use std::io::Write;
@@ -28,21 +28,14 @@ use std::thread::{self, Threads};
 use std::time::{Clock, Duration, Instant};
 
 /// How many events the line of the listener has room for.
-pub(crate) const LINE_CAPACITY: usize = 1024;
+pub const LINE_CAPACITY: usize = 1024;
 
 /// How long a turn takes at least, in ms; at its bell it waits at most that long.
 const PAUSE: u64 = 10;
 
-/// The gate of the agent. It holds up no piece of work.
-struct Open;
-
-impl Gate for Open {
-    fn begin(&self, _shard: usize) {}
-}
-
 /// An agent between two turns.
 #[derive(Drop)]
-pub(crate) struct Turns<U, F> {
+pub struct Turns<U, F> {
     alloc: Global,
     agent: Agent<Spread>,
     user: U,
@@ -65,7 +58,7 @@ pub(crate) struct Turns<U, F> {
 
 impl<U: User, F: Write + Drop> Turns<U, F> {
     /// The turns before the first one. The head of the record is written.
-    pub(crate) fn new<R: Clock, E: Write>(
+    pub fn new<R: Clock, E: Write>(
         rt: &R,
         alloc: Global,
         config: Config,
@@ -104,7 +97,7 @@ impl<U: User, F: Write + Drop> Turns<U, F> {
 
     /// Takes `turns` turns, or fewer if the time is over, the user wants no more, or the listener
     /// has ended.
-    pub(crate) fn take<R: Threads + Clock + Sync, O: Outlet, W: Write, E: Write>(
+    pub fn take<R: Threads + Clock + Sync, O: Outlet, W: Write, E: Write>(
         &mut self,
         rt: &R,
         turns: u64,
@@ -138,7 +131,7 @@ impl<U: User, F: Write + Drop> Turns<U, F> {
     /// # Errors
     ///
     /// `NotAnswered` if it didn't.
-    pub(crate) fn verdict(&self) -> Result<(), UaFault> {
+    pub fn verdict(&self) -> Result<(), UaFault> {
         if self.user.is_satisfied() {
             Ok(())
         } else {
@@ -148,7 +141,7 @@ impl<U: User, F: Write + Drop> Turns<U, F> {
 
     /// Writes the counts, if that was asked for, when `failed` sends have failed and the listener
     /// has lost `lost` datagrams.
-    pub(crate) fn tell_counts<E: Write>(&mut self, failed: u64, lost: u64, errors: &mut E) {
+    pub fn tell_counts<E: Write>(&mut self, failed: u64, lost: u64, errors: &mut E) {
         if let Some(counts) = &mut self.counts {
             counts.failed = failed;
             counts.lost = lost;
@@ -266,7 +259,10 @@ impl<U: User, F: Write + Drop> Turns<U, F> {
         let events = self.events_of_round()?;
         let round = Round { moment, events };
         let workers = self.division.workers_of(round.events.len());
-        match self.agent.run_round_with_places(rt, &round, workers, &Open) {
+        match self
+            .agent
+            .run_round_with_places(rt, &round, workers, &OpenGate)
+        {
             Ok(outputs) => {
                 self.moment = moment;
                 self.record.add(self.alloc, &round, errors)?;

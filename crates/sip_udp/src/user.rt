@@ -2,12 +2,12 @@
 
 use crate::limit::TimeLeft;
 use sip_round::Event;
-use sip_served::Notice;
+use sip_user::Notice;
 use std::alloc::{AllocError, Global};
 use std::io::Write;
 
 /// Asks the agent's calls for things, and is told about them. Moments are in ms since the start.
-pub(crate) trait User: Drop {
+pub trait User: Drop {
     /// Adds what the user asks for before it is told anything.
     ///
     /// # Errors

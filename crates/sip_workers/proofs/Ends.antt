@@ -7,7 +7,7 @@ use Rattle.crossbeam_deque.specs.Handles.{Pass, view, IsPassOf, worker_deque, wo
 use Rattle.crossbeam_deque.specs.declared.handles.Stealer.{Stealer}
 use Rattle.sip_workers.specs.declared.deque.Fair.{Fair}
 use Rattle.sip_workers.specs.declared.piece.Piece.{Piece}
-use Rattle.sip_workers.specs.declared.no_memory.NoMemory.{NoMemory}
+use Rattle.out_of_memory.specs.declared.no_memory.NoMemory.{NoMemory}
 use Rattle.sip_workers.specs.declared.deque.Log.{Log}
 use Rattle.sip_workers.specs.declared.seat.Seat.{Seat}
 use Rattle.sip_workers.specs.declared.seat.Seat.TheVariants as begun

@@ -6,14 +6,13 @@ mod deque;
 mod gate;
 mod gathered;
 mod job;
-mod no_memory;
 mod piece;
 mod pieces;
 mod seat;
 
-pub use gate::Gate;
+pub use gate::{Gate, OpenGate};
 pub use gathered::{dones_in_order, gather};
 pub use job::Job;
-pub use no_memory::NoMemory;
+pub use out_of_memory::NoMemory;
 pub use piece::Piece;
 pub use pieces::{run_alone, run_pieces};

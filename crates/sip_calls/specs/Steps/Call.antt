@@ -2,23 +2,23 @@
 use Rattle.std.specs.Prelude.{ℕ, Bool, true, false, List, [], ◌∷◌, ◌++◌, Option, None, Some, if◌then◌else◌}
 use Rattle.sip_message.specs.declared.addr.Addr.{Addr}
 use Rattle.sip_message.specs.declared.id.Id.{Id}
-use Rattle.sip_model.specs.Machine.{Machine, Timed}
-use Rattle.sip_transactions.specs.declared.output.Kind.{Kind}
-use Rattle.sip_transactions.specs.declared.output.Kind.TheVariants as kind
+use Rattle.keyed_machine.specs.Machine.{Machine, Timed}
+use Rattle.sip_transactions.specs.declared.output.UpKind.{UpKind}
+use Rattle.sip_transactions.specs.declared.output.UpKind.TheVariants as kind
 use Rattle.sip_transactions.specs.declared.output.Up.{Up as AnUp}
 use Rattle.sip_served.specs.Respond.{respond_taken}
 use Rattle.sip_served.specs.State.{empty_at}
 use Rattle.sip_served.specs.Step.{kind_taken}
-use Rattle.sip_common.specs.declared.command.UserCommand.{UserCommand}
-use Rattle.sip_common.specs.declared.command.UserCommand.TheVariants.{Invite, Plain, Request, Respond, Ack, Prack, Cancel}
-use Rattle.sip_common.specs.declared.item.Item.{Item}
-use Rattle.sip_common.specs.declared.item.Item.TheVariants.{Up, User}
-use Rattle.sip_common.specs.declared.item.CallOut.{CallOut}
-use Rattle.sip_common.specs.declared.item.CallOut.TheVariants.{Notice}
-use Rattle.sip_common.specs.declared.notice.Notice.{Notice as ANotice}
-use Rattle.sip_common.specs.declared.notice.Notice.TheVariants.{Timeout, Failed}
-use Rattle.sip_common.specs.Notices.{refused}
-use Rattle.sip_common.specs.declared.refusal.Refusal.TheVariants.{CallInUse, NoSuchCall}
+use Rattle.sip_user.specs.declared.command.UserCommand.{UserCommand}
+use Rattle.sip_user.specs.declared.command.UserCommand.TheVariants.{Invite, Plain, Request, Respond, Ack, Prack, Cancel}
+use Rattle.sip_user.specs.declared.item.Item.{Item}
+use Rattle.sip_user.specs.declared.item.Item.TheVariants.{Up, User}
+use Rattle.sip_user.specs.declared.item.CallOut.{CallOut}
+use Rattle.sip_user.specs.declared.item.CallOut.TheVariants.{Notice}
+use Rattle.sip_user.specs.declared.notice.Notice.{Notice as ANotice}
+use Rattle.sip_user.specs.declared.notice.Notice.TheVariants.{Timeout, Failed}
+use Rattle.sip_user.specs.Notices.{refused}
+use Rattle.sip_user.specs.declared.refusal.Refusal.TheVariants.{CallInUse, NoSuchCall}
 use Rattle.sip_clients.specs.Cancel.{cancel_by_user}
 use Rattle.sip_clients.specs.Client.{Clients}
 use Rattle.sip_clients.specs.Clients.{ack_by_user, invite_taken, request_lost, plain_taken, prack_by_user, request_by_user, response_taken}
@@ -39,7 +39,7 @@ one_after_other done more = ((more done.0).0, done.1 ++ (more done.0).1)
 -- ---- what comes up
 
 -- what comes up for the server side
-abbrev pub served_taken : Call → Event → AnUp → Kind → CallTaken
+abbrev pub served_taken : Call → Event → AnUp → UpKind → CallTaken
 served_taken call event up kind =
     by_server call (kind_taken call.served (made_tag event) up kind event.moment)
 
@@ -51,7 +51,7 @@ lost_taken call id notice timed_out =
 
 -- what comes up from a transaction: a request and an ACK go to the server side, the others to the
 -- client side
-abbrev pub up_taken : Call → Event → AnUp → Kind → CallTaken
+abbrev pub up_taken : Call → Event → AnUp → UpKind → CallTaken
 up_taken call event up (kind.Request request reply_to) =
     served_taken call event up (kind.Request request reply_to)
 up_taken call event up (kind.Ack ack) = served_taken call event up (kind.Ack ack)

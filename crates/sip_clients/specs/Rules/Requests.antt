@@ -29,27 +29,27 @@ use Rattle.sip_dialog.specs.Dialog.{is_early, is_ended}
 use Rattle.sip_dialog.specs.Request.{agent_via, contact_of, request_in}
 use Rattle.sip_dialog.specs.Route.{hop_of, is_strict}
 use Rattle.sip_dialog.specs.Step.{with_next_number}
-use Rattle.sip_common.specs.declared.command.Cancel.{Cancel}
-use Rattle.sip_common.specs.declared.command.DialogBody.{DialogBody}
-use Rattle.sip_common.specs.declared.command.DialogRequest.{DialogRequest}
-use Rattle.sip_common.specs.declared.command.Invite.{Invite}
-use Rattle.sip_common.specs.declared.command.Plain.{Plain as PlainCommand}
-use Rattle.sip_common.specs.declared.command.ProvisionalSupport.{ProvisionalSupport}
-use Rattle.sip_common.specs.declared.command.ProvisionalSupport.TheVariants as support
-use Rattle.sip_common.specs.declared.pending_request.PendingRequest.{PendingRequest}
-use Rattle.sip_common.specs.declared.pending_request.PendingRequest.TheVariants.{Ack, Prack}
-use Rattle.sip_common.specs.declared.held_dialog.DialogReference.{DialogReference}
-use Rattle.sip_common.specs.declared.held_dialog.DialogId.{DialogId}
-use Rattle.sip_common.specs.declared.held_dialog.HeldDialog.{HeldDialog}
-use Rattle.sip_common.specs.declared.item.CallOut.{CallOut}
-use Rattle.sip_common.specs.declared.item.CallOut.TheVariants.{Command, Direct}
-use Rattle.sip_common.specs.declared.refusal.Refusal.{Refusal}
-use Rattle.sip_common.specs.declared.refusal.Refusal.TheVariants.{AlreadyFinal, BadMethod, DialogEnded, NoSuchDialog, NoSuchRequest, NothingToAck, NothingToPrack, SequenceUsedUp, StrictRoute}
-use Rattle.sip_common.specs.Dialogs.{ended_at, is_dialog_id, tag_text}
-use Rattle.sip_common.specs.Ids.{is_id}
-use Rattle.sip_common.specs.Notices.{refused}
-use Rattle.sip_common.specs.Refusal.{first_refusal}
-use Rattle.sip_common.specs.Requests.{dialog_id_of_tags}
+use Rattle.sip_user.specs.declared.command.Cancel.{Cancel}
+use Rattle.sip_user.specs.declared.command.DialogBody.{DialogBody}
+use Rattle.sip_user.specs.declared.command.DialogRequest.{DialogRequest}
+use Rattle.sip_user.specs.declared.command.Invite.{Invite}
+use Rattle.sip_user.specs.declared.command.Plain.{Plain as PlainCommand}
+use Rattle.sip_user.specs.declared.command.ProvisionalSupport.{ProvisionalSupport}
+use Rattle.sip_user.specs.declared.command.ProvisionalSupport.TheVariants as support
+use Rattle.sip_held_dialogs.specs.declared.pending_request.PendingRequest.{PendingRequest}
+use Rattle.sip_held_dialogs.specs.declared.pending_request.PendingRequest.TheVariants.{Ack, Prack}
+use Rattle.sip_held_dialogs.specs.declared.held_dialog.DialogReference.{DialogReference}
+use Rattle.sip_held_dialogs.specs.declared.held_dialog.DialogId.{DialogId}
+use Rattle.sip_held_dialogs.specs.declared.held_dialog.HeldDialog.{HeldDialog}
+use Rattle.sip_user.specs.declared.item.CallOut.{CallOut}
+use Rattle.sip_user.specs.declared.item.CallOut.TheVariants.{Command, Direct}
+use Rattle.sip_user.specs.declared.refusal.Refusal.{Refusal}
+use Rattle.sip_user.specs.declared.refusal.Refusal.TheVariants.{AlreadyFinal, BadMethod, DialogEnded, NoSuchDialog, NoSuchRequest, NothingToAck, NothingToPrack, SequenceUsedUp, StrictRoute}
+use Rattle.sip_held_dialogs.specs.Dialogs.{ended_at, is_dialog_id, tag_text}
+use Rattle.sip_held_dialogs.specs.Ids.{is_id}
+use Rattle.sip_user.specs.Notices.{refused}
+use Rattle.sip_user.specs.Refusal.{first_refusal}
+use Rattle.sip_held_dialogs.specs.Requests.{dialog_id_of_tags}
 use Rattle.sip_clients.specs.declared.answers.SentAck.{SentAck}
 use Rattle.sip_clients.specs.declared.client.Cancelling.{Cancelling}
 use Rattle.sip_clients.specs.declared.client.Cancelling.TheVariants.{NotAsked, Sent, Waits}

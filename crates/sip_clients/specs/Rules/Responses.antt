@@ -15,15 +15,15 @@ use Rattle.sip_timers.specs.declared.estimate.TheConstants.{LIFETIME}
 use Rattle.sip_dialog.specs.Dialog.{is_ended}
 use Rattle.sip_dialog.specs.Opening.{contact_uri, opened_by_response}
 use Rattle.sip_dialog.specs.Step.{confirmed_by}
-use Rattle.sip_common.specs.declared.pending_request.PendingRequest.{PendingRequest}
-use Rattle.sip_common.specs.declared.pending_request.PendingRequest.TheVariants.{Ack, Prack}
-use Rattle.sip_common.specs.declared.held_dialog.HeldDialog.{HeldDialog}
-use Rattle.sip_common.specs.declared.item.CallOut.{CallOut}
-use Rattle.sip_common.specs.declared.item.CallOut.TheVariants.{Direct, Notice}
-use Rattle.sip_common.specs.declared.notice.Notice.TheVariants.{Response}
-use Rattle.sip_common.specs.Dialogs.{is_dialog_id, lives, Dialogs}
-use Rattle.sip_common.specs.Ids.{is_id}
-use Rattle.sip_common.specs.Requests.{is_final, has_to_tag, is_success, dialog_id_of_tags, requires_100rel}
+use Rattle.sip_held_dialogs.specs.declared.pending_request.PendingRequest.{PendingRequest}
+use Rattle.sip_held_dialogs.specs.declared.pending_request.PendingRequest.TheVariants.{Ack, Prack}
+use Rattle.sip_held_dialogs.specs.declared.held_dialog.HeldDialog.{HeldDialog}
+use Rattle.sip_user.specs.declared.item.CallOut.{CallOut}
+use Rattle.sip_user.specs.declared.item.CallOut.TheVariants.{Direct, Notice}
+use Rattle.sip_user.specs.declared.notice.Notice.TheVariants.{Response}
+use Rattle.sip_held_dialogs.specs.Dialogs.{is_dialog_id, lives, Dialogs}
+use Rattle.sip_held_dialogs.specs.Ids.{is_id}
+use Rattle.sip_held_dialogs.specs.Requests.{is_final, has_to_tag, is_success, dialog_id_of_tags, requires_100rel}
 use Rattle.sip_clients.specs.declared.answers.SentAck.{SentAck}
 use Rattle.sip_clients.specs.declared.client.Cancelling.{Cancelling}
 use Rattle.sip_clients.specs.declared.client.Cancelling.TheVariants.{NotAsked, Sent, Waits}

@@ -1,8 +1,8 @@
 -- What holds of the configurations of both sides, whatever they are.
 use Rattle.sip_message.specs.Addr.{IsAddr}
 use Rattle.sip_message.specs.Key.{key_cmp}
-use Rattle.sip_model.specs.Laws.{EachKeyAlone}
-use Rattle.sip_model.specs.Machine.{tick_at}
+use Rattle.keyed_machine.specs.Laws.{EachKeyAlone}
+use Rattle.keyed_machine.specs.Machine.{tick_at}
 use Rattle.sip_transactions.specs.Machine.{transaction_machine}
 use Rattle.sip_calls.specs.Call.{call_machine}
 use Rattle.sip_calls.specs.CallShard.{call_cmp}

@@ -1,11 +1,11 @@
 -- A draft takes the values of each header, one column for each header.
 use Rattle.std.specs.Prelude.{ℕ, Bool, List, ◌||◌, fold}
-use Rattle.sip_parts.specs.declared.header_name.HeaderName.{HeaderName}
-use Rattle.sip_parts.specs.declared.header_name.HeaderName.TheVariants as name
-use Rattle.sip_values.specs.Address.{name_addrs_from, party_from}
-use Rattle.sip_values.specs.Numeral.{numeral_from}
-use Rattle.sip_values.specs.Sequence.{call_id_from, cseq_from, rack_from, tokens_from}
-use Rattle.sip_values.specs.ViaValue.{vias_from}
+use Rattle.sip_grammar.specs.declared.header_name.HeaderName.{HeaderName}
+use Rattle.sip_grammar.specs.declared.header_name.HeaderName.TheVariants as name
+use Rattle.sip_header_values.specs.Address.{name_addrs_from, party_from}
+use Rattle.sip_header_values.specs.Numeral.{numeral_from}
+use Rattle.sip_header_values.specs.Sequence.{call_id_from, cseq_from, rack_from, tokens_from}
+use Rattle.sip_header_values.specs.ViaValue.{vias_from}
 use Rattle.sip_headers.specs.Draft.{other_from}
 use Rattle.sip_headers.specs.Slot.{listed, list_from, slot_from}
 use Rattle.sip_headers.specs.declared.draft.Draft.{Draft}

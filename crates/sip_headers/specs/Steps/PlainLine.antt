@@ -2,7 +2,7 @@
 use Rattle.std.specs.Prelude.{◌≡◌, ℕ, true, false, List, [], ◌∷◌, ◌++◌, Option, Some, None, ◌==◌, if◌then◌else◌}
 use Rattle.sip_text.specs.Line.{line_at}
 use Rattle.sip_text.specs.Unfolded.{begins_blank}
-use Rattle.sip_parts.specs.HeaderValue.{has_no_line_byte}
+use Rattle.sip_grammar.specs.HeaderValue.{has_no_line_byte}
 use Rattle.sip_headers.specs.HeaderLine.{Class, class_from}
 
 -- what follows LF, with which the text begins

@@ -2,7 +2,7 @@
 use Rattle.std.specs.Prelude.{◌≡◌, ℕ, zero, suc, List, [], ◌∷◌}
 use Rattle.sip_message.specs.declared.id.Id.{Id}
 use Rattle.sip_message.specs.declared.key.Key.{Key}
-use Rattle.sip_model.specs.declared.item.Item.{Item}
+use Rattle.keyed_machine.specs.declared.item.Item.{Item}
 use Rattle.sip_transactions.specs.declared.input.Input.{Input}
 use Rattle.sip_round.specs.Arrivals.{Arrival}
 use Rattle.sip_round.specs.declared.waiting.Waiting.{Waiting}

@@ -19,20 +19,20 @@ use Rattle.sip_dialog.specs.Opening.{contact_uri}
 use Rattle.sip_reliable.specs.Ledger.{acknowledged, closed_now, waits_for}
 use Rattle.sip_timers.specs.declared.estimate.TheConstants.{LIFETIME}
 use Rattle.sip_transactions.specs.declared.input.Command.TheVariants.{Answer}
-use Rattle.sip_transactions.specs.declared.output.Kind.{Kind}
-use Rattle.sip_transactions.specs.declared.output.Kind.TheVariants as kind
+use Rattle.sip_transactions.specs.declared.output.UpKind.{UpKind}
+use Rattle.sip_transactions.specs.declared.output.UpKind.TheVariants as kind
 use Rattle.sip_transactions.specs.declared.output.Up.{Up}
-use Rattle.sip_common.specs.declared.command.UserCommand.TheVariants.{Respond}
-use Rattle.sip_common.specs.declared.held_dialog.DialogId.{DialogId}
-use Rattle.sip_common.specs.declared.held_dialog.HeldDialog.{HeldDialog}
-use Rattle.sip_common.specs.declared.item.CallOut.{CallOut}
-use Rattle.sip_common.specs.declared.item.CallOut.TheVariants.{Notice, Command}
-use Rattle.sip_common.specs.declared.item.Item.{Item}
-use Rattle.sip_common.specs.declared.item.Item.TheVariants as item
-use Rattle.sip_common.specs.declared.notice.Notice.TheVariants.{Ack, Cancel, Prack, Request}
-use Rattle.sip_common.specs.Dialogs.{dialog_at, dialog_changed, early_ended, ended_at, is_dialog_id, dialog_of_request}
-use Rattle.sip_common.specs.Ids.{is_id}
-use Rattle.sip_common.specs.Requests.{dialog_id_of, is_bye, is_cancel, has_to_tag, is_invite, is_prack, is_unknown_option, local_tag_of, supports_100rel}
+use Rattle.sip_user.specs.declared.command.UserCommand.TheVariants.{Respond}
+use Rattle.sip_held_dialogs.specs.declared.held_dialog.DialogId.{DialogId}
+use Rattle.sip_held_dialogs.specs.declared.held_dialog.HeldDialog.{HeldDialog}
+use Rattle.sip_user.specs.declared.item.CallOut.{CallOut}
+use Rattle.sip_user.specs.declared.item.CallOut.TheVariants.{Notice, Command}
+use Rattle.sip_user.specs.declared.item.Item.{Item}
+use Rattle.sip_user.specs.declared.item.Item.TheVariants as item
+use Rattle.sip_user.specs.declared.notice.Notice.TheVariants.{Ack, Cancel, Prack, Request}
+use Rattle.sip_held_dialogs.specs.Dialogs.{dialog_at, dialog_changed, early_ended, ended_at, is_dialog_id, dialog_of_request}
+use Rattle.sip_held_dialogs.specs.Ids.{is_id}
+use Rattle.sip_held_dialogs.specs.Requests.{dialog_id_of, is_bye, is_cancel, has_to_tag, is_invite, is_prack, is_unknown_option, local_tag_of, supports_100rel}
 use Rattle.sip_served.specs.declared.arrival.Arrival.{Arrival}
 use Rattle.sip_served.specs.declared.held_request.HeldRequest.{HeldRequest}
 use Rattle.sip_served.specs.declared.held_request.Success.{Success}
@@ -252,7 +252,7 @@ ack_received state call_id ack =
 
 -- What a transaction hands up: the server side takes the requests and the ACKs. `made` is the To
 -- tag of the responses to a request without one.
-abbrev pub server_received : State → List ℕ → Up → Kind → ℕ → ServedTaken
+abbrev pub server_received : State → List ℕ → Up → UpKind → ℕ → ServedTaken
 server_received state made up (kind.Request request reply_to) now =
     let tag = local_tag_of request made in
     request_received state up.call_id

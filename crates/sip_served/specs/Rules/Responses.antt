@@ -19,19 +19,19 @@ use Rattle.sip_reliable.specs.Ledger.{closed_now, must_wait}
 use Rattle.sip_reliable.specs.Provisional.{Provisional}
 use Rattle.sip_timers.specs.declared.estimate.TheConstants.{LIFETIME, T1}
 use Rattle.sip_transactions.specs.declared.input.Command.TheVariants.{Answer}
-use Rattle.sip_common.specs.declared.command.Reliability.{Reliability}
-use Rattle.sip_common.specs.declared.command.Reliability.TheVariants.{Plain, Reliable}
-use Rattle.sip_common.specs.declared.command.Respond.{Respond}
-use Rattle.sip_common.specs.declared.held_dialog.DialogReference.{DialogReference}
-use Rattle.sip_common.specs.declared.held_dialog.HeldDialog.{HeldDialog}
-use Rattle.sip_common.specs.declared.item.CallOut.{CallOut}
-use Rattle.sip_common.specs.declared.item.CallOut.TheVariants.{Command}
-use Rattle.sip_common.specs.declared.refusal.Refusal.{Refusal}
-use Rattle.sip_common.specs.declared.refusal.Refusal.TheVariants.{NoSuchRequest, AlreadyFinal, BadStatus, ReliablePending, NotSupported, SequenceUsedUp, DialogEnded}
-use Rattle.sip_common.specs.Dialogs.{Dialogs, dialog_changed, early_ended, is_dialog_id, lives}
-use Rattle.sip_common.specs.Notices.{refused}
-use Rattle.sip_common.specs.Refusal.{first_refusal}
-use Rattle.sip_common.specs.Requests.{dialog_id_of, is_final, has_to_tag, is_invite, is_provisional, is_success, requires_100rel, supports_100rel}
+use Rattle.sip_user.specs.declared.command.Reliability.{Reliability}
+use Rattle.sip_user.specs.declared.command.Reliability.TheVariants.{Plain, Reliable}
+use Rattle.sip_user.specs.declared.command.Respond.{Respond}
+use Rattle.sip_held_dialogs.specs.declared.held_dialog.DialogReference.{DialogReference}
+use Rattle.sip_held_dialogs.specs.declared.held_dialog.HeldDialog.{HeldDialog}
+use Rattle.sip_user.specs.declared.item.CallOut.{CallOut}
+use Rattle.sip_user.specs.declared.item.CallOut.TheVariants.{Command}
+use Rattle.sip_user.specs.declared.refusal.Refusal.{Refusal}
+use Rattle.sip_user.specs.declared.refusal.Refusal.TheVariants.{NoSuchRequest, AlreadyFinal, BadStatus, ReliablePending, NotSupported, SequenceUsedUp, DialogEnded}
+use Rattle.sip_held_dialogs.specs.Dialogs.{Dialogs, dialog_changed, early_ended, is_dialog_id, lives}
+use Rattle.sip_user.specs.Notices.{refused}
+use Rattle.sip_user.specs.Refusal.{first_refusal}
+use Rattle.sip_held_dialogs.specs.Requests.{dialog_id_of, is_final, has_to_tag, is_invite, is_provisional, is_success, requires_100rel, supports_100rel}
 use Rattle.sip_served.specs.declared.held_request.HeldRequest.{HeldRequest}
 use Rattle.sip_served.specs.declared.held_request.Success.{Success}
 use Rattle.sip_served.specs.State.{State, ServedTaken, changed_at, has_id}

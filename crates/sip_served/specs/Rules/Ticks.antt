@@ -8,9 +8,9 @@ use Rattle.sip_reliable.specs.Provisional.{after_repeat, due_moment, given_up, i
 use Rattle.sip_timers.specs.Earlier.{earlier}
 use Rattle.sip_transactions.specs.declared.input.Command.TheVariants.{Answer}
 use Rattle.sip_transactions.specs.declared.timers.TheConstants.{T2}
-use Rattle.sip_common.specs.declared.item.CallOut.{CallOut}
-use Rattle.sip_common.specs.declared.item.CallOut.TheVariants.{Command, Notice}
-use Rattle.sip_common.specs.declared.notice.Notice.TheVariants.{NoAck, NoPrack}
+use Rattle.sip_user.specs.declared.item.CallOut.{CallOut}
+use Rattle.sip_user.specs.declared.item.CallOut.TheVariants.{Command, Notice}
+use Rattle.sip_user.specs.declared.notice.Notice.TheVariants.{NoAck, NoPrack}
 use Rattle.sip_served.specs.declared.held_request.HeldRequest.{HeldRequest}
 use Rattle.sip_served.specs.declared.held_request.Retransmission.{Retransmission}
 use Rattle.sip_served.specs.declared.held_request.Success.{Success}

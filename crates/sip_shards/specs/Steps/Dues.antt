@@ -1,8 +1,8 @@
 -- A key in one of several tables is due.
 use Rattle.std.specs.Prelude.{◌≡◌, ◌⊎◌, ℕ, List, [], ◌∷◌, Option, Some}
 use Rattle.std.specs.declared.cmp.Ordering.{Ordering}
-use Rattle.sip_model.specs.Machine.{due_of}
-use Rattle.sip_model.specs.Table.{Held, state_at}
+use Rattle.keyed_machine.specs.Machine.{due_of}
+use Rattle.keyed_machine.specs.Table.{Held, state_at}
 
 -- a key that one of the tables holds is due at this moment
 abbrev pub IsDueIn : {K S : Type 0} → (K → K → Ordering) → (S → Option ℕ) → ℕ → List (Held K S)

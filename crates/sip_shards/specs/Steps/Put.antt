@@ -1,6 +1,6 @@
 -- One step of cutting items among the shards.
 use Rattle.std.specs.Prelude.{ℕ, List, [], ◌∷◌, ◌++◌, get_or, slice_set}
-use Rattle.sip_model.specs.declared.item.Item.{Item}
+use Rattle.keyed_machine.specs.declared.item.Item.{Item}
 
 -- an item is put at the end of its owner's part
 abbrev pub with_item : {K I : Type 0} → (K → ℕ) → Item K I → List (List (Item K I))

@@ -1,8 +1,8 @@
 -- Tables of shards, each with keys that it owns and no other.
 use Rattle.std.specs.Prelude.{◌≡◌, ◌<◌, ℕ, false, List, Option, None, IsSome, length, get_or}
 use Rattle.std.specs.declared.cmp.Ordering.{Ordering}
-use Rattle.sip_model.specs.Shards.{is_owned}
-use Rattle.sip_model.specs.Table.{Held, state_at}
+use Rattle.keyed_machine.specs.Shards.{is_owned}
+use Rattle.keyed_machine.specs.Table.{Held, state_at}
 
 module _ {K S : Type 0} (cmp : K → K → Ordering) (owner : K → ℕ) where
   -- the state that its owner's table holds for a key

@@ -18,12 +18,12 @@ use Rattle.sip_transactions.specs.declared.input.Input.TheVariants.{Receive, Sta
 use Rattle.sip_transactions.specs.declared.life.Context.{Context}
 use Rattle.sip_transactions.specs.declared.life.Life.{Life}
 use Rattle.sip_transactions.specs.declared.output.DropReason.TheVariants.{NoTransaction}
-use Rattle.sip_transactions.specs.declared.output.Kind.{Kind}
-use Rattle.sip_transactions.specs.declared.output.Kind.TheVariants as kind
+use Rattle.sip_transactions.specs.declared.output.UpKind.{UpKind}
+use Rattle.sip_transactions.specs.declared.output.UpKind.TheVariants as kind
 use Rattle.sip_transactions.specs.declared.output.Out.{Out}
 use Rattle.sip_transactions.specs.declared.output.Out.TheVariants.{Up, Send, Dropped}
-use Rattle.sip_transactions.specs.declared.step.Handed.{Handed}
-use Rattle.sip_transactions.specs.declared.step.Handed.TheVariants as up
+use Rattle.sip_transactions.specs.declared.step.UpAction.{UpAction}
+use Rattle.sip_transactions.specs.declared.step.UpAction.TheVariants as up
 use Rattle.sip_transactions.specs.declared.step.Next.TheVariants.{Same, Ended, Become}
 use Rattle.sip_transactions.specs.declared.step.Sent.{Sent}
 use Rattle.sip_transactions.specs.declared.step.Sent.TheVariants as send
@@ -40,7 +40,7 @@ class_of_status code = if code == 100 then Trying else if nat_lt code 200 then P
     else if nat_lt code 300 then Success else Failure
 
 -- a message that came: its trigger, and how it is handed up
-abbrev pub trigger_of_message : StartLine → Message → Addr → Trigger × Kind
+abbrev pub trigger_of_message : StartLine → Message → Addr → Trigger × UpKind
 trigger_of_message (start.Response status reason) message reply_to =
     (on.Response (class_of_status status), kind.Response message)
 trigger_of_message (start.Request uri) message reply_to =
@@ -59,7 +59,7 @@ text_sent context message send.Ack = option_and_then
     (λ response. option_map (λ invite. written (ack_of invite response)) context.request) message
 
 -- what a row hands up; or that it drops what came, under the id of this input (no life is held)
-abbrev pub handed_up : (Kind → Out) → Context → Option Kind → Handed → Option Out
+abbrev pub handed_up : (UpKind → Out) → Context → Option UpKind → UpAction → Option Out
 handed_up hand context came up.Nothing = None
 handed_up hand context came up.Message = option_map hand came
 handed_up hand context came up.Timeout = Some (hand kind.Timeout)
@@ -71,7 +71,7 @@ handed_up hand context came up.NoTransaction = Some (Dropped context.id.place No
 -- result: the transaction afterwards; and what goes up or is dropped, then what is sent. What goes
 -- up has the id and the Call-ID of the input that began the transaction.
 unfoldable pub row_applied : Key → ℕ → Option Life → Context → Trigger → Option Message
-    → Option Kind
+    → Option UpKind
     → Option Life × List Out
 row_applied key now held otherwise trigger message came =
     let context = option_map_or (λ life. life.context) held otherwise in
@@ -81,7 +81,7 @@ row_applied key now held otherwise trigger message came =
     let last = option_or text context.last in
     let timers = timers_after row.due now context.timers in
     let after : Context = record context { last = last; timers = timers } in
-    let hand : Kind → Out = λ kind.
+    let hand : UpKind → Out = λ kind.
     Up (record { key = key; id = context.id; call_id = context.call_id; kind = kind }) in (
       option_map (λ state. record { state = state; context = after })
           (elim row.next [ Same ↦ state | Ended ↦ None | Become new ↦ Some new ]),

@@ -17,8 +17,8 @@ use Rattle.sip_transactions.specs.declared.trigger.Trigger.TheVariants.{Start, R
 use Rattle.sip_transactions.specs.declared.step.Step.{Step}
 use Rattle.sip_transactions.specs.declared.step.Next.{Next}
 use Rattle.sip_transactions.specs.declared.step.Next.TheVariants.{Same, Ended, Become as To}
-use Rattle.sip_transactions.specs.declared.step.Handed.{Handed}
-use Rattle.sip_transactions.specs.declared.step.Handed.TheVariants as up
+use Rattle.sip_transactions.specs.declared.step.UpAction.{UpAction}
+use Rattle.sip_transactions.specs.declared.step.UpAction.TheVariants as up
 use Rattle.sip_transactions.specs.declared.step.Sent.{Sent}
 use Rattle.sip_transactions.specs.declared.step.Sent.TheVariants as send
 use Rattle.sip_transactions.specs.declared.step.Due.{Due}
@@ -32,7 +32,7 @@ use Rattle.sip_transactions.specs.declared.step.Pace.TheVariants.{Doubled, Cappe
 -- repeating one runs T1 and the ending one 64*T1. `Again`: the repeating one runs anew, by T1
 -- doubled each time (`Doubled`), that but at most T2 (`Capped`), or T2 (`Even`). `To` the same
 -- state is `Same`.
-abbrev pub row : Next → Handed → Sent → Due → Step
+abbrev pub row : Next → UpAction → Sent → Due → Step
 row next handed sent due = record { next = next; handed = handed; sent = sent; due = due }
 
 -- INVITE client transaction: RFC 3261, section 17.1.1, and RFC 6026, section 7.2. The ACK of a 2xx

@@ -9,7 +9,7 @@ use Rattle.sip_transactions.specs.declared.state.Role.TheVariants.{InviteClient,
 use Rattle.sip_transactions.specs.declared.state.State.{State}
 use Rattle.sip_transactions.specs.declared.input.Input.{Input}
 use Rattle.sip_transactions.specs.declared.input.Input.TheVariants.{Receive, Start, Answer, Failed}
-use Rattle.sip_model.specs.Machine.{Machine, Timed}
+use Rattle.keyed_machine.specs.Machine.{Machine, Timed}
 use Rattle.sip_transactions.specs.declared.life.Context.{Context}
 use Rattle.sip_transactions.specs.declared.life.Life.{Life}
 use Rattle.sip_transactions.specs.declared.output.Out.{Out}

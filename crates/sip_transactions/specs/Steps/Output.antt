@@ -9,14 +9,14 @@ use Rattle.sip_message.specs.HopByHop.{ack_of}
 use Rattle.sip_message.specs.Response.{response_of}
 use Rattle.sip_message.specs.Written.{written}
 use Rattle.sip_transactions.specs.declared.life.Context.{Context}
-use Rattle.sip_transactions.specs.declared.output.Kind.{Kind}
-use Rattle.sip_transactions.specs.declared.output.Kind.TheVariants as kind
+use Rattle.sip_transactions.specs.declared.output.UpKind.{UpKind}
+use Rattle.sip_transactions.specs.declared.output.UpKind.TheVariants as kind
 use Rattle.sip_transactions.specs.declared.output.DropReason.TheVariants as reason
 use Rattle.sip_transactions.specs.declared.output.Out.{Out}
 use Rattle.sip_transactions.specs.declared.output.Out.TheVariants as out
 use Rattle.sip_transactions.specs.declared.step.Step.{Step}
-use Rattle.sip_transactions.specs.declared.step.Handed.{Handed}
-use Rattle.sip_transactions.specs.declared.step.Handed.TheVariants as up
+use Rattle.sip_transactions.specs.declared.step.UpAction.{UpAction}
+use Rattle.sip_transactions.specs.declared.step.UpAction.TheVariants as up
 use Rattle.sip_transactions.specs.declared.step.Sent.{Sent}
 use Rattle.sip_transactions.specs.declared.step.Sent.TheVariants as send
 use Rattle.sip_transactions.specs.Steps.Input.{is_same_method}
@@ -24,14 +24,14 @@ use Rattle.sip_transactions.specs.Steps.Input.{is_same_method}
 -- ---- what a row hands up
 
 -- a message that came, as it is handed up
-abbrev pub kind_of : StartLine → Message → Addr → Kind
+abbrev pub kind_of : StartLine → Message → Addr → UpKind
 kind_of (start.Request uri) message reply_to =
     if is_same_method message.cseq.method (codes "ACK") then kind.Ack message
     else kind.Request message reply_to
 kind_of (start.Response status reason) message reply_to = kind.Response message
 
 -- under the id and the Call-ID of the life
-abbrev pub up_out : Key → Context → Kind → Out
+abbrev pub up_out : Key → Context → UpKind → Out
 up_out key context kind =
     out.Up (record { key = key; id = context.id; call_id = context.call_id; kind = kind })
 
@@ -40,7 +40,7 @@ abbrev pub arrived_out : Key → Context → Message × Addr → Out
 arrived_out key context arrived = up_out key context (kind_of arrived.0.start arrived.0 arrived.1)
 
 -- what a row hands up: the message that came, or a report; or that it drops the message that came
-unfoldable pub handed_out : Key → Context → Handed → Option (Message × Addr) → Option Out
+unfoldable pub handed_out : Key → Context → UpAction → Option (Message × Addr) → Option Out
 handed_out key context up.Nothing arrived = None
 handed_out key context up.Message arrived = option_map (arrived_out key context) arrived
 handed_out key context up.Timeout arrived = Some (up_out key context kind.Timeout)

@@ -6,8 +6,8 @@ use Rattle.sip_clients.specs.SendOutcome.{Outcome}
 use Rattle.sip_clients.proofs.Served.{bad_request, good_request}
 use Rattle.sip_clients.proofs.commands.request_in.Goals as goal
 
-pub returns-then-is_bad_in-clause-service : goal.returns-then-is_bad_in-clause-service
-returns-then-is_bad_in-clause-service c =
+pub returns-then-is_bad_in-clause-outcome : goal.returns-then-is_bad_in-clause-outcome
+returns-then-is_bad_in-clause-outcome c =
     let is = bad_request c.args.event c.args.method c.args.content c.args.held.now
     (sym c.if-is_bad_in.ensures) in
     ap (λ (outcome : Outcome). outcome.1) (sym is)
@@ -18,12 +18,12 @@ returns-then-is_bad_in-clause-held c =
     (sym c.if-is_bad_in.ensures) in
     ap (λ (outcome : Outcome). outcome.0) (sym is)
 
-pub returns-clause-service : goal.returns-clause-service
-returns-clause-service c =
+pub returns-clause-outcome : goal.returns-clause-outcome
+returns-clause-outcome c =
     let is = good_request c.args.event c.args.method c.args.content c.args.held.now
     (sym c.if-is_bad_in.ensures) in
-    subst (λ (outcome : Outcome). IfOk c.request.result (λ service. service ≡ outcome.1)) (sym is)
-    c.request.ensures.service
+    subst (λ (outcome : Outcome). IfOk c.request.result (λ outcome. outcome ≡ outcome.1)) (sym is)
+    c.request.ensures.outcome
 
 pub returns-clause-held : goal.returns-clause-held
 returns-clause-held c =

@@ -6,6 +6,6 @@ use Rattle.sip_clients.proofs.dialogs.pay_at.Goals as goal
 
 pub returns-clause-dialogs : goal.returns-clause-dialogs
 returns-clause-dialogs c =
-    on_ok c.pay.result (c.pay.new.held
-    ≡ (paid c.args.event c.args.pending c.args.content c.in-Some.held.now).0) _ c.pay.ensures.held
+    on_ok c.send_pending.result (c.send_pending.new.held
+    ≡ (paid c.args.event c.args.pending c.args.content c.in-Some.held.now).0) _ c.send_pending.ensures.held
     (λ is. ap (λ held. (c.get_mut.follows.lender held).entries) is ∙ search rules)

@@ -4,9 +4,9 @@ use Rattle.std.specs.Prelude.{Option, None, Some, unwrap_or, if◌then◌else◌
 use Rattle.std.specs.Map.{lookup, set_value}
 use Rattle.std.proofs.lemmas.Map.Steps.{set_value_same}
 use Rattle.indexmap.specs.IndexMap.{insert_entry}
-use Rattle.sip_common.specs.declared.held_dialog.DialogId.{DialogId}
-use Rattle.sip_common.specs.declared.held_dialog.HeldDialog.{HeldDialog}
-use Rattle.sip_common.specs.Dialogs.{dialog_at, is_dialog_id, Dialogs}
+use Rattle.sip_held_dialogs.specs.declared.held_dialog.DialogId.{DialogId}
+use Rattle.sip_held_dialogs.specs.declared.held_dialog.HeldDialog.{HeldDialog}
+use Rattle.sip_held_dialogs.specs.Dialogs.{dialog_at, is_dialog_id, Dialogs}
 use Rattle.sip_clients.specs.Replied.{after_dialog, request_over, replied_in, dialogs_with}
 use Rattle.sip_clients.specs.ReceivedResponse.{is_last}
 use Rattle.sip_clients.proofs.Results.{if_ok}

@@ -2,4 +2,4 @@
 use Rattle.sip_clients.proofs.send_outcome.ack.Goals as goal
 
 pub returns-in-Err : goal.returns-in-Err
-returns-in-Err c = c.refused_by.ensures.service _ _ c.in-Err.ensures.fault
+returns-in-Err c = c.refused_by.ensures.outcome _ _ c.in-Err.ensures.fault

@@ -9,16 +9,16 @@ use Rattle.sip_dialog.specs.Request.{request_in}
 use Rattle.sip_clients.specs.declared.send_outcome.OutgoingRequest.{OutgoingRequest}
 use Rattle.sip_clients.specs.declared.send_outcome.SendOutcome.TheVariants.{Sent}
 use Rattle.sip_clients.specs.Event.{branch_of}
-use Rattle.sip_common.specs.Dialogs.{lived}
-use Rattle.sip_clients.specs.SendOutcome.{happens_by_sending, service_by, with_rack}
+use Rattle.sip_held_dialogs.specs.Dialogs.{lived}
+use Rattle.sip_clients.specs.SendOutcome.{happens_by_sending, outcome_by, with_rack}
 use Rattle.sip_clients.proofs.send_outcome.request.Goals as goal
 
 sent_by : (found : Option DialogFault) (sending : OutgoingRequest) → found ≡ None
-    → Sent sending ≡ service_by found sending
-sent_by found sending none i = service_by (sym none i) sending
+    → Sent sending ≡ outcome_by found sending
+sent_by found sending none i = outcome_by (sym none i) sending
 
-pub returns-in-Ok-clause-service : goal.returns-in-Ok-clause-service
-returns-in-Ok-clause-service c =
+pub returns-in-Ok-clause-outcome : goal.returns-in-Ok-clause-outcome
+returns-in-Ok-clause-outcome c =
     let held = c.args.held.now in
     let made : c.in-Ok.message ≡ request_in held.dialog c.args.method
     (held.dialog.local_cseq + 1) c.args.content (branch_of c.args.event) c.args.event.local =
@@ -34,8 +34,8 @@ returns-in-Ok-clause-service c =
     })
     ∙ sent_by _ _ c.in-Ok.ensures.open
 
-pub returns-in-Err-clause-service : goal.returns-in-Err-clause-service
-returns-in-Err-clause-service c = c.refused_by.ensures.service _ _ c.in-Err.ensures.fault
+pub returns-in-Err-clause-outcome : goal.returns-in-Err-clause-outcome
+returns-in-Err-clause-outcome c = c.refused_by.ensures.outcome _ _ c.in-Err.ensures.fault
 
 pub returns-in-Err-clause-held : goal.returns-in-Err-clause-held
 returns-in-Err-clause-held c =

@@ -6,7 +6,7 @@ use Rattle.std.proofs.lemmas.Option.{same_Some}
 use Rattle.sip_text.specs.Parameter.{is_parameter_value}
 use Rattle.sip_text.specs.Token.{is_token}
 use Rattle.sip_message.specs.Via.{has_cookie}
-use Rattle.sip_parts.proofs.Bytes.{token_is_value}
+use Rattle.sip_grammar.proofs.Bytes.{token_is_value}
 use Rattle.sip_dialog.proofs.own_headers.via_parameters.Goals as goal
 
 pub with-requires-2-clause-value : goal.with-requires-2-clause-value

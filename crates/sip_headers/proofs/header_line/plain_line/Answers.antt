@@ -1,6 +1,6 @@
 -- `plain_line`: a line that it finds is the first line of the text, of this class, without folds.
 use Rattle.std.proofs.Common.{List, ℕ, ap, sym, ◌∙◌}
-use Rattle.sip_parts.specs.HeaderEntry.{header_named}
+use Rattle.sip_grammar.specs.HeaderEntry.{header_named}
 use Rattle.sip_headers.specs.HeaderLine.{class_by_name}
 use Rattle.sip_headers.proofs.PlainLines.{plain_line_is}
 use Rattle.sip_headers.proofs.header_line.plain_line.Goals as goal

@@ -1,8 +1,8 @@
 -- `content_type`: `Content-Type` may be the name of a header that isn't parsed.
 use Rattle.std.proofs.Common.{rules}
 use Rattle.sip_text.specs.Token.{is_token, is_token_byte}
-use Rattle.sip_parts.specs.HeaderEntry.{is_named}
-use Rattle.sip_parts.specs.OtherName.{is_compact_name, is_other_name}
+use Rattle.sip_grammar.specs.HeaderEntry.{is_named}
+use Rattle.sip_grammar.specs.OtherName.{is_compact_name, is_other_name}
 use Rattle.sip_message.proofs.content.content_type.Goals as goal
 
 pub copy_of-requires : goal.copy_of-requires

@@ -3,7 +3,7 @@ use Rattle.std.proofs.Common.{ℕ, List, IsTrue, subst}
 use Rattle.std.specs.Borrow.{Bor}
 use Rattle.std.proofs.lemmas.Option.{same_Some}
 use Rattle.sip_text.specs.Parameter.{is_parameter_value}
-use Rattle.sip_parts.proofs.Bytes.{token_is_value}
+use Rattle.sip_grammar.proofs.Bytes.{token_is_value}
 use Rattle.sip_message.proofs.Tags.{good_tag_added}
 use Rattle.sip_message.proofs.response.with_tag.Goals as goal
 

@@ -4,7 +4,7 @@ use Rattle.std.specs.List.{AllByRecursion}
 use Rattle.sip_calls.specs.Call.{call_machine}
 use Rattle.sip_calls.specs.CallShard.{call_cmp}
 use Rattle.sip_message.specs.Key.{branch_in, key_cmp}
-use Rattle.sip_model.specs.Groups.{groups}
+use Rattle.keyed_machine.specs.Groups.{groups}
 use Rattle.sip_transactions.specs.Machine.{transaction_machine}
 use Rattle.sip_round.specs.AgentState.{ShardTables, calls_held, lives_held}
 use Rattle.sip_round.specs.Arrivals.{arrivals_from}

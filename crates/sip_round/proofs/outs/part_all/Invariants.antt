@@ -2,7 +2,7 @@
 use Rattle.std.proofs.Common.{◌≡◌, ◌++◌}
 use Rattle.std.specs.List.{flat_map}
 use Rattle.std.specs.Vec.Iter.{into_iter_items}
-use Rattle.sip_model.specs.Groups.{groups}
+use Rattle.keyed_machine.specs.Groups.{groups}
 use Rattle.sip_round.specs.Outputs.{raised_of}
 use Rattle.sip_round.specs.Steps.Form.{sent_as}
 use Rattle.sip_round.proofs.outs.part_all.Given as goal

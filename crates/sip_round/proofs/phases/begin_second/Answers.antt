@@ -2,7 +2,7 @@
 use Rattle.std.proofs.Common.{◌≡◌, ℕ, ◌+◌, suc, [], length, map, ap, arith, refl, subst, sym, ◌∙◌}
 use Rattle.std.proofs.lemmas.List.{nil_from_length}
 use Rattle.std.specs.Vec.Iter.{into_iter_items}
-use Rattle.sip_common.specs.Command.{call_of_item}
+use Rattle.sip_user.specs.Command.{call_of_item}
 use Rattle.sip_shards.specs.Parts.{owner_of}
 use Rattle.sip_shards.specs.Steps.Put.{with_item}
 use Rattle.sip_round.specs.Phases.{call_items}

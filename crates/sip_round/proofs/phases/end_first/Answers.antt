@@ -1,6 +1,6 @@
 -- `end_first` gives the outputs of the first phase, and the items of the calls.
 use Rattle.std.proofs.Common.{sym, ◌∙◌}
-use Rattle.sip_model.specs.Groups.{groups}
+use Rattle.keyed_machine.specs.Groups.{groups}
 use Rattle.sip_round.specs.Outputs.{joined, sent_of}
 use Rattle.sip_round.specs.Steps.Waiting.{by_event}
 use Rattle.sip_round.proofs.InForm.{told, told_in_form}

@@ -1,5 +1,5 @@
 -- `end_second` adds the outputs of the second phase, and gives the commands.
-use Rattle.sip_model.specs.Groups.{groups}
+use Rattle.keyed_machine.specs.Groups.{groups}
 use Rattle.sip_round.specs.Outputs.{place_of, shown_of}
 use Rattle.sip_round.proofs.InForm.{by_places}
 use Rattle.sip_round.proofs.Leading.{led_second, second_given}

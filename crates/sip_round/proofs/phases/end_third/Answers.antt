@@ -1,7 +1,7 @@
 -- `end_third` adds the outputs of the third phase.
 use Rattle.std.proofs.Common.{◌++◌}
 use Rattle.std.specs.List.{flat_map}
-use Rattle.sip_model.specs.Groups.{groups}
+use Rattle.keyed_machine.specs.Groups.{groups}
 use Rattle.sip_round.specs.Outputs.{joined, sent_at, sent_of}
 use Rattle.sip_round.proofs.InForm.{at_no_place}
 use Rattle.sip_round.proofs.Leading.{led_third}

@@ -2,7 +2,7 @@
 use Rattle.std.proofs.Common.{◌≤◌, ◌+◌, length, is_some, ap, ◌∙◌, refl, sym, subst, arith}
 use Rattle.std.specs.Prelude.{count_by, sum_by}
 use Rattle.std.proofs.lemmas.List.{take_all}
-use Rattle.sip_model.specs.Table.{Covers, state_at}
+use Rattle.keyed_machine.specs.Table.{Covers, state_at}
 use Rattle.sip_round.proofs.Living.{summed}
 use Rattle.sip_round.proofs.shards.live_in.Goals as goal
 

@@ -1,7 +1,7 @@
 -- The loop of `live_in`: the number of keys in the shards so far.
 use Rattle.std.proofs.Common.{◌≡◌, ◌≤◌, ◌*◌, ◌^◌, List, take, All, is_some}
 use Rattle.std.specs.Prelude.{count_by, sum_by}
-use Rattle.sip_model.specs.Table.{Covers, state_at}
+use Rattle.keyed_machine.specs.Table.{Covers, state_at}
 use Rattle.sip_round.proofs.shards.live_in.Given as goal
 
 abbrev pub invariant-loop-shard : goal.invariant-loop-shard

@@ -1,7 +1,7 @@
 -- `first_outputs` gives the outputs and items of the ticks, and then the others by place.
 use Rattle.std.proofs.Common.{◌++◌, ap, ◌∙◌}
 use Rattle.std.specs.List.{flat_map}
-use Rattle.sip_model.specs.Groups.{groups}
+use Rattle.keyed_machine.specs.Groups.{groups}
 use Rattle.sip_round.specs.Outputs.{raised_of}
 use Rattle.sip_round.specs.Steps.Form.{sent_as}
 use Rattle.sip_round.specs.Steps.Waiting.{by_event}

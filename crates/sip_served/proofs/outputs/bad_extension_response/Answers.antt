@@ -1,7 +1,7 @@
 -- `bad_extension_response` makes the 420 that names the unknown options.
 use Rattle.std.proofs.Common.{ℕ, List, filter, ap, ◌∙◌}
 use Rattle.sip_served.specs.Arrival.{unsupported, with_header}
-use Rattle.sip_common.specs.Requests.{is_unknown_option}
+use Rattle.sip_held_dialogs.specs.Requests.{is_unknown_option}
 use Rattle.sip_served.proofs.outputs.bad_extension_response.Goals as goal
 
 pub returns : goal.returns

@@ -1,8 +1,8 @@
 -- `make_dialog` puts the dialog of the answer among the held ones, under its name.
 use Rattle.std.proofs.Common.{ap, ◌∙◌}
 use Rattle.indexmap.specs.IndexMap.{insert_entry}
-use Rattle.sip_common.specs.Dialogs.{is_dialog_id}
-use Rattle.sip_common.specs.Requests.{dialog_id_of}
+use Rattle.sip_held_dialogs.specs.Dialogs.{is_dialog_id}
+use Rattle.sip_held_dialogs.specs.Requests.{dialog_id_of}
 use Rattle.sip_served.specs.Respond.{made_dialog}
 use Rattle.sip_served.proofs.respond.make_dialog.Goals as goal
 

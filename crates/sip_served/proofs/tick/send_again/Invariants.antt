@@ -1,7 +1,7 @@
 -- The loop of `send_again`: those of these numbers among the responses seen so far are sent.
 use Rattle.std.proofs.Common.{◌≡◌, ◌++◌, map, take}
 use Rattle.sip_transactions.specs.declared.input.Command.TheVariants.{Answer}
-use Rattle.sip_common.specs.declared.item.CallOut.TheVariants.{Command}
+use Rattle.sip_user.specs.declared.item.CallOut.TheVariants.{Command}
 use Rattle.sip_served.specs.Provisionals.{of_numbers}
 use Rattle.sip_served.proofs.tick.send_again.Given as goal
 

@@ -2,7 +2,7 @@
 use Rattle.std.proofs.Common.{◌≡◌, ℕ, ◌+◌, List, [], ◌∷◌, ◌++◌, cond, subst, sym, ap, ◌∙◌, take, filter}
 use Rattle.std.proofs.lemmas.List.{take_all}
 use Rattle.std.proofs.lemmas.List.Elements.{filter_more}
-use Rattle.sip_common.specs.Requests.{is_unknown_option}
+use Rattle.sip_held_dialogs.specs.Requests.{is_unknown_option}
 use Rattle.sip_served.proofs.Joined.{SoFar, added, begun, joined, with_one_more}
 use Rattle.sip_served.proofs.unsupported.unknown_options.Goals as goal
 

@@ -1,6 +1,6 @@
 -- The loop of `unknown_options`: the unknown ones among the options so far are joined.
 use Rattle.std.proofs.Common.{take, filter}
-use Rattle.sip_common.specs.Requests.{is_unknown_option}
+use Rattle.sip_held_dialogs.specs.Requests.{is_unknown_option}
 use Rattle.sip_served.proofs.Joined.{SoFar}
 use Rattle.sip_served.proofs.unsupported.unknown_options.Given as goal
 

@@ -2,7 +2,7 @@
 use Rattle.std.proofs.Common.{◌≡◌, ℕ, true, false, ap, map, sym, subst, ◌∙◌}
 use Rattle.std.specs.List.{AllByRecursion}
 use Rattle.std.specs.Prelude.{IfSome, IsSome, drop}
-use Rattle.sip_model.specs.Machine.{tick_at}
+use Rattle.keyed_machine.specs.Machine.{tick_at}
 use Rattle.sip_timers.specs.Queue.{is_due}
 use Rattle.sip_shards.specs.AllShards.{IsIdle}
 use Rattle.sip_shards.specs.Steps.Dues.{IsDueIn}

@@ -1,5 +1,5 @@
 -- `end_phase` gives the shards in order, and sorts the outputs.
-use Rattle.sip_model.specs.Groups.{groups}
+use Rattle.keyed_machine.specs.Groups.{groups}
 use Rattle.sip_shards.proofs.phase.end_phase.Goals as goal
 
 pub returns : goal.returns

@@ -2,7 +2,7 @@
 use Rattle.std.proofs.Common.{◌≡◌, [], ◌∷◌, refl, sym, ◌∙◌, ap}
 use Rattle.std.proofs.lemmas.List.{nil_from_length, map-append}
 use Rattle.std.specs.Vec.Iter.{into_iter_items}
-use Rattle.sip_model.specs.Groups.{groups}
+use Rattle.keyed_machine.specs.Groups.{groups}
 use Rattle.sip_shards.proofs.Piled.{no_dones, one_done, all_dones}
 use Rattle.sip_shards.proofs.phase.into_parts.Goals as goal
 

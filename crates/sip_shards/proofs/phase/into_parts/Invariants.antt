@@ -1,6 +1,6 @@
 -- The loop of `into_parts`: the dones taken apart so far, and those that are left.
 use Rattle.std.specs.Vec.Iter.{into_iter_items}
-use Rattle.sip_model.specs.Groups.{groups}
+use Rattle.keyed_machine.specs.Groups.{groups}
 use Rattle.sip_shards.proofs.Piled.{DonesLeft}
 use Rattle.sip_shards.proofs.phase.into_parts.Given as goal
 

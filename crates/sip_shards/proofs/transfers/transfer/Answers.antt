@@ -4,8 +4,8 @@ use Rattle.std.proofs.lemmas.List.{length-map, nil_from_length}
 use Rattle.std.proofs.lemmas.List.Elements.{All-map}
 use Rattle.std.specs.Vec.Iter.{into_iter_items}
 use Rattle.std.specs.Option.{option_or}
-use Rattle.sip_model.specs.Machine.{tick_at}
-use Rattle.sip_model.specs.Table.{state_at}
+use Rattle.keyed_machine.specs.Machine.{tick_at}
+use Rattle.keyed_machine.specs.Table.{state_at}
 use Rattle.sip_shards.specs.Parts.{owner_of}
 use Rattle.sip_shards.specs.Steps.Transfer.{AreOwners, held_by_owner}
 use Rattle.sip_shards.proofs.Transferred.{TransferLeft, all_moved, nothing_moved, one_moved}

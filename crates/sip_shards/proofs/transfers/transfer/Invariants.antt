@@ -1,7 +1,7 @@
 -- The loop of `transfer`: the shards that are left, and the keys moved from those before them.
 use Rattle.std.specs.Vec.Iter.{into_iter_items}
 use Rattle.std.proofs.Common.{◌≡◌, length, map}
-use Rattle.sip_model.specs.Machine.{tick_at}
+use Rattle.keyed_machine.specs.Machine.{tick_at}
 use Rattle.sip_shards.specs.Parts.{owner_of}
 use Rattle.sip_shards.proofs.Transferred.{TransferLeft}
 use Rattle.sip_shards.proofs.transfers.transfer.Given as goal

@@ -5,7 +5,7 @@ use Rattle.std.specs.BTreeMap.{get, is_at}
 use Rattle.std.specs.Option.{option_or}
 use Rattle.std.proofs.lemmas.Bool.{false≢true}
 use Rattle.std.proofs.lemmas.List.{get_or-map, length-map, map-set, nil_from_length}
-use Rattle.sip_model.specs.Table.{state_at, state_in}
+use Rattle.keyed_machine.specs.Table.{state_at, state_in}
 use Rattle.sip_shards.specs.Parts.{owner_of}
 use Rattle.sip_shards.specs.Steps.Transfer.{held_by_owner}
 use Rattle.sip_shards.proofs.Transferred.{TableLeft, none_left, one_less}

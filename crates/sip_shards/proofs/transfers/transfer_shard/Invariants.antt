@@ -1,7 +1,7 @@
 -- The loop of `transfer_shard`: the keys that are left, and those moved so far.
 use Rattle.std.proofs.Common.{◌≡◌, length, map}
 use Rattle.std.specs.BTreeMap.{get}
-use Rattle.sip_model.specs.Table.{state_at}
+use Rattle.keyed_machine.specs.Table.{state_at}
 use Rattle.sip_shards.specs.Parts.{owner_of}
 use Rattle.sip_shards.proofs.Transferred.{TableLeft}
 use Rattle.sip_shards.proofs.transfers.transfer_shard.Given as goal

@@ -6,7 +6,7 @@ use Rattle.std.proofs.lemmas.List.{nil_from_length}
 use Rattle.sip_calls.specs.Call.{call_machine}
 use Rattle.sip_calls.specs.CallShard.{call_cmp}
 use Rattle.sip_message.specs.Key.{branch_in}
-use Rattle.sip_model.specs.Machine.{tick_at}
+use Rattle.keyed_machine.specs.Machine.{tick_at}
 use Rattle.sip_round.specs.AgentState.{calls_held, lives_held}
 use Rattle.sip_round.specs.Steps.Alike.{AreAlike}
 use Rattle.sip_round.specs.Steps.Led.{Deals}

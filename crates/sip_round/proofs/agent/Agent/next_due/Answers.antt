@@ -5,13 +5,13 @@ use Rattle.std.proofs.lemmas.Bool.{false≢true}
 use Rattle.std.specs.List.{AllByRecursion}
 use Rattle.sip_calls.specs.Call.{call_machine}
 use Rattle.sip_calls.specs.CallShard.{call_cmp}
-use Rattle.sip_model.specs.Shards.{ShardsTellAll}
+use Rattle.keyed_machine.specs.Shards.{ShardsTellAll}
 use Rattle.sip_round.specs.Steps.Alike.{AreAlike}
 use Rattle.sip_shards.proofs.FirstDue.{in_any}
 use Rattle.sip_shards.proofs.IdleShards.{idle_held}
 use Rattle.sip_round.proofs.NextDue.{calls_sound, due_of_either, lives_sound, quiet}
 use Rattle.sip_round.proofs.agent.Agent.next_due.Goals as goal
-use Rattle.sip_model.specs.Machine.{tick_at}
+use Rattle.keyed_machine.specs.Machine.{tick_at}
 
 pub returns-in-Some-clause-before : goal.returns-in-Some-clause-before
 returns-in-Some-clause-before g c = λ config rounds stands moment before.

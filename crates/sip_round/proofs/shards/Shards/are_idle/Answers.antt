@@ -3,7 +3,7 @@ use Rattle.std.proofs.Common.{true, false, ap, ◌∙◌, map, sym, subst}
 use Rattle.std.specs.List.{AllByRecursion}
 use Rattle.std.proofs.lemmas.Bool.{false≢true}
 use Rattle.sip_message.specs.Key.{key_cmp}
-use Rattle.sip_model.specs.Machine.{tick_at}
+use Rattle.keyed_machine.specs.Machine.{tick_at}
 use Rattle.sip_shards.specs.AllShards.{IsIdle}
 use Rattle.sip_transactions.specs.Machine.{transaction_machine}
 use Rattle.sip_round.proofs.HeldInShards.{of_held}

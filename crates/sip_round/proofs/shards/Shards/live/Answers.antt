@@ -7,7 +7,7 @@ use Rattle.sip_message.specs.Key.{key_cmp}
 use Rattle.sip_message.specs.declared.key.Key.{Key}
 use Rattle.sip_transactions.specs.Shard.{Lives}
 use Rattle.sip_transactions.specs.declared.life.Life.{Life}
-use Rattle.sip_model.specs.Table.{Covers, Held, state_at}
+use Rattle.keyed_machine.specs.Table.{Covers, Held, state_at}
 use Rattle.sip_round.proofs.HeldInShards.{all_of_shards, sum_of_held}
 use Rattle.sip_round.proofs.shards.Shards.live.Goals as goal
 

@@ -5,7 +5,7 @@ use Rattle.std.specs.List.{AllByRecursion}
 use Rattle.sip_calls.specs.Call.{call_machine}
 use Rattle.sip_calls.specs.CallShard.{call_cmp}
 use Rattle.sip_message.specs.Key.{key_cmp}
-use Rattle.sip_model.specs.Machine.{tick_at}
+use Rattle.keyed_machine.specs.Machine.{tick_at}
 use Rattle.sip_timers.specs.Queue.{is_due}
 use Rattle.sip_transactions.specs.Machine.{transaction_machine}
 use Rattle.sip_shards.proofs.FirstDue.{neither_due}

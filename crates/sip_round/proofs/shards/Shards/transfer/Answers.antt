@@ -2,8 +2,8 @@
 use Rattle.std.proofs.Common.{◌≡◌, ℕ, ◌<◌, ◌∙◌, List, length, map, subst, sym}
 use Rattle.std.specs.List.{AllByRecursion}
 use Rattle.sip_message.specs.Key.{branch_in, key_cmp}
-use Rattle.sip_model.specs.Machine.{tick_at}
-use Rattle.sip_model.specs.Shards.{HoldFrom}
+use Rattle.keyed_machine.specs.Machine.{tick_at}
+use Rattle.keyed_machine.specs.Shards.{HoldFrom}
 use Rattle.sip_calls.specs.Call.{call_machine}
 use Rattle.sip_calls.specs.CallShard.{call_cmp}
 use Rattle.sip_transactions.specs.Machine.{transaction_machine}

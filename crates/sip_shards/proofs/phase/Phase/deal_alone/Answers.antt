@@ -2,9 +2,9 @@
 use Rattle.std.proofs.Common.{◌≡◌, [], ◌∷◌, map, length, ◌∙◌, ap, arith, subst}
 use Rattle.std.proofs.lemmas.List.{map-append, length-map}
 use Rattle.std.specs.List.{AllByRecursion}
-use Rattle.sip_model.specs.Groups.{groups}
-use Rattle.sip_model.specs.Machine.{tick_at}
-use Rattle.sip_model.specs.Phase.{AddsPhase, phase_at}
+use Rattle.keyed_machine.specs.Groups.{groups}
+use Rattle.keyed_machine.specs.Machine.{tick_at}
+use Rattle.keyed_machine.specs.Phase.{AddsPhase, phase_at}
 use Rattle.sip_shards.proofs.Alone.{all_last, deals_last}
 use Rattle.sip_shards.proofs.phase.Phase.deal_alone.Goals as goal
 

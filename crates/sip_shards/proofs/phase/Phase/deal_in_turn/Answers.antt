@@ -1,8 +1,8 @@
 -- `Phase::deal_in_turn` does the phase of all shards, on the calling thread.
 use Rattle.std.proofs.Common.{[], length, map, subst, sym}
 use Rattle.std.proofs.lemmas.Result.{IfOk-weaker}
-use Rattle.sip_model.specs.Groups.{groups}
-use Rattle.sip_model.specs.Machine.{tick_at}
+use Rattle.keyed_machine.specs.Groups.{groups}
+use Rattle.keyed_machine.specs.Machine.{tick_at}
 use Rattle.sip_shards.specs.AllShards.{DealsParts}
 use Rattle.sip_shards.proofs.Pieces.{shards_alike, shards_dealt, tables_back}
 use Rattle.sip_shards.proofs.phase.Phase.deal_in_turn.Goals as goal

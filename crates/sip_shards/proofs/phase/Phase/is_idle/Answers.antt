@@ -2,7 +2,7 @@
 use Rattle.std.proofs.Common.{◌≡◌, ◌∙◌, [], length, map, subst, sym, arith}
 use Rattle.std.proofs.lemmas.List.{length-map}
 use Rattle.std.specs.List.{AllByRecursion}
-use Rattle.sip_model.specs.Machine.{tick_at}
+use Rattle.keyed_machine.specs.Machine.{tick_at}
 use Rattle.sip_shards.specs.AllShards.{IsIdle}
 use Rattle.sip_shards.proofs.IdleShards.{empty_parts, idle_held, idle_shards}
 use Rattle.sip_shards.proofs.phase.Phase.is_idle.Goals as goal

@@ -1,10 +1,10 @@
 -- `Shard::tick`: each held transaction takes a step by the tick, and its history has the tick too.
 use Rattle.std.proofs.Common.{IfOk, subst}
 use Rattle.sip_message.specs.Key.{key_cmp}
-use Rattle.sip_model.specs.History.{AddsInputs}
-use Rattle.sip_model.specs.Table.{StepsAll}
+use Rattle.keyed_machine.specs.History.{AddsInputs}
+use Rattle.keyed_machine.specs.Table.{StepsAll}
 use Rattle.sip_transactions.specs.Machine.{transaction_machine}
-use Rattle.sip_model.specs.Machine.{tick_at}
+use Rattle.keyed_machine.specs.Machine.{tick_at}
 use Rattle.sip_transactions.proofs.shard.Shard.tick.Goals as goal
 
 pub returns-clause-step : goal.returns-clause-step

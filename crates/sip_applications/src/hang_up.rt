@@ -1,0 +1,41 @@
+//! The end of a dialog: its BYE.
+
+ghost use Rattle.std.specs.Prelude.{◌≡◌, [], IfOk, codes};
+ghost use Rattle.sip_message.specs.Content.{content_of_body};
+
+use sip_message::{CallId, Content, Token};
+use sip_round::Event;
+use sip_text::Text;
+use sip_user::{DialogRequest, UserCommand};
+use std::alloc::{AllocError, Global};
+
+/// No headers and no body.
+pub(crate) fn nothing(alloc: Global) -> Content
+    ensures { result ≡ content_of_body [] }
+{
+    let body = Text::from_vec(Vec::new(alloc));
+    Content::of_body(body)
+}
+
+/// The BYE of a dialog.
+pub(crate) fn bye(
+    alloc: Global,
+    call_id: &CallId,
+    local_tag: &Text,
+    remote_tag: &Text,
+) -> Result<Event, AllocError> {
+    Ok(Event::Command(UserCommand::Request(DialogRequest {
+        call_id: call_id.clone()?,
+        local_tag: Token::new(local_tag.clone()?),
+        remote_tag: Token::new(remote_tag.clone()?),
+        method: bye_method(alloc)?,
+        content: nothing(alloc),
+    })))
+}
+
+#[tactic(auto, unfolding(sip_text::specs::Token::is_token, sip_text::specs::Token::is_token_byte))]
+fn bye_method(alloc: Global) -> Result<Token, AllocError>
+    ensures { IfOk result (λ token. token ≡ codes "BYE") }
+{
+    Token::copy_of(alloc, b"BYE")
+}

@@ -1,0 +1,23 @@
+//! The applications of `ua`: one that answers calls, one that calls, and one that does what a pipe
+//! says. Each is a user of the agent that `sip_udp` runs.
+#![tactic(auto)]
+
+mod answer;
+mod answering;
+mod call_plan;
+mod calling;
+mod hang_up;
+mod listen_plan;
+mod made_dialogs;
+mod pipe;
+mod piped;
+mod sdp;
+mod talk;
+mod waiting;
+mod wrong_word;
+
+pub use call_plan::CallPlan;
+pub use listen_plan::{AnswerBody, ListenPlan};
+pub use pipe::{PipeLine, Said, feed};
+pub use talk::{agent, call, call_from, listen, listen_at};
+pub use wrong_word::WrongWord;

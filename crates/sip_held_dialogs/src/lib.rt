@@ -1,0 +1,14 @@
+//! The dialogs that a call holds, which both of its sides share, and what a request or a response
+//! says.
+#![tactic(auto)]
+
+pub mod dialogs;
+mod held_dialog;
+mod laws;
+mod pending_request;
+pub mod request;
+
+pub use dialogs::Dialogs;
+pub use held_dialog::{DialogId, DialogReference, HeldDialog};
+pub use laws::a_dialog_stands_for_its_story;
+pub use pending_request::PendingRequest;

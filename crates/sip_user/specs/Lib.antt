@@ -1,0 +1,4 @@
+pub mod Command
+pub mod Notices
+pub mod OwnCall
+pub mod Refusal
