@@ -9,7 +9,7 @@ ghost use Rattle.sip_applications.specs.Piping.{PostsAll, PostsFront, Says, Says
 use crate::wrong_word::{WrongWord, wrong_word};
 use sip_desk::Poster;
 use sip_files::{FileKind, GivenHeader, read_command_line, read_header_line};
-use sip_udp::{Flags, UaFault};
+use sip_udp::{Flags, UaFault, without};
 use sip_user::UserCommand;
 use std::alloc::{AllocError, Global};
 use std::io::BufRead;
