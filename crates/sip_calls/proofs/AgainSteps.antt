@@ -17,14 +17,14 @@ use Rattle.sip_user.specs.declared.notice.Notice.TheVariants as notice
 use Rattle.sip_held_dialogs.specs.Ids.{is_id}
 use Rattle.sip_held_dialogs.proofs.Entries.{none_apart}
 use Rattle.sip_clients.specs.Client.{Clients, Side, client_at}
-use Rattle.sip_clients.specs.Provisionals.{InTheDialog, told_of}
+use Rattle.sip_clients.specs.Provisionals.{InTheDialog, reported_in}
 use Rattle.sip_clients.proofs.AgainInvite.{AgainResult, AreApart, Keeps, ear_of, keeps_ack, keeps_cancel, keeps_invite, keeps_lost, keeps_plain, keeps_prack, keeps_request, keeps_same, keeps_tick, silent_result}
 use Rattle.sip_clients.proofs.AgainSides.{response_again}
 use Rattle.sip_clients.proofs.Hearing.{heard_in_order}
 use Rattle.sip_calls.specs.declared.call.Call.{Call}
 use Rattle.sip_calls.specs.declared.calls.Calls.{Calls}
 use Rattle.sip_calls.specs.Call.{Taken, CallItem, call_step, event_of, kept, new_call}
-use Rattle.sip_calls.specs.Provisionals.{EventsDiffer, came, done, event_in, event_of_kind, number_in, number_in_life, number_up, shown, side_held}
+use Rattle.sip_calls.specs.Provisionals.{EventsDiffer, came, done, event_in, event_of_kind, number_in, number_in_life, number_up, reported, side_held}
 use Rattle.sip_calls.specs.Sides.{CallTaken, side_of}
 use Rattle.sip_calls.specs.Steps.Call.{step_taken, command_taken, first_command_taken, lost_taken, ticked, up_taken}
 use Rattle.sip_calls.proofs.SameSteps.{same_step}
@@ -188,12 +188,12 @@ module _ (life : DialogReference) (invite : Id) where
       (sym (same_step calls state input now)) (by_input_taken calls state input now apart once)
 
   pub again_in_order : (calls : Calls) (inputs : List (Timed CallItem)) → EventsDiffer inputs
-      → shown calls (InTheDialog invite) life inputs
+      → reported calls (InTheDialog invite) life inputs
       ≡ in_order (came calls (InTheDialog invite) life inputs)
   again_in_order calls inputs differ =
       heard_in_order (λ state input. (done calls (InTheDialog invite) life state input).0)
       (λ timed. event_in timed.input) (number_in_life calls (InTheDialog invite) life)
-      (λ state input. told_of (number_in_life calls (InTheDialog invite) life state input)
+      (λ state input. reported_in (number_in_life calls (InTheDialog invite) life state input)
       (done calls (InTheDialog invite) life state input).1)
       (λ state. ear_of life invite (side_held state).clients)
       (λ state. AreApart (side_held state).clients) invite

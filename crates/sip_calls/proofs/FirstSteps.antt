@@ -20,14 +20,14 @@ use Rattle.sip_served.proofs.DialogSteps.{ack_leads as server_ack, request_leads
 use Rattle.sip_held_dialogs.proofs.Entries.{none_apart}
 use Rattle.sip_held_dialogs.proofs.Heard.{AreApart, Leads, Lives, leads_filtered, leads_same, quiet}
 use Rattle.sip_clients.specs.Client.{Side, client_at}
-use Rattle.sip_clients.specs.Provisionals.{OfTheCall, told_of}
+use Rattle.sip_clients.specs.Provisionals.{OfTheCall, reported_in}
 use Rattle.sip_clients.specs.Tick.{ends_early_at}
 use Rattle.sip_clients.proofs.FirstSides.{ResultOf, ack_leads, ear, lost_leads, prack_leads, request_leads, requested_in, response_step, silent, silent_moves}
 use Rattle.sip_clients.proofs.Hearing.{heard_in_order}
 use Rattle.sip_calls.specs.declared.call.Call.{Call}
 use Rattle.sip_calls.specs.declared.calls.Calls.{Calls}
 use Rattle.sip_calls.specs.Call.{Taken, CallItem, call_step, event_of, kept, made_tag, new_call}
-use Rattle.sip_calls.specs.Provisionals.{EventsDiffer, came, done, event_in, event_of_kind, number_in, number_in_life, number_up, shown, side_held}
+use Rattle.sip_calls.specs.Provisionals.{EventsDiffer, came, done, event_in, event_of_kind, number_in, number_in_life, number_up, reported, side_held}
 use Rattle.sip_calls.specs.Sides.{CallTaken, side_of}
 use Rattle.sip_calls.specs.Steps.Call.{step_taken, command_taken, first_command_taken, lost_taken, ticked, up_taken}
 use Rattle.sip_calls.proofs.SameSteps.{same_step}
@@ -171,11 +171,11 @@ module _ (life : DialogReference) where
       (sym (same_step calls state input now)) (by_input_taken calls state input now apart)
 
   pub first_in_order : (calls : Calls) (inputs : List (Timed CallItem)) → EventsDiffer inputs
-      → shown calls OfTheCall life inputs ≡ in_order (came calls OfTheCall life inputs)
+      → reported calls OfTheCall life inputs ≡ in_order (came calls OfTheCall life inputs)
   first_in_order calls inputs differ =
       heard_in_order (λ state input. (done calls OfTheCall life state input).0)
       (λ timed. event_in timed.input) (number_in_life calls OfTheCall life)
-      (λ state input. told_of (number_in_life calls OfTheCall life state input)
+      (λ state input. reported_in (number_in_life calls OfTheCall life state input)
       (done calls OfTheCall life state input).1) (λ state. ear life (side_held state).dialogs)
       (λ state. AreApart (side_held state).dialogs) life.created_by
       (λ state timed apart _. by_input calls state timed.input timed.moment apart) inputs None

@@ -19,7 +19,7 @@ use Rattle.sip_served.specs.Tick as served
 use Rattle.sip_served.proofs.Shows.{told_often}
 use Rattle.sip_clients.specs.Tick as clients
 use Rattle.sip_clients.specs.declared.event.Event.{Event}
-use Rattle.sip_held_dialogs.proofs.ToldRequests.{shown as asked_in}
+use Rattle.sip_held_dialogs.proofs.ToldRequests.{reported as asked_in}
 use Rattle.sip_clients.proofs.NoRequests.{ack_command_asks, cancel_asks, invite_asks, lost_asks, plain_asks, prack_command_asks, request_asks, response_asks, tick_asks}
 use Rattle.sip_calls.specs.declared.call.Call.{Call}
 use Rattle.sip_calls.specs.declared.calls.Calls.{Calls}

@@ -14,7 +14,7 @@ use Rattle.sip_user.specs.declared.item.Item.TheVariants.{Up, User}
 use Rattle.sip_held_dialogs.specs.Dialogs.{lives}
 use Rattle.sip_held_dialogs.specs.Ids.{is_id}
 use Rattle.sip_clients.specs.Client.{Side, client_at}
-pub use Rattle.sip_clients.specs.Provisionals.{AnInvite, in_life, number_for, told_of}
+pub use Rattle.sip_clients.specs.Provisionals.{AnInvite, in_life, number_for, reported_in}
 use Rattle.sip_calls.specs.declared.call.Call.{Call}
 use Rattle.sip_calls.specs.declared.calls.Calls.{Calls}
 use Rattle.sip_calls.specs.Call.{CallItem, call_step}
@@ -56,19 +56,19 @@ module _ (calls : Calls) (invite : AnInvite) (life : DialogReference) where
       option_to_list (number_in_life call input) ++ came_from (done call input).0 inputs
 
   -- the RSeqs of the responses of which the user is told, in order
-  abbrev pub shown_from : Option Call → List (Timed CallItem) → List ℕ
-  shown_from call [] = []
-  shown_from call (input ∷ inputs) =
-      told_of (number_in_life call input) (done call input).1
-      ++ shown_from (done call input).0 inputs
+  abbrev pub reported_from : Option Call → List (Timed CallItem) → List ℕ
+  reported_from call [] = []
+  reported_from call (input ∷ inputs) =
+      reported_in (number_in_life call input) (done call input).1
+      ++ reported_from (done call input).0 inputs
 
   -- the same for all inputs of a call, if nothing was held before
   abbrev pub came : List (Timed CallItem) → List ℕ
   came inputs = came_from None inputs
 
   -- the RSeqs of all responses of which the user is told
-  abbrev pub shown : List (Timed CallItem) → List ℕ
-  shown inputs = shown_from None inputs
+  abbrev pub reported : List (Timed CallItem) → List ℕ
+  reported inputs = reported_from None inputs
 
 -- ---- events
 
@@ -96,18 +96,18 @@ EventsDiffer inputs = IsDistinct is_id (filter_map (λ timed. event_in timed.inp
 abbrev pub OfEachLife : (List ℕ → List ℕ → Type 0) → Type 0
 OfEachLife Law = (calls : Calls) (inputs : List (Timed CallItem)) → EventsDiffer inputs
     → (invite : AnInvite) (life : DialogReference)
-    → Law (came calls invite life inputs) (shown calls invite life inputs)
+    → Law (came calls invite life inputs) (reported calls invite life inputs)
 
 -- Whatever comes to a call: of the reliable provisional responses to an INVITE in a life of a
 -- dialog, the user is told of the first, and then of each whose RSeq is one more than the last one
 -- told.
 abbrev pub ShownInOrder : Type 0
-ShownInOrder = OfEachLife (λ came shown. shown ≡ in_order came)
+ShownInOrder = OfEachLife (λ came reported. reported ≡ in_order came)
 
 -- the RSeqs that are shown are consecutive
 abbrev pub ShownConsecutive : Type 0
-ShownConsecutive = OfEachLife (λ came shown. IsConsecutive shown)
+ShownConsecutive = OfEachLife (λ came reported. IsConsecutive reported)
 
 -- so none is shown twice
 abbrev pub ShownOnce : Type 0
-ShownOnce = OfEachLife (λ came shown. AllPairs (λ x y. x ≢ y) shown)
+ShownOnce = OfEachLife (λ came reported. AllPairs (λ x y. x ≢ y) reported)

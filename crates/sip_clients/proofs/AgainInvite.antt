@@ -39,7 +39,7 @@ use Rattle.sip_clients.specs.Dialogs.{paid_at}
 use Rattle.sip_user.specs.Notices.{refused}
 use Rattle.sip_clients.specs.Outputs.{request_said, start_command}
 use Rattle.sip_clients.specs.Outside.{invite_of, plain_of}
-use Rattle.sip_clients.specs.Provisionals.{in_life, told_of}
+use Rattle.sip_clients.specs.Provisionals.{in_life, reported_in}
 use Rattle.sip_clients.specs.Tick.{clients_left, is_over}
 use Rattle.sip_clients.proofs.FirstInvite.{id_exact, no_number}
 use Rattle.sip_clients.proofs.Hearing.{Listens, Silent}
@@ -90,14 +90,14 @@ abbrev pub EndsOrStays : Option (Option ℕ) → Option (Option ℕ) → Type 0
 EndsOrStays before after = (after ≡ None) ⊎ (after ≡ before)
 
 pub listens_then : (Begins : Type 0) (before middle after : Option (Option ℕ)) (number : Option ℕ)
-    (shown : List ℕ) → Listens Begins before middle number shown → EndsOrStays middle after
-    → Listens Begins before after number shown
-listens_then Begins before middle after None shown listens (inl none) = (inl none, listens.1)
-listens_then Begins before middle after None shown listens (inr same) =
+    (reported : List ℕ) → Listens Begins before middle number reported → EndsOrStays middle after
+    → Listens Begins before after number reported
+listens_then Begins before middle after None reported listens (inl none) = (inl none, listens.1)
+listens_then Begins before middle after None reported listens (inr same) =
     (silent_then Begins before middle after listens.0 (inr (inl same)), listens.1)
-listens_then Begins before middle after (Some number) shown hears (inl none) =
+listens_then Begins before middle after (Some number) reported hears (inl none) =
     record { last = hears.last; was = hears.was; now = inl none; shows = hears.shows }
-listens_then Begins before middle after (Some number) shown hears (inr same) = record {
+listens_then Begins before middle after (Some number) reported hears (inr same) = record {
   last = hears.last;
   was = hears.was;
   now = by_now hears.now;
@@ -147,7 +147,7 @@ abbrev pub AgainResult : DialogReference → Id → Option Id → Clients → Di
 AgainResult life invite event before dialogs after number outs =
     AreApart after
     × Listens (event ≡ Some invite) (ear_of life invite before) (ear_of life invite after)
-    (in_life (lives dialogs life) number) (told_of (in_life (lives dialogs life) number) outs)
+    (in_life (lives dialogs life) number) (reported_in (in_life (lives dialogs life) number) outs)
 
 module _ (life : DialogReference) (invite : Id) (event : Option Id) where
   abbrev ear : Clients → Option (Option ℕ)

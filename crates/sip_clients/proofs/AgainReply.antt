@@ -27,7 +27,7 @@ use Rattle.sip_clients.specs.Cancel.{after_response}
 use Rattle.sip_clients.specs.Client.{Clients, Side, client_at, client_changed}
 use Rattle.sip_clients.specs.Clients.{settled}
 use Rattle.sip_clients.specs.Dialogs.{dialog_for_provisional}
-use Rattle.sip_clients.specs.Provisionals.{in_life, is_response, provisional_number, told_of}
+use Rattle.sip_clients.specs.Provisionals.{in_life, is_response, provisional_number, reported_in}
 use Rattle.sip_clients.specs.Replied.{Replied, after_dialog, by_reply_case, request_over, notice, prack_owed, reply_taken}
 use Rattle.sip_clients.specs.ReceivedResponse.{has_dialog, offer_case, rseq_of, success_case}
 use Rattle.sip_clients.proofs.AgainCases.{again, heard_kept, case_by, Gone, gone, success_unheard, lives_same, lives_owed}
@@ -72,7 +72,7 @@ module _ (life : DialogReference) (invite : Id) (event : Option Id) (answer : Re
         let after = (settled answer.event answer.id change clients).0 in (
           settles.apart,
           subst (λ b. Listens (event ≡ Some invite) (ear side.clients) (ear after)
-              (in_life b number) (told_of (in_life b number) outs)) (sym dead) (
+              (in_life b number) (reported_in (in_life b number) outs)) (sym dead) (
                 silent_then (event ≡ Some invite) (ear side.clients) (ear clients)
                     (ear after) silent settles.silent,
                 refl,
@@ -100,7 +100,7 @@ module _ (life : DialogReference) (invite : Id) (event : Option Id) (answer : Re
         let after = (settled answer.event answer.id change clients).0 in (
           settles.apart,
           subst (λ b. Listens (event ≡ Some invite) (ear side.clients) (ear after)
-              (in_life b (Some number)) (told_of (in_life b (Some number)) outs)) (sym alive)
+              (in_life b (Some number)) (reported_in (in_life b (Some number)) outs)) (sym alive)
               (record {
                 last = last_rseq;
                 was = inl was;

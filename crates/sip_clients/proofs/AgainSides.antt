@@ -19,7 +19,7 @@ use Rattle.sip_clients.specs.Cancel.{cancel_client, freed_by, after_response, se
 use Rattle.sip_clients.specs.Client.{Clients, Side, ClientTaken, client_at}
 use Rattle.sip_clients.specs.Clients.{found_taken, settled, side_after, reply_name, reply_of, reply_settled, response_taken, status_of}
 use Rattle.sip_clients.specs.Replied.{Replied, reply_taken}
-use Rattle.sip_clients.specs.Provisionals.{InTheDialog, in_life, is_for, number_for, provisional_number, told_of}
+use Rattle.sip_clients.specs.Provisionals.{InTheDialog, in_life, is_for, number_for, provisional_number, reported_in}
 use Rattle.sip_clients.proofs.AgainInvite.{AgainResult, AreApart, ear_of, keeps_same, listens_then, sent_apart, sent_stays, silent_result}
 use Rattle.sip_clients.proofs.AgainReply.{another, invite_replied, no_invite}
 use Rattle.sip_clients.proofs.FirstInvite.{none_in_life, told_beside}
@@ -59,12 +59,12 @@ module _ (life : DialogReference) (invite : Id) (event : Option Id) (of : Event)
       let last = sent_beside (option_map (λ id. cancel_client id cancelled) command) first in
       let came = in_life (lives done.1 life) number in (
         sent_apart life invite command cancelled first so.0,
-        subst (λ shown. Listens (event ≡ Some invite) (ear_of life invite side.clients)
-            (ear_of life invite last.0) came shown)
+        subst (λ reported. Listens (event ≡ Some invite) (ear_of life invite side.clients)
+            (ear_of life invite last.0) came reported)
             (sym (told_beside came command cancelled first))
             (listens_then (event ≡ Some invite) (ear_of life invite side.clients)
             (ear_of life invite first.0) (ear_of life invite last.0) came
-            (told_of came first.1) so.1 (sent_stays life invite command cancelled first)),
+            (reported_in came first.1) so.1 (sent_stays life invite command cancelled first)),
       )
 
   abbrev noting : ℕ → Client → Client

@@ -45,7 +45,7 @@ use Rattle.sip_clients.specs.Cancel.{after_response, asked, cancel_by_user, canc
 use Rattle.sip_clients.specs.Client.{Clients, ClientTaken, Side, client_at, client_changed, client_for}
 use Rattle.sip_clients.specs.Clients.{ack_by_user, ack_kept, ack_paid, acked_with, found_taken, invite_taken, lost_of, paid_or_refused, plain_taken, prack_by_user, prack_paid, reply_name, reply_of, reply_settled, request_by_user, request_lost, response_taken, settled, started, status_of}
 use Rattle.sip_clients.specs.Commands.{ack_asked, bye_ended, pending_for, debt_or_refusal, is_bad_outside, name_in, oldest_pending, request_in_held, requested_at}
-use Rattle.sip_clients.specs.Pending.{is_of, kept_pending, paid}
+use Rattle.sip_clients.specs.Pending.{is_of, kept_pending, sent_pending}
 use Rattle.sip_clients.specs.Dialogs.{accepted, dialog_for_provisional, ended_with, own_ended, paid_at, served_at}
 use Rattle.sip_clients.specs.Event.{branch_of}
 use Rattle.sip_clients.specs.Outputs.{ack_said, direct, request_said, start_command}
@@ -186,8 +186,8 @@ unfolding kept_pending
 owed_serves event pending offer held = discharged_serves event pending offer held
 
 paid_serves : (event : Event) (pending : PendingRequest) (content : Content) (held : HeldDialog)
-    → Serves (Pays pending) (paid event pending content held).1
-unfolding paid
+    → Serves (Pays pending) (sent_pending event pending content held).1
+unfolding sent_pending
 paid_serves event pending content held = discharged_serves event pending (Some content) held
 
 request_serves : (event : Event) (method : List ℕ) (content : Content) (held : HeldDialog)
@@ -212,7 +212,7 @@ served_serves Q name serve otherwise serves other dialogs = by_found (dialog_at 
 paid_at_serves : (name : DialogId) (event : Event) (pending : PendingRequest) (content : Content)
     (dialogs : Dialogs) → Serves (Pays pending) (paid_at name event pending content dialogs).1
 paid_at_serves name event pending content dialogs =
-    served_serves (Pays pending) name (paid event pending content) Waits
+    served_serves (Pays pending) name (sent_pending event pending content) Waits
     (paid_serves event pending content) tt dialogs
 
 requested_at_serves : (name : DialogId) (event : Event) (command : DialogRequest)
@@ -614,10 +614,10 @@ module _ (Given : Message → Type 0) where
       → Taken (ack_paid event command name pending side)
   ack_paid_says event command name side all (Ack invite number) is =
       let pending : PendingRequest = Ack invite number in
-      let paid = paid_at name event pending command.content side.dialogs in
-      let says = ack_says event command.call_id paid.1
+      let sent_pending = paid_at name event pending command.content side.dialogs in
+      let says = ack_says event command.call_id sent_pending.1
       (paid_at_serves name event pending command.content side.dialogs) in (
-        noted_asks pending name (ack_said event command.call_id paid.1).1 side.clients says.1 all,
+        noted_asks pending name (ack_said event command.call_id sent_pending.1).1 side.clients says.1 all,
         says.0,
       )
   ack_paid_says event command name side all (Prack rseq number) is = absurd (false≢true is)
@@ -636,9 +636,9 @@ module _ (Given : Message → Type 0) where
   prack_paid_says event command name side all (Ack invite number) is = absurd (false≢true is)
   prack_paid_says event command name side all (Prack rseq number) is =
       let pending : PendingRequest = Prack rseq number in
-      let paid = paid_at name event pending command.content side.dialogs in
-      let said = request_said event command.call_id name paid.1 in
-      let says = request_says event command.call_id name paid.1
+      let sent_pending = paid_at name event pending command.content side.dialogs in
+      let said = request_said event command.call_id name sent_pending.1 in
+      let says = request_says event command.call_id name sent_pending.1
       (paid_at_serves name event pending command.content side.dialogs) in
       let settles = settled_says event event.id said.1 side.clients says.1 all in (
         settles.0,

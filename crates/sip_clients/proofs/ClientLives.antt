@@ -33,7 +33,7 @@ use Rattle.sip_clients.specs.Cancel.{cancel_case, cancel_by_user, cancelled_as, 
 use Rattle.sip_clients.specs.Client.{Side, ClientTaken, client_at}
 use Rattle.sip_clients.specs.Clients.{ack_by_user, found_taken, lost_of, paid_or_refused, prack_paid, prack_by_user, reply_name, reply_of, reply_settled, request_by_user, response_taken, settled, status_of}
 use Rattle.sip_clients.specs.Commands.{bye_ended, pending_for, debt_or_refusal, name_in, oldest_pending, request_in_held, requested_at}
-use Rattle.sip_clients.specs.Pending.{is_of, paid}
+use Rattle.sip_clients.specs.Pending.{is_of, sent_pending}
 use Rattle.sip_clients.specs.Dialogs.{paid_at, served_at}
 use Rattle.sip_clients.specs.Happenings.{reply_brings}
 use Rattle.sip_clients.specs.Outputs.{request_said}
@@ -129,7 +129,7 @@ module _ (event : Event) (side : Side) (apart : AreApart side.dialogs)
       sends_one name (λ held. discharge_cseqs pending (Some command.content) held.dialog)
       (said.0 ++ after.1) side.dialogs done.0
       (λ held. discharge_numbered pending (Some command.content) held.dialog)
-      (λ other held at. served_sent name (paid event pending command.content) Waits
+      (λ other held at. served_sent name (sent_pending event pending command.content) Waits
       (λ held. discharge_cseqs pending (Some command.content) held.dialog) side.dialogs other
       (λ there is. paid_sent other name event there (named name there is) pending command.content)
       refl

@@ -292,10 +292,10 @@ module _ (P : CallOut → Type 0) (allows : Allows P) where
       (pending_requests : PendingRequest)
       (side : Side) → All (prack_paid event command name pending_requests side).1
   prack_paid_told event command name pending_requests side =
-      let paid = paid_at name event pending_requests command.content side.dialogs in
-      let said = request_said event command.call_id name paid.1 in
+      let sent_pending = paid_at name event pending_requests command.content side.dialogs in
+      let said = request_said event command.call_id name sent_pending.1 in
       both P said.0 (settled event event.id said.1 side.clients).1
-      (request_told event command.call_id name paid.1)
+      (request_told event command.call_id name sent_pending.1)
       (settled_told event event.id said.1 side.clients)
 
   pub prack_command_told : (event : Event) (command : DialogBody) (side : Side)

@@ -27,7 +27,7 @@ use Rattle.sip_clients.specs.declared.send_outcome.SendOutcome.TheVariants.{Wait
 use Rattle.sip_clients.specs.Client.{Side, ClientTaken}
 use Rattle.sip_clients.specs.Clients.{ack_paid, ack_by_user, paid_or_refused, prack_paid, prack_by_user, request_by_user, settled}
 use Rattle.sip_clients.specs.Commands.{bye_ended, debt_or_refusal, name_in, nothing_pending, oldest_pending, request_in_held, request_refusals, requested_at, sent_unless}
-use Rattle.sip_clients.specs.Pending.{is_of, paid}
+use Rattle.sip_clients.specs.Pending.{is_of, sent_pending}
 use Rattle.sip_clients.specs.Dialogs.{paid_at}
 use Rattle.sip_clients.specs.Outputs.{ack_said, request_said}
 use Rattle.sip_clients.specs.Owing.{command_pays, goes_out, is_of_prack, oldest_paid}
@@ -77,7 +77,7 @@ module _ (event : Event) (command : DialogBody) (side : Side) where
 
   -- the dialog after the user gave this
   abbrev paid_of : PendingRequest → HeldDialog → HeldDialog
-  paid_of pending held = (paid event pending command.content held).0
+  paid_of pending held = (sent_pending event pending command.content held).0
 
   -- in the dialog of each name
   abbrev Pays : PendingKind → List CallOut → Dialogs → Type 0
@@ -108,12 +108,12 @@ module _ (event : Event) (command : DialogBody) (side : Side) where
       → dialog_at asked_name side.dialogs ≡ Some held → find (is_of kind) held.pending_requests
       ≡ Some pending
       → ((name : DialogId) → is_dialog_id asked_name name ≡ true
-      → goes_out kind name outs ≡ goes (paid event pending command.content held).1)
+      → goes_out kind name outs ≡ goes (sent_pending event pending command.content held).1)
       → Pays kind outs (paid_at asked_name event pending command.content side.dialogs).0
   debt_paid kind pending held outs at oldest goes_so name =
       subst (λ after. OwesStill (command_pays kind command name outs)
       (dialog_at name side.dialogs) (dialog_at name after))
-      (sym (served_dialogs asked_name (paid event pending command.content) Waits side.dialogs))
+      (sym (served_dialogs asked_name (sent_pending event pending command.content) Waits side.dialogs))
       (subst (OwesStill (command_pays kind command name outs) (dialog_at name side.dialogs))
       (sym (entries.found_changed name_laws asked_name name (paid_of pending) side.dialogs))
       (by_name (is_dialog_id asked_name name) refl))
@@ -132,7 +132,7 @@ module _ (event : Event) (command : DialogBody) (side : Side) where
           let there : dialog_at name side.dialogs ≡ Some held =
           entries.same_key name_laws asked_name name side.dialogs is ∙ at in
           let less = paid_drops event pending command.content held in
-          let pays : (if goes (paid event pending command.content held).1 then all_but pending
+          let pays : (if goes (sent_pending event pending command.content held).1 then all_but pending
           held.pending_requests
           else held.pending_requests) ≡ command_pays kind command name outs held.pending_requests =
           sym (λ i. if is i && goes_so name is i
@@ -146,10 +146,10 @@ module _ (event : Event) (command : DialogBody) (side : Side) where
   served_as : (pending : PendingRequest) (held : HeldDialog) → dialog_at asked_name side.dialogs
       ≡ Some held
       → (paid_at asked_name event pending command.content side.dialogs).1
-      ≡ (paid event pending command.content held).1
+      ≡ (sent_pending event pending command.content held).1
   served_as pending held at =
       ap (λ found.
-      (served_in asked_name (paid event pending command.content) Waits side.dialogs found).1) at
+      (served_in asked_name (sent_pending event pending command.content) Waits side.dialogs found).1) at
 
   by_owed : (kind : PendingKind) (send_pending : PendingRequest → Side → ClientTaken)
       → ((pending : PendingRequest) (held : HeldDialog) → dialog_at asked_name side.dialogs
@@ -193,7 +193,7 @@ module _ (event : Event) (command : DialogBody) (side : Side) where
         let said = request_said event command.call_id asked_name done.1 in
         goes_out kind.Prack name
         (said.0 ++ (settled event event.id said.1 side.clients).1)
-        ≡ goes (paid event pending command.content held).1
+        ≡ goes (sent_pending event pending command.content held).1
     prack_out (Ack invite number) held at is name same = absurd cc
     prack_out (Prack rseq number) held at is name same =
         let pending = Prack rseq number in

@@ -21,7 +21,7 @@ use Rattle.sip_clients.specs.declared.send_outcome.SendOutcome.TheVariants.{Sent
 use Rattle.sip_user.specs.declared.refusal.Refusal.{Refusal as ARefusal}
 use Rattle.sip_user.specs.Refusal.{first_refusal}
 use Rattle.sip_clients.specs.Commands.{bye_ended, request_in_held, request_refusals, sent_unless}
-use Rattle.sip_clients.specs.Pending.{dropped_if_sent, kept_unless_sent, kept_pending, paid}
+use Rattle.sip_clients.specs.Pending.{dropped_if_sent, kept_unless_sent, kept_pending, sent_pending}
 use Rattle.sip_clients.specs.Dialogs.{ended_with, own_ended, served_at}
 use Rattle.sip_clients.specs.SendOutcome.{Outcome, discharged, sending_in, happens_by_sending}
 use Rattle.sip_held_dialogs.proofs.Heard.{AreApart, Grows, Keeps, Leads, Life, in_one, keeps_same, keeps_then, leads_changed, leads_filtered, leads_removed, leads_same, leads_then, quiet}
@@ -74,8 +74,8 @@ owed_keeps event pending offer held =
 
 pub paid_keeps : (event : Event) (pending : PendingRequest) (content : Content) (held : HeldDialog)
     → Keeps None (discharge_life pending (Some content) held.dialog) held
-    (paid event pending content held).0
-unfolding paid
+    (sent_pending event pending content held).0
+unfolding sent_pending
 paid_keeps event pending content held =
     let done = discharged event pending (Some content) held in
     keeps_then None (discharge_life pending (Some content) held.dialog) held done.0

@@ -51,7 +51,7 @@ use Rattle.sip_clients.specs.ClientStory.{ClientStory, client_told, is_provision
 use Rattle.sip_clients.specs.ClientTelling.{ClientStories, AreTold, HoldsStories, ack_told, begin_story, begin_stories, cancel_told, for_dialog, happens_to, in_dialog_told, invite_owed, invite_told, lost_told, plain_told, ticked_told}
 use Rattle.sip_clients.specs.Clients.{ack_by_user, ack_kept, ack_paid, acked_with, invite_taken, lost_of, paid_or_refused, plain_taken, prack_by_user, prack_paid, request_by_user, request_lost, settled, started}
 use Rattle.sip_clients.specs.Commands.{bye_ended, pending_for, is_bad_outside, name_in, request_in_held, request_refusals, requested_at, sent_unless}
-use Rattle.sip_clients.specs.Pending.{paid}
+use Rattle.sip_clients.specs.Pending.{sent_pending}
 use Rattle.sip_clients.specs.Dialogs.{paid_at, served_at}
 use Rattle.sip_clients.specs.OwnCall.{on_side}
 use Rattle.sip_clients.specs.Outputs.{ack_said, kind_in, request_said, sent_ack, start_command}
@@ -215,8 +215,8 @@ service_born created_by None sending is = is
 service_born created_by (Some fault) sending is = tt
 
 paid_born : (event : Event) (pending : PendingRequest) (content : Content) (held : HeldDialog)
-    → IsBorn held.created_by (paid event pending content held).1
-unfolding paid discharged
+    → IsBorn held.created_by (sent_pending event pending content held).1
+unfolding sent_pending discharged
 paid_born event (Ack invite number) content held =
     service_born held.created_by (ack_fault held.dialog) _ refl
 paid_born event (Prack rseq number) content held =
@@ -240,7 +240,7 @@ prack_holds event command side stories told =
         let said = request_said event command.call_id name done.1 in
         let after = settled event event.id said.1 side.clients in
         said_on event name side.dialogs command.call_id done.1 [] side.clients stories
-        (served_born event name side.dialogs (paid event pending command.content) outcome.Waits
+        (served_born event name side.dialogs (sent_pending event pending command.content) outcome.Waits
         (paid_born event pending command.content) (λ created_by. tt)) tt told
         ∙ (λ i. lived (begin_stories (for_dialog event name side.dialogs)
         (append-nil (said.0 ++ after.1) i) stories))

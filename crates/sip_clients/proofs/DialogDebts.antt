@@ -27,7 +27,7 @@ use Rattle.sip_clients.specs.declared.send_outcome.SendOutcome.TheVariants.{Sent
 use Rattle.sip_clients.specs.Client.{Side}
 use Rattle.sip_clients.specs.Clients.{lost_of}
 use Rattle.sip_clients.specs.Commands.{bye_ended}
-use Rattle.sip_clients.specs.Pending.{dropped_if_sent, is_same_pending, kept_unless_sent, kept_pending, paid}
+use Rattle.sip_clients.specs.Pending.{dropped_if_sent, is_same_pending, kept_unless_sent, kept_pending, sent_pending}
 use Rattle.sip_clients.specs.Dialogs.{accepted_in, ended_with, own_ended}
 use Rattle.sip_clients.specs.Outputs.{ack_said}
 use Rattle.sip_clients.specs.Owing.{is_direct, is_of_prack}
@@ -134,10 +134,10 @@ owed_adds event pending offer held =
 
 pub paid_drops : (event : Event) (pending : PendingRequest) (content : Content) (held : HeldDialog)
     → OwesStill
-    (λ pending_requests. if goes (paid event pending content held).1 then all_but pending
+    (λ pending_requests. if goes (sent_pending event pending content held).1 then all_but pending
     pending_requests else pending_requests)
-    (Some held) (Some (paid event pending content held).0)
-unfolding paid
+    (Some held) (Some (sent_pending event pending content held).0)
+unfolding sent_pending
 paid_drops event pending content held =
     let done = discharged event pending (Some content) held in
     let kept = discharged_kept event pending (Some content) held in
@@ -200,7 +200,7 @@ module _ (name own : DialogId) (event : Event) (held : HeldDialog)
     prack_owes rseq number offer = prack_discharged rseq number offer
 
     pub prack_pays : (rseq number : ℕ) (content : Content)
-        → list_any is_of_prack (service_cseqs name (paid event (Prack rseq number) content held).1)
-        ≡ goes (paid event (Prack rseq number) content held).1
-    unfolding paid
+        → list_any is_of_prack (service_cseqs name (sent_pending event (Prack rseq number) content held).1)
+        ≡ goes (sent_pending event (Prack rseq number) content held).1
+    unfolding sent_pending
     prack_pays rseq number content = prack_discharged rseq number (Some content)

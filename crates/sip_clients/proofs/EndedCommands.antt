@@ -34,7 +34,7 @@ use Rattle.sip_clients.specs.Cancel.{asked, cancel_by_user, cancel_case, cancell
 use Rattle.sip_clients.specs.Client.{Clients, ClientTaken, Side, client_at, client_changed, client_for}
 use Rattle.sip_clients.specs.Clients.{ack_by_user, ack_paid, invite_taken, plain_taken, prack_by_user, prack_paid, request_by_user, settled, started}
 use Rattle.sip_clients.specs.Commands.{bye_ended, pending_for, is_bad_outside, name_in, request_in_held, request_refusals, requested_at, sent_unless}
-use Rattle.sip_clients.specs.Pending.{paid}
+use Rattle.sip_clients.specs.Pending.{sent_pending}
 use Rattle.sip_clients.specs.Dialogs.{paid_at, served_at}
 use Rattle.sip_clients.specs.Outputs.{request_said, start_command}
 use Rattle.sip_clients.specs.Outside.{plain_of}
@@ -208,7 +208,7 @@ paid_held : (name : DialogId) (event : Event) (pending : PendingRequest) (comman
     → is_some (dialog_at other (paid_at name event pending command.content dialogs).0)
     ≡ is_some (dialog_at other dialogs)
 paid_held name event pending command dialogs other =
-    let serve = paid event pending command.content in
+    let serve = sent_pending event pending command.content in
     ap (λ dialogs. is_some (dialog_at other dialogs)) (served_dialogs name serve Waits dialogs)
     ∙ changed_held name (λ held. (serve held).0) dialogs other
 
@@ -222,10 +222,10 @@ ack_goes event command side =
     let name = name_in command.local_tag command.remote_tag in
     paid_either (Keeps side) event command (ack_paid event command name) side
     (pending_for kind.Ack name side.dialogs) (λ refusal. goes_same side.dialogs _ refl)
-    (λ pending. let paid = paid_at name event pending command.content side.dialogs in
-    goes_kept side.dialogs paid.0 (ack_paid event command name pending side).1
+    (λ pending. let sent_pending = paid_at name event pending command.content side.dialogs in
+    goes_kept side.dialogs sent_pending.0 (ack_paid event command name pending side).1
     (paid_held name event pending command side.dialogs)
-    (ack_silent event command.call_id paid.1))
+    (ack_silent event command.call_id sent_pending.1))
 
 pub prack_goes : (event : Event) (command : DialogBody) (side : Side)
     → Keeps side (prack_by_user event command side)
@@ -233,12 +233,12 @@ prack_goes event command side =
     let name = name_in command.local_tag command.remote_tag in
     paid_either (Keeps side) event command (prack_paid event command name) side
     (pending_for kind.Prack name side.dialogs) (λ refusal. goes_same side.dialogs _ refl)
-    (λ pending. let paid = paid_at name event pending command.content side.dialogs in
-    let said = request_said event command.call_id name paid.1 in
-    goes_kept side.dialogs paid.0 (prack_paid event command name pending side).1
+    (λ pending. let sent_pending = paid_at name event pending command.content side.dialogs in
+    let said = request_said event command.call_id name sent_pending.1 in
+    goes_kept side.dialogs sent_pending.0 (prack_paid event command name pending side).1
     (paid_held name event pending command side.dialogs)
     (silent_both said.0 (settled event event.id said.1 side.clients).1
-    (request_silent event command.call_id name paid.1)
+    (request_silent event command.call_id name sent_pending.1)
     (settled_silent event event.id said.1 side.clients)))
 
 -- ---- a CANCEL

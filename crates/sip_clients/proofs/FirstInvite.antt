@@ -15,7 +15,7 @@ use Rattle.sip_held_dialogs.specs.declared.held_dialog.DialogReference.{DialogRe
 use Rattle.sip_held_dialogs.specs.declared.held_dialog.HeldDialog.{HeldDialog}
 use Rattle.sip_user.specs.declared.item.CallOut.{CallOut}
 use Rattle.sip_held_dialogs.specs.Ids.{is_id}
-use Rattle.sip_clients.specs.Provisionals.{in_life, is_response, told_of}
+use Rattle.sip_clients.specs.Provisionals.{in_life, is_response, reported_in}
 use Rattle.sip_held_dialogs.proofs.Heard.{Goes, Life}
 use Rattle.sip_clients.proofs.Hearing.{Hears, Listens, Silent}
 use Rattle.sip_clients.specs.declared.client.Client.{Client}
@@ -75,15 +75,15 @@ none_in_life false = refl
 
 pub no_number : (Begins : Type 0) (b : Bool) (before after : Option (Option ℕ))
     (outs : List CallOut) → Silent Begins before after
-    → Listens Begins before after (in_life b None) (told_of (in_life b None) outs)
+    → Listens Begins before after (in_life b None) (reported_in (in_life b None) outs)
 no_number Begins b before after outs silent =
-    subst (λ o. Listens Begins before after o (told_of o outs)) (sym (none_in_life b))
+    subst (λ o. Listens Begins before after o (reported_in o outs)) (sym (none_in_life b))
     (silent, refl)
 
 -- ---- what is told last is no response
 
 told_also : (number : ℕ) (outs : List CallOut) (out : CallOut) → is_response out ≡ false
-    → told_of (Some number) (outs ++ out ∷ []) ≡ told_of (Some number) outs
+    → reported_in (Some number) (outs ++ out ∷ []) ≡ reported_in (Some number) outs
 told_also number [] out none = ap (λ b. map (λ o. number) (if b then out ∷ [] else [])) none
 told_also number (first ∷ outs) out none =
     elim (is_response first) as (λ b.
@@ -96,15 +96,15 @@ told_also number (first ∷ outs) out none =
     ]
 
 pub told_more : (number : Option ℕ) (outs : List CallOut) (out : CallOut)
-    → is_response out ≡ false → told_of number (outs ++ out ∷ []) ≡ told_of number outs
+    → is_response out ≡ false → reported_in number (outs ++ out ∷ []) ≡ reported_in number outs
 told_more None outs out none = refl
 told_more (Some number) outs out none = told_also number outs out none
 
 -- the user isn't told of a CANCEL that may go out last
 pub told_beside : (number : Option ℕ) (command : Option Id) (cancelled : Client)
     (done : Clients × List CallOut)
-    → told_of number (sent_beside (option_map (λ id. cancel_client id cancelled) command) done).1
-    ≡ told_of number done.1
+    → reported_in number (sent_beside (option_map (λ id. cancel_client id cancelled) command) done).1
+    ≡ reported_in number done.1
 unfolding start_command
 told_beside number None cancelled done = refl
 told_beside number (Some id) cancelled done =
@@ -115,15 +115,15 @@ told_beside number (Some id) cancelled done =
 -- if it is taken
 taken_held : (event : Option Id) (life : DialogReference) (number : ℕ) (Opens : Opening → Type 0)
     (lived : Life) (begun : List Happening) (before : Option HeldDialog) (after : HeldDialog)
-    (shown : List ℕ)
+    (reported : List ℕ)
     → Goes event Opens (Some number) lived begun before (Some after)
     → is_id after.created_by life.created_by ≡ true
-    → offered (option_and_then (λ held. held.last_rseq) before) number ≡ Taken → shown ≡ number ∷ []
+    → offered (option_and_then (λ held. held.last_rseq) before) number ≡ Taken → reported ≡ number ∷ []
     → Hears (event ≡ Some life.created_by) (ear_in life before) (ear_in life (Some after)) number
-    shown
-taken_held event life number Opens lived begun None after shown (inl stays) own offer is =
+    reported
+taken_held event life number Opens lived begun None after reported (inl stays) own offer is =
     absurd stays
-taken_held event life number Opens lived begun (Some held) after shown (inl stays) own offer is =
+taken_held event life number Opens lived begun (Some held) after reported (inl stays) own offer is =
     record {
       last = held.last_rseq;
       was = inl (λ i. if (ap (λ id. is_id id life.created_by) (sym stays.0) ∙ own) i
@@ -131,7 +131,7 @@ taken_held event life number Opens lived begun (Some held) after shown (inl stay
       now = inr (λ i. if own i then Some (stays.1 i) else None);
       shows = is ∙ ap (λ o. taken o number) (sym offer);
     }
-taken_held event life number Opens lived begun before after shown (inr begins) own offer is =
+taken_held event life number Opens lived begun before after reported (inr begins) own offer is =
     record {
       last = None;
       was =
@@ -147,7 +147,7 @@ pub taken_so : (event : Option Id) (life : DialogReference) (number : ℕ) (Open
     → offered (option_and_then (λ held. held.last_rseq) before) number ≡ Taken
     → map (λ out. number) (filter is_response outs) ≡ number ∷ []
     → Listens (event ≡ Some life.created_by) (ear_in life before) (ear_in life after)
-    (in_life b (Some number)) (told_of (in_life b (Some number)) outs)
+    (in_life b (Some number)) (reported_in (in_life b (Some number)) outs)
 taken_so event life number Opens lived begun before after false outs own goes offer is =
     (inl (deaf life after own), refl)
 taken_so event life number Opens lived begun before None true outs own goes offer is = absurd cc
@@ -162,7 +162,7 @@ pub passed_so : (Begins : Type 0) (life : DialogReference) (number : ℕ) (held 
     ≡ []
     → ((last : Option ℕ) → latest_after offer last number ≡ last)
     → Listens Begins (ear_in life held) (ear_in life held) (in_life b (Some number))
-    (told_of (in_life b (Some number)) [])
+    (reported_in (in_life b (Some number)) [])
 passed_so Begins life number held offer false own is none same = (inl (deaf life held own), refl)
 passed_so Begins life number None offer true own is none same = absurd cc
 passed_so Begins life number (Some held) offer true own is none same =

@@ -27,7 +27,7 @@ use Rattle.sip_clients.specs.Outputs.{start_command}
 use Rattle.sip_clients.specs.Replied.{Replied, after_dialog, by_reply_case, ends_dialog, request_over, prack_owed, reply_taken, told_of_prack}
 use Rattle.sip_clients.specs.ReceivedResponse.{is_last, offer_case, reliable_case, reply_case, rseq_of, success_case}
 use Rattle.sip_clients.specs.Dialogs.{dialog_for_provisional}
-use Rattle.sip_clients.specs.Provisionals.{in_life, is_response, provisional_number, told_of}
+use Rattle.sip_clients.specs.Provisionals.{in_life, is_response, provisional_number, reported_in}
 use Rattle.sip_clients.proofs.CommandDialogs.{ended_leads}
 use Rattle.sip_clients.proofs.ReplyDialogs.{Answered, IsNamedSo, case_begun, case_life, case_moves, first_name, heard_number, may_make, reply_names, start, unnamed_unheard}
 use Rattle.sip_held_dialogs.proofs.Entries as entries
@@ -97,7 +97,7 @@ module _ (event : Option Id) (life : DialogReference) (client : Client) (answer 
       AreApart done.1
       × Listens (event ≡ Some life.created_by) (ear_in life before)
       (ear_in life (dialog_at life.name done.1)) (in_life (lives done.1 life) number)
-      (told_of (in_life (lives done.1 life) number) (given answer done clients))
+      (reported_in (in_life (lives done.1 life) number) (given answer done clients))
 
   abbrev found : Option HeldDialog
   found = dialog_at answer.name dialogs

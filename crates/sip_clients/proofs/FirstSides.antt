@@ -31,10 +31,10 @@ use Rattle.sip_clients.specs.Client.{Clients, Side, ClientTaken, client_at}
 use Rattle.sip_clients.specs.Clients.{ack_paid, ack_by_user, found_taken, lost_of, paid_or_refused, prack_paid, prack_by_user, reply_name, reply_of, reply_settled, request_by_user, settled, side_after, response_taken, status_of}
 use Rattle.sip_clients.specs.declared.pending.PendingKind.TheVariants as kind
 use Rattle.sip_clients.specs.Commands.{bye_ended, pending_for, name_in, request_in_held, requested_at}
-use Rattle.sip_clients.specs.Pending.{paid}
+use Rattle.sip_clients.specs.Pending.{sent_pending}
 use Rattle.sip_clients.specs.Dialogs.{paid_at}
 use Rattle.sip_clients.specs.Replied.{Replied, reply_taken}
-use Rattle.sip_clients.specs.Provisionals.{OfTheCall, in_life, is_for, number_for, provisional_number, told_of}
+use Rattle.sip_clients.specs.Provisionals.{OfTheCall, in_life, is_for, number_for, provisional_number, reported_in}
 use Rattle.sip_clients.proofs.CommandDialogs.{bye_leads, ended_leads, paid_keeps, request_keeps, served_leads}
 use Rattle.sip_clients.proofs.ReplyDialogs.{heard_number}
 use Rattle.sip_clients.proofs.FirstInvite.{ear_in, no_number, none_in_life, silent_from, told_beside}
@@ -67,7 +67,7 @@ module _ (life : DialogReference) where
   abbrev pub ResultOf : Option Id → Dialogs → Dialogs → Option ℕ → List CallOut → Type 0
   ResultOf event before after number outs =
       AreApart after × Listens (event ≡ Some life.created_by) (ear before) (ear after)
-      (in_life (lives after life) number) (told_of (in_life (lives after life) number) outs)
+      (in_life (lives after life) number) (reported_in (in_life (lives after life) number) outs)
 
   pub silent_moves : (event : Option Id) (start : Option Opening) (lived : Lives)
       (begun : DialogId → List Happening) (before after : Dialogs) (outs : List CallOut)
@@ -122,8 +122,8 @@ module _ (life : DialogReference) where
         let settles = settled event id done.3 (set_value (is_id id) side.clients done.0) in
         let came = in_life (lives done.1 life) number in (
           so.0,
-          subst (λ shown. Listens (call ≡ Some life.created_by) (ear side.dialogs) (ear done.1) came
-              shown)
+          subst (λ reported. Listens (call ≡ Some life.created_by) (ear side.dialogs) (ear done.1) came
+              reported)
               (sym (told_beside came command cancelled (settles.0, done.2 ++ settles.1))) so.1,
         )
 
@@ -217,7 +217,7 @@ pub pay_leads : (event : Event) (command : DialogBody) (pending : PendingRequest
     (paid_at (name_in command.local_tag command.remote_tag) event pending command.content dialogs).0
 pay_leads event command pending dialogs apart =
     served_leads (name_in command.local_tag command.remote_tag)
-    (paid event pending command.content) Waits
+    (sent_pending event pending command.content) Waits
     (λ held. discharge_life pending (Some command.content) held.dialog)
     (paid_keeps event pending command.content) dialogs apart
 

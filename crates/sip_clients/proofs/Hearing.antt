@@ -20,15 +20,15 @@ Silent Begins before after = (after ≡ None) ⊎ ((after ≡ before) ⊎ (Begin
 
 -- a number came, in a life that goes on or begins
 pub record Hears (Begins : Type 0) (before after : Option (Option ℕ)) (number : ℕ)
-    (shown : List ℕ) : Type 0 where
+    (reported : List ℕ) : Type 0 where
   pub last : Option ℕ
   pub was : (before ≡ Some last) ⊎ (Begins × (last ≡ None))
   pub now : (after ≡ None) ⊎ (after ≡ Some (latest_after (offered last number) last number))
-  pub shows : shown ≡ taken (offered last number) number
+  pub shows : reported ≡ taken (offered last number) number
 
 abbrev pub Listens : Type 0 → Option (Option ℕ) → Option (Option ℕ) → Option ℕ → List ℕ → Type 0
-Listens Begins before after None shown = Silent Begins before after × (shown ≡ [])
-Listens Begins before after (Some number) shown = Hears Begins before after number shown
+Listens Begins before after None reported = Silent Begins before after × (reported ≡ [])
+Listens Begins before after (Some number) reported = Hears Begins before after number reported
 
 -- ---- ids
 
@@ -62,20 +62,20 @@ apart_now created_by (Some id) rest apart = (
 )
 
 abbrev InOrderFrom : List ℕ → List ℕ → List ℕ → Type 0
-InOrderFrom before shown came = in_order before ++ shown ≡ in_order (before ++ came)
+InOrderFrom before reported came = in_order before ++ reported ≡ in_order (before ++ came)
 
 -- the life is over, or this is the latest number
 abbrev Heard : Option (Option ℕ) → List ℕ → Type 0
 Heard ear before = (ear ≡ None) ⊎ (ear ≡ Some (latest before))
 
 -- one number more
-one_more : (before : List ℕ) (last : Option ℕ) (n : ℕ) (now shown came : List ℕ)
+one_more : (before : List ℕ) (last : Option ℕ) (n : ℕ) (now reported came : List ℕ)
     → last ≡ latest before → now ≡ taken (offered last n) n
-    → InOrderFrom (before ++ n ∷ []) shown came → InOrderFrom before (now ++ shown) (n ∷ came)
-one_more before last n now shown came is shown_now later =
-    ap (λ xs. in_order before ++ (xs ++ shown)) shown_now
-    ∙ sym (append_assoc (in_order before) (taken (offered last n) n) shown)
-    ∙ ap (λ xs. xs ++ shown) (sym (takes last (offered last n) before n refl is))
+    → InOrderFrom (before ++ n ∷ []) reported came → InOrderFrom before (now ++ reported) (n ∷ came)
+one_more before last n now reported came is shown_now later =
+    ap (λ xs. in_order before ++ (xs ++ reported)) shown_now
+    ∙ sym (append_assoc (in_order before) (taken (offered last n) n) reported)
+    ∙ ap (λ xs. xs ++ reported) (sym (takes last (offered last n) before n refl is))
     ∙ later ∙ ap in_order (append_assoc before (n ∷ []) came)
 
 last_is : (before : List ℕ) (ear : Option (Option ℕ)) (last : Option ℕ) → Heard ear before
@@ -101,15 +101,15 @@ still_heard Begins before old new never last_rseq (inr (inr begins)) = absurd (n
 
 -- in the life
 in_life : (Begins : Type 0) (before : List ℕ) (old new : Option (Option ℕ)) (o : Option ℕ)
-    (now shown came : List ℕ) → (Begins → ⊥) → Heard old before → Listens Begins old new o now
-    → ((so_far : List ℕ) → Heard new so_far → InOrderFrom so_far shown came)
-    → InOrderFrom before (now ++ shown) (option_to_list o ++ came)
-in_life Begins before old new None now shown came never last_rseq silent later =
-    subst (λ xs. InOrderFrom before (xs ++ shown) came) (sym silent.1)
+    (now reported came : List ℕ) → (Begins → ⊥) → Heard old before → Listens Begins old new o now
+    → ((so_far : List ℕ) → Heard new so_far → InOrderFrom so_far reported came)
+    → InOrderFrom before (now ++ reported) (option_to_list o ++ came)
+in_life Begins before old new None now reported came never last_rseq silent later =
+    subst (λ xs. InOrderFrom before (xs ++ reported) came) (sym silent.1)
     (later before (still_heard Begins before old new never last_rseq silent.0))
-in_life Begins before old new (Some n) now shown came never last_rseq hears later =
+in_life Begins before old new (Some n) now reported came never last_rseq hears later =
     let is : hears.last ≡ latest before = by_was hears.was in
-    one_more before hears.last n now shown came is hears.shows
+    one_more before hears.last n now reported came is hears.shows
     (later (before ++ n ∷ []) (heard_next before n hears.last new is hears.now))
   where
     by_was : ((old ≡ Some hears.last) ⊎ (Begins × (hears.last ≡ None))) → hears.last ≡ latest before
@@ -118,26 +118,26 @@ in_life Begins before old new (Some n) now shown came never last_rseq hears late
 
 -- before it
 before_life : (Begins : Type 0) (old new : Option (Option ℕ)) (o : Option ℕ)
-    (now shown came : List ℕ) → old ≡ None → Listens Begins old new o now
-    → (Begins → (so_far : List ℕ) → Heard new so_far → InOrderFrom so_far shown came)
-    → (new ≡ None → InOrderFrom [] shown came)
-    → InOrderFrom [] (now ++ shown) (option_to_list o ++ came)
-before_life Begins old new None now shown came none silent begun later =
-    subst (λ xs. InOrderFrom [] (xs ++ shown) came) (sym silent.1) (by_silence silent.0)
+    (now reported came : List ℕ) → old ≡ None → Listens Begins old new o now
+    → (Begins → (so_far : List ℕ) → Heard new so_far → InOrderFrom so_far reported came)
+    → (new ≡ None → InOrderFrom [] reported came)
+    → InOrderFrom [] (now ++ reported) (option_to_list o ++ came)
+before_life Begins old new None now reported came none silent begun later =
+    subst (λ xs. InOrderFrom [] (xs ++ reported) came) (sym silent.1) (by_silence silent.0)
   where
-    by_silence : Silent Begins old new → InOrderFrom [] shown came
+    by_silence : Silent Begins old new → InOrderFrom [] reported came
     by_silence (inl gone) = later gone
     by_silence (inr (inl same)) = later (same ∙ none)
     by_silence (inr (inr begins)) = begun begins.0 [] (inr begins.1)
-before_life Begins old new (Some n) now shown came none hears begun later = by_was hears.was
+before_life Begins old new (Some n) now reported came none hears begun later = by_was hears.was
   where
     by_was : ((old ≡ Some hears.last) ⊎ (Begins × (hears.last ≡ None)))
-        → InOrderFrom [] (now ++ shown) (n ∷ came)
+        → InOrderFrom [] (now ++ reported) (n ∷ came)
     by_was (inl is) = absurd (never (sym none ∙ is))
       where
         never : None ≡ Some hears.last → ⊥
         never e = absurd cc
-    by_was (inr begins) = one_more [] hears.last n now shown came begins.1 hears.shows
+    by_was (inr begins) = one_more [] hears.last n now reported came begins.1 hears.shows
         (begun begins.0 (n ∷ []) (heard_next [] n hears.last new begins.1 hears.now))
 
 -- ---- all inputs

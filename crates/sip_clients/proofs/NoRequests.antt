@@ -16,7 +16,7 @@ use Rattle.sip_user.specs.declared.item.CallOut.{CallOut}
 use Rattle.sip_user.specs.declared.refusal.Refusal.TheVariants.{BadMethod}
 use Rattle.sip_held_dialogs.specs.Requests.{is_final}
 use Rattle.sip_held_dialogs.specs.Ids.{is_id}
-use Rattle.sip_held_dialogs.proofs.ToldRequests.{none_of_both, shown}
+use Rattle.sip_held_dialogs.proofs.ToldRequests.{none_of_both, reported}
 use Rattle.sip_clients.specs.declared.cancel.CancelCase.{CancelCase}
 use Rattle.sip_clients.specs.declared.cancel.CancelCase.TheVariants as ask
 use Rattle.sip_clients.specs.declared.client.RequestKind.TheVariants.{OutOfDialog}
@@ -44,19 +44,19 @@ use Rattle.sip_clients.proofs.Served.{paid_either}
 -- ---- what is sent
 
 start_asks : (event : Event) (client : Client) (clients : Clients)
-    → shown (started event client clients).1 ≡ []
+    → reported (started event client clients).1 ≡ []
 unfolding start_command
 start_asks event client clients = refl
 
 settled_asks : (event : Event) (id : Id) (change : ClientChange) (clients : Clients)
-    → shown (settled event id change clients).1 ≡ []
+    → reported (settled event id change clients).1 ≡ []
 settled_asks event id Stays clients = refl
 settled_asks event id Over clients = refl
 settled_asks event id (Starts client) clients = start_asks event client clients
 
 beside_asks : (freed : Option Id) (invite : Client) (done : Clients × List CallOut)
-    → shown done.1 ≡ []
-    → shown (sent_beside (option_map (λ id. cancel_client id invite) freed) done).1 ≡ []
+    → reported done.1 ≡ []
+    → reported (sent_beside (option_map (λ id. cancel_client id invite) freed) done).1 ≡ []
 unfolding start_command
 beside_asks None invite done none = none
 beside_asks (Some id) invite done none =
@@ -65,7 +65,7 @@ beside_asks (Some id) invite done none =
 -- ---- a response
 
 replied_asks : (answer : ReceivedResponse) (client : Client) (side : Side)
-    → shown (reply_settled answer client side).1 ≡ []
+    → reported (reply_settled answer client side).1 ≡ []
 replied_asks answer client side =
     let final = is_final answer.status in
     let done = reply_taken (after_response final client) side.dialogs answer in
@@ -79,7 +79,7 @@ replied_asks answer client side =
 
 found_asks : (event : Event) (id : Id) (call_id : List ℕ) (response : Message)
     (status : Option ℕ) (found : Option Client) (side : Side)
-    → shown (found_taken event id call_id response status found side).1 ≡ []
+    → reported (found_taken event id call_id response status found side).1 ≡ []
 found_asks event id call_id response None found side = refl
 found_asks event id call_id response (Some status) None side = refl
 found_asks event id call_id response (Some status) (Some client) side =
@@ -87,7 +87,7 @@ found_asks event id call_id response (Some status) (Some client) side =
     response) client side
 
 pub response_asks : (event : Event) (id : Id) (call_id : List ℕ) (response : Message)
-    (side : Side) → shown (response_taken event id call_id response side).1 ≡ []
+    (side : Side) → reported (response_taken event id call_id response side).1 ≡ []
 response_asks event id call_id response side =
     found_asks event id call_id response (status_of response.start) (client_at id side.clients)
     side
@@ -95,24 +95,24 @@ response_asks event id call_id response side =
 -- ---- a request that is lost, and a tick
 
 pub lost_asks : (id : Id) (timed_out : Bool) (side : Side)
-    → shown (request_lost id timed_out side).1 ≡ []
+    → reported (request_lost id timed_out side).1 ≡ []
 lost_asks id timed_out side =
     let found = client_at id side.clients in
     none_shown (lost_of id timed_out found side).1 (lost_quiet id timed_out found side)
 
-pub tick_asks : (side : Side) (now : ℕ) → shown (clients_ticked side now).1 ≡ []
+pub tick_asks : (side : Side) (now : ℕ) → reported (clients_ticked side now).1 ≡ []
 tick_asks side now =
     none_shown (clients_ticked side now).1 (tick_quiet now side.dialogs side.clients)
 
 -- ---- commands
 
 pub invite_asks : (event : Event) (invite : Invite) (clients : Clients)
-    → shown (invite_taken event invite clients).1 ≡ []
+    → reported (invite_taken event invite clients).1 ≡ []
 unfolding start_command
 invite_asks event invite clients = refl
 
 plain_by : (b : Bool) (event : Event) (plain : PlainCommand) (clients : Clients)
-    → shown (cond {A = Clients × List CallOut} b
+    → reported (cond {A = Clients × List CallOut} b
     (clients, refused event.id plain.call_id BadMethod)
     (started event (client_for event.id OutOfDialog (plain_of event plain) plain.address)
     clients)).1
@@ -122,11 +122,11 @@ plain_by false event plain clients =
     start_asks event (client_for event.id OutOfDialog (plain_of event plain) plain.address) clients
 
 pub plain_asks : (event : Event) (plain : PlainCommand) (clients : Clients)
-    → shown (plain_taken event plain clients).1 ≡ []
+    → reported (plain_taken event plain clients).1 ≡ []
 plain_asks event plain clients = plain_by (is_bad_outside plain.method) event plain clients
 
 pub request_asks : (event : Event) (command : DialogRequest) (side : Side)
-    → shown (request_by_user event command side).1 ≡ []
+    → reported (request_by_user event command side).1 ≡ []
 request_asks event command side =
     let name = name_in command.local_tag command.remote_tag in
     let done = requested_at name event command side.dialogs in
@@ -141,29 +141,29 @@ request_asks event command side =
 
 prack_paid_asks : (event : Event) (command : DialogBody) (name : DialogId)
     (pending : PendingRequest)
-    (side : Side) → shown (prack_paid event command name pending side).1 ≡ []
+    (side : Side) → reported (prack_paid event command name pending side).1 ≡ []
 prack_paid_asks event command name pending side =
-    let paid = paid_at name event pending command.content side.dialogs in
-    let said = request_said event command.call_id name paid.1 in
+    let sent_pending = paid_at name event pending command.content side.dialogs in
+    let said = request_said event command.call_id name sent_pending.1 in
     none_of_both said.0 (settled event event.id said.1 side.clients).1
-    (none_shown said.0 (request_said_quiet event command.call_id name paid.1))
+    (none_shown said.0 (request_said_quiet event command.call_id name sent_pending.1))
     (settled_asks event event.id said.1 side.clients)
 
 pub ack_command_asks : (event : Event) (command : DialogBody) (side : Side)
-    → shown (ack_by_user event command side).1 ≡ []
+    → reported (ack_by_user event command side).1 ≡ []
 ack_command_asks event command side =
     none_shown (ack_by_user event command side).1 (ack_quiet event command side)
 
 pub prack_command_asks : (event : Event) (command : DialogBody) (side : Side)
-    → shown (prack_by_user event command side).1 ≡ []
+    → reported (prack_by_user event command side).1 ≡ []
 prack_command_asks event command side =
     let name = name_in command.local_tag command.remote_tag in
-    paid_either (λ taken. shown taken.1 ≡ []) event command (prack_paid event command name) side
+    paid_either (λ taken. reported taken.1 ≡ []) event command (prack_paid event command name) side
     (pending_for kind.Prack name side.dialogs) (λ refusal. refl)
     (λ pending. prack_paid_asks event command name pending side)
 
 cancel_by : (as_case : CancelCase) (event : Event) (command : Cancel) (invite : Client)
-    (clients : Clients) → shown (cancelled_as as_case event command invite clients).1 ≡ []
+    (clients : Clients) → reported (cancelled_as as_case event command invite clients).1 ≡ []
 cancel_by (ask.Refused refusal) event command invite clients = refl
 cancel_by ask.Repeated event command invite clients = refl
 cancel_by ask.Waits event command invite clients = refl
@@ -172,12 +172,12 @@ cancel_by ask.Starts event command invite clients =
     (client_changed command.id (asked cancel.Sent) clients, []) refl
 
 cancel_found : (found : Option Client) (event : Event) (command : Cancel) (clients : Clients)
-    → shown (cancelled_of found event command clients).1 ≡ []
+    → reported (cancelled_of found event command clients).1 ≡ []
 cancel_found None event command clients = refl
 cancel_found (Some invite) event command clients =
     cancel_by (cancel_case invite) event command invite clients
 
 pub cancel_asks : (event : Event) (command : Cancel) (side : Side)
-    → shown (cancel_by_user event command side).1 ≡ []
+    → reported (cancel_by_user event command side).1 ≡ []
 cancel_asks event command side =
     cancel_found (client_at command.id side.clients) event command side.clients

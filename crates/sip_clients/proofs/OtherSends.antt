@@ -62,7 +62,7 @@ use Rattle.sip_clients.specs.ClientLife.{ack_in, acks_out, cancels_out, requests
 use Rattle.sip_clients.specs.ClientRules.{SendsByStatus, SendsNoAck, SendsNoCancel}
 use Rattle.sip_clients.specs.Clients.{ack_by_user, found_taken, invite_taken, lost_of, paid_or_refused, plain_taken, prack_by_user, prack_paid, reply_name, reply_of, reply_settled, request_by_user, request_lost, response_taken, settled, side_after, started, status_of}
 use Rattle.sip_clients.specs.Commands.{bye_ended, pending_for, is_bad_outside, is_own_kind, name_in, request_in_held, request_refusals, requested_at, sent_unless}
-use Rattle.sip_clients.specs.Pending.{paid}
+use Rattle.sip_clients.specs.Pending.{sent_pending}
 use Rattle.sip_clients.specs.Dialogs.{dialog_for_provisional, ended_with, own_ended, paid_at, served_at}
 use Rattle.sip_clients.specs.OwnCall.{on_side}
 use Rattle.sip_clients.specs.Outputs.{request_said, start_command}
@@ -413,8 +413,8 @@ service_none None sending none = none
 service_none (Some fault) sending none = tt
 
 paid_none : (event : Event) (pending : PendingRequest) (content : Content) (held : HeldDialog)
-    → IsNoCancel (paid event pending content held).1
-unfolding paid discharged with_content_of
+    → IsNoCancel (sent_pending event pending content held).1
+unfolding sent_pending discharged with_content_of
 paid_none event (Ack invite number) content held =
     service_none (ack_fault held.dialog) _ refl
 paid_none event (Prack rseq number) content held =
@@ -433,7 +433,7 @@ prack_no_cancel event command side = by_debt (pending_for kind.Prack name side.d
     by_debt (Ok pending) =
         said_cancels event command.call_id name
         (paid_at name event pending command.content side.dialogs).1 side.clients
-        (served_so name (paid event pending command.content) outcome.Waits side.dialogs
+        (served_so name (sent_pending event pending command.content) outcome.Waits side.dialogs
         (paid_none event pending command.content) tt)
 
 pub prack_no_ack : (event : Event) (command : DialogBody)

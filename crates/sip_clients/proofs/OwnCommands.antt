@@ -124,21 +124,21 @@ ack_paid_own : (event : Event) (command : DialogBody) (name : DialogId) (pending
 ack_paid_own event command name pending side own =
     let call_id = command.call_id in
     let told = ack_asked event name pending command side.dialogs in
-    let paid = paid_at name event pending command.content side.dialogs in
+    let sent_pending = paid_at name event pending command.content side.dialogs in
     let so = paid_own call_id name event pending command.content side.dialogs own.dialogs in
     let after_response = noted_own call_id pending name told.2 side.clients own.clients in (
       record { dialogs = so.0; clients = after_response },
-      ack_said_own call_id event call_id refl paid.1,
+      ack_said_own call_id event call_id refl sent_pending.1,
     )
 
 prack_paid_own : (event : Event) (command : DialogBody) (name : DialogId) (pending : PendingRequest)
     → KeepsTo command.call_id (prack_paid event command name pending)
 prack_paid_own event command name pending side own =
     let call_id = command.call_id in
-    let paid = paid_at name event pending command.content side.dialogs in
+    let sent_pending = paid_at name event pending command.content side.dialogs in
     let so = paid_own call_id name event pending command.content side.dialogs own.dialogs in
-    let said = request_said event call_id name paid.1 in
-    let says = request_said_own call_id event call_id refl name paid.1 so.1 in
+    let said = request_said event call_id name sent_pending.1 in
+    let says = request_said_own call_id event call_id refl name sent_pending.1 so.1 in
     let after = settled event event.id said.1 side.clients in
     let settles = settled_own call_id event event.id said.1 side.clients says.1 own.clients in (
       record { dialogs = so.0; clients = settles.0 },

@@ -29,7 +29,7 @@ use Rattle.sip_clients.specs.declared.send_outcome.OutgoingRequest.{OutgoingRequ
 use Rattle.sip_clients.specs.declared.send_outcome.SendOutcome.{SendOutcome}
 use Rattle.sip_clients.specs.declared.send_outcome.SendOutcome.TheVariants.{Sent, Waits, Refused}
 use Rattle.sip_clients.specs.Commands.{bye_ended, request_in_held, requested_at}
-use Rattle.sip_clients.specs.Pending.{dropped_if_sent, kept_unless_sent, kept_pending, paid}
+use Rattle.sip_clients.specs.Pending.{dropped_if_sent, kept_unless_sent, kept_pending, sent_pending}
 use Rattle.sip_clients.specs.Dialogs.{accepted, ended_with, dialog_for_provisional, own_ended, paid_at, served_at}
 use Rattle.sip_clients.specs.Happenings.{success_brings}
 use Rattle.sip_clients.proofs.ReplyDialogs.{success_keeps}
@@ -116,8 +116,8 @@ module _ (call_id : List ℕ) where
   dropped_own pending (Refused refusal) held own = own
 
   debt_paid_own : (event : Event) (pending : PendingRequest) (content : Content) (held : HeldDialog)
-      → IsDialogOf call_id held → IsOutcomeOf (paid event pending content held)
-  unfolding paid
+      → IsDialogOf call_id held → IsOutcomeOf (sent_pending event pending content held)
+  unfolding sent_pending
   debt_paid_own event pending content held own =
       let done = discharged event pending (Some content) held in
       let so = served_own event pending (Some content) held own in
@@ -154,7 +154,7 @@ module _ (call_id : List ℕ) where
       → AreDialogsOf call_id (paid_at name event pending content dialogs).0
       × IsServiceOf (paid_at name event pending content dialogs).1
   paid_own name event pending content dialogs own =
-      served_at_own name (paid event pending content) Waits (debt_paid_own event pending content) tt
+      served_at_own name (sent_pending event pending content) Waits (debt_paid_own event pending content) tt
       dialogs own
 
   pub requested_at_own : (name : DialogId) (event : Event) (command : DialogRequest)

@@ -27,7 +27,7 @@ use Rattle.sip_clients.specs.Client.{Clients, Side, client_at, ClientTaken}
 use Rattle.sip_clients.specs.Clients.{ack_kept, ack_paid, ack_by_user, prack_paid, prack_by_user, request_settled, request_by_user, settled}
 use Rattle.sip_clients.specs.Commands.{bye_ended, pending_for, name_in, request_in_held, request_refusals, requested_at, sent_unless}
 use Rattle.sip_clients.specs.Dialogs.{paid_at}
-use Rattle.sip_clients.specs.Pending.{dropped_if_sent, paid}
+use Rattle.sip_clients.specs.Pending.{dropped_if_sent, sent_pending}
 use Rattle.sip_clients.specs.Outputs.{ack_said, request_said, start_command}
 use Rattle.sip_clients.specs.SendOutcome.{happens_by_sending, requested, discharged, sending_in, outcome_by}
 use Rattle.sip_clients.specs.declared.cancel.CancelCase.{CancelCase}
@@ -105,9 +105,9 @@ served_same event (pending.Prack rseq number) content held refusal e =
 
 debt_same : (event : Event) (pending_requests : PendingRequest) (content : Content)
     (held : HeldDialog)
-    (refusal : Refusal) → (paid event pending_requests content held).1 ≡ Refused refusal
-    → (paid event pending_requests content held).0 ≡ held
-unfolding paid
+    (refusal : Refusal) → (sent_pending event pending_requests content held).1 ≡ Refused refusal
+    → (sent_pending event pending_requests content held).0 ≡ held
+unfolding sent_pending
 debt_same event pending_requests content held refusal e =
     ap (λ outcome. dropped_if_sent pending_requests outcome
     (discharged event pending_requests (Some content) held).0) e
@@ -170,7 +170,7 @@ module _ (event : Event) (side : Side) where
       → Keeps (paid_at name event pending_requests content side.dialogs).0
       (paid_at name event pending_requests content side.dialogs).1
   paid_same name pending_requests content refusal =
-      refused_same name (paid event pending_requests content) Waits side.dialogs refusal
+      refused_same name (sent_pending event pending_requests content) Waits side.dialogs refusal
       (λ held. debt_same event pending_requests content held refusal)
 
   abbrev ack_done : DialogId → DialogBody → PendingRequest → Dialogs → SendOutcome → ClientTaken

@@ -397,8 +397,8 @@ module _ (event : Event) (id : Id) (call_id : List ℕ) (response : Message) (st
       ∙ or_false (list_any is_response done.2)
 
   abbrev takes_by : Bool → Bool → Bool → Option ℕ → List ClientHappening
-  takes_by there shown of_dialog rseq =
-      if there && shown
+  takes_by there reported of_dialog rseq =
+      if there && reported
       then option_map_or (λ rseq. TakesReliable rseq ∷ []) (if of_dialog then rseq else None) []
       else []
 
@@ -423,8 +423,8 @@ module _ (event : Event) (id : Id) (call_id : List ℕ) (response : Message) (st
       then option_map_or (λ rseq. TakesReliable rseq ∷ []) (number_so final i) [] else []) ∙ same))
       so
 
-  none_taken : (there shown : Bool) → takes_by there shown false (rseq_of response) ≡ []
-  none_taken there shown = none_either (there && shown)
+  none_taken : (there reported : Bool) → takes_by there reported false (rseq_of response) ≡ []
+  none_taken there reported = none_either (there && reported)
 
   by_offer : is_final status ≡ false → is_dialog_response answer ≡ true
       → has_dialog client.kind found ≡ true → (rseq : ℕ) → rseq_of response ≡ Some rseq

@@ -54,7 +54,7 @@ use Rattle.sip_clients.specs.Cancel.{asked, asking_case, cancel_by_user, cancell
 use Rattle.sip_clients.specs.Client.{Clients, ClientTaken, Side, client_at, client_changed, client_for}
 use Rattle.sip_clients.specs.Clients.{ack_by_user, ack_kept, ack_paid, invite_taken, paid_or_refused, plain_taken, prack_by_user, prack_paid, request_by_user, request_settled, settled}
 use Rattle.sip_clients.specs.Commands.{bye_ended, debt_or_refusal, is_callee, name_in, oldest_pending, request_in_held, request_refusals, requested_at, sent_unless}
-use Rattle.sip_clients.specs.Pending.{dropped_if_sent, is_same_pending, is_of, paid}
+use Rattle.sip_clients.specs.Pending.{dropped_if_sent, is_same_pending, is_of, sent_pending}
 use Rattle.sip_clients.specs.Outputs.{ack_said, request_said, start_command}
 use Rattle.sip_clients.specs.Outside.{bare_request, supporting, through, with_contact}
 use Rattle.sip_clients.specs.SendOutcome.{Outcome, discharged, refusal_for_fault, sending_in}
@@ -234,9 +234,9 @@ request_same event command side =
 -- which dialog is held after it
 abbrev pub dialog_by : SendOutcome → List PendingRequest → List PendingRequest → HeldDialog
     → HeldDialog
-dialog_by (outcome.Sent sending) paid owing after = record after { pending_requests = paid }
-dialog_by outcome.Waits paid owing after = record after { pending_requests = owing }
-dialog_by (outcome.Refused why) paid owing after = record after { pending_requests = owing }
+dialog_by (outcome.Sent sending) sent_pending owing after = record after { pending_requests = sent_pending }
+dialog_by outcome.Waits sent_pending owing after = record after { pending_requests = owing }
+dialog_by (outcome.Refused why) sent_pending owing after = record after { pending_requests = owing }
 
 abbrev pub started_by : ClientChange → List Client
 started_by change.Stays = []
@@ -247,21 +247,21 @@ started_by (change.Starts client) = client ∷ []
 abbrev pub served_by : Event → List ℕ → DialogId → PendingRequest → List PendingRequest
     → List PendingRequest → Outcome
     → rule.PendingOutcome
-served_by event call_id name (Ack invite number) paid owing done = record {
-  dialog = dialog_by done.1 paid owing done.0;
+served_by event call_id name (Ack invite number) sent_pending owing done = record {
+  dialog = dialog_by done.1 sent_pending owing done.0;
   ack = (ack_said event call_id done.1).1;
   prack = [];
   outs = (ack_said event call_id done.1).0;
 }
-served_by event call_id name (Prack rseq number) paid owing done = record {
-  dialog = dialog_by done.1 paid owing done.0;
+served_by event call_id name (Prack rseq number) sent_pending owing done = record {
+  dialog = dialog_by done.1 sent_pending owing done.0;
   ack = None;
   prack = started_by (request_said event call_id name done.1).1;
   outs = (request_said event call_id name done.1).0;
 }
 
 module _ (event : Event) (call_id : List ℕ) (name : DialogId) (held : HeldDialog)
-    (paid owing : List PendingRequest) where
+    (sent_pending owing : List PendingRequest) where
   abbrev with_owed : List PendingRequest → HeldDialog
   with_owed pending_requests = record held { pending_requests = pending_requests }
 
@@ -271,12 +271,12 @@ module _ (event : Event) (call_id : List ℕ) (name : DialogId) (held : HeldDial
   abbrev sent_or : PendingRequest → Content → Option Refusal → rule.PendingOutcome
   sent_or pending content why =
       option_map_or (λ why. unsent (refused event.id call_id why)) why
-      (rule.pending_sent event name pending content (with_owed paid))
+      (rule.pending_sent event name pending content (with_owed sent_pending))
 
   ack_by_fault : (invite : Id) (number : ℕ) (content : Content) (why : Option DialogFault)
       → ack_fault held.dialog ≡ why
       → sent_or (Ack invite number) content (option_map refusal_for_fault why)
-      ≡ served_by event call_id name (Ack invite number) paid owing
+      ≡ served_by event call_id name (Ack invite number) sent_pending owing
       (discharged event (Ack invite number) (Some content) held)
   unfolding discharged
   ack_by_fault invite number content None is = rw is refl
@@ -285,7 +285,7 @@ module _ (event : Event) (call_id : List ℕ) (name : DialogId) (held : HeldDial
   prack_by_fault : (rseq number : ℕ) (content : Content) (why : Option DialogFault)
       → request_fault held.dialog (codes "PRACK") ≡ why
       → sent_or (Prack rseq number) content (option_map refusal_for_fault why)
-      ≡ served_by event call_id name (Prack rseq number) paid owing
+      ≡ served_by event call_id name (Prack rseq number) sent_pending owing
       (discharged event (Prack rseq number) (Some content) held)
   unfolding discharged with_content_of
   prack_by_fault rseq number content None is = rw is refl
@@ -293,22 +293,22 @@ module _ (event : Event) (call_id : List ℕ) (name : DialogId) (held : HeldDial
 
   by_debt : (pending : PendingRequest) (content : Content)
       → sent_or pending content (option_map refusal_for_fault (fault_of pending held.dialog))
-      ≡ served_by event call_id name pending paid owing
+      ≡ served_by event call_id name pending sent_pending owing
       (discharged event pending (Some content) held)
   by_debt (Ack invite number) content =
       ack_by_fault invite number content (ack_fault held.dialog) refl
   by_debt (Prack rseq number) content =
       prack_by_fault rseq number content (request_fault held.dialog (codes "PRACK")) refl
 
-  waits : (pending : PendingRequest) → unsent [] ≡ served_by event call_id name pending paid owing
+  waits : (pending : PendingRequest) → unsent [] ≡ served_by event call_id name pending sent_pending owing
       (discharged event pending None held)
   unfolding discharged
   waits (Ack invite number) = refl
   waits (Prack rseq number) = refl
 
   pub served_same : (pending : PendingRequest) (content : Option Content)
-      → rule.pending_outcome event call_id name pending content (with_owed paid) (with_owed owing)
-      ≡ served_by event call_id name pending paid owing (discharged event pending content held)
+      → rule.pending_outcome event call_id name pending content (with_owed sent_pending) (with_owed owing)
+      ≡ served_by event call_id name pending sent_pending owing (discharged event pending content held)
   served_same pending None = waits pending
   served_same pending (Some content) =
       ap (sent_or pending content) (debt_refusal pending held.dialog) ∙ by_debt pending content
@@ -449,12 +449,12 @@ module _ (event : Event) (command : DialogBody) (side : Side) where
       → dialog_at asked_name side.dialogs ≡ Some held
       → rule_paid held (Ack invite number)
       ≡ ack_paid event command asked_name (Ack invite number) side
-  unfolding paid
+  unfolding sent_pending
   ack_paid_same held invite number at =
       let pending = Ack invite number in
       let said = ack_said event command.call_id (step_served held pending).1 in
       let after : rule_paid held pending ≡ ack_after pending
-      (at_name (paid event pending command.content)
+      (at_name (sent_pending event pending command.content)
       (Some held)) = served_as held pending ∙ (λ i. (
         record {
           dialogs = set_value (is_dialog_id asked_name) side.dialogs (dropped_in held pending i);
@@ -462,7 +462,7 @@ module _ (event : Event) (command : DialogBody) (side : Side) where
         },
         said.0,
       )) in
-      after ∙ ap (λ found. ack_after pending (at_name (paid event pending command.content) found))
+      after ∙ ap (λ found. ack_after pending (at_name (sent_pending event pending command.content) found))
       (sym at)
 
   ack_owed : (held : HeldDialog) (found : Option PendingRequest)
@@ -516,7 +516,7 @@ module _ (event : Event) (command : DialogBody) (side : Side) where
       → dialog_at asked_name side.dialogs ≡ Some held
       → rule_paid held (Prack rseq number)
       ≡ prack_paid event command asked_name (Prack rseq number) side
-  unfolding paid
+  unfolding sent_pending
   prack_paid_same held rseq number at =
       let pending = Prack rseq number in
       let done = step_served held pending in
@@ -529,7 +529,7 @@ module _ (event : Event) (command : DialogBody) (side : Side) where
       })) (dropped_in held pending)
       ∙ prack_by_service pending (set_value (is_dialog_id asked_name) side.dialogs
       (dropped_if_sent pending done.1 done.0)) done.1 refl
-      ∙ ap (λ found. prack_after (at_name (paid event pending command.content) found)) (sym at)
+      ∙ ap (λ found. prack_after (at_name (sent_pending event pending command.content) found)) (sym at)
 
   prack_owed : (held : HeldDialog) (found : Option PendingRequest)
       → dialog_at asked_name side.dialogs ≡ Some held

@@ -36,7 +36,7 @@ use Rattle.sip_clients.specs.Cancel.{cancel_client, sent_beside}
 use Rattle.sip_clients.specs.Client.{Clients}
 use Rattle.sip_clients.specs.Clients.{settled}
 use Rattle.sip_clients.specs.Commands.{is_own_kind, request_in_held, request_refusals, sent_unless}
-use Rattle.sip_clients.specs.Pending.{kept_pending, paid}
+use Rattle.sip_clients.specs.Pending.{kept_pending, sent_pending}
 use Rattle.sip_clients.specs.Dialogs.{served_at}
 use Rattle.sip_clients.specs.Event.{branch_of}
 use Rattle.sip_clients.specs.Outputs.{request_said, start_command}
@@ -179,9 +179,9 @@ module _ (name own : DialogId) (event : Event) (held : HeldDialog)
   owed_sent pending offer = discharged_sent pending offer
 
   pub paid_sent : (pending : PendingRequest) (content : Content)
-      → service_cseqs name (paid event pending content held).1
+      → service_cseqs name (sent_pending event pending content held).1
       ≡ cond (is_dialog_id own name) (discharge_cseqs pending (Some content) held.dialog) []
-  unfolding paid
+  unfolding sent_pending
   paid_sent pending content = discharged_sent pending (Some content)
 
   by_refusal : (method : List ℕ) (content : Content) (refusal : Option Refusal)

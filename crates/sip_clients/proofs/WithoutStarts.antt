@@ -15,7 +15,7 @@ use Rattle.sip_held_dialogs.specs.Ids.{is_id}
 use Rattle.sip_user.specs.Notices.{request_told_by}
 use Rattle.sip_held_dialogs.proofs.Each.{all_of_each, both}
 use Rattle.sip_held_dialogs.proofs.Starts.{starts}
-use Rattle.sip_held_dialogs.proofs.ToldRequests.{shown}
+use Rattle.sip_held_dialogs.proofs.ToldRequests.{reported}
 use Rattle.sip_clients.specs.declared.answers.SentAck.{SentAck}
 use Rattle.sip_clients.specs.declared.client.RequestKind.{RequestKind}
 use Rattle.sip_clients.specs.declared.client.RequestKind.TheVariants.{InitialInvite, ReInvite, InDialog, OutOfDialog}
@@ -56,10 +56,10 @@ none_started (out.Notice notice ∷ outs) quiet = none_started outs quiet.1
 none_started (out.Command id command ∷ outs) quiet = absurd quiet.0
 none_started (out.Direct to bytes ∷ outs) quiet = none_started outs quiet.1
 
-pub none_shown : (outs : List CallOut) → AreQuiet outs → shown outs ≡ []
+pub none_shown : (outs : List CallOut) → AreQuiet outs → reported outs ≡ []
 none_shown [] quiet = refl
 none_shown (out.Notice notice ∷ outs) quiet =
-    (λ i. cons_option (quiet.0 i) (shown outs)) ∙ none_shown outs quiet.1
+    (λ i. cons_option (quiet.0 i) (reported outs)) ∙ none_shown outs quiet.1
 none_shown (out.Command id command ∷ outs) quiet = absurd quiet.0
 none_shown (out.Direct to bytes ∷ outs) quiet = none_shown outs quiet.1
 

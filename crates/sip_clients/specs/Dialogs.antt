@@ -20,7 +20,7 @@ use Rattle.sip_clients.specs.declared.event.Event.{Event}
 use Rattle.sip_clients.specs.declared.reply.ReceivedResponse.{ReceivedResponse}
 use Rattle.sip_clients.specs.declared.send_outcome.SendOutcome.{SendOutcome}
 use Rattle.sip_clients.specs.declared.send_outcome.SendOutcome.TheVariants.{Waits}
-use Rattle.sip_clients.specs.Pending.{paid}
+use Rattle.sip_clients.specs.Pending.{sent_pending}
 use Rattle.sip_clients.specs.SendOutcome.{Outcome}
 
 -- ---- how a dialog is made (RFC 3261, section 12.1.2)
@@ -76,7 +76,7 @@ served_at name serve otherwise dialogs =
 -- the same for an ACK or PRACK that is owed in it
 abbrev pub paid_at : DialogId → Event → PendingRequest → Content → Dialogs → Dialogs × SendOutcome
 paid_at name event pending content dialogs =
-    served_at name (paid event pending content) Waits dialogs
+    served_at name (sent_pending event pending content) Waits dialogs
 
 -- ---- what ends with a client request
 

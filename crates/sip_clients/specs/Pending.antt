@@ -65,7 +65,7 @@ dropped_if_sent pending Waits held = held
 dropped_if_sent pending (Refused refusal) held = held
 
 -- the dialog after the user gave this, and its outcome
-unfoldable pub paid : Event → PendingRequest → Content → HeldDialog → Outcome
-paid event pending content held =
+unfoldable pub sent_pending : Event → PendingRequest → Content → HeldDialog → Outcome
+sent_pending event pending content held =
     let done = discharged event pending (Some content) held in
     (dropped_if_sent pending done.1 done.0, done.1)

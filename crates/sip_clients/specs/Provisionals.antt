@@ -53,6 +53,6 @@ abbrev pub in_life : Bool → Option ℕ → Option ℕ
 in_life lives number = if lives then number else None
 
 -- the RSeq, as often as the user is told of a response
-abbrev pub told_of : Option ℕ → List CallOut → List ℕ
-told_of None outs = []
-told_of (Some number) outs = map (λ out. number) (filter is_response outs)
+abbrev pub reported_in : Option ℕ → List CallOut → List ℕ
+reported_in None outs = []
+reported_in (Some number) outs = map (λ out. number) (filter is_response outs)

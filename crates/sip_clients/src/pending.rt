@@ -51,7 +51,7 @@ fn keep_unless_sent(
 }
 
 /// Sends what is owed, as the user's command asks. If it is sent, it is no longer owed.
-#[tactic(auto, unfolding(crate::specs::Pending::paid))]
+#[tactic(auto, unfolding(crate::specs::Pending::sent_pending))]
 pub(crate) fn send_pending(
     alloc: Global,
     held: &mut HeldDialog,
@@ -60,8 +60,8 @@ pub(crate) fn send_pending(
     content: Content,
 ) -> Result<SendOutcome, AllocError>
     ensures outcome { IfOk result (λ outcome. outcome
-        ≡ (spec.paid event pending content held.old).1) }
-    ensures held { OnOk result (held.new ≡ (spec.paid event pending content held.old).0) }
+        ≡ (spec.sent_pending event pending content held.old).1) }
+    ensures held { OnOk result (held.new ≡ (spec.sent_pending event pending content held.old).0) }
 {
     let outcome = discharge(alloc, held, event, pending, Some(content))?;
     drop_if_sent(alloc, held, pending, &outcome);

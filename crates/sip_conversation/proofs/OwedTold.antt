@@ -133,11 +133,11 @@ pub record WasAskedFor (calls : Calls) (inputs : List (Timed CallItem)) (name : 
       (dialog_at name (side_of call).dialogs)
       (call_step calls (Some call) timed.input timed.moment).1
 
-less_owed : (pending : PendingRequest) (b : Bool) (paid owed : List PendingRequest)
-    → (Contains paid pending → Contains owed pending)
-    → Contains (if b then paid else owed) pending → Contains owed pending
-less_owed pending true paid owed fewer among = fewer among
-less_owed pending false paid owed fewer among = among
+less_owed : (pending : PendingRequest) (b : Bool) (sent_pending owed : List PendingRequest)
+    → (Contains sent_pending pending → Contains owed pending)
+    → Contains (if b then sent_pending else owed) pending → Contains owed pending
+less_owed pending true sent_pending owed fewer among = fewer among
+less_owed pending false sent_pending owed fewer among = among
 
 module _ (pending : PendingRequest) (name : DialogId) where
   oldest_fewer : (o : Option PendingRequest) (test : PendingRequest → PendingRequest → Bool)

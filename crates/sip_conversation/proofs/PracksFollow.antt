@@ -78,12 +78,12 @@ module _ (config : Config) (rounds : List Round)
     same_so = same_outs config rounds alone call_id
 
     -- what it starts with a RAck is a PRACK of a response in its dialog of which the user was told
-    told_of : (id : Id) (key : Key) (of : List ℕ) (prack : Message) (to : Addr)
+    reported_in : (id : Id) (key : Key) (of : List ℕ) (prack : Message) (to : Addr)
         → Contains (said_of_call config rounds call_id)
         (call_out.Command id (order.Start key of prack to)) → (rack : RAck)
         → prack.rack ≡ Some rack
         → IsTold calls inputs (dialog_id_of_tags (tag_of prack.from) (tag_of prack.to)) rack
-    told_of id key of prack to among =
+    reported_in id key of prack to among =
         each_of (OutIsTold calls inputs) (said_of_call config rounds call_id)
         (call_out.Command id (order.Start key of prack to))
         (subst (AllByRecursion (OutIsTold calls inputs)) (sym same_so)
@@ -210,7 +210,7 @@ module _ (configs : Side → Config) (fair : IsFair configs) (before : List Turn
       let alone = fair.calls turn.side in
       let among = subst (λ (m : Message). Contains (said_of_call local_config rounds_now says.0)
       (call_out.Command id (order.Start key of m to))) same says.1 in
-      let so = told_of local_config rounds_now alone says.0 id key of prack to among rack is in
+      let so = reported_in local_config rounds_now alone says.0 id key of prack to among rack is in
       let name = dialog_id_of_tags (tag_of prack.from) (tag_of prack.to) in
       subst (λ c. FollowsResponse configs before turn c name rack)
       (sym (own_call local_config rounds_now alone says.0 id key of prack to among))

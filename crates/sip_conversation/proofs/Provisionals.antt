@@ -21,11 +21,11 @@ use Rattle.sip_held_dialogs.proofs.Each.{both}
 use Rattle.sip_clients.specs.declared.client.Client.{Client}
 use Rattle.sip_clients.specs.Client.{Side as Held, client_at}
 use Rattle.sip_clients.specs.Clients.{status_of}
-use Rattle.sip_clients.specs.Provisionals.{AnInvite, in_life, is_for, is_response, number_for, provisional_number, told_of}
+use Rattle.sip_clients.specs.Provisionals.{AnInvite, in_life, is_for, is_response, number_for, provisional_number, reported_in}
 use Rattle.sip_calls.specs.declared.call.Call.{Call}
 use Rattle.sip_calls.specs.declared.calls.Calls.{Calls}
 use Rattle.sip_calls.specs.Call.{CallItem}
-use Rattle.sip_calls.specs.Provisionals.{IsConsecutive, done, number_in, number_in_life, number_up, shown, shown_from, side_held}
+use Rattle.sip_calls.specs.Provisionals.{IsConsecutive, done, number_in, number_in_life, number_up, reported, reported_from, side_held}
 use Rattle.sip_round.specs.declared.config.Config.{Config}
 use Rattle.sip_round.specs.declared.round.Round.{Round}
 use Rattle.sip_round.specs.Answers.{calls_of}
@@ -55,14 +55,14 @@ same_rseqs rseq [] = refl
 same_rseqs rseq (out ∷ outs) = ap (λ rseqs. rseq ∷ rseqs) (same_rseqs rseq outs)
 
 with_rseqs : (o : Option ℕ) (outs : List CallOut)
-    → map first_of (told_with o outs) ≡ told_of o outs
+    → map first_of (told_with o outs) ≡ reported_in o outs
 with_rseqs None outs = refl
 with_rseqs (Some rseq) outs = same_rseqs rseq (filter is_response outs)
 
 rseqs_shown : (calls : Calls) (invite : AnInvite) (life : DialogReference) (call : Option Call)
     (inputs : List (Timed CallItem))
     → map first_of (told_from calls invite life call inputs)
-    ≡ shown_from calls invite life call inputs
+    ≡ reported_from calls invite life call inputs
 rseqs_shown calls invite life call [] = refl
 rseqs_shown calls invite life call (timed ∷ inputs) =
     let number = number_in_life calls invite life call timed in
@@ -70,7 +70,7 @@ rseqs_shown calls invite life call (timed ∷ inputs) =
     let rest = told_from calls invite life after.0 inputs in
     map-append first_of (told_with number after.1) rest
     ∙ (ap (λ rseqs. rseqs ++ map first_of rest) (with_rseqs number after.1)
-    ∙ ap (λ rseqs. told_of number after.1 ++ rseqs)
+    ∙ ap (λ rseqs. reported_in number after.1 ++ rseqs)
     (rseqs_shown calls invite life after.0 inputs))
 
 -- ---- who gives them
@@ -250,7 +250,7 @@ provisionals_said configs fair in_lives turns carried keep before after turn sam
     let calls = calls_of (configs turn.side) in
     let inputs = call_inputs_of (configs turn.side) rounds call_id in
     let order = in_lives turn.side rounds call_id invite life in
-    let rseqs : shown calls invite life inputs
+    let rseqs : reported calls invite life inputs
     ≡ rseqs_told configs before turn call_id invite life =
     sym (rseqs_shown calls invite life None inputs) in
     record {

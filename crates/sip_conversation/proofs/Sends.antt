@@ -20,7 +20,7 @@ use Rattle.sip_round.specs.Answers.{Past, answer, answers, answers_from, arrival
 use Rattle.sip_round.specs.Arrivals.{Arrival}
 use Rattle.sip_round.specs.Given.{all_given, is_send_with, send_in}
 use Rattle.sip_round.specs.Laws.{said_of}
-use Rattle.sip_round.specs.Outputs.{all_said, joined, outs_of, said_at, sent_of, shown_of}
+use Rattle.sip_round.specs.Outputs.{all_said, joined, outs_of, said_at, sent_of, call_outputs}
 use Rattle.sip_round.proofs.AnswerParts.{answer_parts, sent_first}
 use Rattle.sip_round.proofs.GivenSends.{sends_given}
 use Rattle.sip_conversation.proofs.Among.{among_kept, each_of}
@@ -75,7 +75,7 @@ module _ (Fits : CallOut → Type 0) where
   sent_fit (out.Dropped place why ∷ outs) = (tt, sent_fit outs)
 
   shown_fit : (outs : List CallOut) → AllByRecursion Fits outs
-      → AllByRecursion DirectFits (flat_map shown_of outs)
+      → AllByRecursion DirectFits (flat_map call_outputs outs)
   shown_fit [] fit = tt
   shown_fit (call_out.Notice notice ∷ outs) fit = (tt, shown_fit outs fit.1)
   shown_fit (call_out.Command id command ∷ outs) fit = shown_fit outs fit.1
@@ -88,15 +88,15 @@ module _ (Fits : CallOut → Type 0) where
     answer_fits number past round fit =
         let told = said_by_transactions past.transactions (first config number past round) in
         let came = arrivals config number past round in
-        let shown = flat_map shown_of (given_second config number past round) in
+        let reported = flat_map call_outputs (given_second config number past round) in
         let last = all_said (said_by_transactions
         (past.transactions ++ first config number past round ∷ [])
         (third config number past round)) in
         let sent : Id × Arrival → List Output =
         λ a. flat_map sent_of (outs_of (said_at told) a.0 a.1) in
         subst (AllByRecursion DirectFits) (sym (answer_parts config number past round))
-        (both DirectFits (sent_first told came ++ shown) (flat_map sent_of last)
-        (both DirectFits (sent_first told came) shown
+        (both DirectFits (sent_first told came ++ reported) (flat_map sent_of last)
+        (both DirectFits (sent_first told came) reported
         (both DirectFits (flat_map sent_of (joined told.ticks)) (flat_map sent came)
         (sent_fit (joined told.ticks))
         (all_of_each DirectFits sent (λ a. sent_fit (outs_of (said_at told) a.0 a.1)) came))

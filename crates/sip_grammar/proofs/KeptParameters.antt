@@ -18,7 +18,7 @@ use Rattle.sip_grammar.specs.ParameterValues.{parameter_of, one_parameter}
 use Rattle.sip_grammar.specs.WrittenParameters.{parameter_text, parameters_text}
 use Rattle.sip_text.specs.Pieces.{parameter_now}
 use Rattle.sip_text.specs.declared.parameters.ParameterText.{ParameterText}
-use Rattle.sip_grammar.specs.ListedParameters.{listed, is_good, is_good_value, IsKept, IsNext, shown, stored}
+use Rattle.sip_grammar.specs.ListedParameters.{listed, is_good, is_good_value, IsKept, IsNext, as_parameter, stored}
 use Rattle.sip_grammar.specs.Parameters.{parameter_named, with_value}
 use Rattle.sip_grammar.specs.Steps.First.{first, first_now}
 use Rattle.sip_grammar.specs.declared.parameter.Parameter.{Parameter}
@@ -92,7 +92,7 @@ value_good None good = refl
 value_good (Some v) good = good v refl
 
 shown_good : (p : ParameterText) → IsTrue (is_token p.name.now)
-    → ForSome p.value (λ v. IsTrue (is_parameter_value v.now)) → is_good (shown p) ≡ true
+    → ForSome p.value (λ v. IsTrue (is_parameter_value v.now)) → is_good (as_parameter p) ≡ true
 shown_good p name value = and_from _ _ name (value_good p.value value)
 
 -- a text with one more parameter at the end
@@ -102,13 +102,13 @@ pub record IsWith (front back : List ℕ) (p : Parameter) : Type 0 where
 
 pub one_more : (front : List ℕ) (p : ParameterText) → IsKept front
     → IsTrue (is_token p.name.now) → ForSome p.value (λ v. IsTrue (is_parameter_value v.now))
-    → IsWith front (parameter_text (shown p)) (shown p)
+    → IsWith front (parameter_text (as_parameter p)) (as_parameter p)
 one_more front p kept name value =
     let good = shown_good p name value in
-    let both = joined front (parameter_text (shown p)) kept (alone_kept (shown p) good) in
+    let both = joined front (parameter_text (as_parameter p)) kept (alone_kept (as_parameter p) good) in
     record {
       list = both.list ∙ ap (λ (ps : List Parameter). listed front ++ ps)
-          (alone_listed (shown p) good);
+          (alone_listed (as_parameter p) good);
       kept = both.kept;
     }
 
@@ -227,15 +227,15 @@ next_shorter behind p (Some after) found =
 
 pub next_some : (behind : List ℕ) → IsKept (59 ∷ behind) → (result : Option Found)
     → option_map (first_now parameter_now) result ≡ first (Byte 59) parameter_from behind
-    → IfSome result (λ found. IsNext (59 ∷ behind) (shown found.0) (stored (option_copied found.1)))
+    → IfSome result (λ found. IsNext (59 ∷ behind) (as_parameter found.0) (stored (option_copied found.1)))
 next_some behind kept None exact = tt
 next_some behind kept (Some found) exact =
     let there = read_so behind (Some found) exact in
-    let is = first_is behind kept (shown found.0) (option_copied found.1) there in
+    let is = first_is behind kept (as_parameter found.0) (option_copied found.1) there in
     record {
       list = is.list;
       kept = is.kept;
-      shorter = next_shorter behind (shown found.0) (option_copied found.1) there;
+      shorter = next_shorter behind (as_parameter found.0) (option_copied found.1) there;
     }
 
 pub named_here : (name text : List ℕ) (p : Parameter) (after : List ℕ) → IsNext text p after
@@ -282,7 +282,7 @@ none_is_added name value (p ∷ ps) none =
     (none_is_added name value ps)
 
 pub added : (name value : List ℕ) (ps : List Parameter) (found : Option ParameterText)
-    → option_map shown found ≡ parameter_named name ps → is_some found ≡ false
+    → option_map as_parameter found ≡ parameter_named name ps → is_some found ≡ false
     → IsAdded name value ps
 added name value ps None e none = none_is_added name value ps (sym e)
 added name value ps (Some p) e none = absurd cc

@@ -43,5 +43,5 @@ pub record IsNext (text : List ℕ) (p : Parameter) (after : List ℕ) : Type 0 
   pub shorter : length after < length text
 
 -- the parameter with these parts of a text
-abbrev pub shown : ParameterText → Parameter
-shown p = parameter_of (parameter_now p)
+abbrev pub as_parameter : ParameterText → Parameter
+as_parameter p = parameter_of (parameter_now p)

@@ -4,7 +4,7 @@ ghost use Rattle.std.specs.Option.{ForSome, option_copied, option_map};
 ghost use Rattle.std.specs.List.{AllByRecursion};
 ghost use Rattle.sip_text.specs.Parameter.{is_parameter_value};
 ghost use Rattle.sip_text.specs.Token.{is_token};
-ghost use Rattle.sip_grammar.specs.ListedParameters.{IsKept, IsNext, listed, shown, stored};
+ghost use Rattle.sip_grammar.specs.ListedParameters.{IsKept, IsNext, listed, as_parameter, stored};
 ghost use Rattle.sip_grammar.specs.ParameterRules.{IsParameter};
 ghost use Rattle.sip_grammar.specs.Parameters as named;
 ghost use Rattle.sip_grammar.specs.WrittenParameters.{parameter_text, parameters_text};
@@ -59,7 +59,7 @@ impl Parameters {
     pub fn with(self, parameter: ParameterText<'_>) -> Result<Parameters, AllocError>
         requires name { IsTrue (is_token parameter.name.now) }
         requires value { ForSome parameter.value (λ v. IsTrue (is_parameter_value v.now)) }
-        ensures { IfOk result (λ made. made ≡ self ++ shown parameter.entry ∷ []) }
+        ensures { IfOk result (λ made. made ≡ self ++ as_parameter parameter.entry ∷ []) }
     {
         let Parameters { text } = self;
         let mut text = text;
@@ -77,7 +77,7 @@ impl Parameters {
 
     /// The first parameter of this name, compared without case.
     pub fn named(&self, name: &[u8]) -> Option<ParameterText<'_>>
-        ensures { option_map shown result ≡ named.parameter_named name.now self.now }
+        ensures { option_map as_parameter result ≡ named.parameter_named name.now self.now }
     {
         first_named(behind_first(self.text.as_slice()), name)
     }
@@ -149,7 +149,7 @@ impl Parameters {
 
 #[tactic(auto, unfolding(crate::specs::WrittenParameters::parameter_text))]
 fn push_parameter(text: &mut Text, parameter: ParameterText<'_>) -> Result<(), AllocError>
-    ensures { OnOk result (text.new ≡ text.old ++ parameter_text (shown parameter.entry)) }
+    ensures { OnOk result (text.new ≡ text.old ++ parameter_text (as_parameter parameter.entry)) }
 {
     text.extend_from_slice(b";")?;
     text.extend_from_slice(parameter.name)?;
@@ -190,7 +190,7 @@ fn next_kept(rest: Option<&[u8]>) -> Option<FirstParameter<'_>>
     requires { IsKept (stored (option_copied rest)) }
     ensures none { IfNone result (listed (stored (option_copied rest.entry)) ≡ []) }
     ensures some { IfSome result (λ found. IsNext (stored (option_copied rest.entry))
-        (shown found.0) (stored (option_copied found.1))) }
+        (as_parameter found.0) (stored (option_copied found.1))) }
     ensures name { IfSome result (λ found. IsTrue (is_token found.0.name.now)) }
     ensures value { IfSome result (λ found.
         IfSome found.0.value (λ v. IsTrue (is_parameter_value v.now))) }
@@ -203,7 +203,7 @@ fn next_kept(rest: Option<&[u8]>) -> Option<FirstParameter<'_>>
 
 fn first_named<'a>(rest: Option<&'a [u8]>, name: &[u8]) -> Option<ParameterText<'a>>
     requires { IsKept (stored (option_copied rest)) }
-    ensures { option_map shown result
+    ensures { option_map as_parameter result
         ≡ named.parameter_named name.now (listed (stored (option_copied rest.entry))) }
 {
     let mut rest = rest;

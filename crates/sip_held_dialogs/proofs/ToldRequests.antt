@@ -11,24 +11,24 @@ use Rattle.sip_user.specs.declared.item.CallOut.{CallOut}
 use Rattle.sip_held_dialogs.specs.Dialogs.{Dialogs, dialog_at, early_ended, ended_at, ended_notice, is_early_of}
 use Rattle.sip_user.specs.Notices.{request_told_by}
 
-abbrev pub shown : List CallOut → List Id
-shown outs = filter_map request_told_by outs
+abbrev pub reported : List CallOut → List Id
+reported outs = filter_map request_told_by outs
 
-pub none_of_both : (xs ys : List CallOut) → shown xs ≡ [] → shown ys ≡ [] → shown (xs ++ ys) ≡ []
+pub none_of_both : (xs ys : List CallOut) → reported xs ≡ [] → reported ys ≡ [] → reported (xs ++ ys) ≡ []
 none_of_both xs ys first second =
     filter_map-append request_told_by xs ys ∙ (λ i. first i ++ second i)
 
-pub ends_shown : (dialogs : List HeldDialog) → shown (map ended_notice dialogs) ≡ []
+pub ends_shown : (dialogs : List HeldDialog) → reported (map ended_notice dialogs) ≡ []
 ends_shown [] = refl
 ends_shown (held ∷ dialogs) = ends_shown dialogs
 
-pub end_shown : (name : DialogId) (dialogs : Dialogs) → shown (ended_at name dialogs).1 ≡ []
+pub end_shown : (name : DialogId) (dialogs : Dialogs) → reported (ended_at name dialogs).1 ≡ []
 end_shown name dialogs = by_dialog (dialog_at name dialogs)
   where
     by_dialog : (found : Option HeldDialog)
-        → shown (option_map_or (λ held. ended_notice held ∷ []) found []) ≡ []
+        → reported (option_map_or (λ held. ended_notice held ∷ []) found []) ≡ []
     by_dialog None = refl
     by_dialog (Some held) = refl
 
-pub early_shown : (invite : Id) (dialogs : Dialogs) → shown (early_ended invite dialogs).1 ≡ []
+pub early_shown : (invite : Id) (dialogs : Dialogs) → reported (early_ended invite dialogs).1 ≡ []
 early_shown invite dialogs = ends_shown (filter (is_early_of invite) (values_of dialogs))

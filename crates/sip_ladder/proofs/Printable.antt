@@ -12,7 +12,7 @@ use Rattle.sip_message.specs.declared.message.Message.{Message}
 use Rattle.sip_message.specs.declared.rack.RAck.{RAck}
 use Rattle.sip_message.specs.declared.start_line.StartLine.{StartLine}
 use Rattle.sip_message.specs.declared.start_line.StartLine.TheVariants.{Request, Response}
-use Rattle.sip_ladder.specs.Label.{again_text, details, first_line, is_printable, message_label, named, number_named, shown, shown_byte, status_text, summary, tag_text, unread_label, without_cookie, word}
+use Rattle.sip_ladder.specs.Label.{again_text, details, first_line, is_printable, message_label, named, number_named, as_visible, as_visible_byte, status_text, summary, tag_text, unread_label, without_cookie, word}
 
 abbrev pub AreShown : List ℕ → Type 0
 AreShown text = list_all is_printable text ≡ true
@@ -32,19 +32,19 @@ one_shown : (byte : ℕ) (test : Bool) → is_printable byte ≡ test
 one_shown byte true is = is
 one_shown byte false is = refl
 
-pub shown_is : (text : List ℕ) → AreShown (shown text)
+pub shown_is : (text : List ℕ) → AreShown (as_visible text)
 shown_is [] = refl
 shown_is (byte ∷ text) =
-    and_from (is_printable (shown_byte byte)) (list_all is_printable (shown text))
+    and_from (is_printable (as_visible_byte byte)) (list_all is_printable (as_visible text))
     (one_shown byte (is_printable byte) refl) (shown_is text)
 
 pub word_is : (text : List ℕ) → AreShown (word text)
 unfolding word
 word_is text =
-    either (nat_le (length text) 21) (shown text)
-    (codes ".." ++ shown (drop (length text - 9) text))
+    either (nat_le (length text) 21) (as_visible text)
+    (codes ".." ++ as_visible (drop (length text - 9) text))
     (shown_is text)
-    (both (codes "..") (shown (drop (length text - 9) text)) refl
+    (both (codes "..") (as_visible (drop (length text - 9) text)) refl
     (shown_is (drop (length text - 9) text)))
 
 named_is : (name text : List ℕ) → AreShown name → AreShown (named name text)
@@ -118,7 +118,7 @@ pub unread_is : (bytes : List ℕ) (is_again : Bool) → AreShown (unread_label 
 unfolding unread_label
 unread_is bytes is_again =
     let again = again_text is_again in
-    let front = shown (take 40 (first_line bytes)) in
+    let front = as_visible (take 40 (first_line bytes)) in
     both (codes "?" ++ again ++ codes " ") front
     (both (codes "?" ++ again) (codes " ") (both (codes "?") again refl (again_is is_again)) refl)
     (shown_is (take 40 (first_line bytes)))

@@ -19,7 +19,7 @@ use Rattle.sip_ladder.specs.declared.line.Line.{Line}
 pub record Draws (local : Addr) (rounds : List Round) (outputs : List (List Output))
     (text : List ℕ) : Type 0 where
   pub lines : List Line
-  pub shown : map shape lines ≡ shapes rounds outputs
+  pub as_visible : map shape lines ≡ shapes rounds outputs
   pub spelled :
       let columns = columns_of (map (λ line. line.way) lines) in
       text ≡ head_text local columns ++ flat_map (row_line columns) lines

@@ -19,17 +19,17 @@ abbrev pub is_printable : ℕ → Bool
 is_printable byte = nat_le 32 byte && nat_le byte 126
 
 -- the byte, or `?` if it isn't printable
-abbrev pub shown_byte : ℕ → ℕ
-shown_byte byte = if is_printable byte then byte else 63
+abbrev pub as_visible_byte : ℕ → ℕ
+as_visible_byte byte = if is_printable byte then byte else 63
 
-abbrev pub shown : List ℕ → List ℕ
-shown text = map shown_byte text
+abbrev pub as_visible : List ℕ → List ℕ
+as_visible text = map as_visible_byte text
 
 -- a word; two dots and the last nine characters of a long one
 unfoldable pub word : List ℕ → List ℕ
 word text =
-    if nat_le (length text) 21 then shown text
-    else codes ".." ++ shown (drop (length text - 9) text)
+    if nat_le (length text) 21 then as_visible text
+    else codes ".." ++ as_visible (drop (length text - 9) text)
 
 -- a blank, a name and a word
 unfoldable pub named : List ℕ → List ℕ → List ℕ
@@ -98,7 +98,7 @@ first_line bytes = option_map_or (λ parts. parts.0) (cut_at 13 bytes) bytes
 unfoldable pub unread_label : List ℕ → Bool → List ℕ
 unread_label bytes is_again =
     codes "?" ++ again_text is_again ++ codes " "
-    ++ shown (take 40 (first_line bytes))
+    ++ as_visible (take 40 (first_line bytes))
 
 abbrev pub label_of_read : Result Message ReadFault → List ℕ → Bool → List ℕ
 label_of_read (Ok message) bytes is_again = message_label message is_again

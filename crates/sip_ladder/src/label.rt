@@ -203,17 +203,17 @@ fn push_word(label: &mut Vec<u8>, word: &[u8]) -> Result<(), AllocError>
 }
 
 fn push_shown(label: &mut Vec<u8>, bytes: &[u8]) -> Result<(), AllocError>
-    ensures { OnOk result (label.new.items ≡ label.old.items ++ spec.shown bytes.now) }
+    ensures { OnOk result (label.new.items ≡ label.old.items ++ spec.as_visible bytes.now) }
 {
     for byte in bytes {
-        label.push(shown(*byte))?;
+        label.push(as_visible(*byte))?;
     }
     Ok(())
 }
 
 // A printable character of ASCII, or `?` for each other byte.
-fn shown(byte: u8) -> u8
-    ensures { result ≡ spec.shown_byte byte }
+fn as_visible(byte: u8) -> u8
+    ensures { result ≡ spec.as_visible_byte byte }
 {
     match byte {
         b' '..=b'~' => byte,

@@ -14,7 +14,7 @@ use Rattle.sip_round.specs.declared.output.Output.{Output}
 use Rattle.sip_round.specs.declared.output.PlacedOutput.{PlacedOutput}
 use Rattle.sip_round.specs.declared.round.Round.{Round}
 use Rattle.sip_round.specs.Answers.{Past, answer, arrivals, calls_of, first, given_second, items_of_round, placed_answer, placed_first, placed_second, placed_third, said_by_calls, said_by_transactions, second, third}
-use Rattle.sip_round.specs.Outputs.{all_said, at_place, joined, outs_of, place_of, said_at, sent_of, shown_of}
+use Rattle.sip_round.specs.Outputs.{all_said, at_place, joined, outs_of, place_of, said_at, sent_of, call_outputs}
 use Rattle.sip_round.proofs.ByEvent.{by_groups}
 use Rattle.sip_round.proofs.InForm.{map-flat_map, told}
 
@@ -52,20 +52,20 @@ module _ (config : Config) (number : ℕ) (past : Past) (round : Round) where
   by_calls = said_by_calls (calls_of config) past.calls (second config number past round)
 
   shown_alone : alone (placed_second by_calls (items_of_round config number past round))
-      ≡ flat_map shown_of (given_second config number past round)
+      ≡ flat_map call_outputs (given_second config number past round)
   unfolding given_second
   shown_alone =
-      told_alone shown_of
+      told_alone call_outputs
       (λ said. place_of (items_of_round config number past round) (said.0).0) (λ said. said.1)
       (joined by_calls.ticks) by_calls.items
-      ∙ ap (λ os. flat_map shown_of (joined by_calls.ticks) ++ os)
-      (by_groups shown_of by_calls.items)
-      ∙ sym (flat_map-append shown_of (joined by_calls.ticks) (joined by_calls.items))
+      ∙ ap (λ os. flat_map call_outputs (joined by_calls.ticks) ++ os)
+      (by_groups call_outputs by_calls.items)
+      ∙ sym (flat_map-append call_outputs (joined by_calls.ticks) (joined by_calls.items))
 
   pub answer_parts : answer config number past round
       ≡ (sent_first (said_by_transactions past.transactions (first config number past round))
       (arrivals config number past round)
-      ++ flat_map shown_of (given_second config number past round))
+      ++ flat_map call_outputs (given_second config number past round))
       ++ flat_map sent_of (all_said (said_by_transactions
       (past.transactions ++ first config number past round ∷ []) (third config number past round)))
   unfolding answer placed_answer
@@ -74,11 +74,11 @@ module _ (config : Config) (number : ℕ) (past : Past) (round : Round) where
       let told = said_by_transactions past.transactions (first config number past round) in
       let came = arrivals config number past round in
       let sent = placed_first told came in
-      let shown = placed_second by_calls (items_of_round config number past round) in
+      let reported = placed_second by_calls (items_of_round config number past round) in
       let last = said_by_transactions (past.transactions ++ first config number past round ∷ [])
       (third config number past round) in
-      map-append output (sent ++ shown) (placed_third last)
-      ∙ (λ i. map-append output sent shown i ++ all_alone sent_of 0 (all_said last) i)
+      map-append output (sent ++ reported) (placed_third last)
+      ∙ (λ i. map-append output sent reported i ++ all_alone sent_of 0 (all_said last) i)
       ∙ (λ i. (told_alone sent_of (λ (a : Id × Arrival). (a.0).place)
       (λ a. outs_of (said_at told) a.0 a.1) (joined told.ticks) came i ++ shown_alone i)
       ++ flat_map sent_of (all_said last))

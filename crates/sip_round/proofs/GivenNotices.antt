@@ -19,7 +19,7 @@ use Rattle.sip_round.specs.declared.output.Output.{Output}
 use Rattle.sip_round.specs.declared.round.Round.{Round}
 use Rattle.sip_round.specs.Answers.{Past, answer, answers, answers_from, calls_of, given_second, no_past, past_after, past_from, past_of, said_by_calls, second}
 use Rattle.sip_round.specs.Given.{AnswersGiveOwnNotices, all_given, is_notice_of, notice_in, notices_of}
-use Rattle.sip_round.specs.Outputs.{all_said, shown_of}
+use Rattle.sip_round.specs.Outputs.{all_said, call_outputs}
 use Rattle.sip_round.proofs.NotTold.{told_in_second}
 use Rattle.sip_round.proofs.OwnItems.{second_own}
 use Rattle.sip_round.proofs.OwnNotices.{IsTimedOf, own_kept, own_notices, picked}
@@ -32,10 +32,10 @@ notices_append q xs ys = filter-append _ xs ys
 -- ---- what transactions say, and what a call says
 
 notices_shown : (q : List ℕ) (outs : List CallOut)
-    → notices_of q (flat_map shown_of outs) ≡ flat_map (picked q) outs
+    → notices_of q (flat_map call_outputs outs) ≡ flat_map (picked q) outs
 notices_shown q [] = refl
 notices_shown q (out ∷ outs) =
-    notices_append q (shown_of out) (flat_map shown_of outs)
+    notices_append q (call_outputs out) (flat_map call_outputs outs)
     ∙ ap (λ notices. picked q out ++ notices) (notices_shown q outs)
 
 -- ---- one round
@@ -51,7 +51,7 @@ module _ (q : List ℕ) (config : Config) (number : ℕ) (past : Past) (round : 
   of_round = flat_map notice_in (said_by call_cmp (call_machine (calls_of config)) tick_at q
       (said_by_calls (calls_of config) past.calls (second config number past round)))
 
-  second_told : notices_of q (flat_map shown_of (given_second config number past round)) ≡ of_round
+  second_told : notices_of q (flat_map call_outputs (given_second config number past round)) ≡ of_round
   unfolding given_second
   second_told =
       let calls = calls_of config in

@@ -28,7 +28,7 @@ use Rattle.sip_round.specs.declared.round.Round.{Round}
 use Rattle.sip_round.specs.Answers.{Past, answer, answers, answers_from, arrivals, first, given_second, no_past, past_after, past_of, said_by_transactions, third}
 use Rattle.sip_round.specs.Arrivals.{Arrival, arrival_of, arrivals_from}
 use Rattle.sip_round.specs.Given.{AnswersGiveOwnSends, all_given, send_in, sends_with}
-use Rattle.sip_round.specs.Outputs.{all_said, joined, outs_of, said_at, sent_of, shown_of}
+use Rattle.sip_round.specs.Outputs.{all_said, joined, outs_of, said_at, sent_of, call_outputs}
 use Rattle.sip_round.specs.Phases.{transaction_item, transaction_items}
 use Rattle.sip_round.proofs.AnswerParts.{answer_parts, sent_first}
 use Rattle.sip_round.proofs.CallEvents.{TellsAt, arrivals_climb, none_later}
@@ -55,7 +55,7 @@ sends_said q (out ∷ outs) =
     ∙ ap (λ sends. picked q out ++ sends) (sends_said q outs)
 
 -- what a call says never has a transaction's key
-none_shown : (q : Key) (outs : List CallOut) → sends_with q (flat_map shown_of outs) ≡ []
+none_shown : (q : Key) (outs : List CallOut) → sends_with q (flat_map call_outputs outs) ≡ []
 none_shown q [] = refl
 none_shown q (call_out.Notice notice ∷ outs) = none_shown q outs
 none_shown q (call_out.Command id command ∷ outs) = none_shown q outs
@@ -181,11 +181,11 @@ module _ (q : Key) (config : Config) (number : ℕ) (past : Past) (round : Round
       let one = sent_first
       (said_by_transactions past.transactions (first config number past round))
       (arrivals config number past round) in
-      let shown = flat_map shown_of (given_second config number past round) in
+      let reported = flat_map call_outputs (given_second config number past round) in
       ap (sends_with q) (answer_parts config number past round)
-      ∙ sends_append q (one ++ shown) (flat_map sent_of (all_said told))
+      ∙ sends_append q (one ++ reported) (flat_map sent_of (all_said told))
       ∙ ap (λ sends. sends ++ sends_with q (flat_map sent_of (all_said told)))
-      (sends_append q one shown
+      (sends_append q one reported
       ∙ (λ i. first_sent i ++ none_shown q (given_second config number past round) i)
       ∙ append-nil (of_phase past.transactions (first config number past round)))
       ∙ ap (λ sends. of_phase past.transactions (first config number past round) ++ sends)

@@ -34,7 +34,7 @@ use Rattle.sip_round.specs.Arrivals.{Arrival, arrivals_from}
 use Rattle.sip_round.specs.Steps.Arrived.{ArePlaced}
 use Rattle.sip_shards.specs.AllShards.{DealsAll, DealsParts}
 use Rattle.sip_round.specs.Steps.Led.{Deals, LedFirst, LedSecond, LedThird}
-use Rattle.sip_round.specs.Outputs.{all_said, command_of, joined, outs_of, place_of, raised_of, said_at, sent_at, sent_of, shown_at, shown_of, user_items}
+use Rattle.sip_round.specs.Outputs.{all_said, command_of, joined, outs_of, place_of, raised_of, said_at, sent_at, sent_of, call_outputs_at, call_outputs, user_items}
 use Rattle.sip_shards.specs.Parts.{cut_by, owner_of}
 use Rattle.sip_round.specs.Phases.{first_phase, second_phase, third_phase, transaction_items}
 use Rattle.sip_round.specs.Steps.Waiting.{all_waiting, by_event}
@@ -134,7 +134,7 @@ module _ (owner : Key → ℕ) (old new : List (Held Key Life)) (number now : �
 -- what is shown at the ticks, and for these items
 abbrev pub second_given : List (Id × Item) → List (List ℕ × List CallOut)
     → List (ℕ × List CallOut) → List PlacedOutput
-second_given items ticks said = told shown_of (λ group. place_of items group.0) (λ group. group.1)
+second_given items ticks said = told call_outputs (λ group. place_of items group.0) (λ group. group.1)
     (joined ticks) said
 
 pub led_second : (shared : Calls) (owner : List ℕ → ℕ) (old new : List (Held (List ℕ) Call))
@@ -148,18 +148,18 @@ led_second shared owner old new now items ticks said none half commands deals no
     asks = record {
       count = deals.count;
       stands = deals.stands;
-      shown = λ past hold.
+      reported = λ past hold.
           let told = told_by_calls shared past (second_phase now items) in
-          let shown : ℕ × List CallOut → List PlacedOutput =
-          λ group. flat_map (shown_at (place_of items group.0)) group.1 in
+          let reported : ℕ × List CallOut → List PlacedOutput =
+          λ group. flat_map (call_outputs_at (place_of items group.0)) group.1 in
           subst (λ all. second_given items ticks said ≡ placed_second all items)
           (calls_say shared past (second_phase now items))
-          (ap (λ t. flat_map (shown_at 0) (joined t) ++ flat_map shown said)
+          (ap (λ t. flat_map (call_outputs_at 0) (joined t) ++ flat_map reported said)
           (deals.ticks_told past hold)
-          ∙ ap (λ s. flat_map (shown_at 0) (joined told.ticks) ++ flat_map shown s)
+          ∙ ap (λ s. flat_map (call_outputs_at 0) (joined told.ticks) ++ flat_map reported s)
           (deals.items_told past hold)
-          ∙ ap (λ more. flat_map (shown_at 0) (joined told.ticks) ++ more)
-          (flat_map-map shown by_place told.items));
+          ∙ ap (λ more. flat_map (call_outputs_at 0) (joined told.ticks) ++ more)
+          (flat_map-map reported by_place told.items));
       commanded = λ past hold. behind command_of ticks said none half commands asks_ticks asks
           ∙ ap (λ cs. cs ++ flat_map command_of (joined ticks ++ joined said)) nothing
           ∙ ap (flat_map command_of) (whole
@@ -209,7 +209,7 @@ module _ (shard_of : List ℕ → ℕ → ℕ)
 
 module _ (shard_of : List ℕ → ℕ → ℕ) (number : ℕ) (round : Round) (old new : ShardTables)
     (mid_lives : List (Held Key Life)) (items : List (Id × Item))
-    (commands : List (Id × Command)) (sent shown last : List PlacedOutput)
+    (commands : List (Id × Command)) (sent reported last : List PlacedOutput)
     (after_third : LedThird (owner_of shard_of branch_in (length mid_lives)) mid_lives
     (lives_held new) round.moment commands last) where
   abbrev old_lives : List (Held Key Life)
@@ -229,7 +229,7 @@ module _ (shard_of : List ℕ → ℕ → ℕ) (number : ℕ) (round : Round) (o
       number round.moment (arrivals_from config.local number 1 round.events) sent items)
       (after_second : LedSecond (calls_of config)
       (owner_of shard_of (λ call_id. call_id) (length old_calls)) old_calls new_calls
-      round.moment items shown commands)
+      round.moment items reported commands)
       (past : Past) (lives : HoldFrom key_cmp transaction_machine tick_at
       (owner_of shard_of branch_in (length old_lives)) zero old_lives past.transactions)
       (calls : HoldFrom call_cmp (call_machine (calls_of config)) tick_at
@@ -286,11 +286,11 @@ module _ (shard_of : List ℕ → ℕ → ℕ) (number : ℕ) (round : Round) (o
         (past.calls ++ second_phase round.moment is ∷ [])) same_items
         (after_second.stands past.calls calls))
 
-    answered : (sent ++ shown) ++ last ≡ placed_answer config number past round
+    answered : (sent ++ reported) ++ last ≡ placed_answer config number past round
     unfolding first second third given_second items_of_round placed_answer
     answered =
         let between = past.transactions ++ first config number past round ∷ [] in
-        (λ i. (after_first.sent past.transactions lives i ++ after_second.shown past.calls calls i)
+        (λ i. (after_first.sent past.transactions lives i ++ after_second.reported past.calls calls i)
         ++ after_third.sent between mid_held i)
         ∙ (λ i. (placed_first (said_by_transactions past.transactions
         (first config number past round)) (arrivals config number past round)
@@ -303,8 +303,8 @@ module _ (shard_of : List ℕ → ℕ → ℕ) (number : ℕ) (round : Round) (o
       (owner_of shard_of branch_in (length old_lives)) old_lives mid_lives number round.moment
       (arrivals_from shared.local number 1 round.events) sent items
       → LedSecond shared (owner_of shard_of (λ call_id. call_id) (length old_calls)) old_calls
-      new_calls round.moment items shown commands
-      → Deals shared shard_of number round old new ((sent ++ shown) ++ last)
+      new_calls round.moment items reported commands
+      → Deals shared shard_of number round old new ((sent ++ reported) ++ last)
   deals shared after_first after_second =
       let one : (config : Config) → shared ≡ calls_of config
       → LedFirst (owner_of shard_of branch_in (length old_lives)) old_lives mid_lives number
@@ -315,10 +315,10 @@ module _ (shard_of : List ℕ → ℕ → ℕ) (number : ℕ) (round : Round) (o
       (ap (λ s. s.local) same) after_first in
       let two : (config : Config) → shared ≡ calls_of config
       → LedSecond (calls_of config) (owner_of shard_of (λ call_id. call_id) (length old_calls))
-      old_calls new_calls round.moment items shown commands =
+      old_calls new_calls round.moment items reported commands =
       λ config same. subst (λ s. LedSecond s
       (owner_of shard_of (λ call_id. call_id) (length old_calls)) old_calls new_calls
-      round.moment items shown commands) same after_second in
+      round.moment items reported commands) same after_second in
       let held : (config : Config) (past : Past) → shared ≡ calls_of config
       → HoldFrom call_cmp (call_machine shared) tick_at
       (owner_of shard_of (λ call_id. call_id) (length old_calls)) zero old_calls past.calls

@@ -15,7 +15,7 @@ use Rattle.sip_round.specs.declared.output.Output.{Output}
 use Rattle.sip_round.specs.declared.output.Output.TheVariants as output
 use Rattle.sip_round.specs.declared.round.Round.{Round}
 use Rattle.sip_round.specs.Answers.{Past, answer, arrivals, first, given_second, said_by_transactions, third}
-use Rattle.sip_round.specs.Outputs.{all_said, joined, outs_of, said_at, sent_of, shown_of}
+use Rattle.sip_round.specs.Outputs.{all_said, joined, outs_of, said_at, sent_of, call_outputs}
 use Rattle.sip_round.proofs.AnswerParts.{answer_parts, sent_first}
 
 -- no Send and no drop passes the test
@@ -50,11 +50,11 @@ module _ (passes : Output → Bool)
 
   pub told_in_second : (config : Config) (number : ℕ) (past : Past) (round : Round)
       → passing (answer config number past round)
-      ≡ passing (flat_map shown_of (given_second config number past round))
+      ≡ passing (flat_map call_outputs (given_second config number past round))
   told_in_second config number past round =
       let told = said_by_transactions past.transactions (first config number past round) in
       let one = sent_first told (arrivals config number past round) in
-      let shown = flat_map shown_of (given_second config number past round) in
+      let reported = flat_map call_outputs (given_second config number past round) in
       let last = all_said (said_by_transactions
       (past.transactions ++ first config number past round ∷ [])
       (third config number past round)) in
@@ -65,7 +65,7 @@ module _ (passes : Output → Bool)
       ∙ (λ i. none_sent (joined told.ticks) i
       ++ none_of_arrivals (said_at told) (arrivals config number past round) i) in
       ap passing (answer_parts config number past round)
-      ∙ filter-append passes (one ++ shown) (flat_map sent_of last)
-      ∙ (λ i. filter-append passes one shown i ++ none_sent last i)
-      ∙ append-nil (passing one ++ passing shown)
-      ∙ (λ i. none_first i ++ passing shown)
+      ∙ filter-append passes (one ++ reported) (flat_map sent_of last)
+      ∙ (λ i. filter-append passes one reported i ++ none_sent last i)
+      ∙ append-nil (passing one ++ passing reported)
+      ∙ (λ i. none_first i ++ passing reported)

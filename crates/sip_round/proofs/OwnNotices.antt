@@ -13,11 +13,11 @@ use Rattle.sip_calls.specs.OwnCall.{IsCallOf, IsInputOf, IsNoticeOf}
 use Rattle.sip_calls.proofs.OwnCall.{each_notice_is_own}
 use Rattle.sip_round.specs.declared.output.Output.{Output}
 use Rattle.sip_round.specs.Given.{notice_in, notices_of}
-use Rattle.sip_round.specs.Outputs.{shown_of}
+use Rattle.sip_round.specs.Outputs.{call_outputs}
 
 -- the notices with a Call-ID, of what a call says to tell or send
 abbrev pub picked : List ℕ → CallOut → List Output
-picked q out = notices_of q (shown_of out)
+picked q out = notices_of q (call_outputs out)
 
 -- an input of a call, at any moment
 abbrev pub IsTimedOf : List ℕ → Timed CallItem → Type 0

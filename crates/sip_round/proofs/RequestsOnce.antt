@@ -35,7 +35,7 @@ use Rattle.sip_round.specs.declared.output.Output.TheVariants as output
 use Rattle.sip_round.specs.declared.round.Round.{Round}
 use Rattle.sip_round.specs.Answers.{Past, answer, answers, answers_from, calls_of, given_second, items_of_round, no_past, past_after, second}
 use Rattle.sip_round.specs.Given.{all_given, is_request_of, requests_of}
-use Rattle.sip_round.specs.Outputs.{all_said, joined, shown_of}
+use Rattle.sip_round.specs.Outputs.{all_said, joined, call_outputs}
 use Rattle.sip_round.specs.Phases.{call_items}
 use Rattle.sip_round.proofs.CallEvents.{item_event}
 use Rattle.sip_round.proofs.EventsRise.{rise_apart}
@@ -80,20 +80,20 @@ module _ (x : Id) where
   one_notice (notice.Ended call_id local_tag remote_tag) = refl
   one_notice (notice.Refused call_id place refusal) = refl
 
-  one_shown : (out : CallOut) → length (requests_of x (shown_of out)) ≡ tells_of x (out ∷ [])
+  one_shown : (out : CallOut) → length (requests_of x (call_outputs out)) ≡ tells_of x (out ∷ [])
   one_shown (call_out.Notice n) = one_notice n
   one_shown (call_out.Command id command) = refl
   one_shown (call_out.Direct to bytes) = refl
 
   all_shown : (outs : List CallOut)
-      → length (requests_of x (flat_map shown_of outs)) ≡ tells_of x outs
+      → length (requests_of x (flat_map call_outputs outs)) ≡ tells_of x outs
   all_shown [] = refl
   all_shown (out ∷ outs) =
-      let first = requests_of x (shown_of out) in
-      let rest = requests_of x (flat_map shown_of outs) in
+      let first = requests_of x (call_outputs out) in
+      let rest = requests_of x (flat_map call_outputs outs) in
       omega (
         arith,
-        ap length (filter-append (is_request_of x) (shown_of out) (flat_map shown_of outs)),
+        ap length (filter-append (is_request_of x) (call_outputs out) (flat_map call_outputs outs)),
         length-append first rest,
         one_shown out,
         all_shown outs,

@@ -39,7 +39,7 @@ use Rattle.sip_round.specs.declared.output.Output.TheVariants as output
 use Rattle.sip_round.specs.declared.round.Round.{Round}
 use Rattle.sip_round.specs.Answers.{Past, answer, answers, answers_from, calls_of, given_second, items_of_round, no_past, past_after, second}
 use Rattle.sip_round.specs.Given.{GivesRequestsById, all_given, told_request}
-use Rattle.sip_round.specs.Outputs.{all_said, joined, shown_of}
+use Rattle.sip_round.specs.Outputs.{all_said, joined, call_outputs}
 use Rattle.sip_round.specs.Phases.{call_items}
 use Rattle.sip_round.proofs.CallEvents.{item_event, one_left, round_placed}
 use Rattle.sip_round.proofs.EventsRise.{Places, Rise, places_from, rise_after}
@@ -132,7 +132,7 @@ notice_told (notice.Ended call_id local_tag remote_tag) = refl
 notice_told (notice.Refused call_id place refusal) = refl
 
 all_shown : (outs : List CallOut)
-    → filter_map told_request (flat_map shown_of outs) ≡ asked outs
+    → filter_map told_request (flat_map call_outputs outs) ≡ asked outs
 all_shown [] = refl
 all_shown (call_out.Notice n ∷ outs) =
     (λ i. cons_option (notice_told n i) (all_shown outs i))
@@ -146,7 +146,7 @@ answer_told config number past round =
     told_alone (answer config number past round)
     ∙ ap (filter_map told_request)
     (told_in_second is_told (λ key to bytes. refl) (λ place why. refl) config number past round)
-    ∙ sym (told_alone (flat_map shown_of (given_second config number past round)))
+    ∙ sym (told_alone (flat_map call_outputs (given_second config number past round)))
     ∙ all_shown (given_second config number past round)
 
 -- ---- the request of an input

@@ -24,7 +24,7 @@ use Rattle.sip_round.specs.declared.round.Round.{Round}
 use Rattle.sip_round.specs.declared.round_fault.RoundFault.{RoundFault}
 use Rattle.sip_round.specs.AgentState.{AgentState, ShardTables, calls_held, lives_held, round_fault}
 use Rattle.sip_round.specs.Arrivals.{Arrival, arrivals_from}
-use Rattle.sip_round.specs.Outputs.{sent_at, raised_of, shown_at, command_of, joined, all_said, said_at, outs_of, place_of, user_items}
+use Rattle.sip_round.specs.Outputs.{sent_at, raised_of, call_outputs_at, command_of, joined, all_said, said_at, outs_of, place_of, user_items}
 use Rattle.sip_shards.specs.Parts.{owner_of}
 use Rattle.sip_round.specs.Phases.{first_phase, second_phase, third_phase}
 
@@ -65,8 +65,8 @@ items_first number told arrivals =
 -- what the calls show in the second phase: first at the ticks, with place 0, then for each of their
 -- items, with the place of its event
 abbrev pub placed_second : PhaseOutputs (List ℕ) CallOut → List (Id × Item) → List PlacedOutput
-placed_second told items = flat_map (shown_at 0) (joined told.ticks)
-    ++ flat_map (λ said. flat_map (shown_at (place_of items (said.0).0)) said.1) told.items
+placed_second told items = flat_map (call_outputs_at 0) (joined told.ticks)
+    ++ flat_map (λ said. flat_map (call_outputs_at (place_of items (said.0).0)) said.1) told.items
 
 -- what the third phase sends for the commands of the calls, with place 0
 abbrev pub placed_third : PhaseOutputs Key Out → List PlacedOutput

@@ -25,7 +25,7 @@ use Rattle.sip_held_dialogs.specs.Ids.{is_id}
 use Rattle.sip_calls.specs.Call.{call_machine, CallItem}
 use Rattle.sip_calls.specs.CallShard.{call_cmp}
 use Rattle.sip_calls.specs.OwnCall.{call_of_notice}
-use Rattle.sip_calls.specs.Provisionals.{AnInvite, IsConsecutive, came, in_order, shown}
+use Rattle.sip_calls.specs.Provisionals.{AnInvite, IsConsecutive, came, in_order, reported}
 use Rattle.sip_round.specs.declared.config.Config.{Config}
 use Rattle.sip_round.specs.declared.output.Output.{Output}
 use Rattle.sip_round.specs.declared.output.Output.TheVariants as output
@@ -128,12 +128,12 @@ pub record TellsProvisionals (config : Config) (rounds : List Round) (given : Li
   pub told : notices_of call_id (all_given given) ≡ flat_map notice_in
       (outputs_from (call_machine (calls_of config)) call_id None
       (call_inputs_of config rounds call_id))
-  pub in_its_order : shown (calls_of config) invite life (call_inputs_of config rounds call_id)
+  pub in_its_order : reported (calls_of config) invite life (call_inputs_of config rounds call_id)
       ≡ in_order (came (calls_of config) invite life (call_inputs_of config rounds call_id))
   pub consecutive : IsConsecutive
-      (shown (calls_of config) invite life (call_inputs_of config rounds call_id))
+      (reported (calls_of config) invite life (call_inputs_of config rounds call_id))
   pub once : AllPairs (λ x y. x ≢ y)
-      (shown (calls_of config) invite life (call_inputs_of config rounds call_id))
+      (reported (calls_of config) invite life (call_inputs_of config rounds call_id))
 
 -- for each INVITE, in each life of a dialog
 abbrev pub GivesProvisionalsInOrder : Config → List Round → List (List Output) → Type 0

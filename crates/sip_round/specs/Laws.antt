@@ -15,7 +15,7 @@ use Rattle.sip_held_dialogs.specs.declared.held_dialog.DialogReference.{DialogRe
 use Rattle.sip_user.specs.declared.item.CallOut.{CallOut}
 use Rattle.sip_calls.specs.Call.{call_machine, CallItem}
 use Rattle.sip_calls.specs.CallShard.{call_cmp}
-use Rattle.sip_calls.specs.Provisionals.{AnInvite, IsConsecutive, came, in_order, shown}
+use Rattle.sip_calls.specs.Provisionals.{AnInvite, IsConsecutive, came, in_order, reported}
 use Rattle.sip_round.specs.declared.config.Config.{Config}
 use Rattle.sip_round.specs.declared.round.Round.{Round}
 use Rattle.sip_round.specs.Answers.{calls_of, past_of}
@@ -81,12 +81,12 @@ pub record ProvisionalsShown (config : Config) (rounds : List Round) (call_id : 
   pub said_in_order : said_of_call config rounds call_id
       ≡ outputs_from (call_machine (calls_of config)) call_id None
       (call_inputs_of config rounds call_id)
-  pub shown_in_order : shown (calls_of config) invite life (call_inputs_of config rounds call_id)
+  pub shown_in_order : reported (calls_of config) invite life (call_inputs_of config rounds call_id)
       ≡ in_order (came (calls_of config) invite life (call_inputs_of config rounds call_id))
   pub consecutive : IsConsecutive
-      (shown (calls_of config) invite life (call_inputs_of config rounds call_id))
+      (reported (calls_of config) invite life (call_inputs_of config rounds call_id))
   pub once : AllPairs (λ x y. x ≢ y)
-      (shown (calls_of config) invite life (call_inputs_of config rounds call_id))
+      (reported (calls_of config) invite life (call_inputs_of config rounds call_id))
 
 -- for every call, INVITE and life of a dialog
 abbrev pub ProvisionalsInLives : Config → List Round → Type 0

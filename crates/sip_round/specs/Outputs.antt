@@ -28,10 +28,10 @@ raised_of id (out.Up up) = (id, item.Up up) ∷ []
 raised_of id _ = []
 
 -- what a call tells the user, or sends outside of any transaction
-abbrev pub shown_of : CallOut → List Output
-shown_of (call_out.Notice notice) = output.Notice notice ∷ []
-shown_of (call_out.Command id command) = []
-shown_of (call_out.Direct to bytes) = output.Send None to bytes ∷ []
+abbrev pub call_outputs : CallOut → List Output
+call_outputs (call_out.Notice notice) = output.Notice notice ∷ []
+call_outputs (call_out.Command id command) = []
+call_outputs (call_out.Direct to bytes) = output.Send None to bytes ∷ []
 
 -- outputs for the event at a place; for a round's ticks the place is 0
 abbrev pub at_place : ℕ → List Output → List PlacedOutput
@@ -42,8 +42,8 @@ abbrev pub sent_at : ℕ → Out → List PlacedOutput
 sent_at place out = at_place place (sent_of out)
 
 -- what a call shows because of the event at this place
-abbrev pub shown_at : ℕ → CallOut → List PlacedOutput
-shown_at place out = at_place place (shown_of out)
+abbrev pub call_outputs_at : ℕ → CallOut → List PlacedOutput
+call_outputs_at place out = at_place place (call_outputs out)
 
 -- the place of the event that the item at an index belongs to
 abbrev pub place_of : List (Id × Item) → ℕ → ℕ

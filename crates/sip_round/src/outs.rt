@@ -4,7 +4,7 @@ ghost use Rattle.std.specs.Prelude.{◌≡◌, ◌++◌, OnOk, option_to_list};
 ghost use Rattle.std.specs.List.{flat_map};
 ghost use Rattle.keyed_machine.specs.Groups.{groups};
 ghost use Rattle.sip_round.specs.Outputs.{command_of, raised_of, sent_of};
-ghost use Rattle.sip_round.specs.Steps.Form.{sent_as, shown_as};
+ghost use Rattle.sip_round.specs.Steps.Form.{sent_as, call_outputs_as};
 
 use crate::form::Form;
 use crate::output::Output;
@@ -124,7 +124,7 @@ pub(crate) fn part_ticks<F: Form, L: Drop>(
     commands: &mut Vec<(Id, Command)>,
 ) -> Result<(), AllocError>
     ensures outputs { OnOk result (outputs.new.items ≡ outputs.old.items
-        ++ flat_map (λ group. flat_map (shown_as F.form 0) group.1) (groups told.items)) }
+        ++ flat_map (λ group. flat_map (call_outputs_as F.form 0) group.1) (groups told.items)) }
     ensures commands { OnOk result (commands.new.items ≡ commands.old.items
         ++ flat_map (λ group. flat_map command_of group.1) (groups told.items)) }
 {
@@ -142,7 +142,7 @@ pub(crate) fn part_items<F: Form>(
     commands: &mut Vec<(Id, Command)>,
 ) -> Result<(), AllocError>
     ensures outputs { OnOk result (outputs.new.items ≡ outputs.old.items
-        ++ flat_map (λ group. flat_map (shown_as F.form (F.place_at places.now group.0)) group.1)
+        ++ flat_map (λ group. flat_map (call_outputs_as F.form (F.place_at places.now group.0)) group.1)
         (groups told.items)) }
     ensures commands { OnOk result (commands.new.items ≡ commands.old.items
         ++ flat_map (λ group. flat_map command_of group.1) (groups told.items)) }
@@ -160,7 +160,7 @@ fn part_call<F: Form>(
     commands: &mut Vec<(Id, Command)>,
 ) -> Result<(), AllocError>
     ensures outputs { OnOk result (outputs.new.items ≡ outputs.old.items
-        ++ flat_map (shown_as F.form place) outs.items) }
+        ++ flat_map (call_outputs_as F.form place) outs.items) }
     ensures commands { OnOk result
         (commands.new.items ≡ commands.old.items ++ flat_map command_of outs.items) }
 {

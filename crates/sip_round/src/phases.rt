@@ -106,12 +106,12 @@ pub(crate) fn end_second<F: Form>(
 ) -> Result<Vec<(Id, Command)>, AllocError>
     ensures { IfOk result (λ commands. (items : List (AnId × Item))
         → ArePlacesOf F.form F.place_at items places.now
-        → (shown : List PlacedOutput)
-        × (outputs.new.items ≡ outputs.old.items ++ in_form F.form shown)
+        → (reported : List PlacedOutput)
+        × (outputs.new.items ≡ outputs.old.items ++ in_form F.form reported)
         × ((calls : Calls) (owner : List ℕ → ℕ) (old new : List (Held (List ℕ) Call)) (now : ℕ)
         → DealsAll call_cmp (call_machine calls) tick_at owner old new
         (phase.second_phase now items) (groups replies.ticks.items) (groups replies.items.items)
-        → LedSecond calls owner old new now items shown commands.items)) }
+        → LedSecond calls owner old new now items reported commands.items)) }
 {
     let PhaseOutputs { ticks, items } = replies;
     let mut commands = Vec::new(alloc);

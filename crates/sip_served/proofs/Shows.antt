@@ -13,7 +13,7 @@ use Rattle.sip_transactions.specs.declared.input.Command.TheVariants.{Answer as 
 use Rattle.sip_transactions.specs.declared.output.UpKind.{UpKind}
 use Rattle.sip_transactions.specs.declared.output.UpKind.TheVariants.{Request, Ack, Response, Timeout, Failed}
 use Rattle.sip_transactions.specs.declared.output.Up.{Up}
-use Rattle.sip_held_dialogs.proofs.ToldRequests.{early_shown, end_shown, none_of_both, shown}
+use Rattle.sip_held_dialogs.proofs.ToldRequests.{early_shown, end_shown, none_of_both, reported}
 use Rattle.sip_served.specs.declared.arrival.Arrival.{Arrival}
 use Rattle.sip_served.specs.declared.arrival.ArrivalCase.{ArrivalCase}
 use Rattle.sip_served.specs.declared.arrival.ArrivalCase.TheVariants.{Merged, BadExtension, NoDialog, OutOfOrder, Acknowledges, AcknowledgesNothing, ForUser}
@@ -46,28 +46,28 @@ use Rattle.sip_served.specs.Tick.{provisionals_ticked, provisionals_told, reques
 -- ---- repeats show no request
 
 success_shows : (now : ℕ) (held : HeldRequest) (o : Option Success)
-    → shown (success_at_tick now held o).1 ≡ []
+    → reported (success_at_tick now held o).1 ≡ []
 success_shows now held None = refl
 success_shows now held (Some success) = told (success_answer now success)
   where
-    told : (t : SuccessDue) → shown (success_told t held success.response) ≡ []
+    told : (t : SuccessDue) → reported (success_told t held success.response) ≡ []
     told repeat.Nothing = refl
     told repeat.Again = refl
     told repeat.GivenUp = refl
 
 repeats_show : (held : HeldRequest) (responses : List ReliableResponse)
-    → shown (map (λ one. Command held.id (ByAnswer held.key one.response)) responses) ≡ []
+    → reported (map (λ one. Command held.id (ByAnswer held.key one.response)) responses) ≡ []
 repeats_show held [] = refl
 repeats_show held (one ∷ responses) = repeats_show held responses
 
-provisionals_show : (t : Tick) (held : HeldRequest) → shown (provisionals_told t held) ≡ []
+provisionals_show : (t : Tick) (held : HeldRequest) → reported (provisionals_told t held) ≡ []
 provisionals_show tick.Nothing held = refl
 provisionals_show (tick.Again numbers) held =
     repeats_show held (of_numbers numbers.items held.provisionals)
 provisionals_show tick.GivenUp held = refl
 
 ticks_show : (now : ℕ) (requests : List HeldRequest)
-    → shown (flat_map (λ held. (request_ticked now held).1) requests) ≡ []
+    → reported (flat_map (λ held. (request_ticked now held).1) requests) ≡ []
 ticks_show now [] = refl
 ticks_show now (held ∷ requests) =
     let first = (success_ticked now held).0 in
@@ -81,7 +81,7 @@ ticks_show now (held ∷ requests) =
 -- ---- each case
 
 bye_shows : (request : Message) (name : DialogId) (state : State)
-    → shown (bye_taken request name state).1 ≡ []
+    → reported (bye_taken request name state).1 ≡ []
 bye_shows request name state =
     by_bool (has_to_tag request && is_bye request)
     (λ e. rw e (end_shown name state.dialogs))
@@ -89,7 +89,7 @@ bye_shows request name state =
 
 case_shows : (case : ArrivalCase) (state : State) (call_id : List ℕ) (name : DialogId)
     (arrival : Arrival)
-    → shown (by_case case state call_id name arrival).1 ≡ if_for_user arrival.id case
+    → reported (by_case case state call_id name arrival).1 ≡ if_for_user arrival.id case
 case_shows Merged state call_id name arrival = refl
 case_shows BadExtension state call_id name arrival = refl
 case_shows NoDialog state call_id name arrival = refl
@@ -100,7 +100,7 @@ case_shows ForUser state call_id name arrival =
     ap (λ rest. arrival.id ∷ rest) (bye_shows arrival.request name _)
 
 cancel_shows : (state : State) (call_id : List ℕ) (arrival : Arrival) (now : ℕ)
-    (o : Option HeldRequest) → shown (by_cancelled state call_id arrival now o).1 ≡ []
+    (o : Option HeldRequest) → reported (by_cancelled state call_id arrival now o).1 ≡ []
 cancel_shows state call_id arrival now None = refl
 cancel_shows state call_id arrival now (Some held) =
     by_bool (is_unanswered_invite held)
@@ -108,12 +108,12 @@ cancel_shows state call_id arrival now (Some held) =
     (λ e. rw e refl)
 
 ack_shows : (state : State) (call_id : List ℕ) (ack : Message) (o : Option Id)
-    → shown (ack_noted state call_id ack o).1 ≡ []
+    → reported (ack_noted state call_id ack o).1 ≡ []
 ack_shows state call_id ack None = refl
 ack_shows state call_id ack (Some invite) = refl
 
 answer_shows : (event : Id) (held : HeldRequest) (r : Answer) (response : Message)
-    (dialogs : Dialogs) → shown (dialogs_answered event held r.status response dialogs).1 ≡ []
+    (dialogs : Dialogs) → reported (dialogs_answered event held r.status response dialogs).1 ≡ []
 answer_shows event held r response dialogs =
     by_bool (makes_dialog held r.status) (λ e. rw e refl)
     (λ e. by_bool (confirms_dialog held r.status) (λ f. rw (e, f) refl)
@@ -122,19 +122,19 @@ answer_shows event held r response dialogs =
     (λ g. rw (e, f, g) refl)))
 
 refusal_shows : (state : State) (event : Id) (r : Answer) (now : ℕ) (held : HeldRequest)
-    (o : Option Refusal) → shown (by_refusal state event r now held o).1 ≡ []
+    (o : Option Refusal) → reported (by_refusal state event r now held o).1 ≡ []
 refusal_shows state event r now held (Some refusal) = refl
 refusal_shows state event r now held None =
     answer_shows event held r (answer_to state.local held r) state.dialogs
 
 respond_shows : (state : State) (event : Id) (r : Answer) (now : ℕ) (o : Option HeldRequest)
-    → shown (by_request state event r now o).1 ≡ []
+    → reported (by_request state event r now o).1 ≡ []
 respond_shows state event r now None = refl
 respond_shows state event r now (Some held) =
     refusal_shows state event r now held (refusal_for state.dialogs r held)
 
 kind_shows : (state : State) (tag : List ℕ) (up : Up) (kind : UpKind) (now : ℕ)
-    → shown (kind_taken state tag up kind now).1 ≡ for_user_of state tag up kind
+    → reported (kind_taken state tag up kind now).1 ≡ for_user_of state tag up kind
 kind_shows state tag up (Request request reply_to) now =
     let arrival = arrival_of up request reply_to tag in
     let name = dialog_id_of request arrival.tag in
@@ -150,7 +150,7 @@ kind_shows state tag up Timeout now = refl
 kind_shows state tag up Failed now = refl
 
 command_shows : (state : State) (id : Id) (c : UserCommand) (now : ℕ)
-    → shown (server_command_taken state id c now).1 ≡ []
+    → reported (server_command_taken state id c now).1 ≡ []
 command_shows state id (command.Invite i) now = refl
 command_shows state id (command.Plain i) now = refl
 command_shows state id (command.Request i) now = refl
@@ -161,7 +161,7 @@ command_shows state id (command.Prack i) now = refl
 command_shows state id (command.Cancel i) now = refl
 
 pub event_shows : (state : State) (event : Event)
-    → shown (event_taken state event).1 ≡ ids_for_user state event
+    → reported (event_taken state event).1 ≡ ids_for_user state event
 event_shows state (Takes tag id (item.Up up) now) = kind_shows state tag up up.kind now
 event_shows state (Takes tag id (item.User c) now) = command_shows state id c now
 event_shows state (Ticks now) = ticks_show now state.requests
@@ -221,13 +221,13 @@ event_often state id (Ticks now) = omega arith
 
 -- the user is told of a request by the event that brings it, and once
 pub told_often : (state : State) (event : Event) (id : Id)
-    → count_by (is_id id) (shown (event_taken state event).1) ≤ cond (brings id event) 1 0
+    → count_by (is_id id) (reported (event_taken state event).1) ≤ cond (brings id event) 1 0
 told_often state event id =
-    let told : length (filter (is_id id) (shown (event_taken state event).1))
+    let told : length (filter (is_id id) (reported (event_taken state event).1))
     ≡ often (is_id id) (ids_for_user state event) =
     ap (λ ids. often (is_id id) ids) (event_shows state event) in
     let few = event_often state id event in
-    let counted = length-filter (is_id id) (shown (event_taken state event).1) in
+    let counted = length-filter (is_id id) (reported (event_taken state event).1) in
     omega (arith, told, few, counted)
 
 head_often : (b : Bool) (event : Event) (chosen : List Event) (n m : ℕ) → n ≤ cond b 1 0

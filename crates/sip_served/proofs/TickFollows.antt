@@ -19,8 +19,8 @@ module _ {X : Type 0} (reading : Reading X) (invite : Id) (told : IsTold X readi
     abbrev pub passed : HeldRequest → HeldRequest
     passed held = (request_ticked now held).0
 
-    abbrev pub told_of : HeldRequest → List CallOut
-    told_of held = (request_ticked now held).1
+    abbrev pub reported_in : HeldRequest → List CallOut
+    reported_in held = (request_ticked now held).1
 
     abbrev NoneOfIt : List HeldRequest → Type 0
     NoneOfIt requests = AllByRecursion (λ held. is_id held.id invite ≡ false) requests
@@ -46,15 +46,15 @@ module _ {X : Type 0} (reading : Reading X) (invite : Id) (told : IsTold X readi
     none_left (held ∷ requests) all = past held requests all.0 ∙ none_left requests all.1
 
     none_told : (requests : List HeldRequest) → NoneOfIt requests
-        → Quiet reading (flat_map told_of requests)
+        → Quiet reading (flat_map reported_in requests)
     none_told [] all x = refl
     none_told (held ∷ requests) all x =
-        quiet_both reading (told_of held) (flat_map told_of requests)
+        quiet_both reading (reported_in held) (flat_map reported_in requests)
         (told.other_ticked now held all.0) (none_told requests all.1) x
 
     abbrev pub Ticks : List HeldRequest → Type 0
     Ticks requests = TicksAs reading (find (has_id invite) requests)
-        (find (has_id invite) (left requests)) (flat_map told_of requests)
+        (find (has_id invite) (left requests)) (flat_map reported_in requests)
 
     none_of_it : (held : HeldRequest) (requests : List HeldRequest) → is_id held.id invite ≡ true
         → AllByRecursion (λ id. is_id held.id id ≡ false) (map (λ held. held.id) requests)
@@ -75,14 +75,14 @@ module _ {X : Type 0} (reading : Reading X) (invite : Id) (told : IsTold X readi
         (IsDistinct-tail is_id held.id (map (λ held. held.id) requests) apart))
       where
         rest : List CallOut
-        rest = flat_map told_of requests
+        rest = flat_map reported_in requests
 
         as_later : is_id held.id invite ≡ false → (before after : Option HeldRequest)
             → TicksAs reading before after rest → TicksAs reading before after
-            (told_of held ++ rest)
+            (reported_in held ++ rest)
         as_later other before None later = tt
         as_later other before (Some after) later =
-            later ∙ sym (fold_on reading.ticks (read_of reading before) (told_of held) rest
+            later ∙ sym (fold_on reading.ticks (read_of reading before) (reported_in held) rest
             ∙ ap (λ x. fold reading.ticks x rest)
             (told.other_ticked now held other (read_of reading before)))
 
@@ -90,27 +90,27 @@ module _ {X : Type 0} (reading : Reading X) (invite : Id) (told : IsTold X readi
         by_id false other later =
             let before = find (has_id invite) requests in
             subst (λ after. TicksAs reading
-            (cond (is_id held.id invite) (Some held) before) after (told_of held ++ rest))
+            (cond (is_id held.id invite) (Some held) before) after (reported_in held ++ rest))
             (sym (past held requests other))
             (subst (λ b. TicksAs reading (cond b (Some held) before)
-            (find (has_id invite) (left requests)) (told_of held ++ rest)) (sym other)
+            (find (has_id invite) (left requests)) (reported_in held ++ rest)) (sym other)
             (as_later other before (find (has_id invite) (left requests)) later))
         by_id true own later =
             let none = none_of_it held requests own
             (IsDistinct-head is_id held.id (map (λ held. held.id) requests) apart) in
             subst (λ b. TicksAs reading (cond b (Some held) (find (has_id invite) requests))
-            (find (has_id invite) (left (held ∷ requests))) (told_of held ++ rest)) (sym own)
+            (find (has_id invite) (left (held ∷ requests))) (reported_in held ++ rest)) (sym own)
             (elim (is_kept_at now (passed held)) as (λ b. TicksAs reading (Some held)
             (find (has_id invite) (cond b (passed held ∷ left requests) (left requests)))
-            (told_of held ++ rest)) [
+            (reported_in held ++ rest)) [
               | true ↦ subst (λ b. TicksAs reading (Some held)
                   (cond b (Some (passed held)) (find (has_id invite) (left requests)))
-                  (told_of held ++ rest))
+                  (reported_in held ++ rest))
                   (sym (ap (λ id. is_id id invite) (passed_id now held) ∙ own))
                   (told.ticked now held own
-                  ∙ sym (fold_on reading.ticks (reading.read held) (told_of held) rest
+                  ∙ sym (fold_on reading.ticks (reading.read held) (reported_in held) rest
                   ∙ none_told requests none
-                  (fold reading.ticks (reading.read held) (told_of held))))
-              | false ↦ subst (λ after. TicksAs reading (Some held) after (told_of held ++ rest))
+                  (fold reading.ticks (reading.read held) (reported_in held))))
+              | false ↦ subst (λ after. TicksAs reading (Some held) after (reported_in held ++ rest))
                   (sym (none_left requests none)) tt
             ])

@@ -6,7 +6,7 @@ use Rattle.sip_user.specs.declared.item.CallOut.{CallOut}
 use Rattle.sip_user.specs.declared.item.Item.{Item}
 use Rattle.sip_round.specs.declared.output.Output.{Output}
 use Rattle.sip_round.specs.declared.output.PlacedOutput.{PlacedOutput}
-use Rattle.sip_round.specs.Outputs.{place_of, sent_at, shown_at}
+use Rattle.sip_round.specs.Outputs.{place_of, sent_at, call_outputs_at}
 
 -- outputs in the form that is given for the output of the event at a place
 abbrev pub in_form : {F : Type 0} → (ℕ → Output → F) → List PlacedOutput → List F
@@ -17,8 +17,8 @@ abbrev pub sent_as : {F : Type 0} → (ℕ → Output → F) → ℕ → Out →
 sent_as form place out = in_form form (sent_at place out)
 
 -- what a call shows because of the event at a place, in the form
-abbrev pub shown_as : {F : Type 0} → (ℕ → Output → F) → ℕ → CallOut → List F
-shown_as form place out = in_form form (shown_at place out)
+abbrev pub call_outputs_as : {F : Type 0} → (ℕ → Output → F) → ℕ → CallOut → List F
+call_outputs_as form place out = in_form form (call_outputs_at place out)
 
 -- with the kept places, outputs have the same form as with those of these items' events
 abbrev pub ArePlacesOf : {F P : Type 0} → (ℕ → Output → F) → (P → ℕ → ℕ) → List (Id × Item) → P

@@ -60,7 +60,7 @@ module _ (shared : Calls) (owner : List ℕ → ℕ) (old new : List (Held (List
     pub count : length new ≡ length old
     pub stands : (past : List (Phase (List ℕ) (Timed CallItem))) → HoldAll old past
         → HoldAll new (past ++ second_phase now items ∷ [])
-    pub shown : (past : List (Phase (List ℕ) (Timed CallItem))) → HoldAll old past
+    pub reported : (past : List (Phase (List ℕ) (Timed CallItem))) → HoldAll old past
         → outputs ≡ placed_second (said_by_calls shared past (second_phase now items)) items
     pub commanded : (past : List (Phase (List ℕ) (Timed CallItem))) → HoldAll old past
         → commands ≡ flat_map command_of

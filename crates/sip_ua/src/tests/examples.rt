@@ -41,7 +41,7 @@ fn notices_in(alloc: Global, text: &[u8]) -> Result<String, Fail> {
 }
 
 // The notices that the help of a command shows.
-fn shown<T: Threads + Host>(rt: &T, alloc: Global, words: &str) -> Result<String, Fail> {
+fn documented<T: Threads + Host>(rt: &T, alloc: Global, words: &str) -> Result<String, Fail> {
     let help = ua_with(rt, alloc, words)?;
     notices_in(alloc, &help.output)
 }
@@ -62,10 +62,10 @@ fn a_listener_and_a_caller_print_what_their_helps_show(rt: HostRuntime) -> Resul
     );
     let served = served?;
     let called = called?;
-    let expected = shown(&rt, alloc, "help listen")?;
+    let expected = documented(&rt, alloc, "help listen")?;
     assert!(rt; !expected.is_empty());
     assert!(rt; notices_in(alloc, &served.output)?.as_str() == expected.as_str());
-    let expected = shown(&rt, alloc, "help call")?;
+    let expected = documented(&rt, alloc, "help call")?;
     assert!(rt; !expected.is_empty());
     assert!(rt; notices_in(alloc, &called.output)?.as_str() == expected.as_str());
     Ok(())

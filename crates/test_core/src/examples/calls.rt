@@ -48,7 +48,7 @@ fn is_broken(shard: &mut CallShard) -> bool {
 }
 
 // What an item adds.
-fn given(shard: &mut CallShard, id: Id, item: Item, now: u64) -> Result<Vec<CallOut>, Stop>
+fn outputs_of(shard: &mut CallShard, id: Id, item: Item, now: u64) -> Result<Vec<CallOut>, Stop>
     requires { now ≤ 2 ^ 62 }
 {
     let outs = shard.item(id, item, now);
@@ -64,8 +64,8 @@ fn is_quiet(shard: &mut CallShard, now: u64, live: usize) -> Result<(), Stop>
 }
 
 pub fn a_request_is_told_and_answered(alloc: Global, shard: &mut CallShard) -> Result<(), Stop> {
-    is_line(alloc, given(shard, ID, up(alloc, OPTIONS)?, 0)?, TOLD)?;
-    check(is_answer(&given(shard, LATER, asked(alloc, RESPOND)?, 10)?))?;
+    is_line(alloc, outputs_of(shard, ID, up(alloc, OPTIONS)?, 0)?, TOLD)?;
+    check(is_answer(&outputs_of(shard, LATER, asked(alloc, RESPOND)?, 10)?))?;
     check(shard.live() == 1)?;
     is_quiet(shard, 32_010, 0)
 }
@@ -76,8 +76,8 @@ fn is_answer(outs: &[CallOut]) -> bool {
 
 // The INVITE goes out, and its 200 is told and acknowledged; 64 T1 later its dialog is still held.
 pub fn a_call_is_set_up(alloc: Global, shard: &mut CallShard) -> Result<(), Stop> {
-    check(is_started(&given(shard, ID, asked(alloc, INVITE)?, 0)?))?;
-    is_acknowledged(alloc, given(shard, LATER, up(alloc, SUCCESS)?, 100)?)?;
+    check(is_started(&outputs_of(shard, ID, asked(alloc, INVITE)?, 0)?))?;
+    is_acknowledged(alloc, outputs_of(shard, LATER, up(alloc, SUCCESS)?, 100)?)?;
     is_quiet(shard, 32_100, 1)
 }
 

@@ -41,13 +41,13 @@ pub fn rounds_are_run<R: Threads + Sync>(rt: &R, alloc: Global) -> Result<(), St
     match run(
         rt, alloc, config, SHARDS, WORKERS, Spread, &OpenGate, rounds,
     ) {
-        Ok(made) => are_written(alloc, rounds, made),
+        Ok(made) => check_written(alloc, rounds, made),
         Err(_) => Err(Stop::NoMemory),
     }
 }
 
 // Checks that the outputs of these rounds are those of the output file.
-fn are_written(alloc: Global, rounds: &[Round], made: Vec<Vec<Output>>) -> Result<(), Stop> {
+fn check_written(alloc: Global, rounds: &[Round], made: Vec<Vec<Output>>) -> Result<(), Stop> {
     let mut told = Vec::with_capacity(alloc, rounds.len())?;
     for (round, outputs) in rounds.iter().zip(made) {
         told.push((round.moment, outputs))?;

@@ -28,7 +28,12 @@ fn is_broken(served: &mut Served) -> bool {
 }
 
 // What an item of the first event adds.
-fn given(alloc: Global, served: &mut Served, item: Item, now: u64) -> Result<Vec<CallOut>, Stop>
+fn outputs_of(
+    alloc: Global,
+    served: &mut Served,
+    item: Item,
+    now: u64,
+) -> Result<Vec<CallOut>, Stop>
     requires { now ≤ 2 ^ 62 }
 {
     let outs = served.item(token(alloc, TAG)?, ID, item, now);
@@ -37,8 +42,12 @@ fn given(alloc: Global, served: &mut Served, item: Item, now: u64) -> Result<Vec
 
 pub fn a_request_is_told_and_answered(alloc: Global, served: &mut Served) -> Result<(), Stop> {
     check(!served.holds() && served.next_due().is_none())?;
-    is_line(alloc, given(alloc, served, up(alloc, OPTIONS)?, 0)?, TOLD)?;
-    check(is_answer(&given(alloc, served, asked(alloc, RESPOND)?, 10)?))?;
+    is_line(
+        alloc,
+        outputs_of(alloc, served, up(alloc, OPTIONS)?, 0)?,
+        TOLD,
+    )?;
+    check(is_answer(&outputs_of(alloc, served, asked(alloc, RESPOND)?, 10)?))?;
     check(served.holds() && served.next_due() == Some(32_010))?;
     is_over(served)
 }

@@ -81,7 +81,7 @@ struct Side {
     agent: Agent<Spread>,
     local: Addr,
     events: Vec<(u32, String)>,
-    shown: String,
+    statuses: String,
 }
 
 fn side_at(alloc: Global, last: u8) -> Result<Side, Fail> {
@@ -91,7 +91,7 @@ fn side_at(alloc: Global, last: u8) -> Result<Side, Fail> {
         agent: Agent::new(alloc, Config { local, seed, first }, 2, Spread)?,
         local,
         events: Vec::new(alloc),
-        shown: String::new(alloc),
+        statuses: String::new(alloc),
     })
 }
 
@@ -155,7 +155,7 @@ fn turn<T: Threads + Sync>(
             if let Some(response) = notice.strip_prefix("response 0.1 ") {
                 let (status, _) = response.split_once(' ').ok_or("a status")?;
                 let status = if status == "100" { "" } else { status };
-                me.shown.push_str(status)?;
+                me.statuses.push_str(status)?;
             }
         } else if let Some(("send", datagram)) = line.split_once(' ') {
             let (_, bytes) = datagram.split_once(' ').ok_or("an address")?;
@@ -190,7 +190,7 @@ fn calls_over_a_network_that_loses_datagrams(rt: HostRuntime) -> Result<(), Fail
         }
         sent = network.sent;
         assert!(rt; is_over(&caller) && is_over(&callee), "{random}");
-        match caller.shown.as_str() {
+        match caller.statuses.as_str() {
             "181182183200" => whole = whole.wrapping_add(1),
             "" | "503" | "181503" | "181182503" | "181182183503" => {}
             _ => return Err("out of order".into()),

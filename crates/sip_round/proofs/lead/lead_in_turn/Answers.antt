@@ -100,14 +100,14 @@ returns-clause-deals g c =
     let led_first = c.in_ok-outputs.ensures.2
     (owner_of shard_of branch_in (length (lives_held old))) (lives_held old) mid_held now
     arrivals here.placed here.waiting_are first in
-    let shown = c.in_ok-commands.ensures items c.in_ok-parts.ensures.places in
-    let led_second = shown.2 begun.calls
+    let reported = c.in_ok-commands.ensures items c.in_ok-parts.ensures.places in
+    let led_second = reported.2 begun.calls
     (owner_of shard_of (λ call_id. call_id) (length (calls_held old))) (calls_held old)
     (calls_held new) now second in
     let led_third = c.in_ok-end_third.ensures.2 (owner_of shard_of branch_in (length mid_held))
     mid_held (lives_held new) now commands third in
     let one = c.in_ok-outputs.ensures.0 in
-    let two = shown.0 in
+    let two = reported.0 in
     let three = c.in_ok-end_third.ensures.0 in
     let outputs = (one ++ two) ++ three in
     let whole = deals shard_of begun.number c.args.round.now old new mid_held items commands one
@@ -115,7 +115,7 @@ returns-clause-deals g c =
       outputs,
       given_together g.F.Form.form one two three c.in_ok-outputs.outputs.items
           c.end_second.new.outputs.items c.end_third.new.outputs.items c.in_ok-outputs.ensures.1
-          shown.1 c.in_ok-end_third.ensures.1,
+          reported.1 c.in_ok-end_third.ensures.1,
       subst (λ old. Deals begun.calls shard_of begun.number c.args.round.now old c.of.result
           outputs) same
           (subst (λ new. Deals begun.calls shard_of begun.number c.args.round.now old new outputs)

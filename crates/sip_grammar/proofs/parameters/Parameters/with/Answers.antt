@@ -1,6 +1,6 @@
 -- `with`: a text with one more parameter at the end is kept, and lists that parameter last.
 use Rattle.std.proofs.Common.{ap, List, [], ◌∷◌, ◌++◌, ◌∙◌}
-use Rattle.sip_grammar.specs.ListedParameters.{listed, shown}
+use Rattle.sip_grammar.specs.ListedParameters.{listed, as_parameter}
 use Rattle.sip_grammar.specs.declared.parameter.Parameter.{Parameter}
 use Rattle.sip_grammar.proofs.KeptParameters.{one_more}
 use Rattle.sip_grammar.proofs.parameters.Parameters.with.Goals as goal
@@ -15,4 +15,4 @@ returns c =
     ap listed c.in_ok-push_parameter.ensures
     ∙ (one_more c.self.inside.text c.args.parameter c.self.invariant c.requires.name
     c.requires.value).list
-    ∙ ap (λ (ps : List Parameter). ps ++ shown c.args.parameter ∷ []) c.self.view_is
+    ∙ ap (λ (ps : List Parameter). ps ++ as_parameter c.args.parameter ∷ []) c.self.view_is
