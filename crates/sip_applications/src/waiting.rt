@@ -152,7 +152,7 @@ fn command_with(
 fn tell<E: Write>(lines: Vec<Line>, errors: &mut E) {
     for line in lines {
         let Line { number, wrong } = line;
-        let _ = writeln!(errors, "ua: line {number} is no command");
+        let _ = writeln!(errors, "ua: line {number} is not a command");
         match wrong {
             Some(Wrong::Word(wrong)) => {
                 let WrongWord {

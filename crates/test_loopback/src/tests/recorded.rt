@@ -310,7 +310,7 @@ fn is_forked(alloc: Global, script: &mut Script, from: Addr, to: Addr) -> Result
         script.answer(alloc, from, &request, "200 OK", tag)?;
         script.datagram(alloc, "ACK ")?;
     }
-    script.command("this is no command")?;
+    script.command("this is not a command")?;
     script.hung_up(alloc, from, "x")?;
     script.hung_up(alloc, from, "y")
 }
@@ -439,7 +439,7 @@ fn is_of_a_fork<R: Threads + Sync + Abort>(
     assert!(rt; lines(&drops) == lines(&lines_after(alloc, &output, "drop ")?));
     let words = [" ended ", " y\n", " response ", " 487 ", "notice c2 ended "];
     assert!(rt; stand_in_order(&heard.told, &words));
-    let told = "ua: line 2 is no command\nua: line 2, word 1: expected invite, plain, request, \
+    let told = "ua: line 2 is not a command\nua: line 2, word 1: expected invite, plain, request, \
         respond, ack, prack or cancel\n";
     assert!(rt; run.errors.as_slice() == told.as_bytes());
     Ok(())
@@ -503,8 +503,8 @@ fn is_a_session<R: Threads + Sync + Abort>(
     assert!(rt; is_heard(alloc, heard, &output, to)?);
     let told = lines_after(alloc, &run.errors, "ua: line ")?;
     let expected = b"\
-        6 is no command\n6: expected a header line of a user\n7 is no command\n8 is no command\n\
-        9 is no command\n10 is no command\n";
+        6 is not a command\n6: expected a header line of a user\n7 is not a command\n\
+        8 is not a command\n9 is not a command\n10 is not a command\n";
     assert!(rt; told.as_slice() == expected.as_slice());
     Ok(())
 }
