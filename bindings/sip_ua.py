@@ -16,7 +16,7 @@ returns datagrams to send, and notices:
                     agent.failed(output.index)
             elif isinstance(output, RequestNotice):
                 agent.ask(Response(output.call_id, output.id, 200, "OK"))
-        .. unless a command waits, wait for a datagram, the user, or agent.next_due()
+        .. unless an event waits, wait for a datagram, the user, or agent.next_due()
         agent.datagram(source, data)
 
 The commands are Invite, Plain, Request, Response, Ack, Prack and Cancel. A round gives outputs: a
