@@ -253,8 +253,8 @@ fn blast<R: Clock>(rt: &R, socket: &UdpSocket, to: Addr, datagrams: u32) {
 }
 
 // How a listener ends that takes `turns` turns, while `datagrams` datagrams are sent to an address.
-fn end_of_listener<R: Threads + Clock + Files + Sync>(
-    rt: &R,
+fn end_of_listener(
+    rt: &HostRuntime,
     alloc: Global,
     socket: UdpSocket,
     local: Addr,
