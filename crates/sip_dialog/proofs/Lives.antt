@@ -201,13 +201,11 @@ never_ended : (ended confirmed : Bool) (state : DialogState)
 never_ended true confirmed state none = absurd cc
 never_ended false confirmed state none = refl
 
-pub request_stands : {A E : Type 0} (old new : Dialog) (answer : Result A E) (method : List ℕ)
-    → OnOk answer (new ≡ with_next_number old)
+pub request_stands : (old : Dialog) (method : List ℕ)
     → (start : Opening) (life : List Happening) → old ≡ dialog_after start life
-    → OnOk answer (new ≡ dialog_after start (life ++ Requests method ∷ []))
-request_stands old new (Ok made) method after start life stands =
-    after ∙ ap with_next_number stands ∙ sym (requests_more start life method)
-request_stands old new (Err fault) method after start life stands = tt
+    → with_next_number old ≡ dialog_after start (life ++ Requests method ∷ [])
+request_stands old method start life stands =
+    ap with_next_number stands ∙ sym (requests_more start life method)
 
 pub ack_stands : (old : Dialog) (number : ℕ) (start : Opening) (life : List Happening)
     → old ≡ dialog_after start life

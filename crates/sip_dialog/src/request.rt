@@ -44,24 +44,6 @@ impl Dialog {
             → self.old ≡ dialog_after start life
             → OnOk result (self.new ≡ dialog_after start (life ++ Requests method ∷ [])) }
     {
-        self.next_request_step(method, content, branch, local)
-    }
-
-    fn next_request_step(
-        &mut self,
-        method: Token,
-        content: Content,
-        branch: Branch,
-        local: Addr,
-    ) -> Result<Message, DialogFault>
-        ensures made { IfOk result (λ message. message
-            ≡ request_in self.old method (self.old.local_cseq + 1) content branch local) }
-        ensures open { OnOk result (request_fault self.old method ≡ None) }
-        ensures fault { IfErr result (λ fault. fault
-            ≡ or_no_memory (request_fault self.old method)) }
-        ensures ok { OnOk result (self.new ≡ with_next_number self.old) }
-        ensures err { OnErr result (self.new ≡ self.old) }
-    {
         if let Some(fault) = self.request_fault(&method) {
             return Err(fault);
         }

@@ -3,5 +3,4 @@ use Rattle.sip_dialog.proofs.Lives.{request_stands}
 use Rattle.sip_dialog.proofs.dialog.Dialog.next_request.Goals as goal
 
 pub returns-clause-life : goal.returns-clause-life
-returns-clause-life c = request_stands c.args.self.now c.next_request_step.new.self
-    c.next_request_step.result c.args.method c.next_request_step.ensures.ok
+returns-clause-life c = request_stands c.args.self.now c.args.method
