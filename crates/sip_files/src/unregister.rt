@@ -51,9 +51,7 @@ fn expires_at_once(headers: &[Header]) -> bool
     ensures { result ≡ unregister.expires_at_once headers.now }
 {
     count_expires(headers) == 1
-        && headers
-            .iter()
-            .any(|header| is_expires(header) && is_zero(header.value.as_slice()))
+        && headers.iter().any(|header| is_expires(header) && is_zero(header.value.as_slice()))
 }
 
 fn count_expires(headers: &[Header]) -> usize
