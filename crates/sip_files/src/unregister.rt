@@ -26,7 +26,7 @@ pub(crate) fn contacts_fit(headers: &GivenHeaders, command: &UserCommand) -> boo
 fn has_wildcard_uri(contacts: &[NameAddr]) -> bool
     ensures { result ≡ list_any wildcard.has_wildcard_uri contacts.now }
 {
-    contacts.iter().any(|contact| contact.has_wildcard_uri())
+    contacts.iter().any(NameAddr::has_wildcard_uri)
 }
 
 fn is_register(command: &UserCommand) -> bool
@@ -50,14 +50,25 @@ fn is_only_wildcard(contacts: &[NameAddr]) -> bool
 fn expires_at_once(headers: &[Header]) -> bool
     ensures { result ≡ unregister.expires_at_once headers.now }
 {
-    count_expires(headers) == 1
-        && headers.iter().any(|header| is_expires(header) && is_zero(header.value.as_slice()))
+    count_expires(headers) == 1 && has_expires_of_zero(headers)
 }
 
 fn count_expires(headers: &[Header]) -> usize
     ensures { result ≡ count_by unregister.is_expires headers.now }
 {
     headers.iter().filter(|header| is_expires(header)).count()
+}
+
+fn has_expires_of_zero(headers: &[Header]) -> bool
+    ensures { result ≡ list_any unregister.is_expires_of_zero headers.now }
+{
+    headers.iter().any(is_expires_of_zero)
+}
+
+fn is_expires_of_zero(header: &Header) -> bool
+    ensures { result ≡ unregister.is_expires_of_zero header.now }
+{
+    is_expires(header) && is_zero(header.value.as_slice())
 }
 
 fn is_expires(header: &Header) -> bool

@@ -1,10 +1,11 @@
 -- What is written for an address, alone or in a list, is read as that address, and so is what is
 -- written for a Contact.
-use Rattle.std.proofs.Common.{◌≡◌, ℕ, Bool, true, false, cond, not, ◌&&◌, ◌||◌, List, [], ◌∷◌, ◌++◌, Option, Some, None, length, codes, refl, sym, ap, subst, ◌∙◌, append_assoc}
+use Rattle.std.proofs.Common.{◌≡◌, ℕ, Bool, true, false, cond, not, ◌&&◌, ◌||◌, List, [], ◌∷◌, ◌++◌, Option, Some, None, length, codes, eqb-true, refl, sym, ap, subst, ◌∙◌, append_assoc}
 use Rattle.std.specs.Prelude.{nat_eq, option_and_then}
 use Rattle.std.specs.List.{AllByRecursion, list_all}
 use Rattle.std.specs.Option.{option_map}
 use Rattle.std.proofs.lemmas.Bool.{and_parts}
+use Rattle.std.proofs.lemmas.List.{nil_from_length}
 use Rattle.std.proofs.lemmas.Slice.Eq.{bytes_eq-Decides}
 use Rattle.sip_text.specs.Character.{is_blank, is_line_byte}
 use Rattle.sip_text.specs.Forms.{each, by_cut, both, told, split}
@@ -242,8 +243,7 @@ abbrev wildcard : NameAddr
 wildcard = record { display = []; uri = codes "*"; parameters = [] }
 
 none : {X : Type 0} (xs : List X) → nat_eq (length xs) 0 ≡ true → xs ≡ []
-none [] e = refl
-none (x ∷ xs) e = absurd cc
+none xs e = nil_from_length xs (eqb-true (length xs) 0 e)
 
 the_wildcard : (a : NameAddr) → is_wildcard a ≡ true → wildcard ≡ a
 the_wildcard a is =

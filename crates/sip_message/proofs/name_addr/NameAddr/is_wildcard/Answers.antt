@@ -1,6 +1,5 @@
 -- What `is_wildcard` returns: the text of the parameters is empty exactly if there are none.
 use Rattle.std.proofs.Common.{rules}
-use Rattle.sip_message.specs.Written.{parameters_text}
 use Rattle.sip_message.proofs.Wildcards.{no_parameters}
 use Rattle.sip_message.proofs.name_addr.NameAddr.is_wildcard.Goals as goal
 
