@@ -30,10 +30,11 @@ is_expires header = str_eq_ignore_ascii_case header.name (codes "Expires")
 abbrev pub is_zero : List ℕ → Bool
 is_zero value = is_digits value && nat_eq (digits_value 10 value) 0
 
+-- an Expires of 0 seconds
 abbrev pub is_expires_of_zero : Header → Bool
 is_expires_of_zero header = is_expires header && is_zero header.value
 
--- there is one Expires, and it says 0 seconds (RFC 3261, section 20.19)
+-- there is one Expires, and it is of 0 seconds (RFC 3261, section 20.19)
 abbrev pub expires_at_once : List Header → Bool
 expires_at_once headers =
     nat_eq (count_by is_expires headers) 1 && list_any is_expires_of_zero headers
