@@ -343,21 +343,39 @@ def replayed(text, is_session=False):
     return "".join(f"{line}\n" for line in lines)
 
 
+def repaired(text, is_session):
+    """What is whole of a file that was cut off: its lines that have an end; of a session, without
+    the header lines at its end, whose command is missing."""
+    lines = text.split("\n")[:-1]
+    while is_session and lines and lines[-1].startswith(" "):
+        lines.pop()
+    return "".join(f"{line}\n" for line in lines)
+
+
+def told_of(text, words):
+    """The ending and the text of the file that stands beside a case with these words."""
+    is_session = "--session" in words
+    whole = repaired(text, is_session) if "--repair" in words else text
+    left_out = len(text) - len(whole)
+    said = f"ua: {left_out} bytes at the end left out\n" if left_out else ""
+    try:
+        output = replayed(whole, is_session)
+    except FileFault as fault:
+        return ".fault", "{}\n{}ua: {}\n".format(fault.args[0], said, fault.args[1])
+    return (".fault", f"0\n{said}and writes\n{output}") if said else (".outputs", output)
+
+
 def compare_cases():
     """Says which stored cases differ, and how many were worked out."""
     cases, differ = 0, 0
     for events in sorted((Path(__file__).parent / "data").glob("*/*.events")):
-        kind = ".outputs"
         path = events.with_suffix(".args")
         words = path.read_text() if path.exists() else "replay\n"
         if path.exists() and (
                 not words.startswith("replay\n")
-                or "round" not in events.read_text("latin-1")):
+                or ("--repair" not in words and "round" not in events.read_text("latin-1"))):
             continue  # it is its words, or another command, that are tried
-        try:
-            text = replayed(events.read_bytes().decode("latin-1"), "--session" in words)
-        except FileFault as fault:
-            kind, text = ".fault", "{}\nua: {}\n".format(*fault.args)
+        kind, text = told_of(events.read_bytes().decode("latin-1"), words)
         stored = events.with_suffix(kind)
         is_same = stored.exists() and stored.read_bytes().decode("latin-1") == text
         cases, differ = cases + 1, differ + (not is_same)

@@ -7,7 +7,7 @@ use crate::pipe::PipeLine;
 use crate::waiting::Waiting;
 use sip_desk::Desk;
 use sip_round::Event;
-use sip_udp::{Flags, LINE_CAPACITY, TimeLeft, User};
+use sip_udp::{Flags, MOST_COLLECTED, TimeLeft, User};
 use sip_user::Notice;
 use std::alloc::{AllocError, Global};
 use std::io::Write;
@@ -71,7 +71,7 @@ impl User for Piped {
             return Ok(());
         }
         let has_ended = self.flags.ended.load(Ordering::SeqCst);
-        let Ok(lines) = self.pipe.collect(LINE_CAPACITY) else {
+        let Ok(lines) = self.pipe.collect(MOST_COLLECTED) else {
             return Err(AllocError);
         };
         if has_ended && lines.is_empty() {

@@ -14,12 +14,13 @@ use sip_message::{Addr, CallId, Uri, ip_text};
 use sip_round::Event;
 use sip_text::Text;
 use sip_udp::{
-    Bell, CountedSocket, Endpoint, Flags, Heard, LINE_CAPACITY, Limit, Record, Turns, UaFault,
-    User, hear,
+    Bell, CountedSocket, Endpoint, Flags, Heard, Limit, Losses, MOST_COLLECTED, Record, Turns,
+    UaFault, User, hear, system_drops,
 };
 use std::alloc::{AllocError, Global};
 use std::io::{self, BufRead, Write};
 use std::net::{Net, UdpSocket};
+use std::rt::Files;
 use std::snapshot::Snapshot;
 use std::sync::Arc;
 use std::sync::atomic::Ordering;
@@ -32,13 +33,17 @@ const READ_TIMEOUT: u64 = 50;
 /// One more than the length of the longest datagram that is read, in bytes.
 const BUFFER: usize = 65_536;
 
+/// How many datagrams wait for the turns at most: more than come in a second, so that turns which
+/// stand still for so long lose none.
+const DATAGRAMS_WAITING: usize = 16_384;
+
 /// Takes part in calls for `turns` turns of 10 ms: it answers INVITE, BYE and OPTIONS with 200, and
 /// all other requests with 501. Each notice is written as a line of an output file.
 ///
 /// # Errors
 ///
 /// The first fault. All threads are joined then, too.
-pub fn listen<R: Threads + Clock + Sync, W: Write>(
+pub fn listen<R: Threads + Clock + Files + Sync, W: Write>(
     rt: &R,
     alloc: Global,
     socket: UdpSocket,
@@ -61,7 +66,7 @@ pub fn listen<R: Threads + Clock + Sync, W: Write>(
 /// # Errors
 ///
 /// The first fault. All threads are joined then, too.
-pub fn listen_at<R: Threads + Clock + Sync, F: Write + Drop, W: Write, E: Write>(
+pub fn listen_at<R: Threads + Clock + Files + Sync, F: Write + Drop, W: Write, E: Write>(
     rt: &R,
     alloc: Global,
     endpoint: Endpoint<F>,
@@ -80,7 +85,7 @@ pub fn listen_at<R: Threads + Clock + Sync, F: Write + Drop, W: Write, E: Write>
 /// # Errors
 ///
 /// The first fault. All threads are joined then, too.
-pub fn call<R: Threads + Clock + Sync, W: Write>(
+pub fn call<R: Threads + Clock + Files + Sync, W: Write>(
     rt: &R,
     alloc: Global,
     socket: UdpSocket,
@@ -106,7 +111,7 @@ pub fn call<R: Threads + Clock + Sync, W: Write>(
 /// # Errors
 ///
 /// The first fault. All threads are joined then, too.
-pub fn call_from<R: Threads + Clock + Sync, F: Write + Drop, W: Write, E: Write>(
+pub fn call_from<R: Threads + Clock + Files + Sync, F: Write + Drop, W: Write, E: Write>(
     rt: &R,
     alloc: Global,
     endpoint: Endpoint<F>,
@@ -129,7 +134,7 @@ pub fn call_from<R: Threads + Clock + Sync, F: Write + Drop, W: Write, E: Write>
 ///
 /// The first fault. The input may not have ended then.
 pub fn agent<
-    R: Threads + Clock + Net + Sync,
+    R: Threads + Clock + Files + Net + Sync,
     F: Write + Drop,
     I: BufRead + Send + Drop + 'static,
     W: Write,
@@ -168,7 +173,7 @@ fn piped(
     linger: u32,
 ) -> Result<(Piped, Poster<PipeLine>), UaFault> {
     let flags = flags.clone()?;
-    let (pipe, line) = one_line(alloc)?;
+    let (pipe, line) = one_line(alloc, MOST_COLLECTED)?;
     Ok((Piped::new(alloc, pipe, flags, linger), line))
 }
 
@@ -228,7 +233,7 @@ impl Ears {
         };
         let flags = flags.clone()?;
         let buffer = vec![in alloc; 0u8; BUFFER]?;
-        let (desk, line) = one_line(alloc)?;
+        let (desk, line) = one_line(alloc, DATAGRAMS_WAITING)?;
         let ears = Ears {
             socket,
             buffer,
@@ -269,7 +274,7 @@ fn turns_at<R: Clock, U: User, F: Write + Drop, E: Write>(
 }
 
 // Starts the listener, takes the turns, and joins and settles the listener.
-fn talk<R: Threads + Clock + Sync, U: User, F: Write + Drop, W: Write, E: Write>(
+fn talk<R: Threads + Clock + Files + Sync, U: User, F: Write + Drop, W: Write, E: Write>(
     rt: &R,
     alloc: Global,
     endpoint: Endpoint<F>,
@@ -279,6 +284,7 @@ fn talk<R: Threads + Clock + Sync, U: User, F: Write + Drop, W: Write, E: Write>
     notices: &mut W,
     errors: &mut E,
 ) -> Result<(), UaFault> {
+    let local = endpoint.config.local;
     let flags = flags_with(alloc, bell.clone()?)?;
     let (mut desk, ears) = Ears::open(alloc, &endpoint.socket, &flags)?;
     let (mut own, socket) = turns_at(rt, alloc, endpoint, user, bell, errors)?;
@@ -307,7 +313,17 @@ fn talk<R: Threads + Clock + Sync, U: User, F: Write + Drop, W: Write, E: Write>
     );
     flags.stop.store(true, Ordering::SeqCst);
     let heard = listener.join(rt);
-    own.tell_counts(outlet.failed, heard.lost, errors);
+    let dropped_by_system = if own.is_counted() {
+        system_drops(rt, alloc, local)
+    } else {
+        None
+    };
+    let losses = Losses {
+        unsent: outlet.failed,
+        unposted: heard.lost,
+        by_system: dropped_by_system,
+    };
+    own.tell_counts(losses, errors);
     end?;
     settle(&mut desk, heard)?;
     own.verdict()
@@ -318,11 +334,11 @@ fn listening(socket: &UdpSocket) -> io::Result<UdpSocket> {
     socket.try_clone()
 }
 
-// A desk of one line, and its poster.
-fn one_line<T: Drop>(alloc: Global) -> Result<(Desk<T>, Poster<T>), NoMemory>
+// A desk of one line with this capacity, and its poster.
+fn one_line<T: Drop>(alloc: Global, capacity: usize) -> Result<(Desk<T>, Poster<T>), NoMemory>
     ensures { IfOk result (λ made. IsPosterOf made.0 made.1) }
 {
-    let (desk, mut posters) = open(alloc, 1, LINE_CAPACITY)?;
+    let (desk, mut posters) = open(alloc, 1, capacity)?;
     let line = posters.pop().ok_or(NoMemory)?;
     Ok((desk, line))
 }
@@ -339,7 +355,7 @@ fn settle(desk: &mut Desk<Event>, heard: Heard) -> Result<(), UaFault>
     let Some(end) = end else {
         return Ok(());
     };
-    desk.collect(LINE_CAPACITY)?;
+    desk.collect(DATAGRAMS_WAITING)?;
     match desk.settle(0, end) {
         Ok(()) => Ok(()),
         Err(_) => Err(UaFault::Socket),

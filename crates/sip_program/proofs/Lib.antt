@@ -1,4 +1,5 @@
 pub mod Help
+pub mod LastHeaders
 pub mod NoFile
 pub mod Repairs
 pub mod SessionOption

@@ -27,7 +27,7 @@ no_file kind text none file =
 
 -- what an end in status 1 tells of the input
 abbrev pub IsNoInput : FileKind → Bool → List ℕ → Type 0
-IsNoInput kind repairs input = (2 ^ 26 < length input) ⊎ IsNoFile kind (replayed repairs input)
+IsNoInput kind repairs input = (2 ^ 26 < length input) ⊎ IsNoFile kind (replayed kind repairs input)
 
 too_long : (size : ℕ) → 2 ^ 26 < size → size ≤ 2 ^ 26 → ⊥
 too_long size long short = omega arith
@@ -35,12 +35,12 @@ too_long size long short = omega arith
 never_ends_in_1 : (kind : FileKind) (repairs : Bool) (known : Option (List ℕ)) (status : ℕ)
     → (status ≡ 1 → IfSome known (IsNoInput kind repairs))
     → IfSome known
-    (λ input. length input ≤ 2 ^ 26 → IsFile kind (replayed repairs input) → status ≢ 1)
+    (λ input. length input ≤ 2 ^ 26 → IsFile kind (replayed kind repairs input) → status ≢ 1)
 never_ends_in_1 kind repairs None status tells = tt
 never_ends_in_1 kind repairs (Some input) status tells = λ short file is.
     elim (tells is) [
       | inl long ↦ too_long (length input) long short
-      | inr none ↦ no_file kind (replayed repairs input) none file
+      | inr none ↦ no_file kind (replayed kind repairs input) none file
     ]
 
 zero : (status : ℕ) → status ≡ 0 → status ≡ 1 → ⊥
@@ -105,7 +105,7 @@ told_in_3 : (kind : FileKind) (repairs : Bool) (known : Option (List ℕ))
     (end : Result (Unit {0}) ReplayFault) (status : ℕ)
     → MatchResult end (λ done. status ≡ 0) (λ fault. status ≡ fault_status fault)
     → IfErr end (λ fault. IfSome known (TellsRepair kind repairs fault))
-    → status ≡ 3 → IfSome known (λ input. HasRefusedRound kind (replayed repairs input))
+    → status ≡ 3 → IfSome known (λ input. HasRefusedRound kind (replayed kind repairs input))
 told_in_3 kind repairs None end status ends tells three = tt
 told_in_3 kind repairs (Some input) (Ok done) status ends tells three =
     absurd (apart status 0 ends three (λ is. omega arith))
@@ -139,10 +139,10 @@ pub status_3 : (kind asked : FileKind) (repairs wanted : Bool) → kind ≡ aske
     → (known : Option (List ℕ)) (end : Result (Unit {0}) ReplayFault) (status : ℕ)
     → MatchResult end (λ done. status ≡ 0) (λ fault. status ≡ fault_status fault)
     → IfErr end (λ fault. IfSome known (TellsRepair kind repairs fault))
-    → status ≡ 3 → IfSome known (λ input. HasRefusedRound asked (replayed wanted input))
+    → status ≡ 3 → IfSome known (λ input. HasRefusedRound asked (replayed asked wanted input))
 status_3 kind asked repairs wanted kinds repair known end status ends tells three =
-    subst (λ k. IfSome known (λ input. HasRefusedRound k (replayed wanted input))) kinds
-    (subst (λ r. IfSome known (λ input. HasRefusedRound kind (replayed r input))) repair
+    subst (λ k. IfSome known (λ input. HasRefusedRound k (replayed k wanted input))) kinds
+    (subst (λ r. IfSome known (λ input. HasRefusedRound kind (replayed kind r input))) repair
     (told_in_3 kind repairs known end status ends tells three))
 
 pub never_status_1 : (kind asked : FileKind) (repairs wanted : Bool) → kind ≡ asked
@@ -151,7 +151,7 @@ pub never_status_1 : (kind asked : FileKind) (repairs wanted : Bool) → kind �
     → MatchResult end (λ done. status ≡ 0) (λ fault. status ≡ fault_status fault)
     → IfErr end (λ fault. IfSome known (TellsRepair kind repairs fault))
     → IfSome known
-    (λ input. length input ≤ 2 ^ 26 → IsFile asked (replayed wanted input) → status ≢ 1)
+    (λ input. length input ≤ 2 ^ 26 → IsFile asked (replayed asked wanted input) → status ≢ 1)
 never_status_1 kind asked repairs wanted kinds repair known end status ends tells =
     never_ends_in_1 asked wanted known status
     (status_1 kind asked repairs wanted kinds repair known end status ends tells)

@@ -13,7 +13,7 @@ ghost use Rattle.sip_files.specs.declared.file_replay.ReplayFault.TheVariants as
 use crate::failure::Failure;
 use crate::host::Host;
 use crate::noting::NotingRead;
-use crate::repair::whole_lines;
+use crate::repair::whole;
 use crate::status::{finish, finish_talk, show, tell_words};
 use crate::talk_fault::TalkFault;
 use crate::talking::talk_by;
@@ -57,26 +57,31 @@ pub fn ua<
         → IfSome (R.remaining input.old)
         (λ input. WritesAll (kind_asked (map S.text words.now))
         (W.contents output.old) (W.contents output.new)
-        (replayed (asks_repair (map S.text words.now)) input)) }
+        (replayed (kind_asked (map S.text words.now))
+        (asks_repair (map S.text words.now)) input)) }
     ensures unwritten { IsTrue (asks_replay (map S.text words.now)) → result ≢ 0 → result ≢ 4
         → output.new ≡ output.old }
     ensures no_file { IsTrue (asks_replay (map S.text words.now)) → result ≡ 1
         → IfSome (R.remaining input.old)
         (λ input. (2 ^ 26 < length input) ⊎ IsNoFile (kind_asked (map S.text words.now))
-        (replayed (asks_repair (map S.text words.now)) input)) }
+        (replayed (kind_asked (map S.text words.now))
+        (asks_repair (map S.text words.now)) input)) }
     ensures refused_round { IsTrue (asks_replay (map S.text words.now)) → result ≡ 3
         → IfSome (R.remaining input.old)
         (λ input. HasRefusedRound (kind_asked (map S.text words.now))
-        (replayed (asks_repair (map S.text words.now)) input)) }
+        (replayed (kind_asked (map S.text words.now))
+        (asks_repair (map S.text words.now)) input)) }
     ensures only { IsTrue (asks_replay (map S.text words.now))
         → IfSome (R.remaining input.old)
         (λ input. length input ≤ 2 ^ 26 → IsFile (kind_asked (map S.text words.now))
-        (replayed (asks_repair (map S.text words.now)) input) → result ≢ 1) }
+        (replayed (kind_asked (map S.text words.now))
+        (asks_repair (map S.text words.now)) input) → result ≢ 1) }
     ensures front { IsTrue (asks_replay (map S.text words.now)) → result ≡ 4
         → (output.new ≡ output.old) ⊎ IfSome (R.remaining input.old)
         (λ input. WritesFront (kind_asked (map S.text words.now))
         (W.contents output.old) (W.contents output.new)
-        (replayed (asks_repair (map S.text words.now)) input)) }
+        (replayed (kind_asked (map S.text words.now))
+        (asks_repair (map S.text words.now)) input)) }
     ensures draws { IsFalse (asks_replay (map S.text words.now))
         → IsTrue (asks_ladder (map S.text words.now)) → result ≡ 0
         → IfSome (R.remaining input.old)
@@ -144,7 +149,7 @@ fn finish_file<E: Write>(
     status
 }
 
-// Replays the input, or only its whole lines. It then says how many bytes are left out.
+// Replays the input, or only what is whole of it. It then says how many bytes are left out.
 fn replay_by<T: Threads + Sync, R: Read, W: Write, E: Write>(
     rt: &T,
     alloc: Global,
@@ -157,7 +162,7 @@ fn replay_by<T: Threads + Sync, R: Read, W: Write, E: Write>(
 ) -> Result<(), ReplayFault>
     ensures replays { OnOk result (IfSome (R.remaining input.old)
         (λ text. WritesAll kind (W.contents output.old) (W.contents output.new)
-        (replayed repairs text))) }
+        (replayed kind repairs text))) }
     ensures fault { IfErr result
         (λ fault. IfSome (R.remaining input.old) (TellsRepair kind repairs fault)) }
     ensures unwritten { IfErr result
@@ -165,24 +170,21 @@ fn replay_by<T: Threads + Sync, R: Read, W: Write, E: Write>(
     ensures front { result ≡ Err replay_fault.Output
         → IfSome (R.remaining input.old)
         (λ text. WritesFront kind (W.contents output.old) (W.contents output.new)
-        (replayed repairs text)) }
+        (replayed kind repairs text)) }
 {
     if !repairs {
         return replay_all(rt, alloc, kind, words, input, output);
     }
     let text = read_all(alloc, input)?;
-    let mut whole = whole_lines(text.as_slice());
-    tell_left_out(text.len().saturating_sub(whole.len()), errors);
-    replay_all(rt, alloc, kind, words, &mut whole, output)
+    let mut front = whole(kind, text.as_slice());
+    tell_left_out(text.len().saturating_sub(front.len()), errors);
+    replay_all(rt, alloc, kind, words, &mut front, output)
 }
 
-// Tells how many bytes after the last whole line a repair leaves out, where there are some.
+// Tells how many bytes at the end a repair leaves out, where there are some.
 fn tell_left_out<E: Write>(left_out: usize, errors: &mut E) {
     if left_out > 0 {
-        let _ = writeln!(
-            errors,
-            "ua: {left_out} bytes after the last whole line left out"
-        );
+        let _ = writeln!(errors, "ua: {left_out} bytes at the end left out");
     }
 }
 

@@ -721,8 +721,8 @@ fn repair_argument<'a>(alloc: Global) -> Arg<'a> {
         .long("repair")
         .action(ArgAction::SetTrue)
         .help(
-            "If the file was cut off, run it up to its last whole line, and say on standard error \
-            how many bytes were left out",
+            "If the file was cut off, run what is whole of it: up to its last whole line, and \
+            without header lines at the end. Say on standard error how many bytes were left out",
         )
 }
 

@@ -23,10 +23,18 @@ pub(crate) struct Counts {
     before: Sent,
     outcomes: Outcomes,
     most_held: u128,
-    /// Datagrams that couldn't be sent.
-    pub(crate) failed: u64,
-    /// Datagrams for which the line of the listener had no room.
-    pub(crate) lost: u64,
+    pub(crate) losses: Losses,
+}
+
+/// The datagrams that were lost on their way in or out.
+#[derive(Clone, Copy, Default)]
+pub struct Losses {
+    /// Those that couldn't be sent.
+    pub unsent: u64,
+    /// Those for which the line of the listener had no room.
+    pub unposted: u64,
+    /// Those that the system dropped before they were read, if it says.
+    pub by_system: Option<u64>,
 }
 
 /// How many datagrams were dropped for one reason.
@@ -49,8 +57,7 @@ impl Counts {
             before: Sent::new(alloc),
             outcomes: Outcomes::new(alloc),
             most_held: 0,
-            failed: 0,
-            lost: 0,
+            losses: Losses::default(),
         }
     }
 
@@ -136,16 +143,23 @@ impl fmt::Display for Counts {
                 DropReason::Unreadable(fault) => write!(f, ", {count} dropped as {fault}")?,
             }
         }
-        let sent = self.asked.saturating_sub(self.failed);
-        let failed = self.failed;
+        let Losses {
+            unsent,
+            unposted,
+            by_system,
+        } = self.losses;
+        let sent = self.asked.saturating_sub(unsent);
         let again = self.again;
         let outcomes = &self.outcomes;
         let most_held = self.most_held;
-        let lost = self.lost;
         write!(
             f,
-            ", {sent} sent, {failed} failed, {again} again, {outcomes}, {most_held} held at most, \
-            {lost} lost"
-        )
+            ", {sent} sent, {unsent} failed, {again} again, {outcomes}, {most_held} held at most, \
+            {unposted} lost"
+        )?;
+        match by_system {
+            Some(count) => write!(f, ", {count} lost by the system"),
+            None => Ok(()),
+        }
     }
 }

@@ -2,8 +2,9 @@
 
 ghost use Rattle.std.specs.Prelude.{◌<◌, ◌≤◌};
 
-/// The fewest events of a round that several threads share.
-const SHARED: usize = 64;
+/// The fewest events of a round that several threads share. In smaller rounds, to start threads four
+/// times takes longer than what they save.
+const SHARED: usize = 2_000;
 
 /// How many shards transactions and calls are cut into, and how many threads work on a round.
 #[derive(Clone, Copy)]

@@ -6,7 +6,7 @@ ghost use Rattle.sip_round.specs.declared.round.Event.{Event as AnEvent};
 ghost use Rattle.sip_udp.specs.Sending.{SendsAll};
 
 use crate::bell::Bell;
-use crate::counts::Counts;
+use crate::counts::{Counts, Losses};
 use crate::division::Division;
 use crate::fault::{UaFault, refused_round};
 use crate::limit::Limit;
@@ -27,8 +27,8 @@ use std::sync::atomic::{AtomicBool, Ordering};
 use std::thread::{self, Threads};
 use std::time::{Clock, Duration, Instant};
 
-/// How many events the line of the listener has room for.
-pub const LINE_CAPACITY: usize = 1024;
+/// How many datagrams, or lines of a pipe, a turn takes at most.
+pub const MOST_COLLECTED: usize = 1024;
 
 /// How long a turn takes at least, in ms; at its bell it waits at most that long.
 const PAUSE: u64 = 10;
@@ -139,12 +139,15 @@ impl<U: User, F: Write + Drop> Turns<U, F> {
         }
     }
 
-    /// Writes the counts, if that was asked for, when `failed` sends have failed and the listener
-    /// has lost `lost` datagrams.
-    pub fn tell_counts<E: Write>(&mut self, failed: u64, lost: u64, errors: &mut E) {
+    /// Whether the counts are to be written.
+    pub fn is_counted(&self) -> bool {
+        self.counts.is_some()
+    }
+
+    /// Writes the counts, if that was asked for, with these losses.
+    pub fn tell_counts<E: Write>(&mut self, losses: Losses, errors: &mut E) {
         if let Some(counts) = &mut self.counts {
-            counts.failed = failed;
-            counts.lost = lost;
+            counts.losses = losses;
             let _ = writeln!(errors, "ua: {counts}");
         }
     }
@@ -243,7 +246,7 @@ impl<U: User, F: Write + Drop> Turns<U, F> {
         ensures { KeepsLines desk.old desk.new }
     {
         let room = MAX_EVENTS_OF_ROUND.saturating_sub(self.waiting.len());
-        let mut events = desk.collect(room.min(LINE_CAPACITY))?;
+        let mut events = desk.collect(room.min(MOST_COLLECTED))?;
         self.waiting.append(&mut events)?;
         Ok(())
     }

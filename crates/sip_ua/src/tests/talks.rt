@@ -178,7 +178,7 @@ fn are_as_said(rt: &impl Abort, talked: &Talked) -> Result<(), Fail> {
         ">",
     ];
     assert!(rt; stand_in_order(events, &words));
-    assert!(rt; stand_in_order(&served.errors, &[", 1 INVITEs, 1 answered, ", " 0 lost\n"]));
+    assert!(rt; stand_in_order(&served.errors, &[", 1 INVITEs, 1 answered, ", " 0 lost, "]));
     Ok(())
 }
 

@@ -7,6 +7,7 @@ use sip_udp::{Endpoint, UaFault};
 use std::alloc::Global;
 use std::io::{self, Write};
 use std::net::{Ipv4Addr, Net, UdpSocket};
+use std::rt::Files;
 use std::test::Fail;
 use std::thread::Threads;
 use std::time::{Clock, Duration};
@@ -94,7 +95,7 @@ fn listen_plan(answers: Answers) -> ListenPlan {
 }
 
 // A listener that takes `turns` turns. If `fails`, its notices can't be flushed.
-pub(super) fn listened<R: Threads + Clock + Sync>(
+pub(super) fn listened<R: Threads + Clock + Files + Sync>(
     rt: &R,
     alloc: Global,
     socket: UdpSocket,
@@ -145,7 +146,7 @@ fn call_plan(alloc: Global, to: Addr, calls: Calls) -> Result<CallPlan, Fail> {
 }
 
 // A caller that takes `turns` turns.
-pub(super) fn called<R: Threads + Clock + Sync>(
+pub(super) fn called<R: Threads + Clock + Files + Sync>(
     rt: &R,
     alloc: Global,
     socket: UdpSocket,

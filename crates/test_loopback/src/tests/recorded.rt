@@ -10,6 +10,7 @@ use std::alloc::{AllocError, Global};
 use std::io::{self, BufRead, BufReader, PipeReader, PipeWriter, Read, Write};
 use std::net::{Ipv4Addr, Net, SocketAddrV4, UdpSocket};
 use std::process::Abort;
+use std::rt::Files;
 use std::test::Fail;
 use std::thread::{self, Threads};
 use std::time::Clock;
@@ -370,7 +371,7 @@ fn pipe(
 }
 
 // An agent on a pipe, whose first tag is known.
-fn piped<R: Threads + Clock + Net + Sync>(
+fn piped<R: Threads + Clock + Files + Net + Sync>(
     rt: &R,
     alloc: Global,
     it: PipedAgent,

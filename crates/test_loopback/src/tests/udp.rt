@@ -5,11 +5,12 @@ use sip_applications::{CallPlan, ListenPlan, call, call_from, listen, listen_at}
 use sip_desk::{Desk, NoMemory, Poster, open};
 use sip_message::Addr;
 use sip_round::Event;
-use sip_udp::{Endpoint, Flags, Inlet, InputEnd, Received, UaFault, hear};
+use sip_udp::{Endpoint, Flags, Inlet, InputEnd, Received, UaFault, drops_in, hear};
 use std::alloc::Global;
 use std::io::{self, PipeReader, PipeWriter};
 use std::net::{Ipv4Addr, SocketAddrV4, UdpSocket};
 use std::process::Abort;
+use std::rt::Files;
 use std::sync::Arc;
 use std::sync::atomic::Ordering;
 use std::test::Fail;
@@ -82,6 +83,21 @@ fn heard_after(
     Ok(desk.collect(4)?.len())
 }
 
+// Rows as Linux writes them.
+const SOCKETS: &str = "   sl  local_address rem_address   st tx_queue rx_queue tr ref pointer drops
+ 1001: 0100007F:13C5 00000000:0000 07 00000000:00000000 00:00000000 00000000 2 0 17
+ 1002: 010200C0:13C4 00000000:0000 07 00000000:00000000 00:00000000 00000000 2 0 3
+";
+
+#[test]
+fn the_drops_of_a_socket_stand_in_its_row(rt: HostRuntime) -> Result<(), Fail> {
+    let at = |ip, port| drops_in(rt.alloc(), SOCKETS, Addr { ip, port });
+    assert!(rt; at([192, 0, 2, 1], 5060)? == Some(3));
+    assert!(rt; at([127, 0, 0, 1], 5061)? == Some(17));
+    assert!(rt; at([127, 0, 0, 1], 5060)? == None);
+    Ok(())
+}
+
 #[test]
 fn a_listener_gives_up_after_a_hundred_failures_in_a_row(rt: HostRuntime) -> Result<(), Fail> {
     for (failures, quiet, datagrams) in [(0, 0, 2), (99, 0, 2), (99, 3, 2), (100, 0, 0)] {
@@ -92,7 +108,7 @@ fn a_listener_gives_up_after_a_hundred_failures_in_a_row(rt: HostRuntime) -> Res
 }
 
 // How a listener ends that takes `turns` turns, and its notices.
-fn plainly_listened<R: Threads + Clock + Sync>(
+fn plainly_listened<R: Threads + Clock + Files + Sync>(
     rt: &R,
     alloc: Global,
     socket: UdpSocket,
@@ -105,7 +121,7 @@ fn plainly_listened<R: Threads + Clock + Sync>(
 }
 
 // The notices of a caller with the usual plan.
-fn plainly_called<R: Threads + Clock + Sync>(
+fn plainly_called<R: Threads + Clock + Files + Sync>(
     rt: &R,
     alloc: Global,
     socket: UdpSocket,
@@ -237,7 +253,7 @@ fn blast<R: Clock>(rt: &R, socket: &UdpSocket, to: Addr, datagrams: u32) {
 }
 
 // How a listener ends that takes `turns` turns, while `datagrams` datagrams are sent to an address.
-fn end_of_listener<R: Threads + Clock + Sync>(
+fn end_of_listener<R: Threads + Clock + Files + Sync>(
     rt: &R,
     alloc: Global,
     socket: UdpSocket,
@@ -278,7 +294,7 @@ fn a_listener_whose_socket_fails_tells_so(rt: HostRuntime) -> Result<(), Fail> {
 }
 
 // The notices of a listener, or of a caller with a plan, that goes on until its input ends.
-fn until_input_ends<T: Threads + Clock + Sync>(
+fn until_input_ends<T: Threads + Clock + Files + Sync>(
     rt: &T,
     alloc: Global,
     input: PipeReader,

@@ -22,7 +22,7 @@ pub returns-clause-outcome : goal.returns-clause-outcome
 returns-clause-outcome c =
     let is = good_request c.args.event c.args.method c.args.content c.args.held.now
     (sym c.if-is_bad_in.ensures) in
-    subst (λ (outcome : Outcome). IfOk c.request.result (λ outcome. outcome ≡ outcome.1)) (sym is)
+    subst (λ (made : Outcome). IfOk c.request.result (λ outcome. outcome ≡ made.1)) (sym is)
     c.request.ensures.outcome
 
 pub returns-clause-held : goal.returns-clause-held
