@@ -59,7 +59,31 @@ static void typed(sip::Agent &agent) {
     const sip_ua_cancel_fields empty = {{nullptr, 1}, id};
     expect(sip_ua_cancel(&none, &empty, &asked) == SIP_UA_NULL, "no text");
     const sip_ua_cancel_fields given = {sip_ua_string("c"), id};
-    expect(sip_ua_cancel(&none, &given, nullptr) == SIP_UA_NOT_HELD, "no agent");
+    expect(sip_ua_cancel(&none, &given, nullptr) == SIP_UA_NO_AGENT, "no agent");
+}
+
+// A datagram whose 100 is too long for UDP: it comes whole, fails, and the agent goes on.
+static void long_sends(sip::Agent &agent) {
+    std::string invite = "INVITE sip:a@192.0.2.1 SIP/2.0\r\nVia: SIP/2.0/UDP h;branch=z9hG4bKx";
+    for (int i = 0; i < 4500; i++)
+        invite += ",SIP/2.0/UDP a";
+    invite += "\r\nMax-Forwards: 70\r\nFrom: <sip:b@192.0.2.9>;tag=f1\r\nTo: <sip:a@192.0.2.1>\r\n"
+              "Call-ID: c9\r\nCSeq: 1 INVITE\r\nContact: <sip:b@192.0.2.9>\r\n\r\n";
+    agent.datagram({{192, 0, 2, 9}, 5060}, invite);
+    const auto came = agent.run_lines(12);
+    std::size_t failed = 0;
+    for (const auto &output : came)
+        if (output.to && output.text.size() > SIP_UA_LARGEST_DATAGRAM) {
+            failed += output.text.rfind("SIP/2.0 100 ", 0) == 0
+                && output.text.find("\r\n\r\n") == output.text.size() - 4;
+            agent.failed(output.index);
+        }
+    expect(failed == 1, "a long send comes whole");
+    expect(agent.datagram_at(1)->bytes == invite, "so does its cause");
+    bool is_told = false;
+    for (const auto &output : agent.run(13))
+        is_told = is_told || output.numbers.kind == SIP_UA_NOTICE_FAILED;
+    expect(is_told, "its failure is told");
 }
 
 int main() {
@@ -74,8 +98,8 @@ int main() {
     expect(!first.next_due(), "nothing is due of a new agent");
     first.datagram(from, options);
     sip::Agent agent(std::move(first));
-    expect_status(SIP_UA_NOT_HELD, "moved from", [&] { first.run_lines(0); });
-    expect_status(SIP_UA_NOT_HELD, "a question of it", [&] { first.start_line(1); });
+    expect_status(SIP_UA_NO_AGENT, "moved from", [&] { first.run_lines(0); });
+    expect_status(SIP_UA_NO_AGENT, "a question of it", [&] { first.start_line(1); });
     auto told = agent.run_lines(0);
     expect(told.size() == 1 && !told[0].to, "a request is told");
     expect(told[0].place == 1, "by its place");
@@ -98,14 +122,16 @@ int main() {
            "with its header");
     expect(agent.next_due().has_value(), "the end of the transaction is due");
     expect_status(SIP_UA_BACKWARDS, "a moment that goes back", [&] { agent.run_lines(4); });
-    expect_status(SIP_UA_TOO_LARGE, "a moment above 2^62", [&] { agent.run_lines(UINT64_MAX); });
+    expect_status(SIP_UA_MOMENT_TOO_LARGE, "a moment above 2^62",
+                  [&] { agent.run_lines(UINT64_MAX); });
     expect_status(SIP_UA_BAD_LINE, "no line", [&] { agent.event_line("hello"); });
     expect_status(SIP_UA_BAD_LINE, "an empty line", [&] { agent.event_line(""); });
     expect_status(SIP_UA_NO_SEND, "no send", [&] { agent.failed(7); });
     agent.failed(0);
     typed(agent);
+    long_sends(agent);
     agent.close();
-    expect_status(SIP_UA_NOT_HELD, "closed twice", [&] { agent.close(); });
+    expect_status(SIP_UA_NO_AGENT, "closed twice", [&] { agent.close(); });
     expect_status(SIP_UA_BAD_CONFIGURATION, "no shard", [&] { sip::Agent none(configuration, 0); });
     std::cout << (faults == 0 ? "class: passed\n" : "class: FAILED\n");
     return faults == 0 ? 0 : 1;

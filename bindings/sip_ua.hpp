@@ -144,7 +144,7 @@ public:
     ~Agent() { sip_ua_free(&agent); }
 
     /// Frees the agent before the destructor does. A second close, any later call, and any call on
-    /// an object that was moved from is SIP_UA_NOT_HELD.
+    /// an object that was moved from is SIP_UA_NO_AGENT.
     void close() { check(sip_ua_free(&agent)); }
 
     void datagram(const Address &from, std::string_view bytes) {
@@ -250,7 +250,8 @@ public:
         return id.is_given ? std::optional(id) : std::nullopt;
     }
 
-    /// Says that the send with this index, of the last round, couldn't be sent.
+    /// Says that the send with this index, of the last round, couldn't be sent: the socket refused
+    /// it, or it is longer than SIP_UA_LARGEST_DATAGRAM.
     void failed(std::size_t output) { check(sip_ua_failed(&agent, output)); }
 
     /// The same, with notices and drops as lines of an output file.
@@ -352,32 +353,30 @@ private:
         return asked(call, fields);
     }
 
-    // The text that a call writes, with the length that it returns. The buffer grows for it.
+    // The text that a call writes, with the length that it tells. The buffer grows for it.
     template <class Call, class Length> std::string text_of(Call call, Length length) {
-        if (buffer.empty())
-            buffer.resize(1);
-        check(call(buffer.data(), buffer.size()));
-        if (length() > buffer.size()) {
+        std::uint32_t status = call(buffer.data(), buffer.size());
+        if (status == SIP_UA_NO_ROOM) {
             buffer.resize(length());
-            check(call(buffer.data(), buffer.size()));
+            status = call(buffer.data(), buffer.size());
         }
+        check(status);
         return std::string(reinterpret_cast<const char *>(buffer.data()), length());
     }
 
     std::optional<Output> next_output() {
         sip_ua_output output;
-        check(sip_ua_next_output(&agent, &output, buffer.data(), buffer.size()));
-        while (output.kind != SIP_UA_NOTHING && output.len > buffer.size()) {
-            buffer.resize(output.len);
-            check(sip_ua_next_output(&agent, &output, buffer.data(), buffer.size()));
-        }
+        std::string text = text_of(
+            [&](std::uint8_t *room, std::size_t size) {
+                return sip_ua_next_line(&agent, &output, room, size);
+            },
+            [&] { return output.len; });
         if (output.kind == SIP_UA_NOTHING)
             return std::nullopt;
         std::optional<Address> to;
         if (output.kind == SIP_UA_SEND)
             to = output.to;
-        const char *text = reinterpret_cast<const char *>(buffer.data());
-        return Output{output.index, to, std::string(text, output.len), output.place};
+        return Output{output.index, to, std::move(text), output.place};
     }
 
     sip_ua agent = SIP_UA_NONE;

@@ -10,10 +10,13 @@ returns datagrams to send, and notices:
     while True:
         for output in agent.run(moment):
             if isinstance(output, Send):
-                udp.sendto(output.datagram, output.to)
+                try:
+                    udp.sendto(output.datagram, output.to)
+                except OSError:  # the network is down, or it is longer than LARGEST_DATAGRAM
+                    agent.failed(output.index)
             elif isinstance(output, RequestNotice):
                 agent.ask(Response(output.call_id, output.id, 200, "OK"))
-        .. unless a command waits, wait for a datagram, the user, or agent.next_due()
+        .. unless an event waits, wait for a datagram, the user, or agent.next_due()
         agent.datagram(source, data)
 
 The commands are Invite, Plain, Request, Response, Ack, Prack and Cancel. A round gives outputs: a
@@ -32,11 +35,15 @@ from dataclasses import dataclass
 from typing import ClassVar, List, NamedTuple, Optional, Sequence, Tuple, Union
 
 __all__ = (
-    "Agent Error Status Field Id Command Invite Plain Request Response Ack Prack Cancel "
+    "Agent LARGEST_DATAGRAM Error Status Field Id "
+    "Command Invite Plain Request Response Ack Prack Cancel "
     "Output Send Line Drop DropReason Notice RequestNotice ResponseNotice AckNotice PrackNotice "
     "TimeoutNotice FailedNotice NoAckNotice NoPrackNotice CancelNotice EndedNotice RefusedNotice "
     "Refusal Stats StartLine Datagram"
 ).split()
+
+# The most bytes that a UDP datagram carries over IPv4.
+LARGEST_DATAGRAM = 65507
 
 Address = Tuple[str, int]
 Headers = Sequence[Tuple[str, str]]
@@ -50,20 +57,26 @@ class _Number(enum.IntEnum):
 class Status(_Number):
     """A fault of a call. Only BROKEN changes the agent."""
 
-    NOT_HELD = 1
-    HELD = 2
+    NO_AGENT = 1
+    AGENT_EXISTS = 2
     BAD_LINE = 3
     TOO_MANY_EVENTS = 4
     NO_SEND = 5
     OUTPUTS_LEFT = 6
     BACKWARDS = 7
-    TOO_LARGE = 8
+    MOMENT_TOO_LARGE = 8
     USED_UP = 9
     NO_MEMORY = 10
     BROKEN = 11
     BAD_CONFIGURATION = 12
     NULL = 13
     BAD_FIELD = 14
+    NO_ROOM = 15  # no call raises it: the buffer grows
+
+    # The names of version 0.3. The next version won't have them.
+    NOT_HELD = 1
+    HELD = 2
+    TOO_LARGE = 8
 
 
 class Field(_Number):
@@ -678,8 +691,11 @@ class Agent:
 
     def _texts(self, name: str, told, *words) -> List[bytes]:
         """Fills in the next output and returns its texts. The buffer grows for them."""
-        self._call(name, *words, told, self._buffer, len(self._buffer))
-        if sum(told.lengths()) > len(self._buffer):
+        try:
+            self._call(name, *words, told, self._buffer, len(self._buffer))
+        except Error as error:
+            if error.status != Status.NO_ROOM:
+                raise
             self._buffer = ctypes.create_string_buffer(sum(told.lengths()))
             self._call(name, *words, told, self._buffer, len(self._buffer))
         data, texts, start = ctypes.string_at(self._buffer, sum(told.lengths())), [], 0
@@ -727,7 +743,8 @@ class Agent:
         return told.told() if told.is_given else None
 
     def failed(self, index: int) -> None:
-        """Says that the Send with this index, of the last round, couldn't be sent."""
+        """Says that the Send with this index, of the last round, couldn't be sent: the socket
+        refused it, or it is longer than LARGEST_DATAGRAM."""
         self._call("failed", _number(index, 64))
 
     # -- a round
@@ -807,7 +824,7 @@ class Agent:
         return Stats(told.transactions, told.calls, told.next_round, told.events, told.outputs)
 
     def close(self) -> None:
-        """Frees the agent. A second close, and any later call, is NOT_HELD."""
+        """Frees the agent. A second close, and any later call, is NO_AGENT."""
         self._call("free")
 
     def __enter__(self) -> "Agent":

@@ -13,7 +13,7 @@ import asyncio
 import os
 from typing import Callable, Optional, Tuple, Union
 
-from sip_ua import Agent, Command, Drop, Id, Notice, Send
+from sip_ua import LARGEST_DATAGRAM, Agent, Command, Drop, Id, Notice, Send
 
 __all__ = ["Endpoint", "open_endpoint"]
 
@@ -80,6 +80,10 @@ class Endpoint(asyncio.DatagramProtocol):
                 self._wait()
 
     def _sends(self, data: bytes, to: Address) -> bool:
+        """Sends a datagram. One that waits in the transport can't be told as failed later, so one
+        that UDP can't carry is refused here."""
+        if len(data) > LARGEST_DATAGRAM:
+            return False
         self._has_failed = False
         self._transport.sendto(data, to)
         return not self._has_failed

@@ -10,16 +10,32 @@
  *         .. wait for a datagram, a command of the user, or the time of sip_ua_next_due
  *         sip_ua_datagram(..), sip_ua_invite(..), sip_ua_respond(..) .. sip_ua_failed(..)
  *         sip_ua_run(&agent, moment);
- *         while (sip_ua_next(&agent, &output, buffer, room) == SIP_UA_OK
- *                && output.kind != SIP_UA_NOTHING)
- *             .. send the datagram, or handle the notice
+ *         for (;;) {
+ *             uint32_t status = sip_ua_next(&agent, &output, buffer, room);
+ *             if (status == SIP_UA_NO_ROOM) {
+ *                 if (output.kind == SIP_UA_SEND)
+ *                     sip_ua_failed(&agent, output.index);
+ *                 sip_ua_skip(&agent);
+ *             } else if (status != SIP_UA_OK || output.kind == SIP_UA_NOTHING) {
+ *                 break;
+ *             } else {
+ *                 .. send the datagram, or handle the notice. If the send fails: sip_ua_failed
+ *             }
+ *         }
  *     }
  *     sip_ua_free(&agent);
  *
  * Memory. The program owns each `sip_ua`: on the stack, in a struct or on the heap. All its bytes
  * are 0 before its first use. The library allocates what the agent holds by malloc, and
  * sip_ua_free frees it. No call keeps a pointer that it is given: it copies the bytes. The program
- * owns the buffers. The library writes at most `room` bytes to a buffer.
+ * owns the buffers. The library writes at most `room` bytes to a buffer, and only whole texts.
+ *
+ * Room. If a text is longer than `room`, the call returns SIP_UA_NO_ROOM: it fills in the struct
+ * with its lengths, writes nothing to the buffer, and the output stays. Make the call again with a
+ * larger buffer, or skip the output with sip_ua_skip. A response can be longer than its request,
+ * since each Via gets a line of its own, so a peer can cause one that is too long for UDP, which
+ * carries at most SIP_UA_LARGEST_DATAGRAM bytes. Report such a send with sip_ua_failed, as any that
+ * failed. To ask for lengths first, give a `room` of 0; the buffer may then be NULL.
  *
  * Threads. One thread at a time uses an agent; several threads can use different agents. No call
  * blocks. Make no call from a signal handler, or in the forked child of a process with threads.
@@ -50,11 +66,12 @@
 extern "C" {
 #endif
 
-/* The version. A program written for an earlier version with the same major number still works. */
+/* The version. Before 1.0, a new minor number can need changes in a program: CHANGELOG.md says
+ * which. */
 #define SIP_UA_VERSION_MAJOR 0
-#define SIP_UA_VERSION_MINOR 3
+#define SIP_UA_VERSION_MINOR 4
 #define SIP_UA_VERSION_PATCH 0
-#define SIP_UA_VERSION "0.3.0"
+#define SIP_UA_VERSION "0.4.0"
 
 /* An agent, or none. Its fields are private. */
 typedef struct sip_ua {
@@ -94,6 +111,9 @@ typedef struct sip_ua_bytes {
     const void *at;
     size_t len;
 } sip_ua_bytes;
+
+/* The most bytes that a UDP datagram carries over IPv4. */
+#define SIP_UA_LARGEST_DATAGRAM 65507
 
 /* An output.
  * - `to` is the address to send to, only of a send.
@@ -343,42 +363,51 @@ enum {
 /* The statuses that calls return. The agent changes only with SIP_UA_OK or SIP_UA_BROKEN. */
 enum {
     SIP_UA_OK = 0,
-    SIP_UA_NOT_HELD = 1,          /* there is no agent: before sip_ua_new, or after sip_ua_free */
-    SIP_UA_HELD = 2,              /* sip_ua_new for an agent that wasn't freed */
+    SIP_UA_NO_AGENT = 1,          /* there is no agent: before sip_ua_new, or after sip_ua_free */
+    SIP_UA_AGENT_EXISTS = 2,      /* sip_ua_new for an agent that wasn't freed */
     SIP_UA_BAD_LINE = 3,          /* not the line of an event */
     SIP_UA_TOO_MANY_EVENTS = 4,   /* 65,536 events wait for the next round */
     SIP_UA_NO_SEND = 5,           /* that output of the last round isn't a send */
     SIP_UA_OUTPUTS_LEFT = 6,      /* not all outputs of the last round were taken */
     SIP_UA_BACKWARDS = 7,         /* the moment is earlier than that of the last round */
-    SIP_UA_TOO_LARGE = 8,         /* the moment is above 2^62 */
+    SIP_UA_MOMENT_TOO_LARGE = 8,  /* the moment is above 2^62 */
     SIP_UA_USED_UP = 9,           /* the number of the round would be above 2^62 */
     SIP_UA_NO_MEMORY = 10,        /* malloc returned NULL; the call can be made again */
     SIP_UA_BROKEN = 11,           /* malloc returned NULL within a round: the agent holds nothing
                                      any more, and can only be freed */
     SIP_UA_BAD_CONFIGURATION = 12, /* not 1 to 256 shards, or a first round above 2^62 */
     SIP_UA_NULL = 13,             /* a pointer was NULL */
-    SIP_UA_BAD_FIELD = 14         /* a field of a command is bad */
+    SIP_UA_BAD_FIELD = 14,        /* a field of a command is bad */
+    SIP_UA_NO_ROOM = 15           /* the text is longer than the buffer: nothing was written, and an
+                                     output stays. The lengths say how much room it needs */
 };
+
+/* The names of version 0.3. The next version won't have them. */
+#define SIP_UA_NOT_HELD SIP_UA_NO_AGENT
+#define SIP_UA_HELD SIP_UA_AGENT_EXISTS
+#define SIP_UA_TOO_LARGE SIP_UA_MOMENT_TOO_LARGE
+#define sip_ua_next_output sip_ua_next_line
 
 /* What a status means, in English. Never NULL. */
 static inline const char *sip_ua_status_text(uint32_t status)
 {
     switch (status) {
     case SIP_UA_OK: return "success";
-    case SIP_UA_NOT_HELD: return "there is no agent";
-    case SIP_UA_HELD: return "there is an agent already";
+    case SIP_UA_NO_AGENT: return "there is no agent";
+    case SIP_UA_AGENT_EXISTS: return "there is an agent already";
     case SIP_UA_BAD_LINE: return "not the line of an event";
     case SIP_UA_TOO_MANY_EVENTS: return "too many events for one round";
     case SIP_UA_NO_SEND: return "that output isn't a send";
     case SIP_UA_OUTPUTS_LEFT: return "not all outputs of the last round were taken";
     case SIP_UA_BACKWARDS: return "the moment is earlier than that of the last round";
-    case SIP_UA_TOO_LARGE: return "the moment is too large";
+    case SIP_UA_MOMENT_TOO_LARGE: return "the moment is too large";
     case SIP_UA_USED_UP: return "the round numbers are used up";
     case SIP_UA_NO_MEMORY: return "out of memory";
     case SIP_UA_BROKEN: return "out of memory within a round; the agent holds nothing";
     case SIP_UA_BAD_CONFIGURATION: return "not 1 to 256 shards, or a first round that is too large";
     case SIP_UA_NULL: return "a pointer is NULL";
     case SIP_UA_BAD_FIELD: return "a field of the command is bad";
+    case SIP_UA_NO_ROOM: return "the text is longer than the buffer";
     default: return "unknown status";
     }
 }
@@ -477,6 +506,7 @@ uint32_t sip_ua_raw_failed(sip_ua *agent, size_t output);
 uint32_t sip_ua_raw_run(sip_ua *agent, uint64_t moment);
 uint32_t sip_ua_raw_next_output(sip_ua *agent, sip_ua_output *output, uint8_t *buffer, size_t room);
 uint32_t sip_ua_raw_next(sip_ua *agent, sip_ua_typed_output *output, uint8_t *buffer, size_t room);
+uint32_t sip_ua_raw_skip(sip_ua *agent);
 uint32_t sip_ua_raw_stats(sip_ua *agent, sip_ua_counts *counts);
 uint32_t sip_ua_raw_next_due(sip_ua *agent, sip_ua_due *due);
 uint32_t sip_ua_raw_last_id(sip_ua *agent, sip_ua_id *id);
@@ -490,8 +520,8 @@ uint32_t sip_ua_raw_header_value(sip_ua *agent, uint32_t place, const uint8_t *n
 uint32_t sip_ua_raw_free(sip_ua *agent);
 
 /* Creates an agent, in a `sip_ua` that has none. One shard is enough. The number of shards, up to
- * 256, changes no output. Faults: SIP_UA_HELD, SIP_UA_BAD_CONFIGURATION, SIP_UA_NO_MEMORY. Here and
- * below, SIP_UA_NULL and SIP_UA_NOT_HELD aren't listed. */
+ * 256, changes no output. Faults: SIP_UA_AGENT_EXISTS, SIP_UA_BAD_CONFIGURATION, SIP_UA_NO_MEMORY.
+ * Here and below, SIP_UA_NULL and SIP_UA_NO_AGENT aren't listed. */
 static inline uint32_t sip_ua_new(sip_ua *agent, const sip_ua_configuration *configuration,
                                   size_t shards)
 {
@@ -713,8 +743,9 @@ static inline uint32_t sip_ua_cancel(sip_ua *agent, const sip_ua_cancel_fields *
 /* ---- the rest of a host's loop */
 
 /* Says that the send with this index, of the last round, failed. Except for the ACK of a 2xx, that
- * is an event of the next round. Call it before that round. Faults: SIP_UA_NO_SEND,
- * SIP_UA_TOO_MANY_EVENTS, SIP_UA_NO_MEMORY. */
+ * is an event of the next round. Call it before that round, if the socket refuses a send, or if the
+ * send is longer than SIP_UA_LARGEST_DATAGRAM. Faults: SIP_UA_NO_SEND, SIP_UA_TOO_MANY_EVENTS,
+ * SIP_UA_NO_MEMORY. */
 static inline uint32_t sip_ua_failed(sip_ua *agent, size_t output)
 {
     if (agent == NULL)
@@ -723,8 +754,8 @@ static inline uint32_t sip_ua_failed(sip_ua *agent, size_t output)
 }
 
 /* Runs a round: handles all events since the last one, at this moment. Take all outputs of the last
- * round first. Faults: SIP_UA_OUTPUTS_LEFT, SIP_UA_BACKWARDS, SIP_UA_TOO_LARGE, SIP_UA_USED_UP,
- * SIP_UA_NO_MEMORY (the events still wait), SIP_UA_BROKEN. */
+ * round first. Faults: SIP_UA_OUTPUTS_LEFT, SIP_UA_BACKWARDS, SIP_UA_MOMENT_TOO_LARGE,
+ * SIP_UA_USED_UP, SIP_UA_NO_MEMORY (the events still wait), SIP_UA_BROKEN. */
 static inline uint32_t sip_ua_run(sip_ua *agent, uint64_t moment)
 {
     if (agent == NULL)
@@ -732,27 +763,44 @@ static inline uint32_t sip_ua_run(sip_ua *agent, uint64_t moment)
     return sip_ua_raw_run(agent, moment);
 }
 
-/* Takes the next output of the last round. If its `len` is at most `room`, its text is written to
- * the buffer. Otherwise the buffer isn't changed, and the next call gives the same output again. A
- * line ends in a line feed; no text ends in a zero byte. 65,535 bytes are enough for each datagram
- * that can be sent. Fault: SIP_UA_NO_MEMORY. */
-static inline uint32_t sip_ua_next_output(sip_ua *agent, sip_ua_output *output, uint8_t *buffer,
-                                          size_t room)
+/* A buffer for the library, which takes no NULL. */
+static inline uint8_t *sip_ua_raw_room(uint8_t *buffer, uint8_t *otherwise)
 {
-    if (agent == NULL || output == NULL || buffer == NULL)
-        return SIP_UA_NULL;
-    return sip_ua_raw_next_output(agent, output, buffer, room);
+    return buffer == NULL ? otherwise : buffer;
 }
 
-/* Takes the next output of the last round, by its fields. If its texts fit into `room` bytes, they
- * are written to the buffer. Otherwise the buffer isn't changed, and the next call gives the same
- * output again: sip_ua_texts_len says how much room it needs. Fault: SIP_UA_NO_MEMORY. */
+/* Takes the next output of the last round, by its fields, and writes its texts to the buffer. The
+ * kind SIP_UA_NOTHING says that none is left. No text ends in a zero byte. Faults: SIP_UA_NO_ROOM,
+ * if the texts are longer than `room`: the output is filled in and stays, and sip_ua_texts_len says
+ * how much room it needs; SIP_UA_NO_MEMORY. */
 static inline uint32_t sip_ua_next(sip_ua *agent, sip_ua_typed_output *output, uint8_t *buffer,
                                    size_t room)
 {
-    if (agent == NULL || output == NULL || buffer == NULL)
+    uint8_t otherwise = 0;
+    if (agent == NULL || output == NULL || (buffer == NULL && room != 0))
         return SIP_UA_NULL;
-    return sip_ua_raw_next(agent, output, buffer, room);
+    return sip_ua_raw_next(agent, output, sip_ua_raw_room(buffer, &otherwise), room);
+}
+
+/* Takes the next output of the last round, as a datagram or as a line, which ends in a line feed,
+ * and writes it to the buffer. Otherwise as sip_ua_next; `len` says how much room it needs. A line
+ * can be four times as long as the datagram that it is about, since it is escaped. */
+static inline uint32_t sip_ua_next_line(sip_ua *agent, sip_ua_output *output, uint8_t *buffer,
+                                        size_t room)
+{
+    uint8_t otherwise = 0;
+    if (agent == NULL || output == NULL || (buffer == NULL && room != 0))
+        return SIP_UA_NULL;
+    return sip_ua_raw_next_output(agent, output, sip_ua_raw_room(buffer, &otherwise), room);
+}
+
+/* Skips the next output of the last round: takes it without its text, such as one that had no room.
+ * Does nothing if none is left. For a send, call sip_ua_failed too, since it didn't go out. */
+static inline uint32_t sip_ua_skip(sip_ua *agent)
+{
+    if (agent == NULL)
+        return SIP_UA_NULL;
+    return sip_ua_raw_skip(agent);
 }
 
 /* How much room the texts of an output need. */
@@ -819,42 +867,44 @@ static inline uint32_t sip_ua_last_id(sip_ua *agent, sip_ua_id *id)
 }
 
 /* The datagram with this place in the last round, if there is one: the cause of the outputs with
- * this place. It is kept until the next round runs, even if it was dropped. If its `len` is at most
- * `room`, its bytes are written to the buffer. Otherwise the buffer isn't changed, and `len` says
- * how much room is needed. The buffer can't be NULL, even if `room` is 0. */
+ * this place. It is kept until the next round runs, even if it was dropped. Its bytes are written
+ * to the buffer. Fault: SIP_UA_NO_ROOM, if its `len` is more than `room`. */
 static inline uint32_t sip_ua_datagram_at(sip_ua *agent, uint32_t place, sip_ua_arrival *arrival,
                                           uint8_t *buffer, size_t room)
 {
-    if (agent == NULL || arrival == NULL || buffer == NULL)
+    uint8_t otherwise = 0;
+    if (agent == NULL || arrival == NULL || (buffer == NULL && room != 0))
         return SIP_UA_NULL;
-    return sip_ua_raw_datagram_at(agent, place, arrival, buffer, room);
+    return sip_ua_raw_datagram_at(agent, place, arrival, sip_ua_raw_room(buffer, &otherwise), room);
 }
 
-/* The start line of that datagram. If `method_len` and `len` together are at most `room`, the text
- * is written to the buffer. Otherwise the buffer isn't changed. Fault: SIP_UA_NO_MEMORY. */
+/* The start line of that datagram. Its text is written to the buffer. Faults: SIP_UA_NO_ROOM, if
+ * `method_len` and `len` together are more than `room`; SIP_UA_NO_MEMORY. */
 static inline uint32_t sip_ua_start_line(sip_ua *agent, uint32_t place, sip_ua_start *start,
                                          uint8_t *buffer, size_t room)
 {
-    if (agent == NULL || start == NULL || buffer == NULL)
+    uint8_t otherwise = 0;
+    if (agent == NULL || start == NULL || (buffer == NULL && room != 0))
         return SIP_UA_NULL;
-    return sip_ua_raw_start_line(agent, place, start, buffer, room);
+    return sip_ua_raw_start_line(agent, place, start, sip_ua_raw_room(buffer, &otherwise), room);
 }
 
 /* The value of the header line with this number, from 0, among the lines of that datagram with this
  * name. `is_there` is false if there is none. The name may be long or compact, in any case. The
- * value is unfolded, without white space around it. If its `len` is at most `room`, it is written
- * to the buffer. Otherwise the buffer isn't changed. Fault: SIP_UA_NO_MEMORY. */
+ * value is unfolded, without white space around it, and is written to the buffer. Faults:
+ * SIP_UA_NO_ROOM, if its `len` is more than `room`; SIP_UA_NO_MEMORY. */
 static inline uint32_t sip_ua_header_value(sip_ua *agent, uint32_t place, const char *name,
                                            size_t name_len, size_t number, sip_ua_text *text,
                                            uint8_t *buffer, size_t room)
 {
-    if (agent == NULL || name == NULL || text == NULL || buffer == NULL)
+    uint8_t otherwise = 0;
+    if (agent == NULL || name == NULL || text == NULL || (buffer == NULL && room != 0))
         return SIP_UA_NULL;
     return sip_ua_raw_header_value(agent, place, (const uint8_t *)name, name_len, number, text,
-                                   buffer, room);
+                                   sip_ua_raw_room(buffer, &otherwise), room);
 }
 
-/* Frees the agent; its `sip_ua` has none then. Fault: SIP_UA_NOT_HELD, if it has none. */
+/* Frees the agent; its `sip_ua` has none then. Fault: SIP_UA_NO_AGENT, if it has none. */
 static inline uint32_t sip_ua_free(sip_ua *agent)
 {
     if (agent == NULL)

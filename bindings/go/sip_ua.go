@@ -97,7 +97,11 @@ func (a *Agent) Command(lines string) (ID, error) {
 	return ID{uint64(id.round), uint32(id.place)}, err
 }
 
-// Failed says that the output with this index, of the last round, couldn't be sent.
+// LargestDatagram is the most bytes that a UDP datagram carries over IPv4.
+const LargestDatagram = C.SIP_UA_LARGEST_DATAGRAM
+
+// Failed says that the output with this index, of the last round, couldn't be sent: the socket
+// refused it, or it is longer than LargestDatagram.
 func (a *Agent) Failed(index uint64) error {
 	return done(C.sip_ua_raw_failed(&a.agent, C.size_t(index)))
 }
@@ -111,15 +115,16 @@ func (a *Agent) Run(moment uint64) ([]Output, error) {
 	for {
 		var told C.sip_ua_output
 		at, size := bytesOf(a.buffer)
-		if status := C.sip_ua_raw_next_output(&a.agent, &told, at, size); status != C.SIP_UA_OK {
+		status := C.sip_ua_raw_next_output(&a.agent, &told, at, size)
+		if status == C.SIP_UA_NO_ROOM { // it comes again, into a larger buffer
+			a.buffer = make([]byte, told.len)
+			continue
+		}
+		if status != C.SIP_UA_OK {
 			return outputs, Error(status)
 		}
 		if told.kind == C.SIP_UA_NOTHING {
 			return outputs, nil
-		}
-		if int(told.len) > len(a.buffer) { // it comes again, into a larger buffer
-			a.buffer = make([]byte, told.len)
-			continue
 		}
 		output := Output{Place: uint32(told.place), Index: uint64(told.index)}
 		output.Text = append(output.Text, a.buffer[:told.len]...)
@@ -145,16 +150,16 @@ func (a *Agent) HeaderValue(place uint32, name string, number uint64) (string, b
 		var told C.sip_ua_text
 		key, length := bytesOf([]byte(name))
 		at, size := bytesOf(a.buffer)
-		err := done(C.sip_ua_raw_header_value(&a.agent, C.uint32_t(place), key, length,
-			C.size_t(number), &told, at, size))
-		if err != nil || !bool(told.is_there) || int(told.len) <= len(a.buffer) {
-			text := ""
-			if err == nil && bool(told.is_there) {
-				text = string(a.buffer[:told.len])
-			}
-			return text, bool(told.is_there), err
+		status := C.sip_ua_raw_header_value(&a.agent, C.uint32_t(place), key, length,
+			C.size_t(number), &told, at, size)
+		if status == C.SIP_UA_NO_ROOM {
+			a.buffer = make([]byte, told.len)
+			continue
 		}
-		a.buffer = make([]byte, told.len)
+		if status != C.SIP_UA_OK {
+			return "", false, Error(status)
+		}
+		return string(a.buffer[:told.len]), bool(told.is_there), nil
 	}
 }
 

@@ -47,3 +47,41 @@ func TestAnOptionsIsAnswered(t *testing.T) {
 		t.Fatal(due, is, err)
 	}
 }
+
+// The 100 of a request with many Vias is too long for UDP. It comes whole and fails; the agent goes on.
+func TestALongSendFails(t *testing.T) {
+	agent, err := New(netip.MustParseAddrPort("192.0.2.1:5060"), [32]byte{7}, 0)
+	if err != nil {
+		t.Fatal(err)
+	}
+	defer agent.Close()
+	request := "INVITE sip:192.0.2.1 SIP/2.0\r\nVia: SIP/2.0/UDP h;branch=z9hG4bKx" +
+		strings.Repeat(",SIP/2.0/UDP a", 4500) + "\r\nMax-Forwards: 70\r\n" +
+		"From: <sip:a@192.0.2.9>;tag=f1\r\nTo: <sip:192.0.2.1>\r\nCall-ID: c1\r\n" +
+		"CSeq: 1 INVITE\r\nContact: <sip:a@192.0.2.9>\r\n\r\n"
+	if err := agent.Datagram(netip.MustParseAddrPort("192.0.2.9:5060"), []byte(request)); err != nil {
+		t.Fatal(err)
+	}
+	outputs, err := agent.Run(0)
+	if err != nil || len(outputs) != 2 {
+		t.Fatal(len(outputs), err)
+	}
+	for _, output := range outputs {
+		if output.To.IsValid() {
+			if len(output.Text) <= LargestDatagram {
+				t.Fatal(len(output.Text))
+			}
+			if err := agent.Failed(output.Index); err != nil {
+				t.Fatal(err)
+			}
+		}
+	}
+	via, there, err := agent.HeaderValue(1, "v", 0)
+	if err != nil || !there || !strings.HasPrefix(via, "SIP/2.0/UDP h;") {
+		t.Fatal(len(via), there, err)
+	}
+	outputs, err = agent.Run(1)
+	if err != nil || len(outputs) != 1 || string(outputs[0].Text) != "notice c1 failed 0.1\n" {
+		t.Fatal(outputs, err)
+	}
+}

@@ -7,8 +7,8 @@
  * the socket.
  *
  * The loop of a host: wait for a datagram, or until something is due. Hand over all that came, run
- * a round, send the datagrams, and respond to the requests. Responses are events of the next round,
- * which runs at once. */
+ * a round, send the datagrams, and respond to the requests. Responses, and sends that failed, are
+ * events of the next round, which runs at once. */
 #define _POSIX_C_SOURCE 200809L
 #include "sip_ua.h"
 
@@ -31,10 +31,10 @@
     "m=audio 41000 RTP/AVP 0\r\n"
 
 static uint8_t datagram[65536];
-static uint8_t texts[65535];
+static uint8_t texts[65536];
 static sip_ua agent = SIP_UA_NONE;
 static int udp;
-static bool has_answers;
+static bool has_events;
 
 static uint64_t now(void)
 {
@@ -67,13 +67,28 @@ static void receive(void)
     }
 }
 
-/* Sends a datagram, and reports a failure. */
+/* Reports a send that can't go out. */
+static void fail(const sip_ua_typed_output *output)
+{
+    must(sip_ua_failed(&agent, output->index), "sip_ua_failed");
+    has_events = true;
+}
+
+/* Sends a datagram. The socket refuses one that is too long for UDP. */
 static void send_output(const sip_ua_typed_output *output)
 {
     struct sockaddr_in to = { .sin_family = AF_INET, .sin_port = htons(output->to.port) };
     memcpy(&to.sin_addr, output->to.ip, 4);
     if (sendto(udp, texts, output->body_len, 0, (struct sockaddr *)&to, sizeof to) < 0)
-        must(sip_ua_failed(&agent, output->index), "sip_ua_failed");
+        fail(output);
+}
+
+/* Leaves out an output that is longer than any datagram. A send has failed then. */
+static void skip(const sip_ua_typed_output *output)
+{
+    if (output->kind == SIP_UA_SEND)
+        fail(output);
+    must(sip_ua_skip(&agent), "sip_ua_skip");
 }
 
 /* Responds to a request. */
@@ -88,7 +103,7 @@ static void respond(const sip_ua_typed_output *request, uint16_t status, const c
         .body = sip_ua_string(body),
     };
     must(sip_ua_respond(&agent, &fields, NULL), "sip_ua_respond");
-    has_answers = true;
+    has_events = true;
 }
 
 static void answer(const sip_ua_typed_output *request)
@@ -105,10 +120,15 @@ static void answer(const sip_ua_typed_output *request)
 static void run(void)
 {
     sip_ua_typed_output output;
-    has_answers = false;
+    has_events = false;
     must(sip_ua_run(&agent, now()), "sip_ua_run");
     for (;;) {
-        must(sip_ua_next(&agent, &output, texts, sizeof texts), "sip_ua_next");
+        uint32_t status = sip_ua_next(&agent, &output, texts, sizeof texts);
+        if (status == SIP_UA_NO_ROOM) {
+            skip(&output);
+            continue;
+        }
+        must(status, "sip_ua_next");
         if (output.kind == SIP_UA_NOTHING)
             return;
         if (output.kind == SIP_UA_SEND)
@@ -160,7 +180,7 @@ int main(int count, char **words)
     uint64_t end = count > 3 ? now() + 1000 * strtoull(words[3], NULL, 10) : UINT64_MAX;
     while (now() < end) {
         struct pollfd waiting = { .fd = udp, .events = POLLIN };
-        poll(&waiting, 1, has_answers ? 0 : patience(end));
+        poll(&waiting, 1, has_events ? 0 : patience(end));
         receive();
         run();
     }

@@ -27,14 +27,14 @@
     "m=audio 40000 RTP/AVP 0\r\n"
 
 static uint8_t datagram[65536];
-static uint8_t texts[65535];
+static uint8_t texts[65536];
 static sip_ua agent = SIP_UA_NONE;
 static int udp;
 static uint64_t moment;
 /* The INVITE, the tags of its dialog once it is answered, its BYE; when to hang up or to cancel. */
 static sip_ua_id invite, bye;
 static char local_tag[256], remote_tag[256];
-static bool is_answered, is_over, has_command;
+static bool is_answered, is_over, has_events;
 static uint64_t until, seconds;
 
 static uint64_t now(void)
@@ -58,7 +58,7 @@ static void asked(uint32_t status, const sip_ua_asked *told, const char *call)
     if (status == SIP_UA_BAD_FIELD)
         fprintf(stderr, "call: field %u\n", (unsigned)told->bad_field);
     must(status, call);
-    has_command = true;
+    has_events = true;
 }
 
 static void receive(void)
@@ -76,12 +76,27 @@ static void receive(void)
     }
 }
 
+/* Reports a send that can't go out. */
+static void fail(const sip_ua_typed_output *output)
+{
+    must(sip_ua_failed(&agent, output->index), "sip_ua_failed");
+    has_events = true;
+}
+
 static void send_output(const sip_ua_typed_output *output)
 {
     struct sockaddr_in to = { .sin_family = AF_INET, .sin_port = htons(output->to.port) };
     memcpy(&to.sin_addr, output->to.ip, 4);
     if (sendto(udp, texts, output->body_len, 0, (struct sockaddr *)&to, sizeof to) < 0)
-        must(sip_ua_failed(&agent, output->index), "sip_ua_failed");
+        fail(output);
+}
+
+/* Leaves out an output that is longer than any datagram. A send has failed then. */
+static void skip(const sip_ua_typed_output *output)
+{
+    if (output->kind == SIP_UA_SEND)
+        fail(output);
+    must(sip_ua_skip(&agent), "sip_ua_skip");
 }
 
 /* Prints the reason of a response and who answers, read from its datagram. */
@@ -191,11 +206,16 @@ static void tell(const sip_ua_typed_output *output)
 static void run(void)
 {
     sip_ua_typed_output output;
-    has_command = false;
+    has_events = false;
     moment = now();
     must(sip_ua_run(&agent, moment), "sip_ua_run");
     for (;;) {
-        must(sip_ua_next(&agent, &output, texts, sizeof texts), "sip_ua_next");
+        uint32_t status = sip_ua_next(&agent, &output, texts, sizeof texts);
+        if (status == SIP_UA_NO_ROOM) {
+            skip(&output);
+            continue;
+        }
+        must(status, "sip_ua_next");
         if (output.kind == SIP_UA_NOTHING)
             return;
         if (output.kind == SIP_UA_SEND)
@@ -283,9 +303,9 @@ int main(int count, char **words)
     snprintf(own, sizeof own, "sip:me@%s:%u", words[1], (unsigned)configuration.local.port);
     call(&peer, words[5], own);
     until = now() + PATIENCE_MS;
-    while (!is_over || has_command) {
+    while (!is_over || has_events) {
         struct pollfd waiting = { .fd = udp, .events = POLLIN };
-        poll(&waiting, 1, has_command ? 0 : patience());
+        poll(&waiting, 1, has_events ? 0 : patience());
         receive();
         if (now() >= until)
             end_call();

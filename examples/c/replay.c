@@ -8,7 +8,8 @@
 #include <stdlib.h>
 #include <string.h>
 
-static uint8_t buffer[1 << 16];
+static uint8_t *buffer = NULL;
+static size_t room = 0;
 
 static void fail(const char *what, size_t number)
 {
@@ -59,16 +60,29 @@ static void write_rest(const uint8_t *bytes, size_t len)
     putchar('\n');
 }
 
+/* Makes a buffer of this size, for an output that has no room. */
+static void grow(size_t size, size_t number)
+{
+    free(buffer);
+    room = size;
+    buffer = malloc(room);
+    if (buffer == NULL)
+        fail("out of memory", number);
+}
+
 static void write_outputs(sip_ua *agent, size_t number)
 {
     for (;;) {
         sip_ua_output output;
-        if (sip_ua_next_output(agent, &output, buffer, sizeof buffer) != SIP_UA_OK)
+        uint32_t status = sip_ua_next_line(agent, &output, buffer, room);
+        if (status == SIP_UA_NO_ROOM) {
+            grow(output.len, number);
+            continue;
+        }
+        if (status != SIP_UA_OK)
             fail("no output", number);
         if (output.kind == SIP_UA_NOTHING)
             return;
-        if (output.len > sizeof buffer)
-            fail("an output that is too long", number);
         if (output.kind == SIP_UA_SEND) {
             const uint8_t *ip = output.to.ip;
             printf("send %u.%u.%u.%u:%u ", ip[0], ip[1], ip[2], ip[3], output.to.port);
@@ -93,13 +107,13 @@ int main(void)
     sip_ua agent = SIP_UA_NONE;
     sip_ua_configuration configuration = { 0 };
     char *line = NULL;
-    size_t room = 0, number = 0;
+    size_t size = 0, number = 0;
     bool in_round = false;
     uint64_t moment = 0;
     ssize_t read;
 
     fputs("sip-outputs 1\n", stdout);
-    while ((read = getline(&line, &room, stdin)) > 0) {
+    while ((read = getline(&line, &size, stdin)) > 0) {
         size_t len = (size_t)read - 1;
         number++;
         line[len] = '\0';
@@ -131,5 +145,6 @@ int main(void)
         sip_ua_free(&agent);
     }
     free(line);
+    free(buffer);
     return fflush(stdout) == 0 ? 0 : 1;
 }

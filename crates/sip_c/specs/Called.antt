@@ -1,5 +1,5 @@
 -- What calls with a handle do.
-use Rattle.std.specs.Prelude.{◌≡◌, ◌⊎◌, ◌^◌, ◌-◌, ℕ, Bool, ◌&&◌, false, true, List, Option, None, Some, IsSomeAnd, Result, Ok, Err, length, nat_le, replicate, if◌then◌else◌}
+use Rattle.std.specs.Prelude.{◌≡◌, ◌⊎◌, ◌^◌, ◌+◌, ◌-◌, ℕ, Bool, ◌&&◌, false, true, List, Option, None, Some, IsSomeAnd, Result, Ok, Err, length, nat_le, replicate, if◌then◌else◌}
 use Rattle.std.specs.List.{slice_get}
 use Rattle.std.specs.Option.{option_map}
 use Rattle.sip_message.specs.declared.addr.Addr.{Addr}
@@ -12,7 +12,7 @@ use Rattle.sip_round.specs.declared.output.PlacedOutput.{PlacedOutput}
 use Rattle.sip_round.specs.declared.round.Round.{Round}
 use Rattle.sip_timers.specs.Queue.{is_due}
 use Rattle.sip_host.specs.Handing.{datagram_in, head_of, put_if, put_in, start_of, start_text, text_of}
-use Rattle.sip_host.specs.Hosting.{Answer, Begins, BeginsAt, HasValuesAt, after_taking}
+use Rattle.sip_host.specs.Hosting.{Answer, Begins, BeginsAt, HasValuesAt, after_one, after_taking}
 use Rattle.sip_host.specs.declared.host.Host.{Host}
 use Rattle.sip_host.specs.declared.host_fault.HostFault.{HostFault}
 use Rattle.sip_host.specs.declared.host_fault.HostFault.TheVariants as fault
@@ -24,7 +24,7 @@ use Rattle.sip_user.specs.declared.command.ProvisionalSupport.{ProvisionalSuppor
 use Rattle.sip_user.specs.declared.command.ProvisionalSupport.TheVariants as support
 use Rattle.sip_user.specs.declared.command.Reliability.{Reliability}
 use Rattle.sip_user.specs.declared.command.Reliability.TheVariants as reliability
-use Rattle.sip_c.specs.Status.{number_of_answer, number_of_field}
+use Rattle.sip_c.specs.Status.{number_of_answer, number_of_field, room_answer}
 use Rattle.sip_c.specs.declared.values.Address.{Address}
 use Rattle.sip_c.specs.declared.values.Asked.{Asked}
 use Rattle.sip_c.specs.declared.values.Configuration.{Configuration}
@@ -160,12 +160,14 @@ Asks None new number told Does = (number ≡ 1) × (new ≡ None) × (told ≡ n
 Asks (Some old) new number told Does = IsSomeAnd new (λ after. (answer : Result Id HostFault)
     × (number ≡ number_of_answer answer) × (told ≡ asked_of answer) × Does old after answer)
 
--- the next output is told, or that there is none; if memory ran out, nothing has changed
+-- the next output is told, or that there is none, and taken if its text fits; if memory ran out,
+-- nothing has changed
 abbrev pub Gives : Option PlacedOutput → Host → Host → ℕ → Told → List ℕ → List ℕ → Type 0
 Gives None old new number told before after =
     (number ≡ 0) × (told ≡ told_of None) × (new ≡ old) × (after ≡ before)
 Gives (Some placed) old new number told before after =
-    ((number ≡ 0) × (told ≡ told_of (Some (head_of old.taken placed)))
+    ((number ≡ room_answer (length (text_of placed.output)) (length before))
+    × (told ≡ told_of (Some (head_of old.taken placed)))
     × (after ≡ put_in (text_of placed.output) before)
     × (new ≡ after_taking old placed.output (length before)))
     ⊎ ((number ≡ 10) × (told ≡ told_of None) × (new ≡ old) × (after ≡ before))
@@ -176,6 +178,11 @@ GivesNext None new number told before after =
     (number ≡ 1) × (new ≡ None) × (told ≡ told_of None) × (after ≡ before)
 GivesNext (Some old) new number told before after = IsSomeAnd new (λ host.
     Gives (slice_get old.outputs.items old.taken) old host number told before after)
+
+-- the next output is taken without its text, if one is left; nothing else changes
+abbrev pub Skips : Option Host → Option Host → ℕ → Type 0
+Skips None new number = (number ≡ 1) × (new ≡ None)
+Skips (Some old) new number = (number ≡ 0) × (new ≡ Some (after_one old))
 
 -- before this moment a round without events gives nothing; at this moment something is due
 pub record IsNextDue (config : Config) (rounds : List Round) (due : Option ℕ) : Type 0 where
@@ -192,24 +199,28 @@ TellsNothing number told nothing before after =
 -- if memory runs out, nothing is told either
 abbrev pub TellsOrNot : {T : Type 0} → ℕ → T → T → List ℕ → List ℕ → Type 0 → Type 0
 TellsOrNot number told nothing before after Tells =
-    ((number ≡ 0) × Tells) ⊎ ((number ≡ 10) × (told ≡ nothing) × (after ≡ before))
+    Tells ⊎ ((number ≡ 10) × (told ≡ nothing) × (after ≡ before))
 
 -- the datagram at a place
-abbrev pub TellsDatagram : ℕ → Datagram → List ℕ → List ℕ → Host → Type 0
-TellsDatagram place told before after host =
+abbrev pub TellsDatagram : ℕ → ℕ → Datagram → List ℕ → List ℕ → Host → Type 0
+TellsDatagram place number told before after host =
     let came = datagram_in (event_at host.last_events place) in
-    (told ≡ datagram_of (option_map (λ c. (c.0, length c.1)) came))
+    (number ≡ room_answer told.len (length before))
+    × (told ≡ datagram_of (option_map (λ c. (c.0, length c.1)) came))
     × (after ≡ put_if (option_map (λ c. c.1) came) before)
 
 -- its start line
-abbrev pub TellsStart : ℕ → StartLine → List ℕ → List ℕ → Host → Type 0
-TellsStart place told before after host = (says : Option (FirstLine (List ℕ)))
-    × BeginsAt host place says × (told ≡ start_line_of (option_map start_of says))
+abbrev pub TellsStart : ℕ → ℕ → StartLine → List ℕ → List ℕ → Host → Type 0
+TellsStart place number told before after host = (says : Option (FirstLine (List ℕ)))
+    × BeginsAt host place says
+    × (number ≡ room_answer (told.method_len + told.len) (length before))
+    × (told ≡ start_line_of (option_map start_of says))
     × (after ≡ put_if (option_map start_text says) before)
 
--- the value of a header that has this number
-abbrev pub TellsValue : ℕ → List ℕ → ℕ → TextLength → List ℕ → List ℕ → Host → Type 0
-TellsValue place name number told before after host = (values : List (List ℕ))
+-- the value of a header that has this index
+abbrev pub TellsValue : ℕ → List ℕ → ℕ → ℕ → TextLength → List ℕ → List ℕ → Host → Type 0
+TellsValue place name index number told before after host = (values : List (List ℕ))
     × HasValuesAt host place name values
-    × (told ≡ length_of (option_map length (slice_get values number)))
-    × (after ≡ put_if (slice_get values number) before)
+    × (number ≡ room_answer told.len (length before))
+    × (told ≡ length_of (option_map length (slice_get values index)))
+    × (after ≡ put_if (slice_get values index) before)

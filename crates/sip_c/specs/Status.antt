@@ -1,5 +1,5 @@
 -- The numbers that calls answer.
-use Rattle.std.specs.Prelude.{ℕ, false, true, Result, Ok, Err}
+use Rattle.std.specs.Prelude.{ℕ, false, true, Result, Ok, Err, nat_lt, if◌then◌else◌}
 use Rattle.sip_host.specs.declared.field.Field.{Field}
 use Rattle.sip_host.specs.declared.field.Field.TheVariants as field
 use Rattle.sip_host.specs.declared.host_fault.HostFault.{HostFault}
@@ -39,6 +39,11 @@ number_of_field field.RemoteTag = 7
 number_of_field field.Status = 8
 number_of_field field.Reason = 9
 number_of_field field.Headers = 10
+
+-- the number of a call that tells a text of this length, for a buffer with so much room: 15 exactly
+-- if the text doesn't fit
+abbrev pub room_answer : ℕ → ℕ → ℕ
+room_answer length room = if nat_lt room length then 15 else 0
 
 -- the number of a call's answer; 0 if all went well
 abbrev pub number_of_answer : {T : Type 0} → Result T HostFault → ℕ

@@ -19,6 +19,7 @@ use Rattle.sip_host.specs.Handing.{put_in, target_of}
 use Rattle.sip_host.specs.Hosting.{after_one}
 use Rattle.sip_host.specs.declared.host.Host.{Host}
 use Rattle.sip_c.specs.Called.{address_of, id_of}
+use Rattle.sip_c.specs.Status.{room_answer}
 use Rattle.sip_c.specs.declared.typed.TypedOutput.{TypedOutput}
 
 -- ---- numbers
@@ -214,7 +215,8 @@ abbrev pub GivesTyped : Option PlacedOutput → Host → Host → ℕ → TypedO
 GivesTyped None old new number told before after =
     (number ≡ 0) × (told ≡ nothing_typed) × (new ≡ old) × (after ≡ before)
 GivesTyped (Some placed) old new number told before after =
-    ((number ≡ 0) × (told ≡ typed_of old.taken placed)
+    ((number ≡ room_answer (length (texts_of placed.output)) (length before))
+    × (told ≡ typed_of old.taken placed)
     × (after ≡ put_in (texts_of placed.output) before)
     × (new ≡ after_typed old placed.output (length before)))
     ⊎ ((number ≡ 10) × (told ≡ nothing_typed) × (new ≡ old) × (after ≡ before))

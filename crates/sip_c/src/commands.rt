@@ -7,7 +7,7 @@ ghost use Rattle.sip_c.specs.Called.{Asks, Calls, addr_of, asked_of, reliability
 ghost use Rattle.sip_c.specs.Status as spec;
 
 use crate::handle::Handle;
-use crate::status::{NOT_HELD, OK, number_of, number_of_answer};
+use crate::status::{NO_AGENT, OK, number_of, number_of_answer};
 use crate::values::{self, Address, Asked};
 use sip_host::{
     BodyFields, CancelFields, HostFault, InviteFields, PlainFields, RequestFields, RespondFields,
@@ -27,7 +27,7 @@ pub extern "C" fn sip_ua_raw_header(
         (TakesHeader name.now value.now) }
 {
     let Some(mut host) = handle.take(alloc) else {
-        return NOT_HELD;
+        return NO_AGENT;
     };
     let answer = host.header(name, value);
     handle.put(host);
@@ -62,7 +62,7 @@ pub extern "C" fn sip_ua_raw_invite(
 {
     let Some(mut host) = handle.take(alloc) else {
         *asked = values::nothing_asked();
-        return NOT_HELD;
+        return NO_AGENT;
     };
     let fields = InviteFields {
         call_id,
@@ -105,7 +105,7 @@ pub extern "C" fn sip_ua_raw_plain(
 {
     let Some(mut host) = handle.take(alloc) else {
         *asked = values::nothing_asked();
-        return NOT_HELD;
+        return NO_AGENT;
     };
     let fields = PlainFields {
         call_id,
@@ -144,7 +144,7 @@ pub extern "C" fn sip_ua_raw_request(
 {
     let Some(mut host) = handle.take(alloc) else {
         *asked = values::nothing_asked();
-        return NOT_HELD;
+        return NO_AGENT;
     };
     let fields = RequestFields {
         call_id,
@@ -184,7 +184,7 @@ pub extern "C" fn sip_ua_raw_respond(
 {
     let Some(mut host) = handle.take(alloc) else {
         *asked = values::nothing_asked();
-        return NOT_HELD;
+        return NO_AGENT;
     };
     let fields = RespondFields {
         call_id,
@@ -220,7 +220,7 @@ pub extern "C" fn sip_ua_raw_ack(
 {
     let Some(mut host) = handle.take(alloc) else {
         *asked = values::nothing_asked();
-        return NOT_HELD;
+        return NO_AGENT;
     };
     let fields = BodyFields {
         call_id,
@@ -254,7 +254,7 @@ pub extern "C" fn sip_ua_raw_prack(
 {
     let Some(mut host) = handle.take(alloc) else {
         *asked = values::nothing_asked();
-        return NOT_HELD;
+        return NO_AGENT;
     };
     let fields = BodyFields {
         call_id,
@@ -285,7 +285,7 @@ pub extern "C" fn sip_ua_raw_cancel(
 {
     let Some(mut host) = handle.take(alloc) else {
         *asked = values::nothing_asked();
-        return NOT_HELD;
+        return NO_AGENT;
     };
     let fields = CancelFields {
         call_id,

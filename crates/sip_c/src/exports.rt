@@ -8,11 +8,12 @@ ghost use Rattle.sip_host.specs.Hosting.{RunsRound, TakesDatagram, TakesFailure,
 ghost use Rattle.sip_round.specs.declared.config.Config.{Config};
 ghost use Rattle.sip_round.specs.declared.round.Round.{Round};
 ghost use Rattle.sip_c.specs.Typed.{GivesNextTyped, GivesTyped};
-ghost use Rattle.sip_c.specs.Called.{Calls, GivesNext, IsNextDue, Makes, addr_of, can_begin, config_of, due_of};
+ghost use Rattle.sip_c.specs.Called.{Calls, GivesNext, IsNextDue, Makes, Skips, addr_of, can_begin, config_of, due_of};
 
 use crate::handle::Handle;
 use crate::status::{
-    BAD_CONFIGURATION, HELD, NO_MEMORY, NOT_HELD, OK, number_of, number_of_answer,
+    AGENT_EXISTS, BAD_CONFIGURATION, NO_AGENT, NO_MEMORY, OK, number_of, number_of_answer,
+    room_answer,
 };
 use crate::typed::{TypedOutput, nothing_typed, texts_of, typed_of};
 use crate::values::{self, Address, Configuration, Due, Told};
@@ -38,7 +39,7 @@ pub extern "C" fn sip_ua_raw_new(
         (config_of configuration.now) shards }
 {
     if handle.is_held() {
-        return HELD;
+        return AGENT_EXISTS;
     }
     if !can_begin(configuration, shards) {
         return BAD_CONFIGURATION;
@@ -72,7 +73,7 @@ pub extern "C" fn sip_ua_raw_datagram(
         (TakesDatagram (addr_of from.now) bytes.now) }
 {
     let Some(mut host) = handle.take(alloc) else {
-        return NOT_HELD;
+        return NO_AGENT;
     };
     let answer = host.datagram(from.addr(), bytes);
     handle.put(host);
@@ -85,7 +86,7 @@ pub extern "C" fn sip_ua_raw_event_line(alloc: Global, handle: &mut Handle, line
     ensures { Calls handle.old.owned.host handle.new.owned.host result (TakesLine line.now) }
 {
     let Some(mut host) = handle.take(alloc) else {
-        return NOT_HELD;
+        return NO_AGENT;
     };
     let answer = host.event_line(line);
     handle.put(host);
@@ -98,7 +99,7 @@ pub extern "C" fn sip_ua_raw_event_lines(alloc: Global, handle: &mut Handle, lin
     ensures { Calls handle.old.owned.host handle.new.owned.host result (TakesLines lines.now) }
 {
     let Some(mut host) = handle.take(alloc) else {
-        return NOT_HELD;
+        return NO_AGENT;
     };
     let answer = host.event_lines(lines);
     handle.put(host);
@@ -111,7 +112,7 @@ pub extern "C" fn sip_ua_raw_failed(alloc: Global, handle: &mut Handle, output: 
     ensures { Calls handle.old.owned.host handle.new.owned.host result (TakesFailure output) }
 {
     let Some(mut host) = handle.take(alloc) else {
-        return NOT_HELD;
+        return NO_AGENT;
     };
     let answer = host.failed(output);
     handle.put(host);
@@ -124,14 +125,14 @@ pub extern "C" fn sip_ua_raw_run(alloc: Global, handle: &mut Handle, moment: u64
     ensures { Calls handle.old.owned.host handle.new.owned.host result (RunsRound moment) }
 {
     let Some(mut host) = handle.take(alloc) else {
-        return NOT_HELD;
+        return NO_AGENT;
     };
     let answer = host.run(moment);
     handle.put(host);
     number_of_answer(answer)
 }
 
-/// The next output of the last round, if one is left.
+/// The next output of the last round, if one is left. It is taken if its text fits into the buffer.
 #[unsafe(no_mangle)]
 pub extern "C" fn sip_ua_raw_next_output(
     alloc: Global,
@@ -144,20 +145,22 @@ pub extern "C" fn sip_ua_raw_next_output(
 {
     *told = values::told_of(None);
     let Some(mut host) = handle.take(alloc) else {
-        return NOT_HELD;
+        return NO_AGENT;
     };
+    let room = buffer.len();
     let answer = host.next_output(buffer);
     handle.put(host);
     match answer {
         Ok(next) => {
             *told = values::told_of(next);
-            OK
+            room_answer(told.len, room)
         }
         Err(fault) => number_of(fault),
     }
 }
 
-/// The next output of the last round, by its fields, if one is left.
+/// The next output of the last round, by its fields, if one is left. It is taken if its texts fit
+/// into the buffer.
 #[unsafe(no_mangle)]
 pub extern "C" fn sip_ua_raw_next(
     alloc: Global,
@@ -170,29 +173,29 @@ pub extern "C" fn sip_ua_raw_next(
 {
     *told = nothing_typed();
     let Some(mut host) = handle.take(alloc) else {
-        return NOT_HELD;
+        return NO_AGENT;
     };
     let answer = give(alloc, &mut host, buffer);
     handle.put(host);
     match answer {
-        Ok(typed) => {
+        Ok((number, typed)) => {
             *told = typed;
-            OK
+            number
         }
         Err(_) => NO_MEMORY,
     }
 }
 
-// The next output. It is taken if its texts fit into the buffer.
-fn give(alloc: Global, host: &mut Host, buffer: &mut [u8]) -> Result<TypedOutput, AllocError>
+// The number of the call, and the next output. It is taken if its texts fit into the buffer.
+fn give(alloc: Global, host: &mut Host, buffer: &mut [u8]) -> Result<(u32, TypedOutput), AllocError>
     ensures given { IfOk result (λ told. GivesTyped (slice_get host.old.outputs.items
-        host.old.taken) host.old host.new 0 told buffer.old buffer.new) }
+        host.old.taken) host.old host.new told.0 told.1 buffer.old buffer.new) }
     ensures left { slice_get host.old.outputs.items host.old.taken ≡ None
         → OnErr result ⊥ }
     ensures same { OnErr result ((host.new ≡ host.old) × (buffer.new ≡ buffer.old)) }
 {
     let Some(placed) = host.peek() else {
-        return Ok(nothing_typed());
+        return Ok((OK, nothing_typed()));
     };
     let texts = texts_of(alloc, &placed.output)?;
     let typed = typed_of(host.taken(), placed);
@@ -200,7 +203,23 @@ fn give(alloc: Global, host: &mut Host, buffer: &mut [u8]) -> Result<TypedOutput
     if texts.len() <= buffer.len() {
         host.take();
     }
-    Ok(typed)
+    Ok((room_answer(texts.len(), buffer.len()), typed))
+}
+
+/// Takes the next output of the last round without its text, if one is left: one that no buffer has
+/// room for, or that nobody wants.
+#[unsafe(no_mangle)]
+pub extern "C" fn sip_ua_raw_skip(alloc: Global, handle: &mut Handle) -> u32
+    ensures { Skips handle.old.owned.host handle.new.owned.host result }
+{
+    match handle.take(alloc) {
+        Some(mut host) => {
+            host.take();
+            handle.put(host);
+            OK
+        }
+        None => NO_AGENT,
+    }
 }
 
 /// The first moment at which a held transaction or call is due, if there is one.
@@ -215,7 +234,7 @@ pub extern "C" fn sip_ua_raw_next_due(alloc: Global, handle: &mut Handle, due: &
 {
     let Some(host) = handle.take(alloc) else {
         *due = values::due_of(None);
-        return NOT_HELD;
+        return NO_AGENT;
     };
     *due = values::due_of(host.next_due());
     handle.put(host);
@@ -230,6 +249,6 @@ pub extern "C" fn sip_ua_raw_free(alloc: Global, handle: &mut Handle) -> u32
 {
     match handle.take(alloc) {
         Some(_) => OK,
-        None => NOT_HELD,
+        None => NO_AGENT,
     }
 }

@@ -17,7 +17,7 @@ pub use commands::{
 pub use exports::{
     sip_ua_raw_datagram, sip_ua_raw_event_line, sip_ua_raw_event_lines, sip_ua_raw_failed,
     sip_ua_raw_free, sip_ua_raw_new, sip_ua_raw_next, sip_ua_raw_next_due, sip_ua_raw_next_output,
-    sip_ua_raw_run,
+    sip_ua_raw_run, sip_ua_raw_skip,
 };
 pub use handle::Handle;
 pub use questions::{

@@ -1,13 +1,14 @@
 //! The functions by which C asks for the id of an event, for what an agent holds, and for what a
 //! datagram says.
 
-ghost use Rattle.std.specs.Prelude.{◌≡◌, ◌≤◌, IfSome, None, Some, length};
+ghost use Rattle.std.specs.Prelude.{◌≡◌, ◌+◌, ◌≤◌, IfSome, None, Some, length};
 ghost use Rattle.sip_host.specs.Hosting.{HoldsSo, last_id_of};
 ghost use Rattle.sip_host.specs.declared.holdings.Holdings.{Holdings as AHoldings};
+ghost use Rattle.sip_c.specs.Status as spec;
 ghost use Rattle.sip_c.specs.Called.{TellsDatagram, TellsNothing, TellsOrNot, TellsStart, TellsValue, datagram_of, id_of, length_of, start_line_of, stats_of};
 
 use crate::handle::Handle;
-use crate::status::{NO_MEMORY, NOT_HELD, OK};
+use crate::status::{NO_AGENT, NO_MEMORY, NO_ROOM, OK, room_answer};
 use crate::values::{self, Datagram, EventId, StartLine, Stats, TextLength};
 use std::alloc::Global;
 
@@ -21,7 +22,7 @@ pub extern "C" fn sip_ua_raw_last_id(alloc: Global, handle: &mut Handle, id: &mu
 {
     let Some(host) = handle.take(alloc) else {
         *id = values::id_of(None);
-        return NOT_HELD;
+        return NO_AGENT;
     };
     *id = values::id_of(host.last_id());
     handle.put(host);
@@ -38,7 +39,7 @@ pub extern "C" fn sip_ua_raw_stats(alloc: Global, handle: &mut Handle, stats: &m
 {
     let Some(host) = handle.take(alloc) else {
         *stats = values::stats_of(None);
-        return NOT_HELD;
+        return NO_AGENT;
     };
     *stats = values::stats_of(Some(host.holdings()));
     handle.put(host);
@@ -57,16 +58,17 @@ pub extern "C" fn sip_ua_raw_datagram_at(
     ensures same { handle.new.owned.host ≡ handle.old.owned.host }
     ensures none { handle.old.owned.host ≡ None
         → TellsNothing result told.new (datagram_of None) buffer.old buffer.new }
-    ensures told { IfSome handle.old.owned.host (λ host. (result ≡ 0)
-        × TellsDatagram place told.new buffer.old buffer.new host) }
+    ensures told { IfSome handle.old.owned.host
+        (TellsDatagram place result told.new buffer.old buffer.new) }
 {
     let Some(host) = handle.take(alloc) else {
         *told = values::datagram_of(None);
-        return NOT_HELD;
+        return NO_AGENT;
     };
+    let room = buffer.len();
     *told = values::datagram_of(host.datagram_at(place, buffer));
     handle.put(host);
-    OK
+    room_answer(told.len, room)
 }
 
 /// What the start line of the datagram that came in at a place of the last round says.
@@ -83,20 +85,31 @@ pub extern "C" fn sip_ua_raw_start_line(
         → TellsNothing result told.new (start_line_of None) buffer.old buffer.new }
     ensures told { IfSome handle.old.owned.host (λ host.
         TellsOrNot result told.new (start_line_of None) buffer.old buffer.new
-        (TellsStart place told.new buffer.old buffer.new host)) }
+        (TellsStart place result told.new buffer.old buffer.new host)) }
 {
     *told = values::start_line_of(None);
     let Some(host) = handle.take(alloc) else {
-        return NOT_HELD;
+        return NO_AGENT;
     };
+    let room = buffer.len();
     let answer = host.start_text(place, buffer);
     handle.put(host);
     match answer {
         Ok(start) => {
             *told = values::start_line_of(start);
-            OK
+            start_answer(told, room)
         }
         Err(_) => NO_MEMORY,
+    }
+}
+
+// The number of the call that tells a start line, for a buffer with so much room.
+fn start_answer(told: &StartLine, room: usize) -> u32
+    ensures { result ≡ spec.room_answer (told.now.method_len + told.now.len) room }
+{
+    match room.checked_sub(told.method_len) {
+        Some(left) => room_answer(told.len, left),
+        None => NO_ROOM,
     }
 }
 
@@ -117,18 +130,19 @@ pub extern "C" fn sip_ua_raw_header_value(
         → TellsNothing result told.new (length_of None) buffer.old buffer.new }
     ensures told { IfSome handle.old.owned.host (λ host.
         TellsOrNot result told.new (length_of None) buffer.old buffer.new
-        (TellsValue place name.now number told.new buffer.old buffer.new host)) }
+        (TellsValue place name.now number result told.new buffer.old buffer.new host)) }
 {
     *told = values::length_of(None);
     let Some(host) = handle.take(alloc) else {
-        return NOT_HELD;
+        return NO_AGENT;
     };
+    let room = buffer.len();
     let answer = host.header_value(place, name, number, buffer);
     handle.put(host);
     match answer {
         Ok(value) => {
             *told = values::length_of(value);
-            OK
+            room_answer(told.len, room)
         }
         Err(_) => NO_MEMORY,
     }

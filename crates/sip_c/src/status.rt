@@ -9,15 +9,18 @@ use sip_round::RoundFault;
 pub(crate) const OK: u32 = 0;
 
 /// The handle holds no agent.
-pub(crate) const NOT_HELD: u32 = 1;
+pub(crate) const NO_AGENT: u32 = 1;
 
 /// The handle holds an agent.
-pub(crate) const HELD: u32 = 2;
+pub(crate) const AGENT_EXISTS: u32 = 2;
 
 pub(crate) const NO_MEMORY: u32 = 10;
 
 /// The number of shards or of the first round is out of range.
 pub(crate) const BAD_CONFIGURATION: u32 = 12;
+
+/// The text is longer than the buffer.
+pub(crate) const NO_ROOM: u32 = 15;
 
 /// The number of a fault.
 pub(crate) fn number_of(fault: HostFault) -> u32
@@ -63,6 +66,13 @@ pub(crate) fn number_of_field(field: Field) -> u32
         Field::Reason => 9,
         Field::Headers => 10,
     }
+}
+
+/// The number of a call that tells a text of this length, for a buffer with so much room.
+pub(crate) fn room_answer(length: usize, room: usize) -> u32
+    ensures { result ≡ spec.room_answer length room }
+{
+    if room < length { NO_ROOM } else { OK }
 }
 
 /// The number of a call's result.

@@ -20,7 +20,7 @@ mod outlet;
 mod record;
 mod sending;
 mod sent;
-mod system_drops;
+mod socket_table;
 mod turns;
 mod user;
 
@@ -38,6 +38,6 @@ pub use notice_writer::{NoticeWriter, Written};
 pub use outlet::{Asked, CountedSocket, Outlet};
 pub use record::Record;
 pub use sending::send_all;
-pub use system_drops::{drops_in, system_drops};
+pub use socket_table::{drops_in, system_drops};
 pub use turns::{MOST_COLLECTED, Turns};
 pub use user::User;

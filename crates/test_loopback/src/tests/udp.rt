@@ -252,31 +252,17 @@ fn blast<R: Clock>(rt: &R, socket: &UdpSocket, to: Addr, datagrams: u32) {
     }
 }
 
-// How a listener ends that takes `turns` turns, while `datagrams` datagrams are sent to an address.
-fn end_of_listener<R: Threads + Clock + Files + Sync>(
-    rt: &R,
-    alloc: Global,
-    socket: UdpSocket,
-    local: Addr,
-    turns: u32,
-    own: &UdpSocket,
-    to: Addr,
-    datagrams: u32,
-) -> Result<(), UaFault> {
-    let ((ended, _), ()) = thread::join(
-        rt,
-        || plainly_listened(rt, alloc, socket, local, turns),
-        || blast(rt, own, to, datagrams),
-    );
-    ended
-}
-
 // What comes after the last turn is collected, so the line can be settled.
 #[test]
 fn a_listener_ends_well_while_datagrams_come(rt: HostRuntime) -> Result<(), Fail> {
     let (theirs, to) = bound(&rt)?;
     let (own, _) = bound(&rt)?;
-    assert!(rt; end_of_listener(&rt, rt.alloc(), theirs, to, 20, &own, to, 1_000).is_ok());
+    let ((ended, _), ()) = thread::join(
+        &rt,
+        || plainly_listened(&rt, rt.alloc(), theirs, to, 20),
+        || blast(&rt, &own, to, 1_000),
+    );
+    assert!(rt; ended.is_ok());
     Ok(())
 }
 
@@ -288,7 +274,11 @@ fn a_listener_whose_socket_fails_tells_so(rt: HostRuntime) -> Result<(), Fail> {
     let (socket, local) = bound(&rt)?;
     socket.connect(SocketAddrV4::new(Ipv4Addr::LOCALHOST, to.port))?;
     let own = socket.try_clone()?;
-    let ended = end_of_listener(&rt, rt.alloc(), socket, local, 400, &own, to, 2_000);
+    let ((ended, _), ()) = thread::join(
+        &rt,
+        || plainly_listened(&rt, rt.alloc(), socket, local, 400),
+        || blast(&rt, &own, to, 2_000),
+    );
     assert!(rt; ended == Err(UaFault::Socket));
     Ok(())
 }

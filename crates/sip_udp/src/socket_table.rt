@@ -1,4 +1,4 @@
-//! The datagrams that the system dropped before they were read.
+//! The system's table of sockets: the datagrams that it dropped before they were read.
 
 use sip_message::Addr;
 use std::alloc::{AllocError, Global};
