@@ -18,8 +18,8 @@ from collections import namedtuple
 from pathlib import Path
 
 from calls import NUMBER, Call, is_address, text_of, word_of
-from messages import MOST_NUMBER, MOST_PORT, NAMES, TOKEN, URI, ReadFault, header_of, lower, match
-from messages import read, rest_of, stamped, values_of
+from messages import MOST_NUMBER, MOST_PORT, NAMES, TOKEN, URI, Party, ReadFault, header_of, lower
+from messages import match, read, rest_of, stamped, values_of
 from tables import Happening, Told, machine_of, made_name, step, trigger_of
 
 MOST_FILE, MOST_EVENTS, MOST_MOMENT = 2**26, 65536, 2**62
@@ -236,7 +236,19 @@ def with_headers(event, lines):
             return None
         event = event._replace(**{where: getattr(event, where) + values})
     may_have_routes = event.kind in ("invite", "plain")
-    return None if event.routes and not may_have_routes else event
+    has_bad_route = event.routes and not may_have_routes
+    return None if has_bad_route or not contacts_fit(event) else event
+
+
+def contacts_fit(event):
+    """Whether an event may have its Contacts: `*` only alone, in a REGISTER whose one Expires is 0
+    (RFC 3261, 10.2.2 and 20.10)."""
+    if all(contact.uri != "*" for contact in event.contacts):
+        return True
+    expires = [value for name, value in event.others if lower(name) == "expires"]
+    is_register = event.kind == "plain" and event.method == "REGISTER"
+    is_at_once = len(expires) == 1 and match("0+", expires[0]) is not None
+    return is_register and is_at_once and event.contacts == (Party(uri="*"),)
 
 
 def is_header_line(line):

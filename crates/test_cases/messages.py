@@ -82,6 +82,11 @@ def party_text(party):
     return f"{display}<{party.uri}>{parameters_text(party.parameters)}"
 
 
+def contact_text(party):
+    """The value of a Contact: `*` stands alone, without brackets (RFC 3261, 20.10)."""
+    return "*" if party == Party(uri="*") else party_text(party)
+
+
 def parameters_text(parameters):
     values = [f";{name}" if value is None else f";{name}={value}" for name, value in parameters]
     return "".join(values)
@@ -188,9 +193,8 @@ def written(message):
     lines += [] if hops is None else [f"Max-Forwards: {hops}"]
     lines += [f"From: {party_text(message.from_party)}", f"To: {party_text(message.to_party)}"]
     lines += [f"Call-ID: {message.call_id}", f"CSeq: {message.cseq[0]} {message.method}"]
-    for name, parties in [
-        ("Contact", message.contacts), ("Record-Route", message.record_routes),
-        ("Route", message.routes)]:
+    lines += [f"Contact: {contact_text(party)}" for party in message.contacts]
+    for name, parties in [("Record-Route", message.record_routes), ("Route", message.routes)]:
         lines += [f"{name}: {party_text(party)}" for party in parties]
     lines += [f"Require: {', '.join(message.require)}"] if message.require else []
     lines += [f"Supported: {', '.join(message.supported)}"] if message.supported else []

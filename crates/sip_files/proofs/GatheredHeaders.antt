@@ -1,5 +1,5 @@
 -- Header lines, gathered one after another.
-use Rattle.std.proofs.Common.{◌≡◌, ℕ, false, eqb, length, Option, Some, Result, Ok, Err, IfOk, List, [], ◌∷◌, ◌++◌, sym, ap, ◌∙◌, append_assoc, append-nil}
+use Rattle.std.proofs.Common.{◌≡◌, ℕ, true, false, cond, eqb, length, Option, Some, None, Result, Ok, Err, IfOk, List, [], ◌∷◌, ◌++◌, sym, ap, ◌∙◌, append_assoc, append-nil}
 use Rattle.std.specs.Prelude.{fold}
 use Rattle.std.specs.List.{flat_map}
 use Rattle.sip_message.specs.declared.header.Header.{Header}
@@ -13,6 +13,7 @@ use Rattle.sip_files.specs.declared.given_header.GivenHeader.{GivenHeader}
 use Rattle.sip_files.specs.declared.given_header.GivenHeader.TheVariants as given
 use Rattle.sip_files.specs.declared.given_headers.GivenHeaders.{GivenHeaders}
 use Rattle.sip_files.specs.Given.{contacts_in, routes_in, supported_in, require_in, others_in, gathered, with_one, command_with, with_given, with_headers}
+use Rattle.sip_files.specs.Unregister.{contacts_fit}
 
 abbrev with_all : GivenHeaders → List GivenHeader → GivenHeaders
 with_all all headers = record {
@@ -66,12 +67,24 @@ headed_command [] item c made some is e = absurd cc
 headed_command (header ∷ headers) item c made some is e =
     ap (with_headers (header ∷ headers)) is ∙ ap (option_map (λ d. line.Event (Command d))) e
 
--- the same for any result
+-- the same for any result, if the Contacts may stand there
 pub given_by : {E : Type 0} (result : Result (Option UserCommand) E) (headers : List GivenHeader)
     (all : GivenHeaders) (c : UserCommand) → eqb (length headers) 0 ≡ false
-    → all ≡ gathered headers → IfOk result (λ made. made ≡ command_with all c)
+    → all ≡ gathered headers → contacts_fit all c ≡ true
+    → IfOk result (λ made. made ≡ command_with all c)
     → IfOk result (λ made. made ≡ with_given headers c)
-given_by (Err fault) headers all c some is made = tt
-given_by (Ok made) [] all c some is e = absurd cc
-given_by (Ok made) (header ∷ headers) all c some is e =
+given_by (Err fault) headers all c some is fit made = tt
+given_by (Ok made) [] all c some is fit e = absurd cc
+given_by (Ok made) (header ∷ headers) all c some is fit e =
     e ∙ ap (λ (g : GivenHeaders). command_with g c) is
+    ∙ sym (ap (λ r. cond r (command_with (gathered (header ∷ headers)) c) None)
+    (sym (ap (λ (g : GivenHeaders). contacts_fit g c) is) ∙ fit))
+
+-- and if they may not
+pub not_given : (headers : List GivenHeader) (all : GivenHeaders) (c : UserCommand)
+    → eqb (length headers) 0 ≡ false → all ≡ gathered headers → contacts_fit all c ≡ false
+    → ◌≡◌ {A = Option UserCommand} None (with_given headers c)
+not_given [] all c some is unfit = absurd cc
+not_given (header ∷ headers) all c some is unfit =
+    sym (ap (λ r. cond r (command_with (gathered (header ∷ headers)) c) None)
+    (sym (ap (λ (g : GivenHeaders). contacts_fit g c) is) ∙ unfit))

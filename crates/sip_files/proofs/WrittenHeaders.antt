@@ -19,15 +19,18 @@ use Rattle.sip_grammar.specs.declared.header_name.HeaderName.{HeaderName}
 use Rattle.sip_message.specs.Content.{Content}
 use Rattle.sip_message.specs.declared.header.Header.{Header}
 use Rattle.sip_message.specs.declared.name_addr.NameAddr.{NameAddr}
+use Rattle.sip_message.specs.Wildcard.{is_wildcard}
+use Rattle.sip_message.specs.Written.{address_text, contact_text}
 use Rattle.sip_header_values.specs.Sequence.{tokens_from}
 use Rattle.sip_grammar.proofs.Passing.{cut_here, token_passes}
+use Rattle.sip_grammar.proofs.Pieces.{by_bool}
 use Rattle.sip_header_values.proofs.Rows.{name_addrs_reads, tokens_reads}
 use Rattle.sip_grammar.proofs.WrittenBytes.{solid_end, token_solid, header_value_kept, header_value_plain}
 use Rattle.sip_headers.specs.Draft.{long_name}
 use Rattle.sip_headers.specs.HeaderLine.{IsHeaderLine, line_from}
 use Rattle.sip_headers.proofs.NamedLines.{line_reads}
 use Rattle.sip_grammar.proofs.TextEnds.{Good, Again, moved}
-use Rattle.sip_headers.proofs.WrittenAddresses.{name_addr_again}
+use Rattle.sip_headers.proofs.WrittenAddresses.{contact_again, name_addr_again}
 use Rattle.sip_headers.proofs.WrittenTokens.{tokens_again}
 use Rattle.sip_files.specs.declared.event_line.EventLine.TheVariants as line
 use Rattle.sip_files.specs.declared.version.Version.TheVariants.{SessionOne}
@@ -36,7 +39,7 @@ use Rattle.sip_files.specs.declared.given_header.GivenHeader.TheVariants as give
 use Rattle.sip_files.specs.Word.{are_bytes}
 use Rattle.sip_files.specs.Events.{SpellsLine}
 use Rattle.sip_files.specs.Given.{contacts_in, routes_in, supported_in, require_in, others_in, gathered}
-use Rattle.sip_files.specs.Written.{header_text, address_value, given_text, line_text, header_line, address_line, other_line, content_lines, IsAddressValue, IsOptionTag, IsKeptHeader, AreHeaders}
+use Rattle.sip_files.specs.Written.{header_text, address_value, given_text, line_text, header_line, contact_line, address_line, other_line, content_lines, by_header, IsAddressValue, IsOptionTag, IsKeptHeader, AreHeaders}
 use Rattle.sip_files.proofs.WrittenLaws.{Spelled, text_of}
 
 -- ---- one header line
@@ -82,18 +85,27 @@ text_bytes name value p q =
 abbrev SpelledHeader : GivenHeader → Type 0
 SpelledHeader header = SpellsLine SessionOne (line_text (line.Header header)) (line.Header header)
 
+-- `*` is one byte
+contact_bytes : (a : NameAddr) → are_bytes (address_value a) ≡ true
+    → are_bytes (contact_text a) ≡ true
+unfolding contact_text
+contact_bytes a is =
+    by_bool (is_wildcard a)
+    (λ r. are_bytes (cond r (codes "*") (address_text a.display a.uri a.parameters)) ≡ true)
+    (λ t. refl) (λ f. is)
+
 contact_spelled : (a : NameAddr) → IsAddressValue a → SpelledHeader (given.Contact (a ∷ []))
 unfolding is_named is_token is_token_byte
 contact_spelled a fits =
-    let again = name_addr_again a fits.0 in
+    let again = contact_again a fits.0 in
     record {
       header_line = given_text (given.Contact (a ∷ []));
-      bytes = text_bytes (codes "Contact") (address_value a) refl fits.1;
+      bytes = text_bytes (codes "Contact") (contact_text a) refl (contact_bytes a fits.1);
       given = record {
-        parts = (codes "Contact", address_value a);
-        is_line = text_is_line (codes "Contact") (address_value a) refl again.good;
+        parts = (codes "Contact", contact_text a);
+        is_line = text_is_line (codes "Contact") (contact_text a) refl again.good;
         named = refl;
-        form = name_addrs_reads.takes (address_value a) (a ∷ []) again.read;
+        form = name_addrs_reads.takes (contact_text a) (a ∷ []) again.read;
       };
       spelled = refl;
     }
@@ -232,7 +244,8 @@ spelled_both : (xs ys : List GivenHeader) → Spelled SessionOne (map line.Heade
 spelled_both [] ys none more = more
 spelled_both (x ∷ xs) ys some more = (some.0, spelled_both xs ys some.1 more)
 
-pub headers_spelled : (routes : List NameAddr) (content : Content) → AreHeaders routes content
+pub headers_spelled : (routes : List NameAddr) (content : Content)
+    → AreHeaders (by_header routes content)
     → Spelled SessionOne (map line.Header (headers_with routes content))
 headers_spelled routes content fits =
     let a = map contact_of content.contacts in
@@ -282,8 +295,7 @@ headers_written routes content =
     ∙ ap (λ (t : List ℕ). t ++ headers_text e) (text_both ((a ++ b) ++ c) d
     ∙ ap (λ (t : List ℕ). t ++ headers_text d) (text_both (a ++ b) c
     ∙ ap (λ (t : List ℕ). t ++ headers_text c) (text_both a b)))
-    ∙ (λ i. (((each_text contact_of (address_line (codes "Contact")) (λ x. refl)
-    content.contacts i
+    ∙ (λ i. (((each_text contact_of contact_line (λ x. refl) content.contacts i
     ++ each_text route_of (address_line (codes "Route")) (λ x. refl) routes i)
     ++ each_text require_of (header_line (codes "Require")) (λ x. refl) content.require i)
     ++ each_text supported_of (header_line (codes "Supported")) (λ x. refl) content.supported i)
@@ -376,13 +388,7 @@ module _ (routes : List NameAddr) (content : Content) where
       (own others_in given.Other (λ x. refl) content.others)
 
   -- what the lines say together is what they were written for
-  pub gathered_again : gathered (headers_with routes content) ≡ record {
-    contacts = content.contacts;
-    routes = routes;
-    supported = content.supported;
-    require = content.require;
-    others = content.others;
-  }
+  pub gathered_again : gathered (headers_with routes content) ≡ by_header routes content
   gathered_again = λ i. record {
     contacts = contacts_are i;
     routes = routes_are i;

@@ -1,5 +1,5 @@
 -- What is written for a session is that session.
-use Rattle.std.proofs.Common.{◌≡◌, ℕ, List, [], ◌∷◌, ◌++◌, map, Some, refl, sym, ap, subst, ◌∙◌, append_assoc, append-nil}
+use Rattle.std.proofs.Common.{◌≡◌, ℕ, true, cond, List, [], ◌∷◌, ◌++◌, map, Some, None, refl, sym, ap, subst, ◌∙◌, append_assoc, append-nil}
 use Rattle.std.specs.List.{flat_map, AllByRecursion, AllZip}
 use Rattle.std.specs.Option.{option_map}
 use Rattle.std.proofs.lemmas.List.Concat.{flat_map-append}
@@ -18,20 +18,21 @@ use Rattle.sip_files.specs.declared.given_header.GivenHeader.{GivenHeader}
 use Rattle.sip_files.specs.declared.given_headers.GivenHeaders.{GivenHeaders}
 use Rattle.sip_files.specs.EventFile.{HeadedLine, SaysHeaded, SpellsSession, head_lines, headed_lines, round_lines, version_line}
 use Rattle.sip_files.specs.Given.{gathered, command_with, with_headers}
-use Rattle.sip_files.specs.Written.{HaveHeaders, IsConfig, IsEventOf, IsSessionCommand, IsSessionRound, bare, command_headers, ended_text, event_lines, line_text, round_in, session_round_text, session_text}
+use Rattle.sip_files.specs.Unregister.{contacts_fit}
+use Rattle.sip_files.specs.Written.{AreHeaders, IsConfig, IsEventOf, IsSessionCommand, IsSessionRound, bare, command_headers, ended_text, event_lines, headers_of, line_text, round_in, session_round_text, session_text}
 use Rattle.sip_files.proofs.WrittenHeaders.{headers_with, headers_spelled, headers_written, gathered_again}
 use Rattle.sip_files.proofs.WrittenLaws.{Spelled, each_zip, text_of, text_of-append, failed_spelled, whole_head, head_is, head_spelled, unheaded, unheaded_made, unheaded_lines}
 
 -- ---- a command and its headers
 
-abbrev headers_of : UserCommand → List GivenHeader
-headers_of (command.Invite c) = headers_with c.routes c.content
-headers_of (command.Plain c) = headers_with c.routes c.content
-headers_of (command.Request c) = headers_with [] c.content
-headers_of (command.Respond c) = headers_with [] c.content
-headers_of (command.Ack c) = headers_with [] c.content
-headers_of (command.Prack c) = headers_with [] c.content
-headers_of (command.Cancel c) = []
+abbrev given_of : UserCommand → List GivenHeader
+given_of (command.Invite c) = headers_with c.routes c.content
+given_of (command.Plain c) = headers_with c.routes c.content
+given_of (command.Request c) = headers_with [] c.content
+given_of (command.Respond c) = headers_with [] c.content
+given_of (command.Ack c) = headers_with [] c.content
+given_of (command.Prack c) = headers_with [] c.content
+given_of (command.Cancel c) = []
 
 -- without headers, a command stays as its line says it
 bare_with_none : (c : UserCommand) (other : UserCommand)
@@ -45,41 +46,48 @@ bare_with_none (command.Prack c) other e = same_some (bare (command.Prack c)) ot
 bare_with_none (command.Cancel c) other e = absurd cc
 
 headed_by : (headers : List GivenHeader) (c : UserCommand)
+    → contacts_fit (gathered headers) (bare c) ≡ true
     → command_with (gathered headers) (bare c) ≡ Some c
     → with_headers headers (line.Event (Command (bare c))) ≡ Some (line.Event (Command c))
-headed_by [] c e =
+headed_by [] c fit e =
     ap (λ (d : UserCommand). Some (line.Event (Command d))) (bare_with_none c c e)
-headed_by (header ∷ headers) c e = ap (option_map (λ d. line.Event (Command d))) e
+headed_by (header ∷ headers) c fit e =
+    ap (option_map (λ d. line.Event (Command d)))
+    (ap (λ r. cond r (command_with (gathered (header ∷ headers)) (bare c)) None) fit ∙ e)
 
 -- the headers that are written for a command give it its content again
 given_again : (headers : List GivenHeader) (all : GivenHeaders) (c : UserCommand)
-    → gathered headers ≡ all → command_with all (bare c) ≡ Some c
+    → gathered headers ≡ all → contacts_fit all (bare c) ≡ true
+    → command_with all (bare c) ≡ Some c
     → with_headers headers (line.Event (Command (bare c))) ≡ Some (line.Event (Command c))
-given_again headers all c is e =
-    headed_by headers c (ap (λ (g : GivenHeaders). command_with g (bare c)) is ∙ e)
+given_again headers all c is fit e =
+    headed_by headers c (ap (λ (g : GivenHeaders). contacts_fit g (bare c)) is ∙ fit)
+    (ap (λ (g : GivenHeaders). command_with g (bare c)) is ∙ e)
 
-command_made : (c : UserCommand)
-    → with_headers (headers_of c) (line.Event (Command (bare c))) ≡ Some (line.Event (Command c))
-command_made (command.Invite c) =
+command_made : (c : UserCommand) → contacts_fit (headers_of c) c ≡ true
+    → with_headers (given_of c) (line.Event (Command (bare c))) ≡ Some (line.Event (Command c))
+command_made (command.Invite c) fit =
     given_again (headers_with c.routes c.content) _ (command.Invite c)
-    (gathered_again c.routes c.content) refl
-command_made (command.Plain c) =
+    (gathered_again c.routes c.content) fit refl
+command_made (command.Plain c) fit =
     given_again (headers_with c.routes c.content) _ (command.Plain c)
-    (gathered_again c.routes c.content) refl
-command_made (command.Request c) =
+    (gathered_again c.routes c.content) fit refl
+command_made (command.Request c) fit =
     given_again (headers_with [] c.content) _ (command.Request c) (gathered_again [] c.content)
-    refl
-command_made (command.Respond c) =
+    fit refl
+command_made (command.Respond c) fit =
     given_again (headers_with [] c.content) _ (command.Respond c) (gathered_again [] c.content)
+    fit refl
+command_made (command.Ack c) fit =
+    given_again (headers_with [] c.content) _ (command.Ack c) (gathered_again [] c.content) fit
     refl
-command_made (command.Ack c) =
-    given_again (headers_with [] c.content) _ (command.Ack c) (gathered_again [] c.content) refl
-command_made (command.Prack c) =
-    given_again (headers_with [] c.content) _ (command.Prack c) (gathered_again [] c.content) refl
-command_made (command.Cancel c) = refl
+command_made (command.Prack c) fit =
+    given_again (headers_with [] c.content) _ (command.Prack c) (gathered_again [] c.content) fit
+    refl
+command_made (command.Cancel c) fit = refl
 
-command_headers_spelled : (c : UserCommand) → HaveHeaders c
-    → Spelled SessionOne (map line.Header (headers_of c))
+command_headers_spelled : (c : UserCommand) → AreHeaders (headers_of c)
+    → Spelled SessionOne (map line.Header (given_of c))
 command_headers_spelled (command.Invite c) fits = headers_spelled c.routes c.content fits
 command_headers_spelled (command.Plain c) fits = headers_spelled c.routes c.content fits
 command_headers_spelled (command.Request c) fits = headers_spelled [] c.content fits
@@ -89,7 +97,7 @@ command_headers_spelled (command.Prack c) fits = headers_spelled [] c.content fi
 command_headers_spelled (command.Cancel c) fits = tt
 
 command_headers_written : (c : UserCommand)
-    → text_of (map line.Header (headers_of c)) ≡ command_headers c
+    → text_of (map line.Header (given_of c)) ≡ command_headers c
 command_headers_written (command.Invite c) = headers_written c.routes c.content
 command_headers_written (command.Plain c) = headers_written c.routes c.content
 command_headers_written (command.Request c) = headers_written [] c.content
@@ -115,20 +123,21 @@ abbrev event_headed : Event → HeadedLine
 event_headed (Datagram from bytes) =
     record { headers = []; item = line.Event (Datagram from bytes) }
 event_headed (Failed key) = record { headers = []; item = line.Event (Failed key) }
-event_headed (Command c) = record { headers = headers_of c; item = line.Event (Command (bare c)) }
+event_headed (Command c) = record { headers = given_of c; item = line.Event (Command (bare c)) }
 
-event_made : (event : Event) → SaysHeaded (event_headed event) (line.Event event)
-event_made (Datagram from bytes) = refl
-event_made (Failed key) = refl
-event_made (Command c) = command_made c
+event_made : (event : Event) → IsEventOf IsSessionCommand event
+    → SaysHeaded (event_headed event) (line.Event event)
+event_made (Datagram from bytes) fits = refl
+event_made (Failed key) fits = refl
+event_made (Command c) fits = command_made c (fits.1).1
 
 event_spelled : (event : Event) → IsEventOf IsSessionCommand event
     → Spelled SessionOne (headed_lines (event_headed event))
 event_spelled (Datagram from bytes) fits = ((fits, refl), tt)
 event_spelled (Failed key) fits = (failed_spelled SessionOne key fits, tt)
 event_spelled (Command c) fits =
-    each_zip SessionOne (map line.Header (headers_of c)) (line.Event (Command (bare c)) ∷ [])
-    (command_headers_spelled c fits.1) ((fits.0, refl), tt)
+    each_zip SessionOne (map line.Header (given_of c)) (line.Event (Command (bare c)) ∷ [])
+    (command_headers_spelled c (fits.1).0) ((fits.0, refl), tt)
 
 event_written : (event : Event)
     → text_of (headed_lines (event_headed event)) ≡ event_lines file_kind.Session event
@@ -136,7 +145,7 @@ unfolding ended_text
 event_written (Datagram from bytes) = append-nil _
 event_written (Failed key) = append-nil _
 event_written (Command c) =
-    text_of-append (map line.Header (headers_of c)) (line.Event (Command (bare c)) ∷ [])
+    text_of-append (map line.Header (given_of c)) (line.Event (Command (bare c)) ∷ [])
     ∙ (λ i. command_headers_written c i
     ++ append-nil (line_text (line.Event (Command (bare c))) ++ 10 ∷ []) i)
     ∙ ap (λ (t : List ℕ). command_headers c ++ (t ++ 10 ∷ [])) (bare_text c)
@@ -158,17 +167,18 @@ zip_both [] (y ∷ ys) zs ws none more = elim none [ ]
 zip_both (x ∷ xs) [] zs ws none more = elim none [ ]
 zip_both (x ∷ xs) (y ∷ ys) zs ws some more = (some.0, zip_both xs ys zs ws some.1 more)
 
-events_made : (events : List Event)
+events_made : (events : List Event) → AllByRecursion (IsEventOf IsSessionCommand) events
     → AllZip SaysHeaded (map event_headed events) (map line.Event events)
-events_made [] = tt
-events_made (event ∷ events) = (event_made event, events_made events)
+events_made [] fits = tt
+events_made (event ∷ events) fits = (event_made event fits.0, events_made events fits.1)
 
-rounds_made : (rounds : List Round)
+rounds_made : (rounds : List Round) → AllByRecursion IsSessionRound rounds
     → AllZip SaysHeaded (rounds_headed rounds) (flat_map round_lines rounds)
-rounds_made [] = tt
-rounds_made (round ∷ rounds) =
+rounds_made [] fits = tt
+rounds_made (round ∷ rounds) fits =
     zip_both (round_headed round) (round_lines round) (rounds_headed rounds)
-    (flat_map round_lines rounds) (refl, events_made round.events) (rounds_made rounds)
+    (flat_map round_lines rounds) (refl, events_made round.events (fits.0).events)
+    (rounds_made rounds fits.1)
 
 abbrev all_lines : List HeadedLine → List EventLine
 all_lines headed = flat_map headed_lines headed
@@ -244,7 +254,7 @@ session_is_spelled config rounds fits each =
         lines = map line_text said;
         configured = refl;
         made = zip_both front first (rounds_headed rounds) (flat_map round_lines rounds)
-            (unheaded_made first) (rounds_made rounds);
+            (unheaded_made first) (rounds_made rounds each);
         says = spelled_after front (rounds_headed rounds)
             (subst (λ (ls : List EventLine). Spelled SessionOne ls) (sym (unheaded_lines first))
             (head_spelled SessionOne config fits)) (rounds_spelled rounds each);

@@ -1,6 +1,6 @@
 -- The header lines of a session file, and the content that they give to the command after them (RFC
 -- 3261, section 7.3.1).
-use Rattle.std.specs.Prelude.{◌≡◌, ℕ, List, [], ◌∷◌, ◌++◌, Option, Some, None}
+use Rattle.std.specs.Prelude.{◌≡◌, ℕ, List, [], ◌∷◌, ◌++◌, Option, Some, None, if◌then◌else◌}
 use Rattle.std.specs.List.{flat_map}
 use Rattle.std.specs.Option.{option_map}
 use Rattle.sip_grammar.specs.HeaderEntry.{header_named}
@@ -27,6 +27,7 @@ use Rattle.sip_files.specs.declared.given_header.GivenHeader.TheVariants as give
 use Rattle.sip_files.specs.declared.given_headers.GivenHeaders.{GivenHeaders}
 use Rattle.sip_files.specs.declared.event_line.EventLine.{EventLine}
 use Rattle.sip_files.specs.declared.event_line.EventLine.TheVariants as line
+use Rattle.sip_files.specs.Unregister.{contacts_fit}
 
 -- ---- one line
 
@@ -170,7 +171,9 @@ command_with headers (command.Cancel c) = None
 -- the command with the headers that were given before it
 abbrev pub with_given : List GivenHeader → UserCommand → Option UserCommand
 with_given [] c = Some c
-with_given (header ∷ headers) c = command_with (gathered (header ∷ headers)) c
+with_given (header ∷ headers) c =
+    if contacts_fit (gathered (header ∷ headers)) c
+    then command_with (gathered (header ∷ headers)) c else None
 
 -- what a line says with the header lines before it; these may stand only before a command
 abbrev pub with_headers : List GivenHeader → EventLine → Option EventLine

@@ -7,5 +7,6 @@ pub mod Given
 pub mod Outputs
 pub mod Replay
 pub mod Steps
+pub mod Unregister
 pub mod Word
 pub mod Written

@@ -11,7 +11,7 @@ use Rattle.sip_message.specs.declared.name_addr.NameAddr.{NameAddr}
 use Rattle.sip_message.specs.Addr.{IsAddr}
 use Rattle.sip_message.specs.Content.{Content, content_of_body}
 use Rattle.sip_message.specs.Rules.{IsNameAddr, IsOtherHeader}
-use Rattle.sip_message.specs.Written.{address_text}
+use Rattle.sip_message.specs.Written.{address_text, contact_text}
 use Rattle.sip_round.specs.declared.config.Config.{Config}
 use Rattle.sip_round.specs.declared.round.Event.{Event}
 use Rattle.sip_round.specs.declared.round.Event.TheVariants.{Datagram, Failed, Command}
@@ -24,11 +24,14 @@ use Rattle.sip_files.specs.declared.version.FileKind.{FileKind}
 use Rattle.sip_files.specs.declared.version.FileKind.TheVariants as file_kind
 use Rattle.sip_files.specs.declared.given_header.GivenHeader.{GivenHeader}
 use Rattle.sip_files.specs.declared.given_header.GivenHeader.TheVariants as given
+use Rattle.sip_files.specs.declared.given_headers.GivenHeaders.{GivenHeaders}
 use Rattle.sip_files.specs.declared.event_line.EventLine.{EventLine}
 use Rattle.sip_files.specs.declared.event_line.EventLine.TheVariants as line
 use Rattle.sip_files.specs.Word.{hex_pair, are_bytes}
 use Rattle.sip_files.specs.Field.{plain_field, number_field, address_field, word_field, rest_field}
 use Rattle.sip_files.specs.EventFile.{version_line}
+use Rattle.sip_files.specs.Given.{gathered}
+use Rattle.sip_files.specs.Unregister.{contacts_fit}
 use Rattle.sip_files.specs.Events.{IsSeed, IsMethod, IsCommandLine, SpellsLine, command_text}
 
 -- ---- the lines
@@ -61,7 +64,7 @@ list_text (value ∷ next ∷ values) = value ++ codes ", " ++ list_text (next �
 
 abbrev pub given_text : GivenHeader → List ℕ
 given_text (given.Contact addresses) =
-    header_text (codes "Contact") (list_text (map address_value addresses))
+    header_text (codes "Contact") (list_text (map contact_text addresses))
 given_text (given.Route addresses) =
     header_text (codes "Route") (list_text (map address_value addresses))
 given_text (given.Supported tokens) = header_text (codes "Supported") (list_text tokens)
@@ -86,6 +89,9 @@ ended_text item = line_text item ++ codes "\n"
 unfoldable pub header_line : List ℕ → List ℕ → List ℕ
 header_line name value = rest_field (header_text name value) ++ codes "\n"
 
+abbrev pub contact_line : NameAddr → List ℕ
+contact_line contact = header_line (codes "Contact") (contact_text contact)
+
 abbrev pub address_line : List ℕ → NameAddr → List ℕ
 address_line name address = header_line name (address_value address)
 
@@ -95,7 +101,7 @@ other_line header = header_line header.name header.value
 -- routes and a content: one line for each value, in the order in which a message has them
 unfoldable pub content_lines : List NameAddr → Content → List ℕ
 content_lines routes content =
-    flat_map (address_line (codes "Contact")) content.contacts
+    flat_map contact_line content.contacts
     ++ flat_map (address_line (codes "Route")) routes
     ++ flat_map (header_line (codes "Require")) content.require
     ++ flat_map (header_line (codes "Supported")) content.supported
@@ -202,22 +208,36 @@ abbrev pub IsKeptHeader : Header → Type 0
 IsKeptHeader header =
     IsOtherHeader header × IsTrue (are_bytes header.name) × IsTrue (are_bytes header.value)
 
-pub record AreHeaders (route : List NameAddr) (content : Content) : Type 0 where
-  pub contacts : AllByRecursion IsAddressValue content.contacts
-  pub routes : AllByRecursion IsAddressValue route
-  pub require : AllByRecursion IsOptionTag content.require
-  pub supported : AllByRecursion IsOptionTag content.supported
-  pub others : AllByRecursion IsKeptHeader content.others
+pub record AreHeaders (headers : GivenHeaders) : Type 0 where
+  pub contacts : AllByRecursion IsAddressValue headers.contacts
+  pub routes : AllByRecursion IsAddressValue headers.routes
+  pub require : AllByRecursion IsOptionTag headers.require
+  pub supported : AllByRecursion IsOptionTag headers.supported
+  pub others : AllByRecursion IsKeptHeader headers.others
 
--- the headers of a command can be written
+-- routes and the headers of a content
+abbrev pub by_header : List NameAddr → Content → GivenHeaders
+by_header routes content = record {
+  contacts = content.contacts;
+  routes = routes;
+  supported = content.supported;
+  require = content.require;
+  others = content.others;
+}
+
+-- the headers of a command
+abbrev pub headers_of : UserCommand → GivenHeaders
+headers_of (command.Invite c) = by_header c.routes c.content
+headers_of (command.Plain c) = by_header c.routes c.content
+headers_of (command.Request c) = by_header [] c.content
+headers_of (command.Respond c) = by_header [] c.content
+headers_of (command.Ack c) = by_header [] c.content
+headers_of (command.Prack c) = by_header [] c.content
+headers_of (command.Cancel c) = gathered []
+
+-- the headers of a command can be written, and may stand before it
 abbrev pub HaveHeaders : UserCommand → Type 0
-HaveHeaders (command.Invite c) = AreHeaders c.routes c.content
-HaveHeaders (command.Plain c) = AreHeaders c.routes c.content
-HaveHeaders (command.Request c) = AreHeaders [] c.content
-HaveHeaders (command.Respond c) = AreHeaders [] c.content
-HaveHeaders (command.Ack c) = AreHeaders [] c.content
-HaveHeaders (command.Prack c) = AreHeaders [] c.content
-HaveHeaders (command.Cancel c) = Unit {0}
+HaveHeaders c = AreHeaders (headers_of c) × IsTrue (contacts_fit (headers_of c) c)
 
 -- the command without its headers
 abbrev pub bare : UserCommand → UserCommand

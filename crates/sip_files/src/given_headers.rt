@@ -5,6 +5,7 @@ ghost use Rattle.sip_files.specs.Given as given;
 
 use crate::event_line::EventLine;
 use crate::given_header::GivenHeader;
+use crate::unregister::contacts_fit;
 use sip_message::{Content, ContentHeaders, Header, NameAddr, Token};
 use sip_round::Event;
 use sip_text::Series;
@@ -94,7 +95,8 @@ pub(crate) fn with_headers(
 }
 
 /// A command whose content has only a body, with the headers that stood before its line, in order,
-/// if it takes them: `cancel` takes none, and only `invite` and `plain` take a route.
+/// if it takes them: `cancel` takes none, only `invite` and `plain` take a route, and only a
+/// REGISTER that expires at once takes the Contact `*`.
 ///
 /// # Errors
 ///
@@ -109,7 +111,11 @@ pub fn with_given(
     if headers.is_empty() {
         return Ok(Some(command));
     }
-    command_with(alloc, gathered(alloc, headers)?, command)
+    let headers = gathered(alloc, headers)?;
+    if !contacts_fit(&headers, &command) {
+        return Ok(None);
+    }
+    command_with(alloc, headers, command)
 }
 
 fn gathered(alloc: Global, headers: Series<GivenHeader>) -> Result<GivenHeaders, AllocError>

@@ -61,11 +61,32 @@ fn push_content(
     ensures { OnOk result (file.new.items ≡ file.old.items
         ++ written.content_lines routes.now content.now) }
 {
-    push_addresses(file, b"Contact", content.contacts())?;
+    push_contacts(file, content.contacts())?;
     push_addresses(file, b"Route", routes)?;
     push_tokens(file, b"Require", content.require())?;
     push_tokens(file, b"Supported", content.supported())?;
     push_others(file, content.others())
+}
+
+fn push_contacts(file: &mut Vec<u8>, contacts: &[NameAddr]) -> Result<(), AllocError>
+    ensures { OnOk result (file.new.items ≡ file.old.items
+        ++ flat_map written.contact_line contacts.now) }
+{
+    for contact in contacts {
+        push_contact(file, contact)?;
+    }
+    Ok(())
+}
+
+#[tactic(auto, unfolding(sip_message::specs::Written::contact_text))]
+fn push_contact(file: &mut Vec<u8>, contact: &NameAddr) -> Result<(), AllocError>
+    ensures { OnOk result (file.new.items ≡ file.old.items ++ written.contact_line contact.now) }
+{
+    if contact.is_wildcard() {
+        push_line(file, b"Contact", b"*")
+    } else {
+        push_address(file, b"Contact", contact)
+    }
 }
 
 fn push_addresses(file: &mut Vec<u8>, name: &[u8], addresses: &[NameAddr]) -> Result<(), AllocError>

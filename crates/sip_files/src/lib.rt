@@ -22,6 +22,7 @@ pub mod laws;
 mod numbers;
 mod outputs_file;
 mod progress;
+mod unregister;
 mod version;
 mod words;
 

@@ -1,9 +1,12 @@
--- What is written for an address, alone or in a list, is read as that address.
-use Rattle.std.proofs.Common.{◌≡◌, ℕ, Bool, true, false, cond, not, ◌&&◌, ◌||◌, List, [], ◌∷◌, ◌++◌, Option, Some, None, refl, ap, ◌∙◌, append_assoc}
-use Rattle.std.specs.Prelude.{option_and_then}
+-- What is written for an address, alone or in a list, is read as that address, and so is what is
+-- written for a Contact.
+use Rattle.std.proofs.Common.{◌≡◌, ℕ, Bool, true, false, cond, not, ◌&&◌, ◌||◌, List, [], ◌∷◌, ◌++◌, Option, Some, None, length, codes, eqb-true, refl, sym, ap, subst, ◌∙◌, append_assoc}
+use Rattle.std.specs.Prelude.{nat_eq, option_and_then}
 use Rattle.std.specs.List.{AllByRecursion, list_all}
 use Rattle.std.specs.Option.{option_map}
 use Rattle.std.proofs.lemmas.Bool.{and_parts}
+use Rattle.std.proofs.lemmas.List.{nil_from_length}
+use Rattle.std.proofs.lemmas.Slice.Eq.{bytes_eq-Decides}
 use Rattle.sip_text.specs.Character.{is_blank, is_line_byte}
 use Rattle.sip_text.specs.Forms.{each, by_cut, both, told, split}
 use Rattle.sip_text.specs.Quoted.{is_quoted}
@@ -22,7 +25,8 @@ use Rattle.sip_grammar.specs.Uri.{is_uri_byte, is_uri}
 use Rattle.sip_grammar.specs.declared.parameter.Parameter.{Parameter}
 use Rattle.sip_message.specs.declared.name_addr.NameAddr.{NameAddr}
 use Rattle.sip_message.specs.declared.party.Party.{Party}
-use Rattle.sip_message.specs.Written.{parameters_text, display_part, address_text}
+use Rattle.sip_message.specs.Wildcard.{has_wildcard_uri, is_wildcard}
+use Rattle.sip_message.specs.Written.{parameters_text, display_part, address_text, contact_text}
 use Rattle.sip_header_values.specs.Address as address
 use Rattle.sip_grammar.specs.ParameterValues.{all_parameters}
 use Rattle.sip_message.specs.Rules.{IsParameter, IsParty, IsNameAddr}
@@ -232,3 +236,36 @@ name_addr_again a is =
           is.parameters));
       good = address_good is_display_text a.display a.uri a.parameters shown is.uri is.parameters;
     })
+
+-- ---- Contacts
+
+abbrev wildcard : NameAddr
+wildcard = record { display = []; uri = codes "*"; parameters = [] }
+
+none : {X : Type 0} (xs : List X) → nat_eq (length xs) 0 ≡ true → xs ≡ []
+none xs e = nil_from_length xs (eqb-true (length xs) 0 e)
+
+the_wildcard : (a : NameAddr) → is_wildcard a ≡ true → wildcard ≡ a
+the_wildcard a is =
+    let parts = and_parts (has_wildcard_uri a && nat_eq (length a.display) 0)
+    (nat_eq (length a.parameters) 0) is in
+    let front = and_parts (has_wildcard_uri a) (nat_eq (length a.display) 0) parts.0 in
+    λ i. record {
+      display = sym (none a.display front.1) i;
+      uri = sym ((bytes_eq-Decides a.uri (codes "*")).0 front.0) i;
+      parameters = sym (none a.parameters parts.1) i;
+    }
+
+wildcard_again : Again address.name_addrs_from (wildcard ∷ []) (codes "*")
+unfolding is_uri is_uri_byte
+wildcard_again = record { read = refl; good = record { kept = refl; plain = refl } }
+
+pub contact_again : (a : NameAddr) → IsNameAddr a
+    → Again address.name_addrs_from (a ∷ []) (contact_text a)
+unfolding contact_text
+contact_again a is =
+    by_bool (is_wildcard a) (λ r. Again address.name_addrs_from (a ∷ [])
+    (cond r (codes "*") (address_text a.display a.uri a.parameters)))
+    (λ t. subst (λ (x : NameAddr). Again address.name_addrs_from (x ∷ []) (codes "*"))
+    (the_wildcard a t) wildcard_again)
+    (λ f. name_addr_again a is)

@@ -19,6 +19,7 @@ pub enum Field {
     /// With a line end (RFC 3261, section 7.2).
     Reason,
     /// A header that the user may not give, or whose value doesn't have its form; a `Route` if the
-    /// command takes none; any header for a CANCEL.
+    /// command takes none; the Contact `*`, except alone in a REGISTER whose one Expires is 0; any
+    /// header for a CANCEL.
     Headers,
 }

@@ -3,3 +3,4 @@ pub mod Tags
 pub mod Stamps
 pub mod Sums
 pub mod Ips
+pub mod Wildcards

@@ -3,6 +3,7 @@ pub mod Ip
 pub mod Addr
 pub mod Via
 pub mod Party
+pub mod Wildcard
 pub mod Message
 pub mod Content
 pub mod Rules

@@ -1,5 +1,5 @@
 -- The one text that is written for a message (RFC 3261, sections 7 and 20).
-use Rattle.std.specs.Prelude.{ℕ, List, [], ◌∷◌, ◌++◌, Option, Some, None, codes, decimal, length}
+use Rattle.std.specs.Prelude.{ℕ, List, [], ◌∷◌, ◌++◌, Option, Some, None, codes, decimal, length, if◌then◌else◌}
 use Rattle.std.specs.List.{flat_map}
 use Rattle.sip_grammar.specs.declared.parameter.Parameter.{Parameter}
 pub use Rattle.sip_grammar.specs.WrittenParameters.{value_text, parameter_text, parameters_text}
@@ -12,6 +12,7 @@ use Rattle.sip_message.specs.declared.header.Header.{Header}
 use Rattle.sip_message.specs.declared.start_line.StartLine.{StartLine}
 use Rattle.sip_message.specs.declared.start_line.StartLine.TheVariants.{Request, Response}
 use Rattle.sip_message.specs.declared.message.Message.{Message}
+use Rattle.sip_message.specs.Wildcard.{is_wildcard}
 
 -- `Name: value` and a line end
 unfoldable pub header_line : List ℕ → List ℕ → List ℕ
@@ -45,7 +46,17 @@ via_line via = header_line (codes "Via") (via_text via)
 abbrev pub party_line : List ℕ → Party → List ℕ
 party_line name party = header_line name (address_text party.display party.uri party.parameters)
 
--- the line of a Contact or of a route
+-- the value of a Contact: `*` alone without brackets (RFC 3261, section 20.10), or an address
+unfoldable pub contact_text : NameAddr → List ℕ
+contact_text contact =
+    if is_wildcard contact then codes "*"
+    else address_text contact.display contact.uri contact.parameters
+
+-- a Contact line
+abbrev pub contact_line : NameAddr → List ℕ
+contact_line contact = header_line (codes "Contact") (contact_text contact)
+
+-- the line of a route
 abbrev pub address_line : List ℕ → NameAddr → List ℕ
 address_line name address =
     header_line name (address_text address.display address.uri address.parameters)
@@ -101,7 +112,7 @@ identity_text m =
 -- Contact, Record-Route and Route, one line for each value
 unfoldable pub routes_text : Message → List ℕ
 routes_text m =
-    flat_map (address_line (codes "Contact")) m.contacts
+    flat_map contact_line m.contacts
     ++ flat_map (address_line (codes "Record-Route")) m.record_routes
     ++ flat_map (address_line (codes "Route")) m.routes
 

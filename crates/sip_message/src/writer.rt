@@ -208,9 +208,30 @@ fn push_cseq_line(out: &mut Vec<u8>, cseq: &CSeq) -> Result<(), AllocError>
 fn push_routes(out: &mut Vec<u8>, message: &Message) -> Result<(), AllocError>
     ensures { OnOk result (out.new.items ≡ out.old.items ++ written.routes_text message.now) }
 {
-    push_addresses(out, b"Contact", message.contacts.as_slice())?;
+    push_contacts(out, message.contacts.as_slice())?;
     push_addresses(out, b"Record-Route", message.record_routes.as_slice())?;
     push_addresses(out, b"Route", message.routes.as_slice())
+}
+
+fn push_contacts(out: &mut Vec<u8>, contacts: &[NameAddr]) -> Result<(), AllocError>
+    ensures { OnOk result (out.new.items ≡ out.old.items
+        ++ flat_map written.contact_line contacts.now) }
+{
+    for contact in contacts {
+        push_contact_line(out, contact)?;
+    }
+    Ok(())
+}
+
+#[tactic(auto, unfolding(crate::specs::Written::header_line, crate::specs::Written::contact_text))]
+fn push_contact_line(out: &mut Vec<u8>, contact: &NameAddr) -> Result<(), AllocError>
+    ensures { OnOk result (out.new.items ≡ out.old.items ++ written.contact_line contact.now) }
+{
+    if contact.is_wildcard() {
+        push_header(out, b"Contact", b"*")
+    } else {
+        push_address_line(out, b"Contact", contact)
+    }
 }
 
 fn push_addresses(out: &mut Vec<u8>, name: &[u8], addresses: &[NameAddr]) -> Result<(), AllocError>

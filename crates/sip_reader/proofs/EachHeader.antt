@@ -10,7 +10,7 @@ use Rattle.sip_message.specs.declared.message.Message.{Message}
 use Rattle.sip_message.specs.declared.name_addr.NameAddr.{NameAddr}
 use Rattle.sip_message.specs.declared.party.Party.{Party}
 use Rattle.sip_message.specs.declared.rack.RAck.{RAck}
-use Rattle.sip_message.specs.Written.{header_line, via_line, via_text, party_line, address_line, address_text, number_line, tokens_line, joined, cseq_text, rack_line, rack_text, other_line}
+use Rattle.sip_message.specs.Written.{header_line, via_line, via_text, party_line, contact_line, contact_text, address_line, address_text, number_line, tokens_line, joined, cseq_text, rack_line, rack_text, other_line}
 use Rattle.sip_header_values.specs.Address.{name_addrs_from, party_from}
 use Rattle.sip_header_values.specs.Numeral.{numeral_from}
 use Rattle.sip_header_values.specs.Sequence.{call_id_from, cseq_from, rack_from, tokens_from}
@@ -28,7 +28,7 @@ use Rattle.sip_headers.specs.declared.slot.Slot.TheVariants.{Absent, Once}
 use Rattle.sip_message.specs.Rules.{IsParty, IsNameAddr, IsRAck, IsVia, IsOtherHeader, IsMessage}
 use Rattle.sip_reader.proofs.WrittenLines.{Ready, Goes, no_lines, goes_to, header_goes, other_goes, list_goes}
 use Rattle.sip_grammar.proofs.TextEnds.{Again}
-use Rattle.sip_headers.proofs.WrittenAddresses.{party_again, name_addr_again}
+use Rattle.sip_headers.proofs.WrittenAddresses.{party_again, name_addr_again, contact_again}
 use Rattle.sip_headers.proofs.WrittenNumbers.{number_again, call_id_again, cseq_again, rack_again}
 use Rattle.sip_headers.proofs.WrittenTokens.{tokens_again}
 use Rattle.sip_headers.proofs.WrittenVias.{via_again}
@@ -194,16 +194,15 @@ cseq_goes m rest is ready =
     (cseq_text m.cseq) rest again.good ready)
 
 pub contacts_go : (m : Message) (rest : List ℕ) → AllByRecursion IsNameAddr m.contacts → Ready rest
-    → Goes (identified m) (flat_map (address_line (codes "Contact")) m.contacts ++ rest)
+    → Goes (identified m) (flat_map contact_line m.contacts ++ rest)
     (with_contacts m (Some m.contacts)) rest
 contacts_go m rest all ready =
     goes_to (ap (λ xs. with_contacts m (Some xs)) (same_list m.contacts))
-    (list_goes (with_contacts m) (address_line (codes "Contact")) (λ a. a) IsNameAddr
-    (λ front a r is ok. let again = name_addr_again a is in
-    more_goes (with_contacts m) name_addrs_from front (a ∷ [])
-    (address_line (codes "Contact") a ++ r) (address_text a.display a.uri a.parameters) r again
-    (header_goes (with_contacts m (Some front)) name.Contact
-    (address_text a.display a.uri a.parameters) r again.good ok))
+    (list_goes (with_contacts m) contact_line (λ a. a) IsNameAddr
+    (λ front a r is ok. let again = contact_again a is in
+    more_goes (with_contacts m) name_addrs_from front (a ∷ []) (contact_line a ++ r)
+    (contact_text a) r again
+    (header_goes (with_contacts m (Some front)) name.Contact (contact_text a) r again.good ok))
     [] m.contacts rest all ready)
 
 pub record_routes_go : (m : Message) (rest : List ℕ) → AllByRecursion IsNameAddr m.record_routes

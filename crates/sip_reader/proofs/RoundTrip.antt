@@ -11,7 +11,7 @@ use Rattle.sip_message.specs.declared.fault.ReadFault.TheVariants as fault
 use Rattle.sip_message.specs.declared.message.Message.{Message}
 use Rattle.sip_message.specs.declared.rack.RAck.{RAck}
 use Rattle.sip_message.specs.declared.via.Via.{Via}
-use Rattle.sip_message.specs.Written.{header_line, via_line, party_line, address_line, number_line, tokens_line, cseq_text, rack_line, other_line, head_text, identity_text, routes_text, extensions_text, content_text, written}
+use Rattle.sip_message.specs.Written.{header_line, via_line, party_line, contact_line, address_line, number_line, tokens_line, cseq_text, rack_line, other_line, head_text, identity_text, routes_text, extensions_text, content_text, written}
 use Rattle.sip_header_values.specs.declared.numeral.Numeral.{Numeral}
 use Rattle.sip_header_values.specs.declared.numeral.Numeral.TheVariants.{Number}
 use Rattle.sip_headers.specs.Complete.{draft_with, faultless}
@@ -55,7 +55,7 @@ extension_lines m =
 
 abbrev route_lines : Message → List ℕ
 route_lines m =
-    flat_map (address_line (codes "Contact")) m.contacts
+    flat_map contact_line m.contacts
     ++ (flat_map (address_line (codes "Record-Route")) m.record_routes
     ++ (flat_map (address_line (codes "Route")) m.routes ++ extension_lines m))
 
@@ -145,7 +145,7 @@ in_lines m =
     ++ (((party_line (codes "From") m.from ++ party_line (codes "To") m.to)
     ++ header_line (codes "Call-ID") m.call_id)
     ++ header_line (codes "CSeq") (cseq_text m.cseq)))
-    ++ ((flat_map (address_line (codes "Contact")) m.contacts
+    ++ ((flat_map contact_line m.contacts
     ++ flat_map (address_line (codes "Record-Route")) m.record_routes)
     ++ flat_map (address_line (codes "Route")) m.routes))
     ++ (((tokens_line (codes "Require") m.require
@@ -157,7 +157,7 @@ in_lines m =
     (number_line (codes "Max-Forwards") m.max_forwards) (party_line (codes "From") m.from)
     (party_line (codes "To") m.to) (header_line (codes "Call-ID") m.call_id)
     (header_line (codes "CSeq") (cseq_text m.cseq))
-    (flat_map (address_line (codes "Contact")) m.contacts)
+    (flat_map contact_line m.contacts)
     (flat_map (address_line (codes "Record-Route")) m.record_routes)
     (flat_map (address_line (codes "Route")) m.routes) (tokens_line (codes "Require") m.require)
     (tokens_line (codes "Supported") m.supported) (number_line (codes "RSeq") m.rseq)
