@@ -1,6 +1,6 @@
 //! The held requests of one Call-ID.
 
-ghost use Rattle.std.specs.Prelude.{◌≡◌, ◌≤◌, ◌^◌, ◌++◌, [], ◌∷◌, IfOk, OnOk, IsTrue, filter, find, length, map, nat_lt};
+ghost use Rattle.std.specs.Prelude.{◌≡◌, ◌≤◌, ◌^◌, ◌++◌, [], ◌∷◌, IfOk, OnOk, IsTrue, filter, find, length, map, nat_lt, not};
 ghost use Rattle.std.specs.List.{flat_map, list_any};
 ghost use Rattle.std.specs.Option.{option_copied};
 ghost use Rattle.sip_served.specs.Acknowledgment.{acknowledged_invite, success_ended};

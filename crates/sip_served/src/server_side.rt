@@ -1,6 +1,6 @@
 //! The server side of one Call-ID: what it holds, and how each item changes it.
 
-ghost use Rattle.std.specs.Prelude.{◌≡◌, ◌≤◌, ◌^◌, [], ◌∷◌, ◌++◌, IfOk, OnOk, Some, false, find};
+ghost use Rattle.std.specs.Prelude.{◌≡◌, ◌≤◌, ◌^◌, [], ◌∷◌, ◌++◌, IfOk, OnOk, false, find};
 ghost use Rattle.sip_held_dialogs.specs.Requests.{has_to_tag};
 ghost use Rattle.sip_user.specs.declared.item.CallOut.TheVariants as call_out;
 ghost use Rattle.sip_served.specs.Acknowledgment.{ack_taken};
@@ -12,7 +12,7 @@ ghost use Rattle.sip_served.specs.Rules.Responses.{respond_command};
 ghost use Rattle.sip_served.specs.Rules.Ticks.{server_due, server_tick};
 ghost use Rattle.sip_served.specs.State as state;
 ghost use Rattle.sip_served.specs.Step as step;
-ghost use Rattle.std.specs.Option.{IsSome};
+ghost use Rattle.std.specs.Option.{option_map_or};
 ghost use Rattle.sip_served.specs.State.{has_id};
 ghost use Rattle.sip_served.specs.declared.held_request.HeldRequest.{HeldRequest};
 
@@ -34,7 +34,7 @@ use sip_message::{Addr, CallId, Id, Message, Token};
 use sip_text::Boxed;
 use sip_transactions::{Command, Up, UpKind};
 use sip_user::outputs::{joined, one, refused, tell};
-use sip_user::{CallOut, Item, Notice, Refusal, Respond, UserCommand};
+use sip_user::{CallOut, Item, Notice, Refusal, Reliability, Respond, UserCommand};
 use std::alloc::{AllocError, Global};
 use std::marker::Model;
 
@@ -448,29 +448,52 @@ impl ServerSide {
         }
     }
 
-    // An answer goes out.
+    // An answer to a held request goes out.
     fn give(&mut self, event: Id, respond: Respond, now: u64) -> Result<Vec<CallOut>, AllocError>
         requires moment { now ≤ 2 ^ 62 }
-        requires held { IsSome (find (has_id respond.id) self.old.requests) }
         requires low { 101 ≤ respond.status }
         requires high { respond.status ≤ 699 }
-        ensures { IfOk result (λ outs. (held : HeldRequest)
-            → find (has_id respond.id) self.old.requests ≡ Some held
-            → (self.new, outs.items) ≡ answers.answer_given self.old event respond now held) }
+        ensures { IfOk result (λ outs. (self.new, outs.items)
+            ≡ option_map_or (answers.answer_given self.old event respond now)
+            (find (has_id respond.id) self.old.requests) (state.quiet self.old)) }
     {
         let (invite, status, reliability) = (respond.id, respond.status, respond.reliability);
         let Some(held) = self.requests.get(invite) else {
-            unreachable!()
+            return Ok(Vec::new(self.alloc));
         };
         let (id, key) = (held.id, held.key.clone()?);
         let response = answer_to(self.alloc, self.local, held, respond)?;
-        let dialogs = &mut self.dialogs;
-        let ends = answer_dialogs(self.alloc, dialogs, event, held, status, &response)?;
-        self.requests
-            .answer(invite, event, status, reliability, &response, now)?;
+        let ends = self.note_answer(invite, event, status, reliability, &response, now)?;
         let message = Boxed::new(self.alloc, response)?;
         let command = CallOut::Command(id, Command::Answer { key, message });
         joined(one(self.alloc, command)?, ends)
+    }
+
+    // What is held after an answer to the request of this id, and the notices of the dialogs that
+    // end.
+    fn note_answer(
+        &mut self,
+        id: Id,
+        event: Id,
+        status: u16,
+        reliability: Reliability,
+        response: &Message,
+        now: u64,
+    ) -> Result<Vec<CallOut>, AllocError>
+        requires moment { now ≤ 2 ^ 62 }
+        requires low { 101 ≤ status }
+        requires high { status ≤ 699 }
+        ensures { IfOk result (λ outs. (self.new, outs.items) ≡ option_map_or
+            (answers.answer_noted self.old id event status reliability response.now now)
+            (find (has_id id) self.old.requests) (state.quiet self.old)) }
+    {
+        let Some(held) = self.requests.get(id) else {
+            return Ok(Vec::new(self.alloc));
+        };
+        let ends = answer_dialogs(self.alloc, &mut self.dialogs, event, held, status, response)?;
+        self.requests
+            .answer(id, event, status, reliability, response, now)?;
+        Ok(ends)
     }
 
     /// Does what is due at the moment `now`, in ms (RFC 3261, section 13.3.1.4; RFC 3262, section
