@@ -6,7 +6,7 @@ use Rattle.std.proofs.lemmas.Option.{slice_get_read}
 use Rattle.sip_message.specs.declared.id.Id.{Id}
 use Rattle.sip_user.specs.declared.command.Respond.{Respond}
 use Rattle.sip_served.specs.declared.held_request.HeldRequest.{HeldRequest}
-use Rattle.sip_served.specs.Respond.{answer_given_at, by_refusal, by_request, refusal_for, respond_taken}
+use Rattle.sip_served.specs.Respond.{answer_given, by_refusal, by_request, refusal_for, respond_taken}
 use Rattle.sip_served.specs.State.{State, changed_at, has_id}
 
 abbrev ChangesAt : Id → ℕ → List HeldRequest → Type 0
@@ -28,19 +28,13 @@ written seen requests id index held new change same within read after changes =
     subst (λ (ys : List HeldRequest). ChangesAt id index ys) same changes in
     ap (slice_set requests index) after ∙ sym (moved change held at)
 
--- an answer that isn't refused, given at the place of a request, is the answer to the request of
--- its id
-pub given : (state : State) (event : Id) (respond : Respond) (now index : ℕ) (held : HeldRequest)
+-- an answer that isn't refused, given to the request of its id, is what is to be done
+pub given : (state : State) (event : Id) (respond : Respond) (now : ℕ) (held : HeldRequest)
     → find (has_id respond.id) state.requests ≡ Some held
     → refusal_for state.dialogs respond held ≡ None
-    → ((change : HeldRequest → HeldRequest)
-    → changed_at respond.id change state.requests
-    ≡ slice_set state.requests index (change held))
-    → answer_given_at (λ change. slice_set state.requests index (change held)) state event respond
-    now held ≡ respond_taken state event respond now
-given state event respond now index held found unrefused changes =
-    (λ i. answer_given_at (λ change. sym (changes change) i) state event respond now held)
-    ∙ sym (ap (by_refusal state event respond now held) unrefused)
+    → answer_given state event respond now held ≡ respond_taken state event respond now
+given state event respond now held found unrefused =
+    sym (ap (by_refusal state event respond now held) unrefused)
     ∙ sym (ap (by_request state event respond now) found)
 
 -- if P gives Q, and P is true of what a call returned, so is Q

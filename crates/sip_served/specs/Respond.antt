@@ -204,25 +204,25 @@ after_answer event respond response now held =
 
 -- ---- all of it
 
--- An answer goes to the transaction of its request. `changed` gives the held requests after a
--- change of this one.
-abbrev pub answer_given_at : ((HeldRequest → HeldRequest) → List HeldRequest) → State → Id → Respond
-    → ℕ → HeldRequest → ServedTaken
-answer_given_at changed state event respond now held =
-    let response = answer_to state.local held respond in
-    let dialogs = dialogs_answered event held respond.status response state.dialogs in (
+-- what is held after the answer to the request of this id, and the notices of the dialogs that end
+abbrev pub answer_noted : State → Id → Id → ℕ → Reliability → Message → ℕ → HeldRequest → ServedTaken
+answer_noted state id event status reliability response now held =
+    let dialogs = dialogs_answered event held status response state.dialogs in (
       record state {
-        requests = changed (after_answer event respond response now);
+        requests = changed_at id (λ request. answered status reliability response now
+            (with_dialog event status request)) state.requests;
         dialogs = dialogs.0;
       },
-      Command held.id (Answer held.key response) ∷ dialogs.1,
+      dialogs.1,
     )
 
--- the same for the held request of this id
+-- an answer goes to the transaction of its request
 abbrev pub answer_given : State → Id → Respond → ℕ → HeldRequest → ServedTaken
 answer_given state event respond now held =
-    answer_given_at (λ change. changed_at respond.id change state.requests) state event respond now
-    held
+    let response = answer_to state.local held respond in
+    let noted = answer_noted state respond.id event respond.status respond.reliability response now
+    held in
+    (noted.0, Command held.id (Answer held.key response) ∷ noted.1)
 
 -- an answer is refused, and nothing changes; or it is given
 abbrev pub by_refusal : State → Id → Respond → ℕ → HeldRequest → Option Refusal → ServedTaken

@@ -1,17 +1,19 @@
 //! A request that comes up, and which case it is.
 
-ghost use Rattle.std.specs.Prelude.{◌≡◌, find, option_map};
+ghost use Rattle.std.specs.Prelude.{◌≡◌, IfOk, find, option_map};
 ghost use Rattle.std.specs.List.{list_any};
 ghost use Rattle.std.specs.Option.{option_copied};
 ghost use Rattle.sip_served.specs.Arrival as arrival;
 ghost use Rattle.sip_held_dialogs.specs.Requests.{is_unknown_option};
 
 use crate::held_request::HeldRequest;
+use crate::held_requests::HeldRequests;
 use sip_held_dialogs::dialogs::takes;
 use sip_held_dialogs::request::{has_to_tag, is_bye, is_invite, is_prack, is_unknown_option};
 use sip_held_dialogs::{DialogId, Dialogs, HeldDialog};
 use sip_message::{Addr, Id, Message, RAck, SharedKey, Token};
 use sip_text::{Boxed, token_eq};
+use std::alloc::AllocError;
 
 /// A request that comes up.
 #[derive(Drop)]
@@ -47,23 +49,24 @@ pub(crate) enum ArrivalCase {
 
 /// The first case that fits.
 pub(crate) fn case_of(
-    requests: &[HeldRequest],
+    requests: &HeldRequests,
     dialogs: &Dialogs,
     name: &DialogId,
     request: &Message,
-) -> ArrivalCase
-    ensures { result ≡ arrival.case_of requests.now dialogs.now.entries name.now request.now }
+) -> Result<ArrivalCase, AllocError>
+    ensures { IfOk result (λ case. case
+        ≡ arrival.case_of requests.now dialogs.now.entries name.now request.now) }
 {
-    if !has_to_tag(request) && merges(requests, request) {
-        return ArrivalCase::Merged;
+    if !has_to_tag(request) && requests.merges(request)? {
+        return Ok(ArrivalCase::Merged);
     }
     if requires_unknown(request) {
-        return ArrivalCase::BadExtension;
+        return Ok(ArrivalCase::BadExtension);
     }
     if has_to_tag(request) {
         case_inside(requests, name, request, dialogs.get(name))
     } else {
-        case_outside(request)
+        Ok(case_outside(request))
     }
 }
 
@@ -78,45 +81,46 @@ fn case_outside(request: &Message) -> ArrivalCase
 }
 
 fn case_inside(
-    requests: &[HeldRequest],
+    requests: &HeldRequests,
     name: &DialogId,
     request: &Message,
     dialog: Option<&HeldDialog>,
-) -> ArrivalCase
-    ensures { result ≡ arrival.case_inside requests.now name.now request.now
-        (option_copied dialog.entry) }
+) -> Result<ArrivalCase, AllocError>
+    ensures { IfOk result (λ case. case
+        ≡ arrival.case_inside requests.now name.now request.now (option_copied dialog.entry)) }
 {
     let Some(held) = dialog else {
-        return ArrivalCase::NoDialog;
+        return Ok(ArrivalCase::NoDialog);
     };
     if !takes(held, request.cseq.number) {
-        return ArrivalCase::OutOfOrder;
+        return Ok(ArrivalCase::OutOfOrder);
     }
     if is_prack(request) {
         return prack_case(requests, name, held.created_by, &request.rack);
     }
-    ArrivalCase::ForUser
+    Ok(ArrivalCase::ForUser)
 }
 
 fn prack_case(
-    requests: &[HeldRequest],
+    requests: &HeldRequests,
     name: &DialogId,
     created_by: Id,
     rack: &Option<RAck>,
-) -> ArrivalCase
-    ensures { result ≡ arrival.prack_case requests.now name.now created_by rack.now }
+) -> Result<ArrivalCase, AllocError>
+    ensures { IfOk result (λ case. case
+        ≡ arrival.prack_case requests.now name.now created_by rack.now) }
 {
     let Some(rack) = rack else {
-        return ArrivalCase::AcknowledgesNothing;
+        return Ok(ArrivalCase::AcknowledgesNothing);
     };
-    match named_invite(requests, name, created_by, rack) {
-        Some(invite) => ArrivalCase::Acknowledges(invite, rack.rseq),
-        None => ArrivalCase::AcknowledgesNothing,
+    match requests.named_invite(name, created_by, rack)? {
+        Some(invite) => Ok(ArrivalCase::Acknowledges(invite, rack.rseq)),
+        None => Ok(ArrivalCase::AcknowledgesNothing),
     }
 }
 
-// The first INVITE of the dialog with a waiting response that the RAck names.
-fn named_invite(
+/// The first INVITE of the dialog with a waiting response that the RAck names.
+pub(crate) fn named_invite(
     requests: &[HeldRequest],
     name: &DialogId,
     created_by: Id,

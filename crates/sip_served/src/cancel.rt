@@ -1,24 +1,20 @@
 //! A CANCEL that comes up (RFC 3261, section 9.2).
 
-ghost use Rattle.std.specs.Prelude.{◌≡◌, ◌≤◌, ◌^◌, IfOk, OnOk};
+ghost use Rattle.std.specs.Prelude.{◌≡◌, IfOk};
 ghost use Rattle.std.specs.Option.{option_copied};
 ghost use Rattle.sip_served.specs.Cancel as spec;
-ghost use Rattle.sip_served.specs.Respond.{finished};
-ghost use Rattle.sip_served.specs.State.{changed_at};
 
 use crate::arrival::Arrival;
 use crate::held_request::HeldRequest;
 use crate::outputs::{command_for, ok_with_tag};
-use crate::requests::place_of;
-use crate::respond::finish;
 use sip_held_dialogs::request::is_invite;
-use sip_message::{CallId, Id, Key, Message, Reason, StatusCode, response_to};
+use sip_message::{CallId, Key, Message, Reason, StatusCode, response_to};
 use sip_user::outputs::one;
 use sip_user::{CallOut, Notice};
 use std::alloc::{AllocError, Global};
 
 /// The status of the final response to an INVITE that is cancelled.
-const REQUEST_TERMINATED: u16 = 487;
+pub(crate) const REQUEST_TERMINATED: u16 = 487;
 
 /// The held request that a CANCEL names; if there are several, the last that came up.
 pub(crate) fn cancelled_request<'a>(
@@ -104,28 +100,4 @@ pub(crate) fn termination_told(
         id: held.id,
     }))?;
     Ok(outs)
-}
-
-/// The INVITE of this id gets its final response.
-pub(crate) fn terminate(
-    alloc: Global,
-    requests: &mut Vec<HeldRequest>,
-    invite: Id,
-    response: &Message,
-    now: u64,
-) -> Result<(), AllocError>
-    requires { now ≤ 2 ^ 62 }
-    ensures { OnOk result (requests.new.items
-        ≡ changed_at invite (finished response.now 487 now) requests.old.items) }
-{
-    match place_of(requests.as_slice(), invite) {
-        Some(index) => finish(
-            alloc,
-            &mut requests[index],
-            response,
-            REQUEST_TERMINATED,
-            now,
-        ),
-        None => Ok(()),
-    }
 }

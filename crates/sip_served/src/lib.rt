@@ -5,6 +5,7 @@ mod acknowledgment;
 mod arrival;
 mod cancel;
 mod held_request;
+mod held_requests;
 mod laws;
 mod outputs;
 mod provisionals;

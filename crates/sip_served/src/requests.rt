@@ -2,11 +2,19 @@
 
 ghost use Rattle.std.specs.Prelude.{◌≡◌, ◌<◌, IfNone, IfSome, find, position, length, None, Some};
 ghost use Rattle.std.specs.List.{slice_get, slice_set, slice_index_or};
+ghost use Rattle.std.specs.Option.{option_copied};
 ghost use Rattle.sip_served.specs.State.{changed_at, has_id};
 ghost use Rattle.sip_served.specs.declared.held_request.HeldRequest.{HeldRequest};
 
 use crate::held_request::HeldRequest;
 use sip_message::Id;
+
+/// The held request of this id, the first if there are several.
+pub(crate) fn held_request(requests: &[HeldRequest], id: Id) -> Option<&HeldRequest>
+    ensures { option_copied result ≡ find (has_id id) requests.now }
+{
+    requests.iter().find(|held| is_of(held, id))
+}
 
 /// The place of the request with this id among the held ones.
 pub(crate) fn place_of(requests: &[HeldRequest], id: Id) -> Option<usize>

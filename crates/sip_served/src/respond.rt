@@ -6,9 +6,11 @@ ghost use Rattle.sip_held_dialogs.specs.Dialogs.{is_dialog_id};
 ghost use Rattle.sip_held_dialogs.specs.Requests.{dialog_id_of};
 ghost use Rattle.sip_served.specs.RequestLife as life;
 ghost use Rattle.sip_served.specs.Respond as spec;
+ghost use Rattle.sip_served.specs.State.{changed_at};
 
 use crate::held_request::{HeldRequest, Retransmission, Success};
 use crate::provisionals::ReliableResponse;
+use crate::requests::place_of;
 use sip_dialog::{Dialog, own_contact};
 use sip_held_dialogs::dialogs::{confirm, end_early, lives};
 use sip_held_dialogs::request::{
@@ -182,8 +184,71 @@ fn option_100rel(alloc: Global) -> Result<Token, AllocError>
     Token::copy_of(alloc, b"100rel")
 }
 
-/// Notes an answer in its held request.
-pub(crate) fn note_answer(
+/// An answer of the user to the request of this id goes out in an event. If it makes a dialog, the
+/// request refers to it.
+#[tactic(auto, using(std::proofs::lemmas::Option::slice_get_read))]
+pub(crate) fn answer(
+    alloc: Global,
+    requests: &mut Vec<HeldRequest>,
+    id: Id,
+    event: Id,
+    status: u16,
+    reliability: Reliability,
+    response: &Message,
+    now: u64,
+) -> Result<(), AllocError>
+    requires { now ≤ 2 ^ 62 }
+    ensures { OnOk result (requests.new.items ≡ changed_at id
+        (λ held. spec.answered status reliability response.now now
+        (spec.with_dialog event status held)) requests.old.items) }
+{
+    match place_of(requests.as_slice(), id) {
+        Some(index) => answer_one(
+            alloc,
+            &mut requests[index],
+            event,
+            status,
+            reliability,
+            response,
+            now,
+        ),
+        None => Ok(()),
+    }
+}
+
+fn answer_one(
+    alloc: Global,
+    held: &mut HeldRequest,
+    event: Id,
+    status: u16,
+    reliability: Reliability,
+    response: &Message,
+    now: u64,
+) -> Result<(), AllocError>
+    requires { now ≤ 2 ^ 62 }
+    ensures { OnOk result (held.new ≡ spec.answered status reliability response.now now
+        (spec.with_dialog event status held.old)) }
+{
+    refer(alloc, held, event, status)?;
+    note_answer(alloc, held, status, reliability, response, now)
+}
+
+// If an answer makes a dialog, its request refers to it.
+fn refer(alloc: Global, held: &mut HeldRequest, event: Id, status: u16) -> Result<(), AllocError>
+    ensures { OnOk result (held.new ≡ spec.with_dialog event status held.old) }
+{
+    if makes_dialog(held, status) {
+        let name = dialog_id_of(alloc, held.request.get(), &held.tag)?;
+        held.dialog = Some(DialogReference {
+            name,
+            created_by: event,
+        });
+    }
+    Ok(())
+}
+
+// Notes an answer in its held request.
+fn note_answer(
     alloc: Global,
     held: &mut HeldRequest,
     status: u16,
@@ -220,8 +285,27 @@ fn send_reliably(
         .push(ReliableResponse { number, response })
 }
 
-/// Notes the final response to a held request. No response follows it.
-pub(crate) fn finish(
+/// The final response of this status to the request of this id goes out.
+pub(crate) fn finish_one(
+    alloc: Global,
+    requests: &mut Vec<HeldRequest>,
+    id: Id,
+    response: &Message,
+    status: u16,
+    now: u64,
+) -> Result<(), AllocError>
+    requires { now ≤ 2 ^ 62 }
+    ensures { OnOk result (requests.new.items
+        ≡ changed_at id (spec.finished response.now status now) requests.old.items) }
+{
+    match place_of(requests.as_slice(), id) {
+        Some(index) => finish(alloc, &mut requests[index], response, status, now),
+        None => Ok(()),
+    }
+}
+
+// Notes the final response to a held request. No response follows it.
+fn finish(
     alloc: Global,
     held: &mut HeldRequest,
     response: &Message,
@@ -255,21 +339,19 @@ fn success_sent(response: Boxed<Message>, now: u64) -> Success
     }
 }
 
-/// The dialogs after an answer, and the notices of ends. If the answer makes a dialog, its request
-/// refers to it.
+/// The dialogs after an answer, and the notices of ends.
 pub(crate) fn answer_dialogs(
     alloc: Global,
     dialogs: &mut Dialogs,
     event: Id,
-    held: &mut HeldRequest,
+    held: &HeldRequest,
     status: u16,
     response: &Message,
 ) -> Result<Vec<CallOut>, AllocError>
     requires low { 101 ≤ status }
     requires high { status ≤ 699 }
-    ensures dialogs { IfOk result (λ outs. (dialogs.new.entries, outs.items)
-        ≡ spec.dialogs_answered event held.old status response.now dialogs.old.entries) }
-    ensures request { IfOk result (λ outs. held.new ≡ spec.with_dialog event status held.old) }
+    ensures { IfOk result (λ outs. (dialogs.new.entries, outs.items)
+        ≡ spec.dialogs_answered event held.now status response.now dialogs.old.entries) }
 {
     if makes_dialog(held, status) {
         make_dialog(alloc, dialogs, event, held, status)?;
@@ -311,28 +393,18 @@ fn make_dialog(
     alloc: Global,
     dialogs: &mut Dialogs,
     event: Id,
-    held: &mut HeldRequest,
+    held: &HeldRequest,
     status: u16,
 ) -> Result<(), AllocError>
     requires low { 101 ≤ status }
     requires high { status ≤ 699 }
-    ensures dialogs { OnOk result (dialogs.new.entries
-        ≡ insert_entry is_dialog_id dialogs.old.entries (dialog_id_of held.old.request held.old.tag)
-        (spec.made_dialog event held.old status)) }
-    ensures request { OnOk result (held.new ≡ record held.old {
-      dialog = Some record {
-        name = dialog_id_of held.old.request held.old.tag;
-        created_by = event;
-      };
-    }) }
+    ensures { OnOk result (dialogs.new.entries
+        ≡ insert_entry is_dialog_id dialogs.old.entries (dialog_id_of held.now.request held.now.tag)
+        (spec.made_dialog event held.now status)) }
 {
     let name = dialog_id_of(alloc, held.request.get(), &held.tag)?;
     let made = made_dialog(alloc, event, held, StatusCode::from_code(status))?;
-    dialogs.insert(name.clone()?, made)?;
-    held.dialog = Some(DialogReference {
-        name,
-        created_by: event,
-    });
+    dialogs.insert(name, made)?;
     Ok(())
 }
 

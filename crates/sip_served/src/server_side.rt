@@ -1,6 +1,6 @@
 //! The server side of one Call-ID: what it holds, and how each item changes it.
 
-ghost use Rattle.std.specs.Prelude.{◌≡◌, ◌<◌, ◌≤◌, ◌^◌, [], ◌∷◌, ◌++◌, IfOk, OnOk, Some, false, filter, length, slice_set};
+ghost use Rattle.std.specs.Prelude.{◌≡◌, ◌≤◌, ◌^◌, [], ◌∷◌, ◌++◌, IfOk, OnOk, false, find};
 ghost use Rattle.sip_held_dialogs.specs.Requests.{has_to_tag};
 ghost use Rattle.sip_user.specs.declared.item.CallOut.TheVariants as call_out;
 ghost use Rattle.sip_served.specs.Acknowledgment.{ack_taken};
@@ -12,23 +12,20 @@ ghost use Rattle.sip_served.specs.Rules.Responses.{respond_command};
 ghost use Rattle.sip_served.specs.Rules.Ticks.{server_due, server_tick};
 ghost use Rattle.sip_served.specs.State as state;
 ghost use Rattle.sip_served.specs.Step as step;
-ghost use Rattle.std.specs.List.{slice_get};
-ghost use Rattle.sip_served.specs.Tick.{is_kept_at};
+ghost use Rattle.std.specs.Option.{option_map_or};
+ghost use Rattle.sip_served.specs.State.{has_id};
 ghost use Rattle.sip_served.specs.declared.held_request.HeldRequest.{HeldRequest};
 
-use crate::acknowledgment::{acknowledge, acknowledged_invite, prack};
-use crate::arrival::{Arrival, ArrivalCase, case_of, merges, requires_unknown};
+use crate::arrival::{Arrival, ArrivalCase, case_of, requires_unknown};
 use crate::cancel::{
-    cancel_accepted, cancelled_request, is_unanswered_invite, request_terminated, terminate,
-    termination_told,
+    REQUEST_TERMINATED, cancel_accepted, is_unanswered_invite, request_terminated, termination_told,
 };
 use crate::held_request::HeldRequest;
+use crate::held_requests::HeldRequests;
 use crate::outputs::{
     bad_extension, loop_detected, no_such_dialog, notice_of_request, ok, out_of_order,
 };
-use crate::requests::place_of;
-use crate::respond::{answer_dialogs, answer_to, note_answer, refusal_for};
-use crate::tick::{is_kept, next_due, tick_requests};
+use crate::respond::{answer_dialogs, answer_to, refusal_for};
 use indexmap::IndexMap;
 use sip_held_dialogs::dialogs::{dialog_of_request, end, end_early, visit};
 use sip_held_dialogs::request::{dialog_id_of, has_to_tag, is_bye, is_cancel, is_prack, own_tag};
@@ -37,7 +34,7 @@ use sip_message::{Addr, CallId, Id, Message, Token};
 use sip_text::Boxed;
 use sip_transactions::{Command, Up, UpKind};
 use sip_user::outputs::{joined, one, refused, tell};
-use sip_user::{CallOut, Item, Notice, Refusal, Respond, UserCommand};
+use sip_user::{CallOut, Item, Notice, Refusal, Reliability, Respond, UserCommand};
 use std::alloc::{AllocError, Global};
 use std::marker::Model;
 
@@ -48,7 +45,7 @@ use std::marker::Model;
 pub struct ServerSide {
     alloc: Global,
     local: Addr,
-    requests: Vec<HeldRequest>,
+    requests: HeldRequests,
     dialogs: Dialogs,
 }
 
@@ -59,7 +56,7 @@ impl Model for ServerSide {
 
     ghost view = { λ h. record {
       local = h.local;
-      requests = h.requests.items;
+      requests = h.requests;
       dialogs = h.dialogs.entries;
     } };
 }
@@ -77,7 +74,7 @@ impl ServerSide {
         ServerSide {
             alloc,
             local,
-            requests: Vec::new(alloc),
+            requests: HeldRequests::new(alloc),
             dialogs: IndexMap::new(alloc),
         }
     }
@@ -101,7 +98,7 @@ impl ServerSide {
     pub fn next_due(&self) -> Option<u64>
         ensures { result ≡ server_due self.now }
     {
-        next_due(self.requests.as_slice())
+        self.requests.next_due()
     }
 
     /// The held dialogs, for writing. Takes no memory.
@@ -216,7 +213,7 @@ impl ServerSide {
         ensures { IfOk result (λ outs. (self.new, outs.items)
             ≡ cancels.cancel_taken self.old call_id arrival.now now) }
     {
-        let Some(held) = cancelled_request(self.requests.as_slice(), arrival.key.get()) else {
+        let Some(held) = self.requests.cancelled_request(arrival.key.get()) else {
             return no_such_dialog(self.alloc, arrival);
         };
         if !is_unanswered_invite(held) {
@@ -239,7 +236,8 @@ impl ServerSide {
         ensures { IfOk result (λ outs. (self.new, outs.items)
             ≡ cancels.invite_terminated response.now invite now self.old) }
     {
-        terminate(self.alloc, &mut self.requests, invite, response, now)?;
+        self.requests
+            .finish(invite, response, REQUEST_TERMINATED, now)?;
         end_early(self.alloc, &mut self.dialogs, invite)
     }
 
@@ -271,7 +269,7 @@ impl ServerSide {
             ≡ arrived.request_taken self.old call_id arrival) }
     {
         let request = arrival.request.get();
-        if merges(self.requests.as_slice(), request) {
+        if self.requests.merges(request)? {
             loop_detected(self.alloc, &arrival)
         } else if requires_unknown(request) {
             bad_extension(self.alloc, &arrival)
@@ -288,12 +286,7 @@ impl ServerSide {
             ≡ arrived.request_taken self.old call_id arrival) }
     {
         let name = dialog_id_of(self.alloc, arrival.request.get(), &arrival.tag)?;
-        let case = case_of(
-            self.requests.as_slice(),
-            &self.dialogs,
-            &name,
-            arrival.request.get(),
-        );
+        let case = case_of(&self.requests, &self.dialogs, &name, arrival.request.get())?;
         self.by_case(case, call_id, name, arrival)
     }
 
@@ -355,7 +348,7 @@ impl ServerSide {
             rseq,
             body: arrival.request.get().body.clone()?,
         }))?;
-        prack(&mut self.requests, invite, rseq);
+        self.requests.prack(invite, rseq)?;
         Ok(outs)
     }
 
@@ -393,10 +386,6 @@ impl ServerSide {
             ≡ call_out.Notice (arrived.request_notice call_id arrival) ∷ []) }
     {
         let notice = notice_of_request(self.alloc, call_id, &arrival)?;
-        // Most calls hold one request, but a list that grows by itself begins with room for four.
-        if self.requests.is_empty() {
-            self.requests.reserve_exact(1)?;
-        }
         self.requests
             .push(HeldRequest::new(self.alloc, arrival, dialog))?;
         tell(self.alloc, notice)
@@ -420,11 +409,11 @@ impl ServerSide {
         ensures { IfOk result (λ outs. (self.new, outs.items)
             ≡ ack_taken self.old call_id ack.now) }
     {
-        let Some(invite) = acknowledged_invite(ack, self.requests.as_slice()) else {
+        let Some(invite) = self.requests.acknowledged_invite(ack)? else {
             return Ok(Vec::new(self.alloc));
         };
         let body = ack.body.clone()?;
-        acknowledge(&mut self.requests, invite);
+        self.requests.acknowledge(invite)?;
         let notice = Notice::Ack {
             call_id,
             id: invite,
@@ -439,7 +428,7 @@ impl ServerSide {
     /// # Errors
     ///
     /// Want of memory.
-    #[tactic(auto, using(std::proofs::lemmas::Option::slice_get_read, crate::proofs::ResponseRules::respond_same))]
+    #[tactic(auto, using(crate::proofs::ResponseRules::respond_same))]
     pub fn respond(
         &mut self,
         event: Id,
@@ -450,44 +439,61 @@ impl ServerSide {
         ensures { IfOk result (λ outs. (self.new, outs.items)
             ≡ respond_command self.old event respond now) }
     {
-        let Some(index) = place_of(self.requests.as_slice(), respond.id) else {
+        let Some(held) = self.requests.get(respond.id) else {
             return refused(self.alloc, event, respond.call_id, Refusal::NoSuchRequest);
         };
-        match refusal_for(&self.dialogs, &respond, &self.requests[index]) {
+        match refusal_for(&self.dialogs, &respond, held) {
             Some(refusal) => refused(self.alloc, event, respond.call_id, refusal),
-            None => self.give(index, event, respond, now),
+            None => self.give(event, respond, now),
         }
     }
 
-    // An answer goes out.
-    #[tactic(auto, using(std::proofs::lemmas::Option::slice_get_read))]
-    fn give(
-        &mut self,
-        index: usize,
-        event: Id,
-        respond: Respond,
-        now: u64,
-    ) -> Result<Vec<CallOut>, AllocError>
+    // An answer to a held request goes out.
+    fn give(&mut self, event: Id, respond: Respond, now: u64) -> Result<Vec<CallOut>, AllocError>
         requires moment { now ≤ 2 ^ 62 }
-        requires within { index < length self.old.requests }
         requires low { 101 ≤ respond.status }
         requires high { respond.status ≤ 699 }
-        ensures { IfOk result (λ outs. (held : HeldRequest)
-            → slice_get self.old.requests index ≡ Some held
-            → (self.new, outs.items) ≡ answers.answer_given_at
-            (λ change. slice_set self.old.requests index (change held)) self.old event respond
-            now held) }
+        ensures { IfOk result (λ outs. (self.new, outs.items)
+            ≡ option_map_or (answers.answer_given self.old event respond now)
+            (find (has_id respond.id) self.old.requests) (state.quiet self.old)) }
     {
-        let (status, reliability) = (respond.status, respond.reliability);
-        let held = &mut self.requests[index];
+        let (invite, status, reliability) = (respond.id, respond.status, respond.reliability);
+        let Some(held) = self.requests.get(invite) else {
+            return Ok(Vec::new(self.alloc));
+        };
         let (id, key) = (held.id, held.key.clone()?);
         let response = answer_to(self.alloc, self.local, held, respond)?;
-        let dialogs = &mut self.dialogs;
-        let ends = answer_dialogs(self.alloc, dialogs, event, held, status, &response)?;
-        note_answer(self.alloc, held, status, reliability, &response, now)?;
+        let ends = self.note_answer(invite, event, status, reliability, &response, now)?;
         let message = Boxed::new(self.alloc, response)?;
         let command = CallOut::Command(id, Command::Answer { key, message });
         joined(one(self.alloc, command)?, ends)
+    }
+
+    // What is held after an answer to the request of this id, and the notices of the dialogs that
+    // end.
+    fn note_answer(
+        &mut self,
+        id: Id,
+        event: Id,
+        status: u16,
+        reliability: Reliability,
+        response: &Message,
+        now: u64,
+    ) -> Result<Vec<CallOut>, AllocError>
+        requires moment { now ≤ 2 ^ 62 }
+        requires low { 101 ≤ status }
+        requires high { status ≤ 699 }
+        ensures { IfOk result (λ outs. (self.new, outs.items) ≡ option_map_or
+            (answers.answer_noted self.old id event status reliability response.now now)
+            (find (has_id id) self.old.requests) (state.quiet self.old)) }
+    {
+        let Some(held) = self.requests.get(id) else {
+            return Ok(Vec::new(self.alloc));
+        };
+        let ends = answer_dialogs(self.alloc, &mut self.dialogs, event, held, status, response)?;
+        self.requests
+            .answer(id, event, status, reliability, response, now)?;
+        Ok(ends)
     }
 
     /// Does what is due at the moment `now`, in ms (RFC 3261, section 13.3.1.4; RFC 3262, section
@@ -501,17 +507,9 @@ impl ServerSide {
         ensures { IfOk result (λ outs. (self.new, outs.items) ≡ server_tick self.old now) }
     {
         let mut outs = Vec::new(self.alloc);
-        tick_requests(self.alloc, &mut self.requests, now, &mut outs)?;
-        remove_over(&mut self.requests, now);
+        self.requests.tick(now, &mut outs)?;
         Ok(outs)
     }
-}
-
-// Removes the requests whose moment of removal has come.
-fn remove_over(requests: &mut Vec<HeldRequest>, now: u64)
-    ensures { requests.new.items ≡ filter (is_kept_at now) requests.old.items }
-{
-    requests.retain(|held| is_kept(held, now));
 }
 
 impl Drop for ServerSide {

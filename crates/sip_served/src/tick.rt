@@ -1,6 +1,6 @@
 //! A tick: what is sent again, given up and removed.
 
-ghost use Rattle.std.specs.Prelude.{◌≡◌, ◌≤◌, ◌^◌, ◌++◌, [], IfOk, OnOk, map, None};
+ghost use Rattle.std.specs.Prelude.{◌≡◌, ◌≤◌, ◌^◌, ◌++◌, [], IfOk, OnOk, filter, map, None};
 ghost use Rattle.std.specs.List.{flat_map};
 ghost use Rattle.std.specs.Option.{option_and_then};
 ghost use Rattle.sip_reliable.specs.Happening.{is_among};
@@ -208,8 +208,15 @@ fn no_prack(held: &HeldRequest) -> Result<Notice, AllocError>
     })
 }
 
-/// Whether a request isn't removed yet.
-pub(crate) fn is_kept(held: &HeldRequest, now: u64) -> bool
+/// Removes the requests whose moment of removal has come.
+pub(crate) fn remove_over(requests: &mut Vec<HeldRequest>, now: u64)
+    ensures { requests.new.items ≡ filter (spec.is_kept_at now) requests.old.items }
+{
+    requests.retain(|held| is_kept(held, now));
+}
+
+// Whether a request isn't removed yet.
+fn is_kept(held: &HeldRequest, now: u64) -> bool
     ensures { result ≡ spec.is_kept_at now held.now }
 {
     held.removal.is_none_or(|moment| now < moment)

@@ -6,11 +6,11 @@ use Rattle.sip_held_dialogs.specs.Requests.{dialog_id_of}
 use Rattle.sip_served.specs.Respond.{made_dialog}
 use Rattle.sip_served.proofs.respond.make_dialog.Goals as goal
 
-pub returns-clause-dialogs : goal.returns-clause-dialogs
-returns-clause-dialogs c =
+pub returns : goal.returns
+returns c =
     c.in_ok-insert.ensures.entries
     ∙ (λ i. insert_entry is_dialog_id c.args.dialogs.now.entries
-    ((c.in_ok-clone.ensures.cases ∙ c.in_ok-name.ensures
+    ((c.in_ok-name.ensures
     ∙ ap (λ request. dialog_id_of request c.args.held.now.tag) c.get.ensures) i)
     ((c.in_ok-made.ensures ∙ ap (made_dialog c.args.event c.args.held.now) c.from_code.ensures)
     i))
