@@ -7,8 +7,8 @@ use Rattle.sip_text.specs.declared.separator.Separator.TheVariants.{Byte}
 use Rattle.sip_grammar.specs.HeaderEntry.{header_named}
 use Rattle.sip_grammar.specs.HeaderValue.{has_no_line_byte}
 use Rattle.sip_grammar.specs.declared.header_name.HeaderName.{HeaderName}
-use Rattle.sip_headers.specs.declared.header_line.LineClass.{LineClass}
-use Rattle.sip_headers.specs.declared.header_line.LineClass.TheVariants as declared
+use Rattle.sip_headers.specs.declared.line_class.LineClass.{LineClass}
+use Rattle.sip_headers.specs.declared.line_class.LineClass.TheVariants as declared
 
 -- ---- one line
 

@@ -7,7 +7,7 @@ ghost use Rattle.sip_headers.specs.Draft as drafts;
 ghost use Rattle.sip_headers.specs.HeaderLine.{class_from, class_now};
 ghost use Rattle.sip_headers.specs.Numbers as numbered;
 
-use crate::header_line::{LineClass, class_of};
+use crate::line_class::{LineClass, class_of};
 use crate::numbers::{Numbers, rack_with};
 use crate::slot::{Slot, read_list, read_once};
 use sip_grammar::{CallId, HeaderName, HeaderValue, OtherName, Token};

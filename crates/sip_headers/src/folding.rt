@@ -8,7 +8,7 @@ ghost use Rattle.sip_headers.specs.Steps.Drafted as steps;
 ghost use Rattle.sip_headers.specs.Whole.{whole_now};
 
 use crate::draft::Draft;
-use crate::header_line::plain_line;
+use crate::line_class::plain_line;
 use sip_text::{begins_blank, next_line, trimmed_end, trimmed_start};
 use std::alloc::{AllocError, Global};
 

@@ -5,8 +5,8 @@ mod draft;
 mod faultless;
 mod faults;
 mod folding;
-mod header_line;
 mod laws;
+mod line_class;
 mod numbers;
 mod slot;
 
@@ -14,7 +14,7 @@ pub use draft::{Draft, long_name};
 pub use faultless::Faultless;
 pub use faults::Presence;
 pub use folding::{Whole, gather, whole_line};
-pub use header_line::{LineClass, class_of};
 pub use laws::{what_headers_are, what_is_gathered, what_is_missing, what_is_repeated};
+pub use line_class::{LineClass, class_of};
 pub use numbers::{Numbers, with_ports};
 pub use slot::{Slot, read_list, read_once};

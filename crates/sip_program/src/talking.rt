@@ -16,7 +16,7 @@ use clap::ArgMatches;
 use sip_applications::{AnswerBody, CallPlan, ListenPlan, agent, call_from, listen_at};
 use sip_message::{Addr, CallId, Uri};
 use sip_text::Text;
-use sip_udp::{Endpoint, InputEnd, NoticeWriter, UaFault, Written};
+use sip_udp::{Endpoint, InputEnd, QueuedWriter, UaFault, Written};
 use std::alloc::{AllocError, Global};
 use std::fs::{self, File};
 use std::io::{self, Write};
@@ -239,8 +239,8 @@ fn notice_writer<'a, T: Threads + Host, N: Write + Send + Drop + 'static>(
     rt: &T,
     alloc: Global,
     stream: N,
-) -> Result<NoticeWriter, Failure<'a>> {
-    match NoticeWriter::start(rt, alloc, stream) {
+) -> Result<QueuedWriter, Failure<'a>> {
+    match QueuedWriter::start(rt, alloc, stream) {
         Ok(writer) => Ok(writer),
         Err(fault) => Err(Failure::unknown(TalkFault::Ua(fault))),
     }

@@ -1,6 +1,6 @@
 //! The writer of notices.
 
-use sip_udp::{NoticeWriter, Written};
+use sip_udp::{QueuedWriter, Written};
 use std::alloc::Global;
 use std::io::{self, PipeReader, Read, Write};
 use std::test::Fail;
@@ -29,7 +29,7 @@ fn count_to_end(mut reader: PipeReader) -> u64 {
 #[test]
 fn an_output_that_is_read_late(rt: HostRuntime) -> Result<(), Fail> {
     let (reader, pipe) = io::pipe(&rt)?;
-    let mut writer = NoticeWriter::start(&rt, rt.alloc(), pipe).map_err(|_| "no writer")?;
+    let mut writer = QueuedWriter::start(&rt, rt.alloc(), pipe).map_err(|_| "no writer")?;
     for _ in 0..PIECES {
         writer.write_all(PIECE)?;
         writer.flush()?;
@@ -48,7 +48,7 @@ fn an_output_that_is_read_late(rt: HostRuntime) -> Result<(), Fail> {
 fn an_output_that_is_closed(rt: HostRuntime) -> Result<(), Fail> {
     let (reader, pipe) = io::pipe(&rt)?;
     drop(reader);
-    let mut writer = NoticeWriter::start(&rt, rt.alloc(), pipe).map_err(|_| "no writer")?;
+    let mut writer = QueuedWriter::start(&rt, rt.alloc(), pipe).map_err(|_| "no writer")?;
     writer.write_all(PIECE)?;
     writer.flush()?;
     let Written { lost, error } = writer.finish(&rt);

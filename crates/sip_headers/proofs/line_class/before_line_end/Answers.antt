@@ -1,7 +1,7 @@
 -- `before_line_end`: what it finds is a text without CR and LF, a line end, and the text after it.
 use Rattle.std.proofs.Common.{sym}
 use Rattle.sip_headers.proofs.PlainLines.{plain_end}
-use Rattle.sip_headers.proofs.header_line.before_line_end.Goals as goal
+use Rattle.sip_headers.proofs.line_class.before_line_end.Goals as goal
 
 pub returns : goal.returns
 returns c =

@@ -3,7 +3,7 @@ use Rattle.std.proofs.Common.{List, ℕ, ap, sym, ◌∙◌}
 use Rattle.sip_grammar.specs.HeaderEntry.{header_named}
 use Rattle.sip_headers.specs.HeaderLine.{class_by_name}
 use Rattle.sip_headers.proofs.PlainLines.{plain_line_is}
-use Rattle.sip_headers.proofs.header_line.plain_line.Goals as goal
+use Rattle.sip_headers.proofs.line_class.plain_line.Goals as goal
 
 pub returns : goal.returns
 returns c =

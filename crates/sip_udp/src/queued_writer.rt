@@ -29,7 +29,7 @@ const PAUSE: u64 = 1_000;
 /// A writer that never waits for its stream. What was written between two flushes is a piece. A
 /// thread writes the pieces to the stream, in order. A piece for which there is no room is lost.
 #[derive(Drop)]
-pub struct NoticeWriter {
+pub struct QueuedWriter {
     alloc: Global,
     piece: Vec<u8>,
     line: Poster<Vec<u8>>,
@@ -57,7 +57,7 @@ struct Signals {
     has_failed: AtomicBool,
 }
 
-impl NoticeWriter {
+impl QueuedWriter {
     /// Starts the thread that writes to this stream.
     ///
     /// # Errors
@@ -67,7 +67,7 @@ impl NoticeWriter {
         rt: &R,
         alloc: Global,
         stream: W,
-    ) -> Result<NoticeWriter, UaFault> {
+    ) -> Result<QueuedWriter, UaFault> {
         let (desk, mut posters) = open(alloc, 1, ROOM)?;
         let Some(line) = posters.pop() else {
             return Err(UaFault::NoMemory);
@@ -77,7 +77,7 @@ impl NoticeWriter {
         let Ok(thread) = thread::spawn(rt, move || write_all(alloc, desk, stream, &theirs)) else {
             return Err(UaFault::Socket);
         };
-        Ok(NoticeWriter {
+        Ok(QueuedWriter {
             alloc,
             piece: Vec::new(alloc),
             line,
@@ -99,7 +99,7 @@ impl NoticeWriter {
     }
 }
 
-impl Write for NoticeWriter {
+impl Write for QueuedWriter {
     fn write(&mut self, bytes: &[u8]) -> io::Result<usize> {
         if self.signals.has_failed.load(Ordering::SeqCst) {
             return Err(io::Error::from(ErrorKind::BrokenPipe));
