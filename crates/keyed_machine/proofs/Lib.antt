@@ -12,6 +12,7 @@ pub mod Ordered
 pub mod Parts
 pub mod Phases
 pub mod Rules
+pub mod SameKeys
 pub mod Shards
 pub mod Spoken
 pub mod Tick

@@ -1,13 +1,12 @@
 -- Lists of keys in order, and look-ups among entries whose keys are in order.
 use Rattle.std.proofs.Common.{◌≡◌, Bool, true, false, cond, ◌||◌, List, [], ◌∷◌, ◌++◌, refl, sym, ◌∙◌, ap, subst}
-use Rattle.std.specs.Prelude.{None, Some, is_some, filter}
+use Rattle.std.specs.Prelude.{filter}
 use Rattle.std.specs.declared.cmp.Ordering.{Ordering}
 use Rattle.std.specs.declared.cmp.Ordering.TheVariants.{Less, Equal, Greater}
 use Rattle.std.specs.Ordering.{is_eq, ordering_reverse}
 use Rattle.std.specs.Cmp.{IsTotalOrder}
 use Rattle.std.specs.BTreeMap.{is_at}
-use Rattle.std.specs.Map.{lookup, keys_of}
-use Rattle.std.specs.List.{flat_map, list_any, AllByRecursion, AllZip}
+use Rattle.std.specs.List.{flat_map, list_any, AllByRecursion}
 use Rattle.std.specs.List.Sorted.{IsStrictlySortedBy}
 use Rattle.std.proofs.lemmas.Map.Keys.{sorted_head, sorted_tail}
 use Rattle.std.proofs.lemmas.Map.Lookups.{CmpEqualImpliesEq}
@@ -35,25 +34,10 @@ equal_from_is_eq Equal e = refl
 equal_from_is_eq Greater e = absurd (false≢true e)
 
 -- two facts on each element give a third one
-pub all_both : {X : Type 0} {P Q R : X → Type 0} → ((x : X) → P x → Q x → R x) → (xs : List X)
+all_both : {X : Type 0} {P Q R : X → Type 0} → ((x : X) → P x → Q x → R x) → (xs : List X)
     → AllByRecursion P xs → AllByRecursion Q xs → AllByRecursion R xs
 all_both f [] p q = p
 all_both f (x ∷ xs) p q = (f x p.0 q.0, all_both f xs p.1 q.1)
-
-pub all_here : {X : Type 0} {P : X → Type 0} → ((x : X) → P x) → (xs : List X) → AllByRecursion P xs
-all_here f [] = tt
-all_here f (x ∷ xs) = (f x, all_here f xs)
-
--- a fact on the keys, said of the entries
-pub all_entries : {K S : Type 0} (P : K → Type 0) (es : List (K × S))
-    → AllByRecursion P (keys_of es) → AllByRecursion (λ (e : K × S). P e.0) es
-all_entries P [] p = p
-all_entries P (e ∷ es) p = (p.0, all_entries P es p.1)
-
-pub all_keys : {K S : Type 0} (P : K → Type 0) (es : List (K × S))
-    → AllByRecursion (λ (e : K × S). P e.0) es → AllByRecursion P (keys_of es)
-all_keys P [] p = p
-all_keys P (e ∷ es) p = (p.0, all_keys P es p.1)
 
 -- elements without outputs may be left out
 pub flat_map-filter : {X O : Type 0} (f : X → List O) (p : X → Bool)
@@ -64,18 +48,7 @@ flat_map-filter f p silent (x ∷ xs) =
     (λ e. rw e (ap (λ rest. f x ++ rest) (flat_map-filter f p silent xs)))
     (λ e. rw e (rw (silent x e) (flat_map-filter f p silent xs)))
 
-pub flat_map-keys : {K S O : Type 0} (f : K → List O) (g : K × S → List O) (es : List (K × S))
-    → AllByRecursion (λ (e : K × S). f e.0 ≡ g e) es → flat_map f (keys_of es) ≡ flat_map g es
-flat_map-keys f g [] h = refl
-flat_map-keys f g (e ∷ es) h =
-    ap (λ first. first ++ flat_map f (keys_of es)) h.0
-    ∙ ap (λ rest. g e ++ rest) (flat_map-keys f g es h.1)
-
 module _ {K : Type 0} {cmp : K → K → Ordering} (total : IsTotalOrder cmp) where
-  -- a key isn't equal to a lower one
-  pub not_at_lower : (x y : K) → cmp x y ≡ Less → is_at (cmp y) x ≡ false
-  not_at_lower x y less = ap is_eq (total.antisymm y x ∙ ap ordering_reverse less)
-
   pub is_at_back : (x y : K) (b : Bool) → is_at (cmp x) y ≡ b → is_at (cmp y) x ≡ b
   is_at_back x y b h = by_ordering (cmp x y)
       (λ e. ap is_eq (total.antisymm y x ∙ ap ordering_reverse e) ∙ sym (ap is_eq e) ∙ h)
@@ -94,80 +67,10 @@ module _ {K : Type 0} {cmp : K → K → Ordering} (total : IsTotalOrder cmp) wh
   none_below k [] below = refl
   none_below k (y ∷ ys) below = rw below.0 (none_below k ys below.1)
 
-  pub lookup_below : {S : Type 0} (k : K) (es : List (K × S))
-      → AllByRecursion (λ y. cmp k y ≡ Less) (keys_of es) → lookup (is_at (cmp k)) es ≡ None
-  lookup_below k [] below = refl
-  lookup_below k (e ∷ es) below = rw below.0 (lookup_below k es below.1)
-
   -- a key that is found isn't the one below all others
   below_all : (x : K) (k : K) (ks : List K) → cmp x k ≡ Less
       → AllByRecursion (λ y. cmp k y ≡ Less) ks → AllByRecursion (λ y. cmp x y ≡ Less) (k ∷ ks)
   below_all x k ks less below = (less, all_both (λ y p q. total.trans x k y less p) ks below below)
-
-  -- filtering keys in order gives the keys in order that pass the test
-  pub filter_tied : (p : K → Bool) (keys held : List K) → IsStrictlySortedBy cmp keys
-      → IsStrictlySortedBy cmp held
-      → AllByRecursion (λ k. p k ≡ list_any (is_at (cmp k)) held) keys
-      → AllByRecursion (λ h. list_any (is_at (cmp h)) keys ≡ true) held
-      → AllZip (λ k h. cmp k h ≡ Equal) (filter p keys) held
-  filter_tied p [] [] keys_ordered held_ordered passes among = tt
-  filter_tied p [] (h ∷ hs) keys_ordered held_ordered passes among = absurd (false≢true among.0)
-  filter_tied p (k ∷ ks) [] keys_ordered held_ordered passes among =
-      rw (passes.0) (filter_tied p ks []
-      (sorted_tail cmp k ks keys_ordered) held_ordered passes.1 among)
-  filter_tied p (k ∷ ks) (h ∷ hs) keys_ordered held_ordered passes among =
-      let above_k : AllByRecursion (λ y. cmp k y ≡ Less) ks = sorted_head cmp k ks keys_ordered in
-      let above_h : AllByRecursion (λ y. cmp h y ≡ Less) hs = sorted_head cmp h hs held_ordered in
-      let ks_ordered : IsStrictlySortedBy cmp ks = sorted_tail cmp k ks keys_ordered in
-      let hs_ordered : IsStrictlySortedBy cmp hs = sorted_tail cmp h hs held_ordered in
-      by_ordering (cmp k h)
-      (λ less.
-      let apart : list_any (is_at (cmp k)) (h ∷ hs) ≡ false =
-      none_below k (h ∷ hs) (below_all k h hs less above_h) in
-      let drops : p k ≡ false = passes.0 ∙ apart in
-      let later : AllByRecursion (λ x. list_any (is_at (cmp x)) ks ≡ true) (h ∷ hs) =
-      all_both (λ x lower found. sym
-      (ap (λ b. b || list_any (is_at (cmp x)) ks) (not_at_lower k x lower)) ∙ found) (h ∷ hs)
-      (below_all k h hs less above_h) among in
-      rw drops (filter_tied p ks (h ∷ hs) ks_ordered held_ordered passes.1 later))
-      (λ equal.
-      let keeps : p k ≡ true = passes.0 ∙ ap (λ o. is_eq o || list_any (is_at (cmp k)) hs) equal in
-      let above : AllByRecursion (λ y. cmp h y ≡ Less) ks =
-      all_both (λ y lower again. sym (total.congr k h y equal) ∙ lower) ks above_k above_k in
-      let below : AllByRecursion (λ y. cmp k y ≡ Less) hs =
-      all_both (λ y lower again. total.congr k h y equal ∙ lower) hs above_h above_h in
-      let tests : AllByRecursion (λ q. p q ≡ list_any (is_at (cmp q)) hs) ks =
-      all_both (λ q lower pass. pass
-      ∙ ap (λ b. b || list_any (is_at (cmp q)) hs) (not_at_lower h q lower)) ks above
-      passes.1 in
-      let found : AllByRecursion (λ x. list_any (is_at (cmp x)) ks ≡ true) hs =
-      all_both (λ x lower is. sym (ap (λ b. b || list_any (is_at (cmp x)) ks)
-      (not_at_lower k x lower)) ∙ is) hs below among.1 in
-      rw keeps (equal, filter_tied p ks hs ks_ordered hs_ordered tests found))
-      (λ greater.
-      let less : cmp h k ≡ Less = total.antisymm h k ∙ ap ordering_reverse greater in
-      absurd (false≢true (sym (none_below h (k ∷ ks) (below_all h k ks less above_k)) ∙ among.0)))
-
-  -- each entry is what a look-up of its key finds
-  pub found_entries : {S : Type 0} (es : List (K × S)) → IsStrictlySortedBy cmp (keys_of es)
-      → AllByRecursion (λ (e : K × S). lookup (is_at (cmp e.0)) es ≡ Some e.1) es
-  found_entries [] ordered = tt
-  found_entries {S} (e ∷ es) ordered =
-      let tail : AllByRecursion (λ (f : K × S). lookup (is_at (cmp f.0)) es ≡ Some f.1) es =
-      found_entries es (sorted_tail cmp e.0 (keys_of es) ordered) in
-      let above : AllByRecursion (λ (f : K × S). cmp e.0 f.0 ≡ Less) es =
-      all_entries (λ k. cmp e.0 k ≡ Less) es (sorted_head cmp e.0 (keys_of es) ordered) in (
-        ap (λ b. cond b (Some e.1) (lookup (is_at (cmp e.0)) es)) (is_at_itself e.0),
-        all_both (λ f lower found. ap (λ b. cond b (Some e.1) (lookup (is_at (cmp f.0)) es))
-            (not_at_lower e.0 f.0 lower) ∙ found) es above tail,
-      )
-
-  -- a key is found if it is among the keys
-  pub is_some-lookup : {S : Type 0} (q : K) (es : List (K × S))
-      → is_some (lookup (is_at (cmp q)) es) ≡ list_any (is_at (cmp q)) (keys_of es)
-  is_some-lookup q [] = refl
-  is_some-lookup q (e ∷ es) =
-      by_bool (is_at (cmp q) e.0) (λ hit. rw hit refl) (λ miss. rw miss (is_some-lookup q es))
 
 -- ---- two lists of keys in order
 

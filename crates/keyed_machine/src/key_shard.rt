@@ -13,7 +13,8 @@ use crate::fault::ShardFault;
 use crate::item::Item;
 use crate::machine::StateMachine;
 use crate::phase_outputs::PhaseOutputs;
-use std::collections::BTreeMap;
+use seeded_hash::HashSeed;
+use std::collections::HashMap;
 
 /// Some keys of a machine, held together. A phase over many shards calls these functions of each.
 ///
@@ -92,11 +93,15 @@ pub trait KeyShard {
             ≡ cond (is_at (Self.Machine.Key.cmp key) q) (Some state)
             (state_at Self.Machine.Key.cmp (held self.old) q)) };
 
-    /// The held keys with their states. A broken shard has none to give.
+    /// The held keys with their states, in any order. A broken shard has none to give.
     fn into_states(
         self,
     ) -> Option<
-        BTreeMap<<Self::Machine as StateMachine>::Key, <Self::Machine as StateMachine>::State>,
+        HashMap<
+            <Self::Machine as StateMachine>::Key,
+            <Self::Machine as StateMachine>::State,
+            HashSeed,
+        >,
     >
         ensures { option_map (λ states. states.entries) result ≡ held self };
 }

@@ -11,6 +11,7 @@ mod machine;
 mod merge;
 mod one_key;
 mod phase_outputs;
+mod states;
 mod table;
 mod ticks;
 

@@ -6,10 +6,11 @@ ghost use Rattle.sip_timers.specs.Queue.{IsClonedAlike};
 ghost use Rattle.keyed_machine.specs.Machine.{Machine, Timed, IsIdle, given_at, next, adds, tick_at};
 
 use std::alloc::{AllocError, Global};
+use std::hash::Hash;
 
 /// A machine for each key, as code that works on the state of one key.
 pub trait StateMachine {
-    type Key: Ord + Clone + Drop;
+    type Key: Ord + Hash + Clone + Drop;
 
     type State: Drop;
 

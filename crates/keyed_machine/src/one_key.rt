@@ -2,36 +2,40 @@
 
 ghost use Rattle.std.specs.Prelude.{◌≡◌, ◌≤◌, ◌^◌, ℕ, Option, None, Some, true, IfOk, OnOk, cond, if◌then◌else◌};
 ghost use Rattle.std.specs.Option.{option_copied};
-ghost use Rattle.std.specs.BTreeMap.{get, is_at};
+ghost use Rattle.std.specs.BTreeMap.{is_at};
+ghost use Rattle.std.specs.HashMap.{get};
 ghost use Rattle.sip_timers.specs.Index.{IsIndexOf, with_moment};
 ghost use Rattle.keyed_machine.specs.Machine.{given_at, next, adds, due_of, tick_at};
-ghost use Rattle.keyed_machine.specs.Table.{AreDues};
+ghost use Rattle.keyed_machine.specs.Table.{AreDues, state_in};
 
 use crate::machine::StateMachine;
+use crate::states::{hold, take, taken};
+use seeded_hash::HashSeed;
 use sip_timers::Schedule;
 use std::alloc::{AllocError, Global};
-use std::collections::BTreeMap;
-use std::collections::btree_map::Entry;
+use std::collections::HashMap;
+use std::collections::hash_map::Entry;
+use std::hash::Hash;
 
 /// Gives one key an input at a moment in ms, and answers the outputs of its machine.
 pub(crate) fn step_key<M: StateMachine>(
     alloc: Global,
     machine: &M,
-    states: &mut BTreeMap<M::Key, M::State>,
+    states: &mut HashMap<M::Key, M::State, HashSeed>,
     dues: &mut Schedule<M::Key>,
     key: M::Key,
     now: u64,
     input: M::Input,
 ) -> Result<Vec<M::Output>, AllocError>
     requires moment { now ≤ 2 ^ 62 }
-    requires armed { AreDues M.Key.cmp M.due (get M.Key.cmp states.old) dues.old }
-    ensures states { OnOk result ((q : M.Key) → get M.Key.cmp states.new q
+    requires armed { AreDues M.Key.cmp M.due (state_in M.Key.cmp states.old.entries) dues.old }
+    ensures states { OnOk result ((q : M.Key) → state_in M.Key.cmp states.new.entries q
         ≡ cond (is_at (M.Key.cmp key) q)
-        (next (M.machine machine.now) key (get M.Key.cmp states.old key) (given_at now input))
-        (get M.Key.cmp states.old q)) }
-    ensures armed { OnOk result (AreDues M.Key.cmp M.due (get M.Key.cmp states.new) dues.new) }
+        (next (M.machine machine.now) key (state_in M.Key.cmp states.old.entries key) (given_at now input))
+        (state_in M.Key.cmp states.old.entries q)) }
+    ensures armed { OnOk result (AreDues M.Key.cmp M.due (state_in M.Key.cmp states.new.entries) dues.new) }
     ensures added { IfOk result (λ outputs. outputs.items
-        ≡ adds (M.machine machine.now) key (get M.Key.cmp states.old key) (given_at now input)) }
+        ≡ adds (M.machine machine.now) key (state_in M.Key.cmp states.old.entries key) (given_at now input)) }
 {
     if machine.may_begin(&input) {
         return enter_key(alloc, machine, states, dues, key, now, input);
@@ -50,21 +54,21 @@ pub(crate) fn step_key<M: StateMachine>(
 fn enter_key<M: StateMachine>(
     alloc: Global,
     machine: &M,
-    states: &mut BTreeMap<M::Key, M::State>,
+    states: &mut HashMap<M::Key, M::State, HashSeed>,
     dues: &mut Schedule<M::Key>,
     key: M::Key,
     now: u64,
     input: M::Input,
 ) -> Result<Vec<M::Output>, AllocError>
     requires moment { now ≤ 2 ^ 62 }
-    requires armed { AreDues M.Key.cmp M.due (get M.Key.cmp states.old) dues.old }
-    ensures states { OnOk result ((q : M.Key) → get M.Key.cmp states.new q
+    requires armed { AreDues M.Key.cmp M.due (state_in M.Key.cmp states.old.entries) dues.old }
+    ensures states { OnOk result ((q : M.Key) → state_in M.Key.cmp states.new.entries q
         ≡ cond (is_at (M.Key.cmp key) q)
-        (next (M.machine machine.now) key (get M.Key.cmp states.old key) (given_at now input))
-        (get M.Key.cmp states.old q)) }
-    ensures armed { OnOk result (AreDues M.Key.cmp M.due (get M.Key.cmp states.new) dues.new) }
+        (next (M.machine machine.now) key (state_in M.Key.cmp states.old.entries key) (given_at now input))
+        (state_in M.Key.cmp states.old.entries q)) }
+    ensures armed { OnOk result (AreDues M.Key.cmp M.due (state_in M.Key.cmp states.new.entries) dues.new) }
     ensures added { IfOk result (λ outputs. outputs.items
-        ≡ adds (M.machine machine.now) key (get M.Key.cmp states.old key) (given_at now input)) }
+        ≡ adds (M.machine machine.now) key (state_in M.Key.cmp states.old.entries key) (given_at now input)) }
 {
     let entry = match states.entry(key)? {
         Entry::Vacant(entry) => entry,
@@ -93,17 +97,17 @@ struct NotHeld;
 
 // A key's state was changed in place. It is taken out if it doesn't stay, and the key is made due
 // at this moment, or at none, in place of the former.
-fn settle<K: Ord + Drop, S: Drop>(
-    states: &mut BTreeMap<K, S>,
+fn settle<K: Ord + Hash + Drop, S: Drop>(
+    states: &mut HashMap<K, S, HashSeed>,
     dues: &mut Schedule<K>,
     key: K,
     stays: bool,
     former: Option<u64>,
     due: Option<u64>,
 ) -> Result<(), AllocError>
-    ensures states { (q : K) → get K.cmp states.new q
-        ≡ (if stays then get K.cmp states.old q
-        else cond (is_at (K.cmp key) q) None (get K.cmp states.old q)) }
+    ensures states { (q : K) → get K.eq states.new q
+        ≡ (if stays then get K.eq states.old q
+        else cond (K.eq key q) None (get K.eq states.old q)) }
     ensures dues { OnOk result ((moments : K → Option ℕ)
         → IsIndexOf K.cmp moments dues.old → moments key ≡ former
         → IsIndexOf K.cmp (with_moment K.cmp moments key due) dues.new) }
@@ -118,25 +122,25 @@ fn settle<K: Ord + Drop, S: Drop>(
 pub(crate) fn tick_key<M: StateMachine>(
     alloc: Global,
     machine: &M,
-    states: &mut BTreeMap<M::Key, M::State>,
+    states: &mut HashMap<M::Key, M::State, HashSeed>,
     dues: &mut Schedule<M::Key>,
     key: &M::Key,
     now: u64,
 ) -> Result<Vec<M::Output>, AllocError>
     requires { now ≤ 2 ^ 62 }
-    ensures states { OnOk result ((q : M.Key) → get M.Key.cmp states.new q
+    ensures states { OnOk result ((q : M.Key) → state_in M.Key.cmp states.new.entries q
         ≡ cond (is_at (M.Key.cmp key.now) q)
-        (next (M.machine machine.now) key.now (get M.Key.cmp states.old key.now) (tick_at now))
-        (get M.Key.cmp states.old q)) }
+        (next (M.machine machine.now) key.now (state_in M.Key.cmp states.old.entries key.now) (tick_at now))
+        (state_in M.Key.cmp states.old.entries q)) }
     ensures dues { OnOk result ((moments : M.Key → Option ℕ)
         → IsIndexOf M.Key.cmp moments dues.old → moments key.now ≡ None
         → IsIndexOf M.Key.cmp (with_moment M.Key.cmp moments key.now
         (due_of M.due (next (M.machine machine.now) key.now
-        (get M.Key.cmp states.old key.now) (tick_at now)))) dues.new) }
+        (state_in M.Key.cmp states.old.entries key.now) (tick_at now)))) dues.new) }
     ensures added { IfOk result (λ outputs. outputs.items
-        ≡ adds (M.machine machine.now) key.now (get M.Key.cmp states.old key.now) (tick_at now)) }
+        ≡ adds (M.machine machine.now) key.now (state_in M.Key.cmp states.old.entries key.now) (tick_at now)) }
 {
-    let Some((held, state)) = states.remove_entry(key) else {
+    let Some((held, state)) = take(states, key) else {
         return Ok(Vec::new(alloc));
     };
     let (after, outputs) = machine.tick(alloc, key, state, now)?;
@@ -144,7 +148,7 @@ pub(crate) fn tick_key<M: StateMachine>(
         if let Some(due) = machine.due_of(&after) {
             dues.arm(copy_of::<M>(key)?, due)?;
         }
-        states.insert(held, after)?;
+        hold(states, held, after)?;
     }
     Ok(outputs)
 }
@@ -152,16 +156,16 @@ pub(crate) fn tick_key<M: StateMachine>(
 /// Holds a key with this state.
 pub(crate) fn hold_key<M: StateMachine>(
     machine: &M,
-    states: &mut BTreeMap<M::Key, M::State>,
+    states: &mut HashMap<M::Key, M::State, HashSeed>,
     dues: &mut Schedule<M::Key>,
     key: M::Key,
     state: M::State,
 ) -> Result<(), AllocError>
-    requires { AreDues M.Key.cmp M.due (get M.Key.cmp states.old) dues.old }
+    requires { AreDues M.Key.cmp M.due (state_in M.Key.cmp states.old.entries) dues.old }
     ensures states { OnOk result ((q : M.Key)
-        → get M.Key.cmp states.new q ≡ cond (is_at (M.Key.cmp key) q) (Some state)
-        (get M.Key.cmp states.old q)) }
-    ensures armed { OnOk result (AreDues M.Key.cmp M.due (get M.Key.cmp states.new) dues.new) }
+        → state_in M.Key.cmp states.new.entries q ≡ cond (is_at (M.Key.cmp key) q) (Some state)
+        (state_in M.Key.cmp states.old.entries q)) }
+    ensures armed { OnOk result (AreDues M.Key.cmp M.due (state_in M.Key.cmp states.new.entries) dues.new) }
 {
     let before = taken(states, &key);
     let former = due_moment(machine, before.as_ref());
@@ -169,30 +173,21 @@ pub(crate) fn hold_key<M: StateMachine>(
     Ok(())
 }
 
-// Takes out the state that is held for a key.
-fn taken<K: Ord + Drop, S>(states: &mut BTreeMap<K, S>, key: &K) -> Option<S>
-    ensures state { result ≡ get K.cmp states.old key.now }
-    ensures states { (q : K) → get K.cmp states.new q
-        ≡ cond (is_at (K.cmp key.now) q) None (get K.cmp states.old q) }
-{
-    states.remove(key)
-}
-
 // Holds the state that a key has now, if any, and arms the key for the moment at which that state
 // is due, in place of the former. The key is copied if the moment is another one.
 fn put_back<M: StateMachine>(
     machine: &M,
-    states: &mut BTreeMap<M::Key, M::State>,
+    states: &mut HashMap<M::Key, M::State, HashSeed>,
     dues: &mut Schedule<M::Key>,
     key: M::Key,
     former: Option<u64>,
     state: Option<M::State>,
 ) -> Result<(), AllocError>
     requires absent { (q : M.Key) → is_at (M.Key.cmp key) q ≡ true
-        → get M.Key.cmp states.old q ≡ None }
+        → state_in M.Key.cmp states.old.entries q ≡ None }
     ensures states { OnOk result ((q : M.Key)
-        → get M.Key.cmp states.new q ≡ cond (is_at (M.Key.cmp key) q) state
-        (get M.Key.cmp states.old q)) }
+        → state_in M.Key.cmp states.new.entries q ≡ cond (is_at (M.Key.cmp key) q) state
+        (state_in M.Key.cmp states.old.entries q)) }
     ensures dues { OnOk result ((moments : M.Key → Option ℕ)
         → IsIndexOf M.Key.cmp moments dues.old → moments key ≡ former
         → IsIndexOf M.Key.cmp (with_moment M.Key.cmp moments key (due_of M.due state)) dues.new) }
@@ -204,7 +199,7 @@ fn put_back<M: StateMachine>(
     if former != due {
         set_due(dues, copy_of::<M>(&key)?, former, due)?;
     }
-    states.insert(key, state)?;
+    hold(states, key, state)?;
     Ok(())
 }
 

@@ -2,7 +2,7 @@
 
 ghost use Rattle.std.specs.Prelude.{◌≡◌, ◌≤◌, ◌^◌, ℕ, Bool, List, Option, Some, None, [], IfOk, IfSome, OnOk, OnErr, IsTrue, cond, length, true, false, count_by, is_some, IsErr, IsSome};
 ghost use Rattle.std.specs.Option.{option_copied, option_map};
-ghost use Rattle.std.specs.BTreeMap.{get, is_at, BTreeMap};
+ghost use Rattle.std.specs.BTreeMap.{is_at};
 ghost use Rattle.keyed_machine.specs.Machine.{due_of, given_at, next, adds, tick_at};
 ghost use Rattle.keyed_machine.specs.Table.{AreDues, Held, IsCalm, state_at, state_in, entries_of, Covers, StepsKey, StepsAll};
 ghost use Rattle.keyed_machine.specs.Phase.{AddsPhase, DealsPhase, phase_at};
@@ -16,10 +16,12 @@ use crate::items::deal_items;
 use crate::machine::StateMachine;
 use crate::one_key::{hold_key, step_key};
 use crate::phase_outputs::PhaseOutputs;
+use crate::states::find;
 use crate::ticks::{joined, tick_due, tick_if};
+use seeded_hash::HashSeed;
 use sip_timers::Schedule;
 use std::alloc::{AllocError, Global};
-use std::collections::BTreeMap;
+use std::collections::HashMap;
 use std::marker::Model;
 
 /// The keys that have a state, with those states.
@@ -47,7 +49,7 @@ impl<M: StateMachine> Drop for Table<M> {
 
 // The held states, and the moment in ms at which each is due, if there is one.
 struct Live<M: StateMachine> {
-    states: BTreeMap<M::Key, M::State>,
+    states: HashMap<M::Key, M::State, HashSeed>,
     dues: Schedule<M::Key>,
 }
 
@@ -86,9 +88,9 @@ impl<M: StateMachine> Live<M> {
         }
     }
 
-    fn into_parts(self) -> (BTreeMap<M::Key, M::State>, Schedule<M::Key>)
+    fn into_parts(self) -> (HashMap<M::Key, M::State, HashSeed>, Schedule<M::Key>)
         ensures states { result.0.entries ≡ self }
-        ensures dues { AreDues M.Key.cmp M.due (state_in M.Key.cmp self) result.1 }
+        ensures dues { AreDues M.Key.cmp M.due (state_in M.Key.cmp result.0.entries) result.1 }
     {
         let Live { states, dues } = self;
         (states, dues)
@@ -102,14 +104,14 @@ impl<M: StateMachine> Drop for Live<M> {
 }
 
 impl<M: StateMachine> Table<M> {
-    /// A table that holds nothing.
-    pub fn new(alloc: Global) -> Self
+    /// A table that holds nothing, with the seed of its hashes.
+    pub fn new(alloc: Global, seed: HashSeed) -> Self
         ensures { result ≡ Some [] }
     {
         Table {
             alloc,
             live: Some(Live {
-                states: BTreeMap::new(alloc),
+                states: HashMap::with_hasher(alloc, seed),
                 dues: Schedule::new(alloc),
             }),
         }
@@ -131,11 +133,11 @@ impl<M: StateMachine> Table<M> {
     pub fn state(&self, key: &M::Key) -> Option<&M::State>
         ensures { option_copied result ≡ state_at M.Key.cmp self.now key.now }
     {
-        self.live.as_ref()?.states.get(key)
+        find(&self.live.as_ref()?.states, key)
     }
 
-    /// The held keys with their states. A broken table has none to give.
-    pub fn into_states(self) -> Option<BTreeMap<M::Key, M::State>>
+    /// The held keys with their states, in any order. A broken table has none to give.
+    pub fn into_states(self) -> Option<HashMap<M::Key, M::State, HashSeed>>
         ensures { option_map (λ states. states.entries) result ≡ self }
     {
         let (states, _) = self.into_parts()?.into_parts();

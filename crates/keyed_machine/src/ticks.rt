@@ -2,7 +2,6 @@
 
 ghost use Rattle.std.specs.Prelude.{◌≡◌, ◌≤◌, ◌^◌, List, IfOk, OnOk, Some, None, if◌then◌else◌};
 ghost use Rattle.std.specs.List.{flat_map};
-ghost use Rattle.std.specs.BTreeMap.{get};
 ghost use Rattle.keyed_machine.specs.Machine.{next, tick_at};
 ghost use Rattle.keyed_machine.specs.Table.{AreDues, Covers, state_in};
 ghost use Rattle.keyed_machine.specs.Phase.{ticked, told_tick};
@@ -10,28 +9,29 @@ ghost use Rattle.keyed_machine.specs.Groups.{groups, told_ticks, with_said};
 
 use crate::machine::StateMachine;
 use crate::one_key::tick_key;
+use seeded_hash::HashSeed;
 use sip_timers::Schedule;
 use std::alloc::{AllocError, Global};
-use std::collections::BTreeMap;
+use std::collections::HashMap;
 
 /// Gives every key that is due a tick at a moment in ms, in key order. Answers the outputs of each
 /// key that has any.
 pub(crate) fn tick_due<M: StateMachine>(
     alloc: Global,
     machine: &M,
-    states: &mut BTreeMap<M::Key, M::State>,
+    states: &mut HashMap<M::Key, M::State, HashSeed>,
     dues: &mut Schedule<M::Key>,
     now: u64,
 ) -> Result<Vec<(M::Key, Vec<M::Output>)>, AllocError>
     requires moment { now ≤ 2 ^ 62 }
-    requires armed { AreDues M.Key.cmp M.due (get M.Key.cmp states.old) dues.old }
+    requires armed { AreDues M.Key.cmp M.due (state_in M.Key.cmp states.old.entries) dues.old }
     ensures states { OnOk result ((q : M.Key)
-        → get M.Key.cmp states.new q ≡ next (M.machine machine.now) q (get M.Key.cmp states.old q)
+        → state_in M.Key.cmp states.new.entries q ≡ next (M.machine machine.now) q (state_in M.Key.cmp states.old.entries q)
         (tick_at now)) }
-    ensures armed { OnOk result (AreDues M.Key.cmp M.due (get M.Key.cmp states.new) dues.new) }
+    ensures armed { OnOk result (AreDues M.Key.cmp M.due (state_in M.Key.cmp states.new.entries) dues.new) }
     ensures told { IfOk result (λ told. (keys : List M.Key)
-        → Covers M.Key.cmp keys (get M.Key.cmp states.old)
-        → groups told.items ≡ told_ticks (M.machine machine.now) (get M.Key.cmp states.old)
+        → Covers M.Key.cmp keys (state_in M.Key.cmp states.old.entries)
+        → groups told.items ≡ told_ticks (M.machine machine.now) (state_in M.Key.cmp states.old.entries)
         (tick_at now) keys) }
 {
     let due = dues.take_due(now)?;
@@ -47,21 +47,21 @@ pub(crate) fn tick_due<M: StateMachine>(
 pub(crate) fn tick_if<M: StateMachine>(
     alloc: Global,
     machine: &M,
-    states: &mut BTreeMap<M::Key, M::State>,
+    states: &mut HashMap<M::Key, M::State, HashSeed>,
     dues: &mut Schedule<M::Key>,
     now: u64,
     ticks: bool,
 ) -> Result<Vec<(M::Key, Vec<M::Output>)>, AllocError>
     requires moment { now ≤ 2 ^ 62 }
-    requires armed { AreDues M.Key.cmp M.due (get M.Key.cmp states.old) dues.old }
+    requires armed { AreDues M.Key.cmp M.due (state_in M.Key.cmp states.old.entries) dues.old }
     ensures states { OnOk result ((q : M.Key)
-        → get M.Key.cmp states.new q ≡ ticked M.Key.cmp (M.machine machine.now)
-        tick_at (get M.Key.cmp states.old) (if ticks then Some now else None) q) }
-    ensures armed { OnOk result (AreDues M.Key.cmp M.due (get M.Key.cmp states.new) dues.new) }
+        → state_in M.Key.cmp states.new.entries q ≡ ticked M.Key.cmp (M.machine machine.now)
+        tick_at (state_in M.Key.cmp states.old.entries) (if ticks then Some now else None) q) }
+    ensures armed { OnOk result (AreDues M.Key.cmp M.due (state_in M.Key.cmp states.new.entries) dues.new) }
     ensures told { IfOk result (λ told. (keys : List M.Key)
-        → Covers M.Key.cmp keys (get M.Key.cmp states.old)
+        → Covers M.Key.cmp keys (state_in M.Key.cmp states.old.entries)
         → groups told.items ≡ told_tick M.Key.cmp (M.machine machine.now)
-        tick_at (get M.Key.cmp states.old) (if ticks then Some now else None) keys) }
+        tick_at (state_in M.Key.cmp states.old.entries) (if ticks then Some now else None) keys) }
 {
     if ticks {
         tick_due(alloc, machine, states, dues, now)

@@ -1,12 +1,13 @@
 -- `tick_due` gives the outputs that all held keys have to the tick.
 use Rattle.std.proofs.Common.{◌≡◌, [], ◌∷◌, subst, sym, ap, ◌∙◌, append-nil}
 use Rattle.std.proofs.lemmas.List.{nil_from_length}
-use Rattle.std.specs.BTreeMap.{get, is_at}
+use Rattle.std.specs.BTreeMap.{is_at}
 use Rattle.std.specs.List.{list_any}
 use Rattle.std.specs.List.Sorted.{IsStrictlySortedBy}
 use Rattle.std.specs.Vec.Iter.{into_iter_items}
 use Rattle.keyed_machine.specs.Machine.{due_of, tick_at}
 use Rattle.keyed_machine.specs.Groups.{groups}
+use Rattle.keyed_machine.specs.Table.{state_in}
 use Rattle.keyed_machine.proofs.Tick.{TickLeft, tick_left_at_first, tick_left_more, told_by_due}
 use Rattle.keyed_machine.proofs.ticks.tick_due.Goals as goal
 
@@ -16,7 +17,7 @@ loop-key-init g c =
     let machine = g.M.StateMachine.machine c.args.machine.now in
     let due = g.M.StateMachine.due in
     let input = tick_at c.args.now in
-    let old = get cmp c.args.states.now in
+    let old = state_in cmp c.args.states.now.entries in
     let all = into_iter_items c.into_iter-key-iterator.result in
     let gives : all ≡ c.in_ok-due.due.items =
     c.into_iter-key-iterator.ensures.into_iter_gives.0 in
@@ -35,17 +36,17 @@ loop-key-preserved g c =
     let machine = g.M.StateMachine.machine c.args.machine.now in
     let due = g.M.StateMachine.due in
     let input = tick_at c.args.now in
-    let old = get cmp c.args.states.now in
+    let old = state_in cmp c.args.states.now.entries in
     let all = into_iter_items c.into_iter-key-iterator.result in
     let left : TickLeft cmp machine due input old all
     (c.in-Some.key ∷ into_iter_items c.next.new.self)
-    (get cmp c.loop-key.states) c.loop-key.dues (groups c.loop-key.told.items) =
+    (state_in cmp c.loop-key.states.entries) c.loop-key.dues (groups c.loop-key.told.items) =
     subst (λ ks. TickLeft cmp machine due input old all ks
-    (get cmp c.loop-key.states) c.loop-key.dues (groups c.loop-key.told.items))
+    (state_in cmp c.loop-key.states.entries) c.loop-key.dues (groups c.loop-key.told.items))
     c.in-Some.ensures.steps.0 c.loop-key.invariant in
     let more = tick_left_more g.met.M.Key.Ord.total g.met.M.StateMachine.exact machine due input old
-    all (into_iter_items c.next.new.self) c.in-Some.key (get cmp c.loop-key.states)
-    (get cmp c.tick_key.new.states)
+    all (into_iter_items c.next.new.self) c.in-Some.key (state_in cmp c.loop-key.states.entries)
+    (state_in cmp c.tick_key.new.states.entries)
     c.loop-key.dues c.tick_key.new.dues
     (groups c.loop-key.told.items) c.in_ok-outputs.outputs.items
     left
@@ -59,17 +60,17 @@ returns-clause-told g c =
     let machine = g.M.StateMachine.machine c.args.machine.now in
     let due = g.M.StateMachine.due in
     let input = tick_at c.args.now in
-    let old = get cmp c.args.states.now in
+    let old = state_in cmp c.args.states.now.entries in
     let all = into_iter_items c.into_iter-key-iterator.result in
     let gives : all ≡ c.in_ok-due.due.items =
     c.into_iter-key-iterator.ensures.into_iter_gives.0 in
     let left = c.loop-key.key-iterator in
     let nothing_left : into_iter_items left ≡ [] =
     nil_from_length (into_iter_items left) (sym left.rest.ok.0 ∙ c.in-None.ensures.steps.0) in
-    let done : TickLeft cmp machine due input old all [] (get cmp c.loop-key.states) c.loop-key.dues
+    let done : TickLeft cmp machine due input old all [] (state_in cmp c.loop-key.states.entries) c.loop-key.dues
     (groups c.loop-key.told.items) =
     subst (λ ks. TickLeft cmp machine due input old all ks
-    (get cmp c.loop-key.states) c.loop-key.dues (groups c.loop-key.told.items)) nothing_left
+    (state_in cmp c.loop-key.states.entries) c.loop-key.dues (groups c.loop-key.told.items)) nothing_left
     c.loop-key.invariant in
     λ keys covers.
     sym (append-nil (groups c.loop-key.told.items)) ∙ done.said

@@ -1,0 +1,2 @@
+pub mod HashSeed
+pub mod SeededHasher
