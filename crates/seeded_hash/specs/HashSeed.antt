@@ -1,11 +1,12 @@
 -- The seed of a map's hashes, made of a secret.
 use Rattle.std.specs.Prelude.{ℕ, List, [], ◌∷◌, replicate}
-use Rattle.std.specs.Hash.DefaultHasher as sip
+use Rattle.std.specs.Hash.FoldHasher as folding
 use Rattle.seeded_hash.specs.declared.hash_seed.HashSeed.{HashSeed}
 
--- SipHash of a secret and an index
+-- the hash of an index and a secret, by the hasher of std that everyone knows
 abbrev pub word_of : List ℕ → ℕ → ℕ
-word_of secret index = sip.finish (sip.write (sip.write sip.initial secret) (index ∷ []))
+word_of secret index =
+    folding.finish (folding.write (folding.write folding.initial (index ∷ [])) secret)
 
 -- the seed of a secret: two words of it
 abbrev pub seed_of : List ℕ → HashSeed

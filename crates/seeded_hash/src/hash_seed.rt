@@ -4,7 +4,7 @@ ghost use Rattle.std.specs.Prelude.{◌≡◌};
 ghost use Rattle.seeded_hash.specs.HashSeed as spec;
 
 use crate::seeded_hasher::SeededHasher;
-use std::hash::{BuildHasher, DefaultHasher, Hasher};
+use std::hash::{BuildHasher, FoldHasher, Hasher};
 
 /// How many bytes a secret has.
 pub const SECRET_BYTES: usize = 32;
@@ -21,7 +21,8 @@ pub struct HashSeed {
 }
 
 impl HashSeed {
-    /// The seed of a secret. It is made by SipHash, so it gives nothing of the secret away.
+    /// The seed of a secret: two words of 8 bytes, each made of the whole secret. Who learned both
+    /// would still know no more than half of what the secret holds.
     pub fn of(secret: &[u8; SECRET_BYTES]) -> HashSeed
         ensures { result ≡ spec.seed_of secret.now }
     {
@@ -48,12 +49,12 @@ impl BuildHasher for HashSeed {
     }
 }
 
-// SipHash of a secret and an index.
+// The hash of an index and a secret, by a hasher that everyone knows.
 fn word_of(secret: &[u8; SECRET_BYTES], index: u8) -> u64
     ensures { result ≡ spec.word_of secret.now index }
 {
-    let mut hasher = DefaultHasher::new();
-    hasher.write(secret);
+    let mut hasher = FoldHasher::default();
     hasher.write_u8(index);
+    hasher.write(secret);
     hasher.finish()
 }

@@ -9,6 +9,7 @@ pub mod Line
 pub mod Trimmed
 pub mod Separator
 pub mod Forms
+pub mod Hashed
 pub mod Quoted
 pub mod Parameter
 pub mod OpenQuote

@@ -1,11 +1,11 @@
 //! A text of bytes.
 ghost use Rattle.std.specs.Prelude.{◌≡◌, ◌++◌, ◌==◌, length, nat_eq, IfOk, OnErr, OnOk};
-ghost use Rattle.std.specs.Hash as fed;
 ghost use Rattle.std.specs.Ordering.{nat_cmp, as_partial_cmp};
 ghost use Rattle.std.specs.Cmp.Lexicographic.{pointwise, slice_cmp, nat_list_eq_equiv};
 ghost use Rattle.std.specs.Cmp.{partial_equiv_from_equiv, partial_order_from_own_ties};
 ghost use Rattle.std.specs.Cmp.Rules.{comparing, hashing};
 ghost use Rattle.std.proofs.Common.{rules};
+ghost use Rattle.sip_text.specs.Hashed.{text_writes};
 
 use crate::order::byte_order;
 use std::alloc::{AllocError, Global};
@@ -128,11 +128,12 @@ impl Ord for Text {
 }
 
 impl Hash for Text {
-    ghost hash_input = { fed.slice fed.u8 };
+    ghost hash_input = { text_writes };
 
     ghost respects_eq = { Prim.search (hashing, rules) };
 
     fn hash<H: Hasher>(&self, state: &mut H) {
-        self.as_slice().hash(state);
+        state.write_usize(self.len());
+        state.write(self.as_slice());
     }
 }
