@@ -14,8 +14,8 @@ use sip_message::{Addr, CallId, Uri, ip_text};
 use sip_round::Event;
 use sip_text::Text;
 use sip_udp::{
-    Bell, CountedSocket, Endpoint, Flags, Heard, Limit, Losses, MOST_COLLECTED, Record, Turns,
-    UaFault, User, hear, system_drops,
+    Admission, Bell, CountedSocket, Endpoint, Flags, Heard, Limit, Losses, MOST_COLLECTED, Record,
+    Turns, UaFault, User, hear, system_drops,
 };
 use std::alloc::{AllocError, Global};
 use std::io::{self, BufRead, Write};
@@ -262,13 +262,16 @@ fn turns_at<R: Clock, U: User, F: Write + Drop, E: Write>(
         is_counted,
         tells_drops,
         seconds,
+        most_held,
         input,
     } = endpoint;
     let record = Record::new(kind, record);
     let limit = Limit::new(seconds, input);
+    let admission = Admission::new(most_held);
     let drops = tells_drops || user.is_eager();
     let turns = Turns::new(
-        rt, alloc, config, division, record, limit, drops, is_counted, user, bell, errors,
+        rt, alloc, config, division, record, limit, admission, drops, is_counted, user, bell,
+        errors,
     )?;
     Ok((turns, socket))
 }

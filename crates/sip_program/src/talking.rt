@@ -54,7 +54,8 @@ fn listen_by<'a, T: Threads + Host, N: Write + Send + Drop + 'static, E: Write>(
     errors: &mut E,
 ) -> Result<(), Failure<'a>> {
     let plan = listen_plan(rt, alloc, words)?;
-    let endpoint = endpoint_of_turns(rt, alloc, words.own, words.length, words.drops)?;
+    let mut endpoint = endpoint_of_turns(rt, alloc, words.own, words.length, words.drops)?;
+    endpoint.most_held = words.most_held;
     let turns = words.length.turns();
     let mut notices = notice_writer(rt, alloc, stream)?;
     let end = listen_at(rt, alloc, endpoint, plan, turns, &mut notices, errors);

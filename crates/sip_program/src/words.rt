@@ -133,6 +133,7 @@ pub(crate) struct ListenWords<'a> {
     pub contact: Option<&'a str>,
     pub body: Option<&'a str>,
     pub no_body: bool,
+    pub most_held: Option<u32>,
     pub drops: bool,
 }
 
@@ -338,6 +339,7 @@ pub(crate) fn listen_words<'a>(matches: &ArgMatches<'a>) -> Option<ListenWords<'
         contact: listen.get_str("contact"),
         body: listen.get_str("body"),
         no_body: listen.get_flag("no-body"),
+        most_held: listen.get_one::<u32>("held"),
         drops: listen.get_flag("drops"),
     })
 }
@@ -410,6 +412,7 @@ fn listen_command<'a>(alloc: Global) -> Result<Command<'a>, AllocError> {
             since there is no media",
         ),
         no_body,
+        held_argument(alloc),
         drops_argument(alloc),
         record_argument(alloc),
         stats_argument(alloc),
@@ -469,6 +472,17 @@ fn no_body_argument<'a>(alloc: Global) -> Result<Arg<'a>, AllocError> {
         .action(ArgAction::SetTrue)
         .help("Send no body in a 2xx to an INVITE");
     argument.conflicts_with("body")
+}
+
+fn held_argument<'a>(alloc: Global) -> Arg<'a> {
+    Arg::new(alloc, "held")
+        .long("held")
+        .value_name("N")
+        .value_parser(value_parser!(u32).range(1..=u32::MAX))
+        .help(
+            "While N transactions are held, ignore requests that would begin another one; but take \
+            those in a dialog, and CANCEL, until 2 * N are held",
+        )
 }
 
 fn call_command<'a>(alloc: Global) -> Result<Command<'a>, AllocError> {

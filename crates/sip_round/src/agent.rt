@@ -20,11 +20,11 @@ use crate::shards::Shards;
 use crate::waiting::{SetOut, set_out};
 use keyed_machine::laws_of_phases;
 use sip_calls::Calls;
-use sip_message::Cut;
+use sip_message::{Cut, Message, key_of};
 use sip_shards::{parts_of, tell_of_each};
 use sip_transactions::Transactions;
 use sip_workers::{Gate, NoMemory};
-use std::alloc::Global;
+use std::alloc::{AllocError, Global};
 use std::marker::Model;
 use std::thread::Threads;
 
@@ -87,6 +87,7 @@ impl<C: Cut + Drop> Agent<C> {
     ghost use Rattle.sip_round.specs.Steps.Led.{Deals};
     ghost use Rattle.sip_round.specs.Steps.OneMore.{GivesOneMore};
     ghost use Rattle.sip_round.specs.Live.{live_of};
+    ghost use Rattle.sip_round.specs.NewTransactions.{would_begin};
     ghost use Rattle.sip_round.specs.NextDue.{IsDueAfter, IsQuietAfter};
     ghost use Rattle.sip_timers.specs.Queue.{is_due};
     ghost use Rattle.sip_round.specs.declared.config.Config.{Config};
@@ -131,6 +132,29 @@ impl<C: Cut + Drop> Agent<C> {
             None => (0, 0),
             Some(shards) => shards.live(),
         }
+    }
+
+    /// Whether a request would begin a transaction if it came in the next round (RFC 3261, section
+    /// 17.2.3): it isn't an ACK, and no transaction with its key is held. Under load a host can
+    /// leave such a datagram unread.
+    ///
+    /// # Errors
+    ///
+    /// Memory ran out.
+    pub fn would_begin(&self, message: &Message) -> Result<bool, AllocError>
+        ensures broken { self.now.shards ≡ None → IfOk result (λ begins. begins ≡ false) }
+        ensures begins { IfOk result (λ begins. (config : Config) (rounds : List Round)
+            → StandsFor C.shard_of self.now config rounds
+            → begins ≡ would_begin config rounds message.now) }
+    {
+        let Some(shards) = &self.shards else {
+            return Ok(false);
+        };
+        if !message.is_request() || message.method().as_slice() == b"ACK".as_slice() {
+            return Ok(false);
+        }
+        let key = key_of(self.alloc, message)?;
+        Ok(!shards.holds(&self.cut, &key))
     }
 
     /// The number of the next round. The ids of its events have it. Takes no memory.

@@ -26,6 +26,9 @@ pub struct Endpoint<F> {
     pub tells_drops: bool,
     /// After how many seconds the turns end, if at all.
     pub seconds: Option<u32>,
+    /// How many transactions are to be held at most, if there is a limit. Above it requests are
+    /// shed.
+    pub most_held: Option<u32>,
     /// The input whose end ends the turns of `listen` and `call`, if one does.
     pub input: Option<Arc<InputEnd>>,
 }
@@ -47,6 +50,7 @@ impl<F> Endpoint<F> {
             is_counted: false,
             tells_drops: false,
             seconds: None,
+            most_held: None,
             input: None,
         }
     }
