@@ -478,7 +478,7 @@ fn held_argument<'a>(alloc: Global) -> Arg<'a> {
     Arg::new(alloc, "held")
         .long("held")
         .value_name("N")
-        .value_parser(value_parser!(u32).range(1..=u32::MAX))
+        .value_parser(value_parser!(u32).range(1..))
         .help(
             "While N transactions are held, ignore requests that would begin another one; but take \
             those in a dialog, and CANCEL, until 2 * N are held",
