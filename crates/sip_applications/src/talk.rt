@@ -260,6 +260,7 @@ fn turns_at<R: Clock, U: User, F: Write + Drop, E: Write>(
         record,
         kind,
         is_counted,
+        is_announced: _,
         tells_drops,
         seconds,
         most_held,
@@ -288,6 +289,7 @@ fn talk<R: Threads + Clock + Files + Sync, U: User, F: Write + Drop, W: Write, E
     errors: &mut E,
 ) -> Result<(), UaFault> {
     let local = endpoint.config.local;
+    let is_announced = endpoint.is_announced;
     let flags = flags_with(alloc, bell.clone()?)?;
     let (mut desk, ears) = Ears::open(alloc, &endpoint.socket, &flags)?;
     let (mut own, socket) = turns_at(rt, alloc, endpoint, user, bell, errors)?;
@@ -303,6 +305,9 @@ fn talk<R: Threads + Clock + Files + Sync, U: User, F: Write + Drop, W: Write, E
     }) else {
         return Err(UaFault::Socket);
     };
+    if is_announced {
+        let _ = writeln!(errors, "ua: ready at {local}");
+    }
     let has_ended = &flags.ended;
     let mut outlet = CountedSocket { socket, failed: 0 };
     let end = own.take(

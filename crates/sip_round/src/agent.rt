@@ -82,7 +82,7 @@ impl<C: Cut + Drop> Drop for Agent<C> {
 }
 
 impl<C: Cut + Drop> Agent<C> {
-    ghost use Rattle.sip_round.specs.AgentState.{ShardTables, refusal_of, shard_count};
+    ghost use Rattle.sip_round.specs.AgentState.{EndsRound, ShardTables, refusal_of, shard_count};
     ghost use Rattle.sip_round.specs.Answers.{StandsFor, answers, past_of, placed_answers};
     ghost use Rattle.sip_round.specs.Steps.Led.{Deals};
     ghost use Rattle.sip_round.specs.Steps.OneMore.{GivesOneMore};
@@ -201,14 +201,7 @@ impl<C: Cut + Drop> Agent<C> {
     ) -> Result<Vec<Output>, RoundFault>
         requires some { 0 < workers }
         requires most { workers ≤ 64 }
-        ensures refused { IfSome (refusal_of self.old round.now)
-            (λ fault. (result ≡ Err fault) × (self.new ≡ self.old)) }
-        ensures memory { refusal_of self.old round.now ≡ None
-            → OnErr result ((result ≡ Err (round_fault.NoMemory false))
-            ⊎ (result ≡ Err (round_fault.NoMemory true))) }
-        ensures unbroken { result ≡ Err (round_fault.NoMemory false) → self.new ≡ self.old }
-        ensures broken { result ≡ Err (round_fault.NoMemory true) → self.new.shards ≡ None }
-        ensures count { OnOk result (shard_count self.new ≡ shard_count self.old) }
+        ensures ends { EndsRound self.old self.new round.now result }
 
         // Whatever rounds the agent stood for, it now stands for this one too. Its answer is the
         // one to this round after those.
@@ -236,14 +229,7 @@ impl<C: Cut + Drop> Agent<C> {
     ) -> Result<Vec<PlacedOutput>, RoundFault>
         requires some { 0 < workers }
         requires most { workers ≤ 64 }
-        ensures refused { IfSome (refusal_of self.old round.now)
-            (λ fault. (result ≡ Err fault) × (self.new ≡ self.old)) }
-        ensures memory { refusal_of self.old round.now ≡ None
-            → OnErr result ((result ≡ Err (round_fault.NoMemory false))
-            ⊎ (result ≡ Err (round_fault.NoMemory true))) }
-        ensures unbroken { result ≡ Err (round_fault.NoMemory false) → self.new ≡ self.old }
-        ensures broken { result ≡ Err (round_fault.NoMemory true) → self.new.shards ≡ None }
-        ensures count { OnOk result (shard_count self.new ≡ shard_count self.old) }
+        ensures ends { EndsRound self.old self.new round.now result }
 
         // Whatever rounds the agent stood for, it now stands for this one too. Its answer is the
         // one to this round after those, each output with its place.
@@ -272,14 +258,7 @@ impl<C: Cut + Drop> Agent<C> {
     ) -> Result<Vec<F>, RoundFault>
         requires some { 0 < workers }
         requires most { workers ≤ 64 }
-        ensures refused { IfSome (refusal_of self.old round.now)
-            (λ fault. (result ≡ Err fault) × (self.new ≡ self.old)) }
-        ensures memory { refusal_of self.old round.now ≡ None
-            → OnErr result ((result ≡ Err (round_fault.NoMemory false))
-            ⊎ (result ≡ Err (round_fault.NoMemory true))) }
-        ensures unbroken { result ≡ Err (round_fault.NoMemory false) → self.new ≡ self.old }
-        ensures broken { result ≡ Err (round_fault.NoMemory true) → self.new.shards ≡ None }
-        ensures count { OnOk result (shard_count self.new ≡ shard_count self.old) }
+        ensures ends { EndsRound self.old self.new round.now result }
         ensures gives { IfOk result (λ outputs.
             GivesOneMore C.shard_of F.form self.old self.new round.now outputs.items) }
     {
@@ -330,14 +309,7 @@ impl<C: Cut + Drop> Agent<C> {
     ///
     /// As `run_round`.
     pub fn run_round_in_turn(&mut self, round: &Round) -> Result<Vec<Output>, RoundFault>
-        ensures refused { IfSome (refusal_of self.old round.now)
-            (λ fault. (result ≡ Err fault) × (self.new ≡ self.old)) }
-        ensures memory { refusal_of self.old round.now ≡ None
-            → OnErr result ((result ≡ Err (round_fault.NoMemory false))
-            ⊎ (result ≡ Err (round_fault.NoMemory true))) }
-        ensures unbroken { result ≡ Err (round_fault.NoMemory false) → self.new ≡ self.old }
-        ensures broken { result ≡ Err (round_fault.NoMemory true) → self.new.shards ≡ None }
-        ensures count { OnOk result (shard_count self.new ≡ shard_count self.old) }
+        ensures ends { EndsRound self.old self.new round.now result }
 
         // Whatever rounds the agent stood for, it now stands for this one too. Its answer is the
         // one to this round after those.
@@ -359,14 +331,7 @@ impl<C: Cut + Drop> Agent<C> {
         &mut self,
         round: &Round,
     ) -> Result<Vec<PlacedOutput>, RoundFault>
-        ensures refused { IfSome (refusal_of self.old round.now)
-            (λ fault. (result ≡ Err fault) × (self.new ≡ self.old)) }
-        ensures memory { refusal_of self.old round.now ≡ None
-            → OnErr result ((result ≡ Err (round_fault.NoMemory false))
-            ⊎ (result ≡ Err (round_fault.NoMemory true))) }
-        ensures unbroken { result ≡ Err (round_fault.NoMemory false) → self.new ≡ self.old }
-        ensures broken { result ≡ Err (round_fault.NoMemory true) → self.new.shards ≡ None }
-        ensures count { OnOk result (shard_count self.new ≡ shard_count self.old) }
+        ensures ends { EndsRound self.old self.new round.now result }
 
         // Whatever rounds the agent stood for, it now stands for this one too. Its answer is the
         // one to this round after those, each output with its place.
@@ -387,14 +352,7 @@ impl<C: Cut + Drop> Agent<C> {
 
     // A round on the calling thread, with its outputs in this form.
     fn run_in_turn<F: Form>(&mut self, round: &Round) -> Result<Vec<F>, RoundFault>
-        ensures refused { IfSome (refusal_of self.old round.now)
-            (λ fault. (result ≡ Err fault) × (self.new ≡ self.old)) }
-        ensures memory { refusal_of self.old round.now ≡ None
-            → OnErr result ((result ≡ Err (round_fault.NoMemory false))
-            ⊎ (result ≡ Err (round_fault.NoMemory true))) }
-        ensures unbroken { result ≡ Err (round_fault.NoMemory false) → self.new ≡ self.old }
-        ensures broken { result ≡ Err (round_fault.NoMemory true) → self.new.shards ≡ None }
-        ensures count { OnOk result (shard_count self.new ≡ shard_count self.old) }
+        ensures ends { EndsRound self.old self.new round.now result }
         ensures gives { IfOk result (λ outputs.
             GivesOneMore C.shard_of F.form self.old self.new round.now outputs.items) }
     {

@@ -22,6 +22,8 @@ pub struct Endpoint<F> {
     pub kind: FileKind,
     /// Whether the counts are written at the end.
     pub is_counted: bool,
+    /// Whether it is said when datagrams can come.
+    pub is_announced: bool,
     /// Whether drops are told, too. A user on a pipe is always told of them.
     pub tells_drops: bool,
     /// After how many seconds the turns end, if at all.
@@ -48,6 +50,7 @@ impl<F> Endpoint<F> {
             record,
             kind: FileKind::Events,
             is_counted: false,
+            is_announced: false,
             tells_drops: false,
             seconds: None,
             most_held: None,
