@@ -4,6 +4,7 @@ use Rattle.std.specs.Prelude.{Option, None, Some, is_some, IsSome, count_by, sum
 use Rattle.std.specs.declared.cmp.Ordering.{Ordering}
 use Rattle.std.specs.Cmp.{IsTotalOrder}
 use Rattle.std.specs.List.{slice_get}
+use Rattle.std.proofs.lemmas.Bool.{eq-eqb}
 use Rattle.std.proofs.lemmas.Grind.{common_steps}
 use Rattle.std.proofs.lemmas.List.Elements.{All-nil, All-cons}
 use Rattle.std.proofs.lemmas.List.Sums.{sum_by-append, sum_by-cons}
@@ -118,7 +119,8 @@ module _ {K S I O : Type 0} {cmp : K → K → Ordering} (total : IsTotalOrder c
   state_of_owner number [] hold i table key at owns = absurd cc
   state_of_owner number (t ∷ ts) hold zero table key at owns =
       let this : t ≡ table = cc (at) in
-      let own : nat_eq (owner key) number ≡ true = omega (arith, owns) in
+      let here : owner key ≡ number = omega (arith, owns) in
+      let own : nat_eq (owner key) number ≡ true = eq-eqb (owner key) number here in
       ap (λ held. state_at cmp held key) (sym this) ∙ hold.0.states key
       ∙ owned_states total exact machine due tick idle (is_owned owner number) phases key
       ∙ ap (λ own. cond own (states key) None) own
