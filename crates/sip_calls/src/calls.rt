@@ -10,6 +10,7 @@ ghost use Rattle.std.proofs.lemmas.Map.Lookups.{exact_bytes};
 
 use crate::call::Call;
 use keyed_machine::StateMachine;
+use seeded_hash::HashSeed;
 use sip_clients::{Clients, Event, made_name};
 use sip_held_dialogs::request::{has_to_tag, own_tag};
 use sip_message::{Addr, CallId, Id, Message, Token};
@@ -27,7 +28,7 @@ const ANSWER_TAG_NAME: u8 = 0;
 pub struct Calls {
     /// The agent's own address.
     pub local: Addr,
-    /// The key of the words at the end of made names.
+    /// The key of the words at the end of made names, and of the hashes of calls.
     pub seed: [u8; 32],
 }
 
@@ -144,7 +145,7 @@ impl Calls {
         ensures { result ≡ spec.new_call self.now.local }
     {
         Call {
-            served: ServerSide::new(alloc, self.local),
+            served: ServerSide::new(alloc, self.local, HashSeed::of(&self.seed)),
             clients: Clients::new(alloc),
         }
     }

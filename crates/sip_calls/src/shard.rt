@@ -10,10 +10,11 @@ ghost use Rattle.sip_calls.specs.Call.{call_machine};
 use crate::call::Call;
 use crate::calls::Calls;
 use keyed_machine::{Item as ShardItem, KeyShard, PhaseOutputs, ShardFault, Table};
+use seeded_hash::HashSeed;
 use sip_message::{Addr, CallId, Id};
 use sip_user::{CallOut, Item};
 use std::alloc::Global;
-use std::collections::BTreeMap;
+use std::collections::HashMap;
 use std::marker::Model;
 
 /// Calls by Call-ID. A Call-ID under which nothing is held has no call.
@@ -38,7 +39,7 @@ impl CallShard {
     ghost use Rattle.sip_calls.specs.CallShard.{HeldCalls, call_cmp, item_input};
 
     /// A shard without calls, of an agent at the address `local`; `seed` is the key of its made
-    /// names. Takes no memory.
+    /// names, and of its hashes. Takes no memory.
     pub fn new(alloc: Global, local: Addr, seed: [u8; 32]) -> CallShard
         ensures { result ≡ record {
           calls = record { local = local; seed = seed };
@@ -47,7 +48,7 @@ impl CallShard {
     {
         CallShard {
             calls: Calls { local, seed },
-            table: Table::new(alloc),
+            table: Table::new(alloc, HashSeed::of(&seed)),
         }
     }
 
@@ -145,7 +146,7 @@ impl KeyShard for CallShard {
         self.table.put(&self.calls, key, state)
     }
 
-    fn into_states(self) -> Option<BTreeMap<CallId, Call>> {
+    fn into_states(self) -> Option<HashMap<CallId, Call, HashSeed>> {
         let CallShard { calls: _, table } = self;
         table.into_states()
     }

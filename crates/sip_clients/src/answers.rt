@@ -7,6 +7,7 @@ ghost use Rattle.sip_held_dialogs.specs.Dialogs.{is_dialog_id};
 ghost use Rattle.sip_clients.specs.Answers as spec;
 
 use indexmap::IndexMap;
+use seeded_hash::HashSeed;
 use sip_held_dialogs::DialogId;
 use sip_message::Addr;
 use sip_text::Text;
@@ -29,7 +30,7 @@ impl Drop for SentAck {
 /// The dialogs of the 2xx responses that came, each with the ACK of its 2xx once one was sent. A
 /// contract sees their list.
 pub struct Answers {
-    acks: IndexMap<DialogId, Option<SentAck>>,
+    acks: IndexMap<DialogId, Option<SentAck>, HashSeed>,
 }
 
 impl Model for Answers {
@@ -43,13 +44,19 @@ impl Model for Answers {
 }
 
 impl Answers {
-    /// No 2xx came. Takes no memory.
-    pub(crate) fn new(alloc: Global) -> Answers
+    /// No 2xx came. A peer chooses the tags of those that come, so their hashes have a secret seed.
+    /// Takes no memory.
+    pub(crate) fn new(alloc: Global, hash_seed: HashSeed) -> Answers
         ensures { result ≡ [] }
     {
         Answers {
-            acks: IndexMap::new(alloc),
+            acks: IndexMap::with_hasher(alloc, hash_seed),
         }
+    }
+
+    /// The seed of the hashes.
+    pub(crate) fn hash_seed(&self) -> HashSeed {
+        *self.acks.hasher()
     }
 
     /// Whether a 2xx of this dialog came.

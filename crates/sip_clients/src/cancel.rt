@@ -33,7 +33,14 @@ fn made_cancel(alloc: Global, id: Id, invite: &Client) -> Result<Client, AllocEr
     ensures { IfOk result (λ cancel. cancel ≡ spec.cancel_client id invite.now) }
 {
     let message = cancel_for(alloc, &invite.request)?;
-    Ok(client_for(alloc, id, RequestKind::OutOfDialog, message, invite.to))
+    Ok(client_for(
+        alloc,
+        invite.answers.hash_seed(),
+        id,
+        RequestKind::OutOfDialog,
+        message,
+        invite.to,
+    ))
 }
 
 /// Sends the CANCEL, if there is one: it is held, and its transaction starts after what was told.

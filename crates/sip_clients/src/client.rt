@@ -4,6 +4,7 @@ ghost use Rattle.std.specs.Prelude.{◌≡◌};
 ghost use Rattle.sip_clients.specs.Client as spec;
 
 use crate::answers::Answers;
+use seeded_hash::HashSeed;
 use sip_held_dialogs::DialogReference;
 use sip_message::{Addr, Id, Message};
 use sip_reliable::Inbound;
@@ -49,9 +50,10 @@ pub struct Client {
     pub removal: Option<u64>,
 }
 
-/// A request that was just sent.
+/// A request that was just sent. The hashes of the dialogs of its 2xx have this seed.
 pub(crate) fn client_for(
     alloc: Global,
+    hash_seed: HashSeed,
     id: Id,
     kind: RequestKind,
     request: Message,
@@ -67,7 +69,7 @@ pub(crate) fn client_for(
         provisional: false,
         cancel: Cancelling::NotAsked,
         last_rseq: Inbound::new(),
-        answers: Answers::new(alloc),
+        answers: Answers::new(alloc, hash_seed),
         removal: None,
     }
 }

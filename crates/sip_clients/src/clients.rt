@@ -158,6 +158,7 @@ impl Clients {
         let message = invite_of(alloc, event, invite)?;
         let client = client_for(
             alloc,
+            event.hash_seed(),
             event.id,
             RequestKind::InitialInvite,
             message,
@@ -283,6 +284,7 @@ fn plain_told(
     let message = plain_of(alloc, event, plain)?;
     let client = client_for(
         alloc,
+        event.hash_seed(),
         event.id,
         RequestKind::OutOfDialog,
         message,

@@ -1,10 +1,12 @@
 //! What an event gives to the requests that it makes.
 
 ghost use Rattle.std.specs.Prelude.{◌≡◌, ◌++◌, IfOk, codes};
+ghost use Rattle.seeded_hash.specs.HashSeed.{seed_of};
 ghost use Rattle.sip_clients.specs.Event as spec;
 ghost use Rattle.sip_clients.specs.Name.{name_of};
 
 use crate::name::{made_name, push_name};
+use seeded_hash::HashSeed;
 use sip_dialog::Branch;
 use sip_message::{Addr, Id, Token};
 use sip_text::Text;
@@ -21,13 +23,20 @@ const FROM_TAG_NAME: u8 = 1;
 pub struct Event {
     /// The agent's own address.
     pub local: Addr,
-    /// The key of the words at the end of made names.
+    /// The key of the words at the end of made names, and of the hashes.
     pub seed: [u8; 32],
     pub id: Id,
     pub moment: u64,
 }
 
 impl Event {
+    /// The seed of the hashes of what it starts.
+    pub(crate) fn hash_seed(&self) -> HashSeed
+        ensures { result ≡ seed_of self.now.seed }
+    {
+        HashSeed::of(&self.seed)
+    }
+
     /// The branch of the request that it makes (RFC 3261, section 8.1.1.7).
     pub(crate) fn branch(&self, alloc: Global) -> Result<Branch, AllocError>
         ensures { IfOk result (λ branch. branch ≡ spec.branch_of self.now) }

@@ -84,7 +84,7 @@ fn client_of(
     };
     let (message, to) = sending.into_parts();
     let kind = kind_in(life, &message);
-    Ok(client_for(alloc, event.id, kind, message, to))
+    Ok(client_for(alloc, event.hash_seed(), event.id, kind, message, to))
 }
 
 fn kind_in(life: DialogReference, message: &Message) -> RequestKind

@@ -18,7 +18,7 @@ use Rattle.keyed_machine.specs.Rules.{said_since}
 use Rattle.keyed_machine.proofs.Ordered.{exact_at, is_at_itself}
 use Rattle.sip_transactions.specs.declared.input.Command.{Command}
 use Rattle.sip_transactions.specs.declared.input.Input.{Input}
-use Rattle.sip_transactions.specs.Keys.{exact_keys}
+use Rattle.sip_message.specs.Keys.{exact_keys}
 use Rattle.sip_transactions.specs.Shard.{asked_by, command_key}
 use Rattle.sip_user.specs.declared.item.CallOut.{CallOut}
 use Rattle.sip_user.specs.declared.item.CallOut.TheVariants as call_out

@@ -4,9 +4,9 @@ ghost use Rattle.std.specs.Option.{SomeIff};
 ghost use Rattle.std.specs.Cmp.{partial_equiv_from_equiv, partial_order_from_own_ties};
 ghost use Rattle.std.specs.Cmp.Lexicographic.{pointwise, nat_list_eq_equiv, slice_cmp};
 ghost use Rattle.std.specs.Cmp.Rules.{comparing, hashing};
-ghost use Rattle.std.specs.Hash as fed;
 ghost use Rattle.std.specs.Ordering.{nat_cmp, as_partial_cmp};
 ghost use Rattle.std.proofs.Common.{rules};
+ghost use Rattle.sip_text.specs.Hashed.{text_writes};
 
 use sip_text::Text;
 use std::alloc::{AllocError, Global};
@@ -148,7 +148,7 @@ impl<R: Rule> Ord for Checked<R> {
 }
 
 impl<R: Rule> Hash for Checked<R> {
-    ghost hash_input = { fed.slice fed.u8 };
+    ghost hash_input = { text_writes };
 
     ghost respects_eq = { Prim.search (hashing, rules) };
 

@@ -5,9 +5,9 @@ ghost use Rattle.std.specs.Option.{SomeIff};
 ghost use Rattle.std.specs.Cmp.{partial_equiv_from_equiv, partial_order_from_own_ties};
 ghost use Rattle.std.specs.Cmp.Lexicographic.{pointwise, nat_list_eq_equiv, slice_cmp};
 ghost use Rattle.std.specs.Cmp.Rules.{comparing, hashing};
-ghost use Rattle.std.specs.Hash as fed;
 ghost use Rattle.std.specs.Ordering.{nat_cmp, as_partial_cmp};
 ghost use Rattle.std.proofs.Common.{rules};
+ghost use Rattle.sip_text.specs.Hashed.{text_writes};
 ghost use Rattle.sip_text.specs.Token as rule;
 
 use crate::usual_token::UsualToken;
@@ -159,11 +159,12 @@ impl Ord for Token {
 }
 
 impl Hash for Token {
-    ghost hash_input = { fed.slice fed.u8 };
+    ghost hash_input = { text_writes };
 
     ghost respects_eq = { Prim.search (hashing, rules) };
 
     fn hash<H: Hasher>(&self, state: &mut H) {
-        self.as_slice().hash(state);
+        state.write_usize(self.as_slice().len());
+        state.write(self.as_slice());
     }
 }

@@ -6,14 +6,16 @@ ghost use Rattle.sip_held_dialogs.specs.Dialogs as spec;
 use crate::held_dialog::{DialogId, DialogReference, HeldDialog};
 use crate::request::{has_to_tag, is_invite};
 use indexmap::IndexMap;
+use seeded_hash::HashSeed;
 use sip_dialog::{DialogFault, DialogState, Endpoint};
 use sip_message::{Id, Message};
 use sip_text::Text;
 use sip_user::{CallOut, Notice};
 use std::alloc::{AllocError, Global};
 
-/// The held dialogs by name, in the order in which they were made.
-pub type Dialogs = IndexMap<DialogId, HeldDialog>;
+/// The held dialogs by name, in the order in which they were made. A peer chooses tags, so the hash
+/// of a name has a secret seed.
+pub type Dialogs = IndexMap<DialogId, HeldDialog, HashSeed>;
 
 /// Whether a CSeq number is above those that came in the dialog before.
 pub fn takes(held: &HeldDialog, number: u32) -> bool

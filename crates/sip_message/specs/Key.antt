@@ -1,5 +1,7 @@
 -- The key that identifies a transaction (RFC 3261, sections 17.1.3 and 17.2.3).
-use Rattle.std.specs.Prelude.{ℕ, List, []}
+use Rattle.std.specs.Prelude.{ℕ, List, [], ◌∷◌, ◌++◌}
+use Rattle.std.specs.Hash as fed
+use Rattle.std.specs.Hash.{HashWrites}
 use Rattle.std.specs.Str.{str_to_ascii_lowercase}
 use Rattle.std.specs.declared.cmp.Ordering.{Ordering}
 use Rattle.std.specs.Ordering.{nat_cmp, on, then_cmp}
@@ -49,6 +51,10 @@ abbrev pub key_cmp : Key → Key → Ordering
 key_cmp =
     then_cmp (then_cmp (then_cmp (then_cmp (on side_of nat_cmp) (on branch_in (slice_cmp nat_cmp)))
     (on host_in (slice_cmp nat_cmp))) (on port_in nat_cmp)) (on method_in (slice_cmp nat_cmp))
+
+-- what a key writes to a hasher: all its parts, each whole, since a peer chooses all of them
+abbrev pub key_writes : Key → HashWrites
+key_writes key = branch_in key ∷ host_in key ∷ (fed.u16 (port_in key) ++ method_in key ∷ [])
 
 pub keys_total : IsTotalOrder key_cmp
 keys_total =

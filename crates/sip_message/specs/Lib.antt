@@ -8,6 +8,7 @@ pub mod Message
 pub mod Content
 pub mod Rules
 pub mod Key
+pub mod Keys
 pub mod Written
 pub mod TopVia
 pub mod MessageKey

@@ -5,6 +5,7 @@ ghost use Rattle.std.specs.Cmp.{eq_by_cmp_equiv, partial_equiv_from_equiv, parti
 ghost use Rattle.std.specs.Cmp.Rules.{comparing};
 ghost use Rattle.std.proofs.Common.{rules, refl};
 ghost use Rattle.sip_message.specs.Key as keys;
+ghost use Rattle.sip_message.specs.Keys.{hashed_alike};
 
 use crate::sent_by::SentBy;
 use crate::shared_key::SharedKey;
@@ -12,6 +13,7 @@ use sip_grammar::{LowerText, Token};
 use sip_text::byte_order;
 use std::alloc::{AllocError, Global};
 use std::cmp::Ordering;
+use std::hash::{Hash, Hasher};
 
 /// What identifies a transaction. Client keys come before server keys; then keys are in the order
 /// of branch, host, port and method.
@@ -188,5 +190,18 @@ impl Ord for Key {
         byte_order(self.host(), other.host())
             .then(self.port().cmp(&other.port()))
             .then(byte_order(self.method(), other.method()))
+    }
+}
+
+impl Hash for Key {
+    ghost hash_input = { keys.key_writes };
+
+    ghost respects_eq = { hashed_alike };
+
+    fn hash<H: Hasher>(&self, state: &mut H) {
+        state.write(self.branch());
+        state.write(self.host());
+        state.write_u16(self.port());
+        state.write(self.method());
     }
 }

@@ -5,10 +5,12 @@ ghost use Rattle.std.specs.Cmp.{eq_by_cmp_equiv, partial_equiv_from_equiv, parti
 ghost use Rattle.std.specs.Cmp.Rules.{comparing};
 ghost use Rattle.std.proofs.Common.{rules, refl};
 ghost use Rattle.sip_message.specs.Key as keys;
+ghost use Rattle.sip_message.specs.Keys.{hashed_alike};
 
 use crate::key::Key;
 use std::alloc::{AllocError, Global};
 use std::cmp::Ordering;
+use std::hash::{Hash, Hasher};
 use std::marker::Model;
 use std::sync::Arc;
 
@@ -94,5 +96,15 @@ impl Ord for SharedKey {
 
     fn cmp(&self, other: &SharedKey) -> Ordering {
         self.get().cmp(other.get())
+    }
+}
+
+impl Hash for SharedKey {
+    ghost hash_input = { keys.key_writes };
+
+    ghost respects_eq = { hashed_alike };
+
+    fn hash<H: Hasher>(&self, state: &mut H) {
+        self.get().hash(state);
     }
 }

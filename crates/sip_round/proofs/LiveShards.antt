@@ -10,7 +10,7 @@ use Rattle.sip_message.specs.Key.{branch_in, key_cmp, keys_total}
 use Rattle.sip_message.specs.declared.key.Key.{Key}
 use Rattle.keyed_machine.specs.Table.{Covers, state_at}
 use Rattle.sip_transactions.specs.Idle as transactions
-use Rattle.sip_transactions.specs.Keys.{exact_keys}
+use Rattle.sip_message.specs.Keys.{exact_keys}
 use Rattle.sip_transactions.specs.Machine.{life_due, transaction_machine}
 use Rattle.sip_round.specs.declared.config.Config.{Config}
 use Rattle.sip_round.specs.declared.round.Round.{Round}

@@ -18,7 +18,7 @@ use Rattle.keyed_machine.specs.Table.{Held, state_at}
 use Rattle.keyed_machine.proofs.Apart.{owned_states}
 use Rattle.keyed_machine.proofs.Ordered.{by_bool}
 use Rattle.sip_transactions.specs.Idle as transactions
-use Rattle.sip_transactions.specs.Keys.{exact_keys}
+use Rattle.sip_message.specs.Keys.{exact_keys}
 use Rattle.sip_transactions.specs.Machine.{life_due, transaction_machine}
 use Rattle.sip_calls.specs.Call.{call_due, call_machine}
 use Rattle.sip_calls.specs.CallShard.{call_cmp}

@@ -26,7 +26,7 @@ use Rattle.sip_transactions.specs.declared.step.UpAction.{UpAction}
 use Rattle.sip_transactions.specs.declared.step.UpAction.TheVariants as handed
 use Rattle.sip_transactions.specs.declared.step.Step.{Step}
 use Rattle.sip_transactions.specs.Steps.Input.{arrived_in, message_in, role_of}
-use Rattle.sip_transactions.specs.Keys.{exact_keys}
+use Rattle.sip_message.specs.Keys.{exact_keys}
 use Rattle.sip_transactions.specs.Steps.Life.{acted_if, context_of, state_of, step_for, stepped, stepped_by, step_machine}
 use Rattle.sip_transactions.specs.Machine.{transaction_machine}
 use Rattle.sip_transactions.proofs.Rules.{machine_is}

@@ -9,7 +9,7 @@ use Rattle.keyed_machine.specs.Machine.{Timed, outputs_from, tick_at}
 use Rattle.keyed_machine.specs.Phase.{Phase, PhaseOutputs, history, states_after, told_next}
 use Rattle.keyed_machine.specs.Rules.{said_since}
 use Rattle.keyed_machine.proofs.Rules.{said_by_a_key, said_by_histories}
-use Rattle.sip_transactions.specs.Keys.{exact_keys}
+use Rattle.sip_message.specs.Keys.{exact_keys}
 use Rattle.sip_transactions.specs.declared.input.Input.{Input}
 use Rattle.sip_transactions.specs.declared.output.Out.{Out}
 use Rattle.sip_transactions.specs.Machine.{transaction_machine}

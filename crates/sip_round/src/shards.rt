@@ -13,8 +13,9 @@ ghost use Rattle.sip_timers.specs.Queue.{is_due};
 ghost use Rattle.sip_transactions.specs.Machine.{life_due, transaction_machine};
 
 use keyed_machine::KeyShard;
+use seeded_hash::HashSeed;
 use sip_calls::{CallShard, Calls};
-use sip_message::{Addr, Cut, SharedKey};
+use sip_message::{Cut, SharedKey};
 use sip_shards::{Named, are_idle, next_due_in, transfer};
 use sip_timers::earlier;
 use sip_transactions::{Shard, Transactions};
@@ -67,7 +68,7 @@ impl Shards {
         ensures alike { IfOk result
             (λ made. AllByRecursion (λ shard. shard.calls ≡ calls) made.calls) }
     {
-        let transactions = empty_transactions(alloc, calls.local, shards)?;
+        let transactions = empty_transactions(alloc, calls, shards)?;
         let calls = empty_calls(alloc, calls, shards)?;
         Ok(Shards {
             transactions,
@@ -210,13 +211,14 @@ impl Shards {
     }
 }
 
-fn empty_transactions(alloc: Global, local: Addr, shards: usize) -> Result<Vec<Shard>, AllocError>
+fn empty_transactions(alloc: Global, calls: Calls, shards: usize) -> Result<Vec<Shard>, AllocError>
     ensures count { IfOk result (λ made. vec_len made ≡ shards) }
     ensures empty { IfOk result (λ made. All (λ shard. shard.held ≡ Some []) made.items) }
 {
     let mut made = Vec::with_capacity(alloc, shards)?;
+    let hash_seed = HashSeed::of(&calls.seed);
     for _ in 0..shards {
-        made.push(Shard::new(alloc, local))?;
+        made.push(Shard::with_hash_seed(alloc, calls.local, hash_seed))?;
     }
     Ok(made)
 }

@@ -4,6 +4,7 @@ ghost use Rattle.std.specs.Prelude.{◌≡◌, ◌≤◌, ◌^◌, true, false, 
 
 use crate::server_side::ServerSide;
 use keyed_machine::ShardFault;
+use seeded_hash::HashSeed;
 use sip_held_dialogs::Dialogs;
 use sip_message::{Addr, Id, Token};
 use sip_user::{CallOut, Item};
@@ -36,14 +37,22 @@ impl Served {
     ghost use Rattle.sip_served.specs.Rules.Arrivals.{server_item};
     ghost use Rattle.sip_served.specs.Rules.Ticks.{server_due, server_tick};
 
-    /// The server side of a Call-ID under which nothing is held, at the address `local`. Takes no
-    /// memory.
+    /// The server side of a Call-ID under which nothing is held, at the address `local`. Its hashes
+    /// have the seed that everyone knows: [`Served::with_hash_seed`] is for tags that a peer chooses.
+    /// Takes no memory.
     pub fn new(alloc: Global, local: Addr) -> Served
+        ensures { result ≡ record { broken = false; state = empty_at local } }
+    {
+        Served::with_hash_seed(alloc, local, HashSeed::known())
+    }
+
+    /// The same, with the seed of its hashes. Takes no memory.
+    pub fn with_hash_seed(alloc: Global, local: Addr, hash_seed: HashSeed) -> Served
         ensures { result ≡ record { broken = false; state = empty_at local } }
     {
         Served {
             broken: false,
-            side: ServerSide::new(alloc, local),
+            side: ServerSide::new(alloc, local, hash_seed),
         }
     }
 

@@ -27,6 +27,7 @@ use crate::outputs::{
 };
 use crate::respond::{answer_dialogs, answer_to, refusal_for};
 use indexmap::IndexMap;
+use seeded_hash::HashSeed;
 use sip_held_dialogs::dialogs::{dialog_of_request, end, end_early, visit};
 use sip_held_dialogs::request::{dialog_id_of, has_to_tag, is_bye, is_cancel, is_prack, own_tag};
 use sip_held_dialogs::{DialogId, DialogReference, Dialogs};
@@ -66,16 +67,16 @@ impl ServerSide {
     ghost use Rattle.sip_served.specs.Lending.{SideLends};
     ghost use Rattle.sip_served.specs.State.{State, empty_at};
 
-    /// The server side of a Call-ID under which nothing is held, at the address `local`. Takes no
-    /// memory.
-    pub fn new(alloc: Global, local: Addr) -> ServerSide
+    /// The server side of a Call-ID under which nothing is held, at the address `local`, with the
+    /// seed of its hashes. Takes no memory.
+    pub fn new(alloc: Global, local: Addr, hash_seed: HashSeed) -> ServerSide
         ensures { result ≡ empty_at local }
     {
         ServerSide {
             alloc,
             local,
             requests: HeldRequests::new(alloc),
-            dialogs: IndexMap::new(alloc),
+            dialogs: IndexMap::with_hasher(alloc, hash_seed),
         }
     }
 
@@ -113,7 +114,7 @@ impl ServerSide {
     pub(crate) fn clear(&mut self, local: Addr)
         ensures { self.new ≡ empty_at local }
     {
-        *self = ServerSide::new(self.alloc, local);
+        *self = ServerSide::new(self.alloc, local, *self.dialogs.hasher());
     }
 
     /// Takes an item of the event of this id, at the moment `now` in ms. `tag` is the To tag for

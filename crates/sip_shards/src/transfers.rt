@@ -79,11 +79,11 @@ where
         (owner_of (C.shard_of cut.now) S.Machine.Key.name (vec_len moved.old))
         (map S.held moved.old.items) q)) }
 {
-    let Some(mut states) = shard.into_states() else {
+    let Some(states) = shard.into_states() else {
         return Err(NoMemory);
     };
     let count = moved.len();
-    while let Some((key, state)) = states.pop_first() {
+    for (key, state) in states {
         let owner = cut.shard(key.name(), count);
         let Ok(()) = moved[owner].put(key, state) else {
             return Err(NoMemory);

@@ -250,7 +250,7 @@ pub struct Transactions;
 
 impl StateMachine for Transactions {
     ghost use Rattle.std.specs.Prelude.{◌^◌};
-    ghost use Rattle.sip_transactions.specs.Keys.{exact_keys};
+    ghost use Rattle.sip_message.specs.Keys.{exact_keys};
     ghost use Rattle.sip_transactions.specs.Machine.{transaction_machine, life_due};
     ghost use Rattle.sip_transactions.specs.Idle.{ticks_are_idle};
     ghost use Rattle.sip_transactions.specs.Rules.Step.{step_at};

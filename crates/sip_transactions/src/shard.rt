@@ -16,9 +16,10 @@ use crate::matching::received;
 use crate::output::{DropReason, Out};
 use crate::state::State;
 use keyed_machine::{Item, KeyShard, PhaseOutputs, ShardFault, Table};
+use seeded_hash::HashSeed;
 use sip_message::{Addr, Id, Message, SharedKey};
 use std::alloc::{AllocError, Global};
-use std::collections::BTreeMap;
+use std::collections::HashMap;
 use std::marker::Model;
 
 /// The transactions of some keys.
@@ -44,14 +45,24 @@ impl Shard {
     ghost use Rattle.sip_transactions.specs.Steps.Life.{state_of};
     ghost use Rattle.sip_transactions.specs.Shard.{Lives, life_at, is_stray, receipt, failed_send, command_key, order};
 
-    /// A shard without transactions, of the agent at the address `local`.
+    /// A shard without transactions, of the agent at the address `local`. Its hashes have the seed
+    /// that everyone knows: [`Shard::with_hash_seed`] is for keys that a peer chooses. Takes no
+    /// memory.
     pub fn new(alloc: Global, local: Addr) -> Self
+        ensures { result ≡ record { local = local; held = Some [] } }
+    {
+        Shard::with_hash_seed(alloc, local, HashSeed::known())
+    }
+
+    /// A shard without transactions, of the agent at the address `local`, with the seed of its
+    /// hashes. Takes no memory.
+    pub fn with_hash_seed(alloc: Global, local: Addr, hash_seed: HashSeed) -> Self
         ensures { result ≡ record { local = local; held = Some [] } }
     {
         Shard {
             alloc,
             local,
-            table: Table::new(alloc),
+            table: Table::new(alloc, hash_seed),
         }
     }
 
@@ -204,7 +215,7 @@ impl KeyShard for Shard {
         self.table.put(&Transactions, key, state)
     }
 
-    fn into_states(self) -> Option<BTreeMap<SharedKey, Life>> {
+    fn into_states(self) -> Option<HashMap<SharedKey, Life, HashSeed>> {
         let Shard {
             alloc: _,
             local: _,

@@ -1,13 +1,14 @@
 -- Keys that compare equal are equal.
-use Rattle.std.proofs.Common.{◌≡◌, refl}
+use Rattle.std.proofs.Common.{◌≡◌, true, refl, ap}
 use Rattle.std.specs.declared.cmp.Ordering.{Ordering}
 use Rattle.std.specs.declared.cmp.Ordering.TheVariants.{Less, Equal, Greater}
-use Rattle.std.specs.Ordering.{ordering_then}
+use Rattle.std.specs.Ordering.{is_eq, ordering_then}
 use Rattle.std.proofs.lemmas.Map.Lookups.{CmpEqualImpliesEq, exact_unsigned, exact_bytes}
+use Rattle.std.proofs.lemmas.Map.Views.{tells_apart}
 use Rattle.sip_message.specs.declared.key.Key.{Key}
 use Rattle.sip_message.specs.declared.key.Key.TheVariants.{Client, Server}
 use Rattle.sip_message.specs.declared.sent_by.SentBy.{SentBy}
-use Rattle.sip_message.specs.Key.{key_cmp, side_of, branch_in, host_in, port_in, method_in}
+use Rattle.sip_message.specs.Key.{key_cmp, key_writes, side_of, branch_in, host_in, port_in, method_in}
 
 then_equal : (o p : Ordering) → ordering_then o p ≡ Equal → (o ≡ Equal) × (p ≡ Equal)
 then_equal Less p e = cc
@@ -49,3 +50,7 @@ by_parts (Server branch sent_by method) (Server branch' sent_by' method') same =
 
 pub exact_keys : CmpEqualImpliesEq key_cmp
 exact_keys a b e = by_parts a b (parts a b e)
+
+-- and they are hashed alike
+pub hashed_alike : (a b : Key) → is_eq (key_cmp a b) ≡ true → key_writes a ≡ key_writes b
+hashed_alike a b same = ap key_writes (tells_apart exact_keys a b same)
