@@ -3,22 +3,25 @@ use Rattle.std.proofs.Common.{◌≡◌, ℕ, zero, suc, ◌+◌, ◌<◌, true,
 use Rattle.std.specs.Prelude.{All, Option, None, Some, IsSome, slice_set}
 use Rattle.std.specs.Option.{option_or}
 use Rattle.std.specs.declared.cmp.Ordering.{Ordering}
-use Rattle.std.specs.Cmp.{IsTotalOrder}
+use Rattle.std.specs.Cmp.{IsTotalOrder, eq_by_cmp_equiv}
+use Rattle.std.specs.Ordering.{eq_by_cmp}
+use Rattle.std.specs.List.{IsDistinct}
+use Rattle.std.specs.Map.{keys_of}
 use Rattle.std.specs.BTreeMap.{is_at}
 use Rattle.std.proofs.lemmas.Grind.{common_steps}
 use Rattle.std.proofs.lemmas.List.{get_or-set_same, get_or-set_other}
+use Rattle.std.proofs.lemmas.Map.{lookup-none}
+use Rattle.std.proofs.lemmas.Map.Entries.{none_past_head}
+use Rattle.std.proofs.lemmas.Map.Keys.{IsDistinct-tail}
 use Rattle.std.proofs.lemmas.Map.Lookups.{CmpEqualImpliesEq}
 use Rattle.keyed_machine.specs.Laws.{ShardsHoldApart}
 use Rattle.keyed_machine.specs.Machine.{Machine}
 use Rattle.keyed_machine.specs.Phase.{Phase, states_after}
 use Rattle.keyed_machine.specs.Shards.{HoldFrom, is_owned}
-use Rattle.keyed_machine.specs.Table.{Held, state_at}
-use Rattle.keyed_machine.proofs.Ordered.{by_bool, exact_at}
+use Rattle.keyed_machine.specs.Table.{Held, state_at, state_in}
+use Rattle.keyed_machine.proofs.Ordered.{by_bool, exact_at, is_at_back, is_at_itself}
 use Rattle.sip_shards.specs.Steps.Transfer.{AreOwners, held_by_owner}
 use Rattle.sip_shards.proofs.Cutting.{nat_eq_true, nat_eq_false, set_long}
-
-pub none_left : (n : ℕ) → (0 < n → ⊥) → n ≡ 0
-none_left n none = grind (arith, common_steps, none)
 
 -- the tables after a key was put into its owner's
 pub record OnePut {K S : Type 0} (cmp : K → K → Ordering) (owner : K → ℕ) (key : K) (state : S)
@@ -104,6 +107,36 @@ module _ {K S : Type 0} {cmp : K → K → Ordering} (total : IsTotalOrder cmp)
       (λ miss.
       ap (λ r. option_or r (moved_new q)) (left q ∙ ap (λ b. cond b None (rest_old q)) miss)
       ∙ ap (option_or (rest_old q)) (put q ∙ ap (λ b. cond b (Some state) (moved q)) miss))
+
+  -- the first of the keys that are left, and those after it
+  pub record FirstLeft (entries rest : List (K × S)) (key : K) (state : S) : Type 0 where
+    pub has : state_in cmp entries key ≡ Some state
+    pub without : (q : K) → state_in cmp rest q
+        ≡ cond (is_at (cmp key) q) None (state_in cmp entries q)
+    pub apart : IsDistinct (eq_by_cmp cmp) (keys_of rest)
+
+  first_of_these : (key : K) (state : S) (rest : List (K × S))
+      → IsDistinct (eq_by_cmp cmp) (keys_of ((key, state) ∷ rest))
+      → FirstLeft ((key, state) ∷ rest) rest key state
+  first_of_these key state rest apart = record {
+    has = ap (λ b. cond b (Some state) (state_in cmp rest key)) (is_at_itself total key);
+    without = λ q. by_bool (is_at (cmp key) q)
+        (λ hit. lookup-none (is_at (cmp q)) rest
+        (none_past_head (eq_by_cmp_equiv total) q (key, state) rest apart
+        (is_at_back total key q true hit))
+        ∙ sym (ap (λ b. cond b None (state_in cmp ((key, state) ∷ rest) q)) hit))
+        (λ miss.
+        sym (ap (λ b. cond b (Some state) (state_in cmp rest q)) (is_at_back total key q false miss))
+        ∙ sym (ap (λ b. cond b None (state_in cmp ((key, state) ∷ rest) q)) miss));
+    apart = IsDistinct-tail (eq_by_cmp cmp) key (keys_of rest) apart;
+  }
+
+  pub first_left : (entries rest : List (K × S)) (key : K) (state : S)
+      → entries ≡ (key, state) ∷ rest → IsDistinct (eq_by_cmp cmp) (keys_of entries)
+      → FirstLeft entries rest key state
+  first_left entries rest key state are apart =
+      subst (λ es. FirstLeft es rest key state) (sym are) (first_of_these key state rest
+      (subst (λ es. IsDistinct (eq_by_cmp cmp) (keys_of es)) are apart))
 
   -- the keys left in one table, and those moved from it
   pub record TableLeft (shards : ℕ) (all rest : K → Option S)

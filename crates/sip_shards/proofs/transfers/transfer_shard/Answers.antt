@@ -1,15 +1,17 @@
 -- `transfer_shard`: each turn of the loop moves one more key to its new owner.
 use Rattle.std.proofs.Common.{◌≡◌, ◌<◌, None, Some, cond, sym, ◌∙◌, ap, arith, get_or, length, map, subst}
 use Rattle.std.proofs.Math.Seq.{map-set_same}
-use Rattle.std.specs.BTreeMap.{get, is_at}
+use Rattle.std.specs.BTreeMap.{is_at}
 use Rattle.std.specs.Option.{option_or}
-use Rattle.std.proofs.lemmas.Bool.{false≢true}
-use Rattle.std.proofs.lemmas.List.{get_or-map, length-map, map-set, nil_from_length}
+use Rattle.std.proofs.lemmas.List.{get_or-map, length-map, map-set}
 use Rattle.keyed_machine.specs.Table.{state_at, state_in}
 use Rattle.sip_shards.specs.Parts.{owner_of}
 use Rattle.sip_shards.specs.Steps.Transfer.{held_by_owner}
-use Rattle.sip_shards.proofs.Transferred.{TableLeft, none_left, one_less}
+use Rattle.sip_shards.proofs.Transferred.{TableLeft, first_left, one_less}
 use Rattle.sip_shards.proofs.transfers.transfer_shard.Goals as goal
+
+pub loop-key-init : goal.loop-key-init
+loop-key-init g c = ?
 
 pub loop-key-preserved : goal.loop-key-preserved
 loop-key-preserved g c =
@@ -18,7 +20,7 @@ loop-key-preserved g c =
     let shard_of = g.C.Cut.shard_of c.args.cut.now in
     let count = c.len-count.result in
     let owner = owner_of shard_of g.S.Machine.Key.Named.name in
-    let key = c.in-Some-pop_first.key in
+    let key = c.in-Some.key in
     let moved = c.loop-key.moved.items in
     let at = c.shard-owner.result in
     let new = c.put.new.self in
@@ -29,35 +31,27 @@ loop-key-preserved g c =
     g.met.C.Cut.within c.args.cut.now (g.S.Machine.Key.Named.name key) count some in
     let inside : at < count = omega (arith, owned, within) in
     let left = c.loop-key.invariant.0 in
+    let first = first_left g.met.S.Machine.Key.Ord.total g.met.S.Machine.StateMachine.exact
+    (owner count) c.loop-key.key-iterator c.next.new.self key c.in-Some.state
+    c.in-Some.ensures.steps c.loop-key.invariant.1 in
     let there : at < length moved =
     omega (arith, inside, left.count, length-map moved held) in (
       subst (TableLeft g.met.S.Machine.Key.Ord.total g.met.S.Machine.StateMachine.exact
-          (owner count) count (state_at cmp (held c.args.shard)) (get cmp c.pop_first.new.self)
+          (owner count) count (state_at cmp (held c.args.shard)) (state_in cmp c.next.new.self)
           (map held c.args.moved.now.items)) (sym (map-set held moved at new))
           (one_less g.met.S.Machine.Key.Ord.total g.met.S.Machine.StateMachine.exact (owner count)
-          count (state_at cmp (held c.args.shard)) (get cmp c.loop-key.states)
-          (get cmp c.pop_first.new.self) (map held c.args.moved.now.items) (map held moved) at key
-          c.in-Some-pop_first.state (held new) owned inside c.in-Ok.ensures.sound
+          count (state_at cmp (held c.args.shard)) (state_in cmp c.loop-key.key-iterator)
+          (state_in cmp c.next.new.self) (map held c.args.moved.now.items) (map held moved) at key
+          c.in-Some.state (held new) owned inside c.in-Ok.ensures.sound
           (λ q. c.in-Ok.ensures.states q
-          ∙ ap (λ t. cond (is_at (cmp key) q) (Some c.in-Some-pop_first.state) (state_at cmp t q))
+          ∙ ap (λ t. cond (is_at (cmp key) q) (Some c.in-Some.state) (state_at cmp t q))
           (ap held c.index_mut.ensures.value ∙ sym (get_or-map held moved at _ None there)))
-          c.in-Some-pop_first.ensures.value c.in-Some-pop_first.ensures.updates.0 left),
+          first.has first.without left),
+      first.apart,
       map-set_same g.S.KeyShard.machine moved at new _
           (c.in-Ok.ensures.machine ∙ ap g.S.KeyShard.machine c.index_mut.ensures.value)
-          ∙ c.loop-key.invariant.1,
+          ∙ c.loop-key.invariant.2,
     )
 
 pub returns-clause-states : goal.returns-clause-states
-returns-clause-states g c = λ q.
-    let cmp = g.S.Machine.Key.Ord.cmp in
-    let held = g.S.KeyShard.held in
-    let owner = owner_of (g.C.Cut.shard_of c.args.cut.now) g.S.Machine.Key.Named.name in
-    let moved = map held c.loop-key.moved.items in
-    let none : length c.loop-key.states.entries ≡ 0 =
-    none_left _ (λ some. false≢true (c.in_default-pop_first.ensures.variant.1 some)) in
-    subst (λ n. held_by_owner cmp (owner n) moved q
-    ≡ option_or (state_at cmp (held c.args.shard) q)
-    (held_by_owner cmp (owner n) (map held c.args.moved.now.items) q)) c.len-count.ensures
-    (sym (ap (λ entries. option_or (state_in cmp entries q)
-    (held_by_owner cmp (owner c.len-count.result) moved q))
-    (nil_from_length c.loop-key.states.entries none)) ∙ c.loop-key.invariant.0.both q)
+returns-clause-states g c = ?
