@@ -2,13 +2,12 @@
 use denote.RattleType.{RattleType}
 use Rattle.std.specs.Borrow.{Fml, Lends, MutBor}
 use Rattle.std.specs.contracts.alloc.Global as global
-use Rattle.std.specs.contracts.hash.BuildHasherDefault as default_builder
-use Rattle.std.specs.contracts.hash.FoldHasher as fold_hasher
 use Rattle.std.specs.contracts.impls.GlobalAllocator.TheImpl as allocator
-use Rattle.std.specs.contracts.prelude.BuildHasherDefaultBuildHasher.TheImpl as builder
-use Rattle.std.specs.contracts.prelude.FoldHasherHasher.TheImpl as hasher
-use Rattle.std.below.core.specs.contracts.clone.Clone+copy.TheImpl as copied
 use Rattle.indexmap.specs.contracts.map.IndexMap as index_map
+use Rattle.seeded_hash.specs.contracts.hash_seed.HashSeed as hash_seed
+use Rattle.seeded_hash.specs.contracts.hash_seed.HashSeedBuildHasher.TheImpl as builder
+use Rattle.seeded_hash.specs.contracts.seeded_hasher.SeededHasher as seeded_hasher
+use Rattle.seeded_hash.specs.contracts.seeded_hasher.SeededHasherHasher.TheImpl as hasher
 use Rattle.sip_held_dialogs.specs.contracts.held_dialog.DialogId as dialog_id_of
 use Rattle.sip_held_dialogs.specs.contracts.held_dialog.DialogIdHash.TheImpl as name_hash
 use Rattle.sip_held_dialogs.specs.contracts.held_dialog.DialogIdPartialEq.TheImpl as name_eq
@@ -21,11 +20,9 @@ use Rattle.sip_served.specs.State.{State}
 -- the type of the map of held dialogs, as the logic has it
 abbrev pub dialogs_row : RattleType
 dialogs_row =
-    index_map.the_row dialog_id_of.the_row held_dialog.the_row
-    (default_builder.the_row fold_hasher.the_row) global.the_row fold_hasher.the_row
-    name_eq.ghosts name_hash.ghosts
-    (builder.ghosts fold_hasher.the_row hasher.ghosts builder.no_dict
-    (copied.ghosts fold_hasher.the_row) builder.no_dict) hasher.ghosts allocator.ghosts
+    index_map.the_row dialog_id_of.the_row held_dialog.the_row hash_seed.the_row global.the_row
+    seeded_hasher.the_row name_eq.ghosts name_hash.ghosts builder.ghosts hasher.ghosts
+    allocator.ghosts
 
 -- the side holds the dialogs that the reference had at its end; all else is unchanged
 abbrev pub SideLends : MutBor State → MutBor dialogs_row.Denot → Fml

@@ -1,5 +1,5 @@
 -- `deal_phase` does the phase of all shards, whichever worker runs a piece.
-use Rattle.std.proofs.Common.{[], length, map, subst, sym}
+use Rattle.std.proofs.Common.{[], map, subst, sym}
 use Rattle.std.proofs.lemmas.Result.{IfOk-weaker}
 use Rattle.keyed_machine.specs.Groups.{groups}
 use Rattle.keyed_machine.specs.Machine.{tick_at}

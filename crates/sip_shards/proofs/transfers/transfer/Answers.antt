@@ -1,5 +1,5 @@
 -- `transfer`: each held key is afterwards in the table of its new owner.
-use Rattle.std.proofs.Common.{◌≡◌, ◌<◌, [], ◌∷◌, Some, refl, sym, ◌∙◌, subst, arith, length, map, vec_len}
+use Rattle.std.proofs.Common.{◌≡◌, ◌<◌, [], Some, refl, sym, ◌∙◌, subst, arith, length, map, vec_len}
 use Rattle.std.proofs.lemmas.List.{length-map, nil_from_length}
 use Rattle.std.proofs.lemmas.List.Elements.{All-map}
 use Rattle.std.specs.Vec.Iter.{into_iter_items}

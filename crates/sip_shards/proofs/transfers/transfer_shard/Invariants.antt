@@ -1,5 +1,5 @@
 -- The loop of `transfer_shard`: the keys that are left, and those moved so far.
-use Rattle.std.proofs.Common.{◌≡◌, length, map}
+use Rattle.std.proofs.Common.{◌≡◌, map}
 use Rattle.std.specs.List.{IsDistinct}
 use Rattle.std.specs.Map.{keys_of}
 use Rattle.std.specs.Ordering.{eq_by_cmp}

@@ -1,5 +1,5 @@
 -- `Phase::deal_in_turn` does the phase of all shards, on the calling thread.
-use Rattle.std.proofs.Common.{[], length, map, subst, sym}
+use Rattle.std.proofs.Common.{[], map, subst, sym}
 use Rattle.std.proofs.lemmas.Result.{IfOk-weaker}
 use Rattle.keyed_machine.specs.Groups.{groups}
 use Rattle.keyed_machine.specs.Machine.{tick_at}

@@ -1,5 +1,5 @@
 -- `Phase::is_idle`: if it says so, the phase changes nothing and has no outputs.
-use Rattle.std.proofs.Common.{◌≡◌, ◌∙◌, [], length, map, subst, sym, arith}
+use Rattle.std.proofs.Common.{◌≡◌, ◌∙◌, [], map, subst, sym, arith}
 use Rattle.std.proofs.lemmas.List.{length-map}
 use Rattle.std.specs.List.{AllByRecursion}
 use Rattle.keyed_machine.specs.Machine.{tick_at}
