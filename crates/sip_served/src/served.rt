@@ -37,8 +37,8 @@ impl Served {
     ghost use Rattle.sip_served.specs.Rules.Arrivals.{server_item};
     ghost use Rattle.sip_served.specs.Rules.Ticks.{server_due, server_tick};
 
-    /// The server side of a Call-ID under which nothing is held, at the address `local`. Its hashes
-    /// have the seed that everyone knows: [`Served::with_hash_seed`] is for tags that a peer chooses.
+    /// The server side of a Call-ID under which nothing is held, at the address `local`. Everyone
+    /// knows the seed of its hashes: [`Served::with_hash_seed`] is for tags that a peer chooses.
     /// Takes no memory.
     pub fn new(alloc: Global, local: Addr) -> Served
         ensures { result ≡ record { broken = false; state = empty_at local } }
