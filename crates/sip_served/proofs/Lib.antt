@@ -32,3 +32,6 @@ pub mod TickRules
 pub mod Ticks
 pub mod Unacknowledged
 pub mod ServedAnswers
+pub mod Indexes
+pub mod Numbered
+pub mod NumberedTicks

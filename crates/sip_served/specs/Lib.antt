@@ -19,3 +19,6 @@ pub mod Telling
 pub mod Tick
 pub mod Unacknowledged
 pub mod Rules
+pub mod Index
+pub mod Indices
+pub mod Keys
