@@ -35,3 +35,6 @@ pub mod ServedAnswers
 pub mod Indexes
 pub mod Numbered
 pub mod NumberedTicks
+pub mod Finds
+pub mod IndexedSteps
+pub mod KeyTests

@@ -22,3 +22,4 @@ pub mod Rules
 pub mod Index
 pub mod Indices
 pub mod Keys
+pub mod Indexed

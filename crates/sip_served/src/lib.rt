@@ -7,6 +7,7 @@ mod cancel;
 mod held_request;
 mod held_requests;
 mod index;
+mod indexed_requests;
 mod indices;
 mod laws;
 mod outputs;

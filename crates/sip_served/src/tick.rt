@@ -231,7 +231,8 @@ pub(crate) fn next_due(requests: &[HeldRequest]) -> Option<u64>
         .fold(None, |due, held| earlier(due, request_due(held)))
 }
 
-fn request_due(held: &HeldRequest) -> Option<u64>
+/// The first moment, in ms, at which something of this request is due, if there is one.
+pub(crate) fn request_due(held: &HeldRequest) -> Option<u64>
     ensures { result ≡ spec.request_due held.now }
 {
     earlier(

@@ -1,0 +1,213 @@
+//! Many held requests, found by maps.
+
+ghost use Rattle.std.specs.Prelude.{◌≡◌, ◌≤◌, ◌^◌, ◌++◌, [], ◌∷◌, ℕ, Option, None, IfOk, OnOk, find};
+ghost use Rattle.std.specs.List.{list_any};
+ghost use Rattle.std.specs.Option.{option_copied};
+ghost use Rattle.std.specs.Ordering.{nat_cmp};
+ghost use Rattle.sip_timers.specs.Index as timers;
+ghost use Rattle.sip_served.specs.Acknowledgment as acks;
+ghost use Rattle.sip_served.specs.Arrival.{is_merged, named_invite, pracked};
+ghost use Rattle.sip_served.specs.Cancel as cancels;
+ghost use Rattle.sip_served.specs.Respond.{answered, finished, with_dialog};
+ghost use Rattle.sip_served.specs.State.{changed_at, has_id};
+ghost use Rattle.sip_served.specs.Tick.{next_due_of};
+ghost use Rattle.sip_served.specs.declared.held_request.SuccessEnd.TheVariants.{Acknowledged};
+
+use crate::acknowledgment::{awaits_ack, end_success, is_ack_of};
+use crate::held_request::{HeldRequest, SuccessEnd};
+use crate::indices::Indices;
+use crate::request_keys::{ack_key, branch_key, merge_key};
+use crate::tick::request_due;
+use sip_message::{Id, Key, Message};
+use sip_timers::Schedule;
+use std::alloc::{AllocError, Global};
+use std::collections::BTreeMap;
+use std::marker::Model;
+
+/// Many held requests in the order in which they came up, found by maps.
+///
+/// Contracts see them as a list.
+pub(crate) struct IndexedRequests {
+    alloc: Global,
+    // The number of the next request, above that of each request so far.
+    next: u64,
+    requests: BTreeMap<u64, HeldRequest>,
+    indices: Indices,
+    // When something of a request is due.
+    dues: Schedule<u64>,
+}
+
+impl Model for IndexedRequests {
+    ghost use Rattle.std.specs.Prelude.{List};
+    ghost use Rattle.std.specs.Map.{values_of};
+    ghost use Rattle.sip_served.specs.declared.held_request.HeldRequest.{HeldRequest};
+
+    ghost Value = { List HeldRequest };
+
+    ghost use Rattle.sip_served.specs.Indexed.{IsIndexed};
+
+    ghost view = { λ all. values_of all.requests.entries };
+
+    ghost invariant = { IsIndexed };
+}
+
+impl IndexedRequests {
+    /// No request is held. Takes no memory.
+    pub(crate) fn new(alloc: Global) -> IndexedRequests
+        ensures { result ≡ [] }
+    {
+        IndexedRequests {
+            alloc,
+            next: 0,
+            requests: BTreeMap::new(alloc),
+            indices: Indices::new(alloc),
+            dues: Schedule::new(alloc),
+        }
+    }
+
+    /// The first moment, in ms, at which something of a request is due, if there is one.
+    pub(crate) fn next_due(&self) -> Option<u64>
+        ensures { result ≡ next_due_of self.now }
+    {
+        self.dues.next_due()
+    }
+
+    /// The held request of this id, the first if there are several.
+    pub(crate) fn get(&self, id: Id) -> Option<&HeldRequest>
+        ensures { option_copied result ≡ find (has_id id) self.now }
+    {
+        let number = self.indices.ids.first_from(&(id, 0))?;
+        self.requests.get(&number)
+    }
+
+    /// Whether the same request is already held.
+    pub(crate) fn merges(&self, request: &Message) -> Result<bool, AllocError>
+        ensures { IfOk result (λ merges. merges ≡ list_any (is_merged request.now) self.now) }
+    {
+        let key = merge_key(self.alloc, request)?;
+        Ok(self.indices.merges.first_from(&(key, 0)).is_some())
+    }
+
+    /// The held request that a CANCEL names; if there are several, the last that came up.
+    pub(crate) fn cancelled_request(
+        &self,
+        cancel: &Key,
+    ) -> Result<Option<&HeldRequest>, AllocError>
+        ensures { IfOk result (λ held. option_copied held
+            ≡ cancels.cancelled_request cancel.now self.now) }
+    {
+        let Some(branch) = branch_key(self.alloc, cancel)? else {
+            return Ok(None);
+        };
+        match self.indices.branches.last_up_to(&(branch, self.next)) {
+            Some(number) => Ok(self.requests.get(&number)),
+            None => Ok(None),
+        }
+    }
+
+    /// The id of the first INVITE whose 2xx this ACK is for.
+    #[tactic(none)]
+    pub(crate) fn acknowledged_invite(&self, ack: &Message) -> Result<Option<Id>, AllocError>
+        ensures { IfOk result (λ invite. invite ≡ acks.acknowledged_invite ack.now self.now) }
+    {
+        let key = ack_key(self.alloc, ack.to.tag(), ack.from.tag(), ack.cseq.number)?;
+        let mut least = (key, 0);
+        while let Some(number) = self.indices.acks.first_from(&least) {
+            match self.requests.get(&number) {
+                Some(held) if awaits_ack(held) && is_ack_of(ack, held) => {
+                    return Ok(Some(held.id));
+                }
+                _ => least.1 = number + 1,
+            }
+        }
+        Ok(None)
+    }
+
+    /// These requests and one more, the last.
+    pub(crate) fn with(self, held: HeldRequest) -> Result<IndexedRequests, AllocError>
+        ensures { IfOk result (λ all. all ≡ self ++ held ∷ []) }
+    {
+        let IndexedRequests {
+            alloc,
+            next,
+            mut requests,
+            mut indices,
+            mut dues,
+        } = self;
+        if next == u64::MAX {
+            return Err(AllocError);
+        }
+        indices.insert(alloc, &held, next)?;
+        move_due(&mut dues, next, None, request_due(&held))?;
+        requests.insert(next, held)?;
+        Ok(IndexedRequests {
+            alloc,
+            next: next + 1,
+            requests,
+            indices,
+            dues,
+        })
+    }
+
+    /// The ACK of the 2xx to the INVITE of this id came.
+    pub(crate) fn acknowledged(self, invite: Id) -> Result<IndexedRequests, AllocError>
+        ensures { IfOk result (λ all. all
+            ≡ changed_at invite (acks.success_ended Acknowledged) self) }
+    {
+        let Some(number) = self.indices.ids.first_from(&(invite, 0)) else {
+            return Ok(self);
+        };
+        let IndexedRequests {
+            alloc,
+            next,
+            mut requests,
+            indices,
+            mut dues,
+        } = self;
+        let Some(held) = requests.get_mut(&number) else {
+            unreachable!()
+        };
+        let former = request_due(held);
+        end_success(held, SuccessEnd::Acknowledged);
+        move_due(&mut dues, number, former, request_due(held))?;
+        Ok(IndexedRequests {
+            alloc,
+            next,
+            requests,
+            indices,
+            dues,
+        })
+    }
+}
+
+// Notes that something of the request of this number is due at another moment than before.
+fn move_due(
+    dues: &mut Schedule<u64>,
+    number: u64,
+    former: Option<u64>,
+    due: Option<u64>,
+) -> Result<(), AllocError>
+    ensures { OnOk result ((moments : ℕ → Option ℕ)
+        → timers.IsIndexOf nat_cmp moments dues.old → moments number ≡ former
+        → timers.IsIndexOf nat_cmp (timers.with_moment nat_cmp moments number due) dues.new) }
+{
+    match (former, due) {
+        (None, None) => {}
+        (None, Some(due)) => dues.arm(number, due)?,
+        (Some(former), None) => dues.disarm(number, former),
+        (Some(former), Some(due)) => dues.rearm(number, former, due)?,
+    }
+    Ok(())
+}
+
+impl Drop for IndexedRequests {
+    fn drop(self) {
+        let IndexedRequests {
+            alloc: _,
+            next: _,
+            requests: _,
+            indices: _,
+            dues: _,
+        } = self;
+    }
+}
