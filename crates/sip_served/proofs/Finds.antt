@@ -106,11 +106,11 @@ never_found test fails (x ∷ xs) =
 
 -- ---- the first of some things that passes a test: those of a key, from a number on
 
-module _ {X : Type 0} (test : X → Bool) (es : List (ℕ × X)) (in_order : InOrder es) where
-  -- no thing of a number below this passes
-  abbrev pub NoneBelow : ℕ → Type 0
-  NoneBelow least = (m : ℕ) (y : X) → m < least → get m es ≡ Some y → test y ≡ false
+-- no thing of a number below this passes
+abbrev pub NoneBelow : {X : Type 0} → (X → Bool) → List (ℕ × X) → ℕ → Type 0
+NoneBelow {X} test es least = (m : ℕ) (y : X) → m < least → get m es ≡ Some y → test y ≡ false
 
+module _ {X : Type 0} (test : X → Bool) (es : List (ℕ × X)) (in_order : InOrder es) where
   module _ {K : Type 0} (cmp : K → K → Ordering) (key : K) (key_of : X → Option K)
       (has : (x : X) → test x ≡ true → is_key_of cmp key (key_of x) ≡ true) where
     no_key : (y : X) → is_key_of cmp key (key_of y) ≡ false → test y ≡ false
@@ -118,7 +118,7 @@ module _ {X : Type 0} (test : X → Bool) (es : List (ℕ × X)) (in_order : InO
         by_bool (test y) (λ passes. absurd (false≢true (sym none ∙ has y passes))) (λ fails. fails)
 
     -- no number from the least on has the key
-    pub none_passes : (least : ℕ) → NoneBelow least
+    pub none_passes : (least : ℕ) → NoneBelow test es least
         → ((m : ℕ) → least ≤ m → is_key_of cmp key (option_and_then key_of (get m es)) ≡ false)
         → find test (values_of es) ≡ None
     none_passes least below none =
@@ -129,7 +129,7 @@ module _ {X : Type 0} (test : X → Bool) (es : List (ℕ × X)) (in_order : InO
         (λ gt. below m y (leb-false least m gt) there))
 
     -- the first number of the key from the least on passes
-    pub first_passes : (least : ℕ) → NoneBelow least → (n : ℕ) (x : X) → get n es ≡ Some x
+    pub first_passes : (least : ℕ) → NoneBelow test es least → (n : ℕ) (x : X) → get n es ≡ Some x
         → test x ≡ true
         → ((m : ℕ) → is_key_of cmp key (option_and_then key_of (get m es)) ≡ true → least ≤ m
         → n ≤ m)
@@ -142,11 +142,11 @@ module _ {X : Type 0} (test : X → Bool) (es : List (ℕ × X)) (in_order : InO
         (λ gt. absurd (false≢true (sym (below m y (leb-false least m gt) is) ∙ ok))))
 
     -- it doesn't pass: so none up to it does
-    pub none_up_to : (least : ℕ) → NoneBelow least → (n : ℕ)
+    pub none_up_to : (least : ℕ) → NoneBelow test es least → (n : ℕ)
         → ((x : X) → get n es ≡ Some x → test x ≡ false)
         → ((m : ℕ) → is_key_of cmp key (option_and_then key_of (get m es)) ≡ true → least ≤ m
         → n ≤ m)
-        → NoneBelow (n + 1)
+        → NoneBelow test es (n + 1)
     none_up_to least below n fails before m y lt there =
         by_bool (nat_le least m)
         (λ le. by_bool (test y)

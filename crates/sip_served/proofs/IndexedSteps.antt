@@ -126,6 +126,18 @@ module _ (old new : BTreeMap ℕ HeldRequest) (number : ℕ) (x w : HeldRequest)
       sym (ap (option_and_then (λ held. key_of (came_with held)))
       (updates n ∙ ap (λ b. cond b (Some w) (at old n)) apart)))
 
+  pub below_stays : (next : ℕ) → ((n : ℕ) → next ≤ n → at old n ≡ None) → (n : ℕ) → next ≤ n
+      → at new n ≡ None
+  below_stays next below n le =
+      updates n
+      ∙ by_bool (is_at (nat_cmp number) n)
+      (λ same. absurd (never (sym there
+      ∙ ap (at old) (tied_numbers number n same) ∙ below n le)))
+      (λ apart. ap (λ b. cond b (Some w) (at old n)) apart ∙ below n le)
+    where
+      never : Some x ≡ None → ⊥
+      never same = absurd cc
+
   pub indices_stay : (indices : Indices) → IsIndices (at old) indices → IsIndices (at new) indices
   indices_stay indices tied = record {
     ids = index_same _ indices.ids (keys_at id_of (at old)) (keys_at id_of (at new))

@@ -10,6 +10,7 @@ use Rattle.std.specs.Ordering.{is_eq, nat_cmp}
 use Rattle.std.specs.declared.cmp.Ordering.TheVariants.{Less}
 use Rattle.std.proofs.lemmas.Bool.{false≢true, ltb-true, ltb-false}
 use Rattle.std.proofs.lemmas.Map.Keys.{sorted_head, sorted_tail}
+use Rattle.sip_served.specs.Indexed as spec
 use Rattle.sip_served.proofs.Indexes.{by_bool}
 use Rattle.sip_served.proofs.Numbered.{get, tied_numbers, below_from_less, apart_numbers, at_itself, first_is}
 
@@ -72,11 +73,8 @@ same_numbers (n ∷ ns) (m ∷ ms) rises climbs same =
 
 module _ {X Y : Type 0} (ticked : X → X) (kept : X → Bool) (told : X → List Y) where
   -- a thing after a tick: it stays, or it is removed
-  abbrev pub thing_ticked : ℕ → List (ℕ × X) → Option X → List (ℕ × X)
-  thing_ticked n es None = es
-  thing_ticked n es (Some x) =
-      cond (kept (ticked x)) (set_value (is_at (nat_cmp n)) es (ticked x))
-      (remove_entry (is_at (nat_cmp n)) es)
+  abbrev thing_ticked : ℕ → List (ℕ × X) → Option X → List (ℕ × X)
+  thing_ticked n es o = spec.thing_ticked ticked kept n es o
 
   abbrev pub number_ticked : ℕ → List (ℕ × X) → List (ℕ × X)
   number_ticked n es = thing_ticked n es (get n es)

@@ -78,7 +78,7 @@ pub(crate) fn prack(requests: &mut Vec<HeldRequest>, invite: Id, rseq: u32)
     }
 }
 
-fn prack_one(held: &mut HeldRequest, rseq: u32)
+pub(crate) fn prack_one(held: &mut HeldRequest, rseq: u32)
     ensures { held.new ≡ pracked rseq held.old }
 {
     acknowledge_number(&mut held.ledger, rseq);

@@ -1,7 +1,7 @@
 //! Many held requests, found by maps.
 
-ghost use Rattle.std.specs.Prelude.{◌≡◌, ◌≤◌, ◌^◌, ◌++◌, [], ◌∷◌, ℕ, Option, None, IfOk, OnOk, find};
-ghost use Rattle.std.specs.List.{list_any};
+ghost use Rattle.std.specs.Prelude.{◌≡◌, ◌≤◌, ◌^◌, ◌++◌, [], ◌∷◌, ℕ, Option, None, IfOk, OnOk, filter, find, map};
+ghost use Rattle.std.specs.List.{flat_map, list_any};
 ghost use Rattle.std.specs.Option.{option_copied};
 ghost use Rattle.std.specs.Ordering.{nat_cmp};
 ghost use Rattle.sip_timers.specs.Index as timers;
@@ -10,16 +10,20 @@ ghost use Rattle.sip_served.specs.Arrival.{is_merged, named_invite, pracked};
 ghost use Rattle.sip_served.specs.Cancel as cancels;
 ghost use Rattle.sip_served.specs.Respond.{answered, finished, with_dialog};
 ghost use Rattle.sip_served.specs.State.{changed_at, has_id};
-ghost use Rattle.sip_served.specs.Tick.{next_due_of};
+ghost use Rattle.sip_served.specs.Indexed.{at, due_at, number_ticked, number_told};
+ghost use Rattle.sip_served.specs.Indices.{IsIndices};
+ghost use Rattle.sip_served.specs.Tick.{is_kept_at, next_due_of, request_ticked};
 ghost use Rattle.sip_served.specs.declared.held_request.SuccessEnd.TheVariants.{Acknowledged};
 
-use crate::acknowledgment::{awaits_ack, end_success, is_ack_of};
+use crate::acknowledgment::{awaits_ack, end_success, is_ack_of, prack_one};
 use crate::held_request::{HeldRequest, SuccessEnd};
 use crate::indices::Indices;
 use crate::request_keys::{ack_key, branch_key, merge_key};
-use crate::tick::request_due;
+use crate::respond::{answer_one, finish};
+use crate::tick::{is_kept, request_due, tick_request};
 use sip_message::{Id, Key, Message};
 use sip_timers::Schedule;
+use sip_user::{CallOut, Reliability};
 use std::alloc::{AllocError, Global};
 use std::collections::BTreeMap;
 use std::marker::Model;
@@ -134,7 +138,7 @@ impl IndexedRequests {
             mut indices,
             mut dues,
         } = self;
-        if next == u64::MAX {
+        if next >= u64::MAX {
             return Err(AllocError);
         }
         indices.insert(alloc, &held, next)?;
@@ -178,6 +182,157 @@ impl IndexedRequests {
             dues,
         })
     }
+
+    /// The PRACK of a response to the INVITE of this id came.
+    pub(crate) fn pracked(
+        self,
+        invite: Id,
+        rseq: u32,
+    ) -> Result<IndexedRequests, AllocError>
+        ensures { IfOk result (λ all. all ≡ changed_at invite (pracked rseq) self) }
+    {
+        let Some(number) = self.indices.ids.first_from(&(invite, 0)) else {
+            return Ok(self);
+        };
+        let IndexedRequests {
+            alloc,
+            next,
+            mut requests,
+            indices,
+            mut dues,
+        } = self;
+        let Some(held) = requests.get_mut(&number) else {
+            unreachable!()
+        };
+        let former = request_due(held);
+        prack_one(held, rseq);
+        move_due(&mut dues, number, former, request_due(held))?;
+        Ok(IndexedRequests {
+            alloc,
+            next,
+            requests,
+            indices,
+            dues,
+        })
+    }
+
+    /// The final response of this status to the request of this id goes out, at the moment `now`.
+    pub(crate) fn finished(
+        self,
+        id: Id,
+        response: &Message,
+        status: u16,
+        now: u64,
+    ) -> Result<IndexedRequests, AllocError>
+        requires { now ≤ 2 ^ 62 }
+        ensures { IfOk result (λ all. all ≡ changed_at id (finished response.now status now) self) }
+    {
+        let Some(number) = self.indices.ids.first_from(&(id, 0)) else {
+            return Ok(self);
+        };
+        let IndexedRequests {
+            alloc,
+            next,
+            mut requests,
+            indices,
+            mut dues,
+        } = self;
+        let Some(held) = requests.get_mut(&number) else {
+            unreachable!()
+        };
+        let former = request_due(held);
+        finish(alloc, held, response, status, now)?;
+        move_due(&mut dues, number, former, request_due(held))?;
+        Ok(IndexedRequests {
+            alloc,
+            next,
+            requests,
+            indices,
+            dues,
+        })
+    }
+
+    /// An answer of the user to the request of this id goes out in an event, at the moment `now`.
+    /// If it makes a dialog, the request refers to it.
+    pub(crate) fn answered(
+        self,
+        id: Id,
+        event: Id,
+        status: u16,
+        reliability: Reliability,
+        response: &Message,
+        now: u64,
+    ) -> Result<IndexedRequests, AllocError>
+        requires { now ≤ 2 ^ 62 }
+        ensures { IfOk result (λ all. all ≡ changed_at id (λ held. answered status reliability response.now now
+            (with_dialog event status held)) self) }
+    {
+        let Some(number) = self.indices.ids.first_from(&(id, 0)) else {
+            return Ok(self);
+        };
+        let IndexedRequests {
+            alloc,
+            next,
+            mut requests,
+            indices,
+            mut dues,
+        } = self;
+        let Some(held) = requests.get_mut(&number) else {
+            unreachable!()
+        };
+        let former = request_due(held);
+        answer_one(alloc, held, event, status, reliability, response, now)?;
+        move_due(&mut dues, number, former, request_due(held))?;
+        Ok(IndexedRequests {
+            alloc,
+            next,
+            requests,
+            indices,
+            dues,
+        })
+    }
+
+    /// Does what is due for each held request at the moment `now`, in ms, and removes those whose
+    /// moment of removal has come.
+    #[tactic(none)]
+    pub(crate) fn ticked(
+        self,
+        now: u64,
+        outs: &mut Vec<CallOut>,
+    ) -> Result<IndexedRequests, AllocError>
+        requires { now ≤ 2 ^ 62 }
+        ensures requests { IfOk result (λ all. all ≡ filter (is_kept_at now)
+            (map (λ held. (request_ticked now held).0) self)) }
+        ensures outs { OnOk result (outs.new.items ≡ outs.old.items
+            ++ flat_map (λ held. (request_ticked now held).1) self) }
+    {
+        let IndexedRequests {
+            alloc,
+            next,
+            mut requests,
+            mut indices,
+            mut dues,
+        } = self;
+        let numbers = dues.take_due(now)?;
+        for number in numbers.as_slice() {
+            tick_number(
+                alloc,
+                &mut requests,
+                &mut indices,
+                &mut dues,
+                *number,
+                now,
+                outs,
+            )?;
+        }
+        Ok(IndexedRequests {
+            alloc,
+            next,
+            requests,
+            indices,
+            dues,
+        })
+    }
 }
 
 // Notes that something of the request of this number is due at another moment than before.
@@ -197,6 +352,40 @@ fn move_due(
         (Some(former), None) => dues.disarm(number, former),
         (Some(former), Some(due)) => dues.rearm(number, former, due)?,
     }
+    Ok(())
+}
+
+// Does what is due for the request of this number.
+fn tick_number(
+    alloc: Global,
+    requests: &mut BTreeMap<u64, HeldRequest>,
+    indices: &mut Indices,
+    dues: &mut Schedule<u64>,
+    number: u64,
+    now: u64,
+    outs: &mut Vec<CallOut>,
+) -> Result<(), AllocError>
+    requires { now ≤ 2 ^ 62 }
+    ensures requests { OnOk result (requests.new.entries
+        ≡ number_ticked now number requests.old) }
+    ensures outs { OnOk result (outs.new.items
+        ≡ outs.old.items ++ number_told now number requests.old) }
+    ensures indices { OnOk result (IsIndices (at requests.old) indices.old
+        → IsIndices (at requests.new) indices.new) }
+    ensures dues { OnOk result ((moments : ℕ → Option ℕ)
+        → timers.IsIndexOf nat_cmp moments dues.old → moments number ≡ None
+        → timers.IsIndexOf nat_cmp
+        (timers.with_moment nat_cmp moments number (due_at requests.new number)) dues.new) }
+{
+    let Some(held) = requests.get_mut(&number) else {
+        return Ok(());
+    };
+    tick_request(alloc, held, now, outs)?;
+    if is_kept(held, now) {
+        return move_due(dues, number, None, request_due(held));
+    }
+    indices.remove(alloc, held, number)?;
+    requests.remove(&number);
     Ok(())
 }
 

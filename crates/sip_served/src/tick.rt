@@ -47,7 +47,7 @@ pub(crate) fn tick_requests(
 }
 
 // First the 2xx, and then the reliable provisional responses.
-fn tick_request(
+pub(crate) fn tick_request(
     alloc: Global,
     held: &mut HeldRequest,
     now: u64,
@@ -216,7 +216,7 @@ pub(crate) fn remove_over(requests: &mut Vec<HeldRequest>, now: u64)
 }
 
 // Whether a request isn't removed yet.
-fn is_kept(held: &HeldRequest, now: u64) -> bool
+pub(crate) fn is_kept(held: &HeldRequest, now: u64) -> bool
     ensures { result ≡ spec.is_kept_at now held.now }
 {
     held.removal.is_none_or(|moment| now < moment)
