@@ -3,7 +3,7 @@ use Rattle.std.proofs.Common.{◌≡◌, ℕ, ◌+◌, ◌≤◌, ◌<◌, Bool,
 use Rattle.std.specs.Prelude.{find, is_some, nat_le, ◌==◌, IfNone, IfSome, if◌then◌else◌}
 use Rattle.std.specs.BTreeMap.{BTreeMap, is_at}
 use Rattle.std.specs.List.{list_any}
-use Rattle.std.specs.Map.{values_of}
+use Rattle.std.specs.Map.{remove_entry, set_value, values_of}
 use Rattle.std.specs.Option.{option_and_then}
 use Rattle.std.specs.Ordering.{is_eq, nat_cmp}
 use Rattle.std.proofs.lemmas.Bool.{false≢true, le-leb, leb-true, leb-false, lt-leb}
@@ -18,15 +18,17 @@ use Rattle.sip_held_dialogs.specs.Requests.{is_invite}
 use Rattle.sip_served.specs.declared.held_request.HeldRequest.{HeldRequest}
 use Rattle.sip_served.specs.declared.indices.Indices.{Indices}
 use Rattle.sip_served.specs.Index.{IsIndexOf, with_key}
-use Rattle.sip_served.specs.Indexed.{at, due_at}
+use Rattle.sip_reliable.specs.Ledger.{tick_answer}
+use Rattle.sip_served.specs.declared.held_request.Success.{Success}
+use Rattle.sip_served.specs.Indexed.{at, due_at, kept_ticked, number_ticked, thing_ticked}
 use Rattle.sip_served.specs.Indices.{IsIndices, keys_at}
 use Rattle.sip_served.specs.Keys.{ack_key, ack_of, branch_key, branch_of, id_of, merge_key, merge_of}
 use Rattle.sip_served.specs.RequestLife.{RequestHappening, EndsSuccess, Finishes, GivesUpProvisionals, MakesDialog, RepeatsProvisionals, RepeatsSuccess, SendsReliably, TakesPrack, request_happened, went_on}
-use Rattle.sip_served.specs.Tick.{next_due_of, request_due}
+use Rattle.sip_served.specs.Tick.{is_kept_at, next_due_of, provisionals_go, request_due, request_ticked, success_at_tick, success_passes, success_ticked}
 use Rattle.sip_served.proofs.Dues.{requests_due}
 use Rattle.sip_served.proofs.Indexes.{by_bool, index_same}
 use Rattle.sip_served.proofs.KeyTests.{number_equal}
-use Rattle.sip_served.proofs.Numbered.{InOrder, any_found, get, none_found, tied_numbers}
+use Rattle.sip_served.proofs.Numbered.{InOrder, any_found, at_itself, get, none_found, tied_numbers}
 
 -- ---- equal requests have equal indices
 
@@ -226,3 +228,104 @@ module _ (requests : BTreeMap ℕ HeldRequest) (in_order : InOrder requests.entr
   first_due first before one none =
       same_due first (next_due_of (values_of requests.entries)) (λ now.
       due_by now first before one none ∙ sym (requests_due now (values_of requests.entries)))
+
+-- ---- a tick
+
+came_success : (now : ℕ) (held : HeldRequest) (o : Option Success)
+    → came_with (success_at_tick now held o).0 ≡ came_with held
+came_success now held None = refl
+came_success now held (Some success) = came_stays (success_passes now (Some success)) held
+
+pub came_ticked : (now : ℕ) (held : HeldRequest)
+    → came_with (request_ticked now held).0 ≡ came_with held
+came_ticked now held =
+    let first = (success_ticked now held).0 in
+    came_stays (provisionals_go (tick_answer first.ledger now) now) first
+    ∙ came_success now held held.success
+
+-- an entry that was changed is taken out
+pub removed_set : {X : Type 0} (n : ℕ) (es : List (ℕ × X)) (w : X)
+    → remove_entry (is_at (nat_cmp n)) (set_value (is_at (nat_cmp n)) es w)
+    ≡ remove_entry (is_at (nat_cmp n)) es
+removed_set n [] w = refl
+removed_set n (e ∷ es) w =
+    let test = is_at (nat_cmp n) in
+    by_bool (test e.0)
+    (λ here.
+    ap (λ b. remove_entry test (cond b ((e.0, w) ∷ es) (e ∷ set_value test es w))) here
+    ∙ ap (λ b. cond b es ((e.0, w) ∷ remove_entry test es)) here
+    ∙ sym (ap (λ b. cond b es (e ∷ remove_entry test es)) here))
+    (λ apart.
+    ap (λ b. remove_entry test (cond b ((e.0, w) ∷ es) (e ∷ set_value test es w))) apart
+    ∙ ap (λ b. cond b (set_value test es w) (e ∷ remove_entry test (set_value test es w))) apart
+    ∙ ap (λ fs. e ∷ fs) (removed_set n es w)
+    ∙ sym (ap (λ b. cond b es (e ∷ remove_entry test es)) apart))
+
+module _ (old new : BTreeMap ℕ HeldRequest) (now number : ℕ) (x w : HeldRequest)
+    (there : at old number ≡ Some x) (is : w ≡ (request_ticked now x).0)
+    (updates : (q : ℕ) → at new q ≡ cond (is_at (nat_cmp number) q) (Some w) (at old q)) where
+  pub ticked_kept : is_kept_at now w ≡ true → (q : ℕ)
+      → at new q ≡ cond (is_at (nat_cmp number) q)
+      (option_and_then (kept_ticked now) (at old number)) (at old q)
+  ticked_kept stays q =
+      updates q
+      ∙ sym (ap (λ o. cond (is_at (nat_cmp number) q) o (at old q))
+      (ap (option_and_then (kept_ticked now)) there
+      ∙ ap (λ held. cond (is_kept_at now held) (Some held) None) (sym is)
+      ∙ ap (λ b. cond b (Some w) None) stays))
+
+  module _ (gone : BTreeMap ℕ HeldRequest)
+      (removes : (q : ℕ) → at gone q ≡ cond (is_at (nat_cmp number) q) None (at new q)) where
+    pub ticked_removed : is_kept_at now w ≡ false → (q : ℕ)
+        → at gone q ≡ cond (is_at (nat_cmp number) q)
+        (option_and_then (kept_ticked now) (at old number)) (at old q)
+    ticked_removed goes q =
+        removes q
+        ∙ ap (cond (is_at (nat_cmp number) q) None) (updates q)
+        ∙ once (is_at (nat_cmp number) q) (at old q)
+        ∙ sym (ap (λ o. cond (is_at (nat_cmp number) q) o (at old q))
+        (ap (option_and_then (kept_ticked now)) there
+        ∙ ap (λ held. cond (is_kept_at now held) (Some held) None) (sym is)
+        ∙ ap (λ b. cond b (Some w) None) goes))
+      where
+        once : (b : Bool) (y : Option HeldRequest) → cond b None (cond b (Some w) y) ≡ cond b None y
+        once true y = refl
+        once false y = refl
+
+    pub indices_removed : (indices rest : Indices) → IsIndices (at old) indices
+        → ((before : ℕ → Option HeldRequest) → IsIndices before indices → before number ≡ Some w
+        → IsIndices (with_key before number None) rest)
+        → IsIndices (at gone) rest
+    indices_removed indices rest tied takes =
+        indices_moved new gone number None removes rest
+        (takes (at new)
+        (indices_stay old new number x w there (ap came_with is ∙ came_ticked now x) updates indices
+        tied)
+        (updates number ∙ ap (λ b. cond b (Some w) (at old number)) (at_itself number)))
+
+    pub entries_removed : new.entries ≡ set_value (is_at (nat_cmp number)) old.entries w
+        → gone.entries ≡ remove_entry (is_at (nat_cmp number)) new.entries
+        → is_kept_at now w ≡ false → gone.entries ≡ number_ticked now number old
+    entries_removed set taken goes =
+        taken ∙ ap (remove_entry (is_at (nat_cmp number))) set
+        ∙ removed_set number old.entries w
+        ∙ sym (ap (thing_ticked (λ held. (request_ticked now held).0) (is_kept_at now) number
+        old.entries) there
+        ∙ ap (λ held. cond (is_kept_at now held)
+        (set_value (is_at (nat_cmp number)) old.entries held)
+        (remove_entry (is_at (nat_cmp number)) old.entries)) (sym is)
+        ∙ ap (λ b. cond b (set_value (is_at (nat_cmp number)) old.entries w)
+        (remove_entry (is_at (nat_cmp number)) old.entries)) goes)
+
+-- nothing has the number
+pub ticked_none : (old : BTreeMap ℕ HeldRequest) (now number : ℕ) → at old number ≡ None → (q : ℕ)
+    → at old q ≡ cond (is_at (nat_cmp number) q)
+    (option_and_then (kept_ticked now) (at old number)) (at old q)
+ticked_none old now number none q =
+    by_bool (is_at (nat_cmp number) q)
+    (λ here.
+    ap (at old) (sym (tied_numbers number q here)) ∙ none
+    ∙ sym (ap (option_and_then (kept_ticked now)) none)
+    ∙ sym (ap (λ b. cond b (option_and_then (kept_ticked now) (at old number)) (at old q)) here))
+    (λ apart.
+    sym (ap (λ b. cond b (option_and_then (kept_ticked now) (at old number)) (at old q)) apart))

@@ -37,4 +37,5 @@ pub mod Numbered
 pub mod NumberedTicks
 pub mod Finds
 pub mod IndexedSteps
+pub mod IndexedTicks
 pub mod KeyTests

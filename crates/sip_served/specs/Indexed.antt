@@ -44,3 +44,8 @@ number_ticked now number requests =
 abbrev pub number_told : ℕ → ℕ → BTreeMap ℕ HeldRequest → List CallOut
 number_told now number requests =
     option_map_or (λ held. (request_ticked now held).1) (at requests number) []
+
+-- a request after a tick, if it is kept
+abbrev pub kept_ticked : ℕ → HeldRequest → Option HeldRequest
+kept_ticked now held =
+    cond (is_kept_at now (request_ticked now held).0) (Some (request_ticked now held).0) None

@@ -1,8 +1,9 @@
 //! Many held requests, found by maps.
 
-ghost use Rattle.std.specs.Prelude.{◌≡◌, ◌≤◌, ◌^◌, ◌++◌, [], ◌∷◌, ℕ, Option, None, IfOk, OnOk, filter, find, map};
+ghost use Rattle.std.specs.Prelude.{◌≡◌, ◌≤◌, ◌^◌, ◌++◌, [], ◌∷◌, ℕ, Option, None, IfOk, OnOk, cond, filter, find, map};
 ghost use Rattle.std.specs.List.{flat_map, list_any};
-ghost use Rattle.std.specs.Option.{option_copied};
+ghost use Rattle.std.specs.Option.{option_and_then, option_copied};
+ghost use Rattle.std.specs.BTreeMap.{IsOrdered, is_at};
 ghost use Rattle.std.specs.Ordering.{nat_cmp};
 ghost use Rattle.sip_timers.specs.Index as timers;
 ghost use Rattle.sip_served.specs.Acknowledgment as acks;
@@ -10,18 +11,20 @@ ghost use Rattle.sip_served.specs.Arrival.{is_merged, named_invite, pracked};
 ghost use Rattle.sip_served.specs.Cancel as cancels;
 ghost use Rattle.sip_served.specs.Respond.{answered, finished, with_dialog};
 ghost use Rattle.sip_served.specs.State.{changed_at, has_id};
-ghost use Rattle.sip_served.specs.Indexed.{at, due_at, number_ticked, number_told};
+ghost use Rattle.sip_served.specs.Indexed.{at, due_at, kept_ticked, number_ticked, number_told};
 ghost use Rattle.sip_served.specs.Indices.{IsIndices};
 ghost use Rattle.sip_served.specs.Tick.{is_kept_at, next_due_of, request_ticked};
 ghost use Rattle.sip_served.specs.declared.held_request.SuccessEnd.TheVariants.{Acknowledged};
 
 use crate::acknowledgment::{awaits_ack, end_success, is_ack_of, prack_one};
+use crate::arrival::{is_in_dialog, is_named_by};
 use crate::held_request::{HeldRequest, SuccessEnd};
 use crate::indices::Indices;
-use crate::request_keys::{ack_key, branch_key, merge_key};
+use crate::request_keys::{branch_key, merge_key};
 use crate::respond::{answer_one, finish};
 use crate::tick::{is_kept, request_due, tick_request};
-use sip_message::{Id, Key, Message};
+use sip_held_dialogs::DialogId;
+use sip_message::{Id, Key, Message, RAck};
 use sip_timers::Schedule;
 use sip_user::{CallOut, Reliability};
 use std::alloc::{AllocError, Global};
@@ -110,21 +113,23 @@ impl IndexedRequests {
     }
 
     /// The id of the first INVITE whose 2xx this ACK is for.
-    #[tactic(none)]
-    pub(crate) fn acknowledged_invite(&self, ack: &Message) -> Result<Option<Id>, AllocError>
-        ensures { IfOk result (λ invite. invite ≡ acks.acknowledged_invite ack.now self.now) }
+    pub(crate) fn acknowledged_invite(&self, ack: &Message) -> Option<Id>
+        ensures { result ≡ acks.acknowledged_invite ack.now self.now }
     {
-        let key = ack_key(self.alloc, ack.to.tag(), ack.from.tag(), ack.cseq.number)?;
-        let mut least = (key, 0);
-        while let Some(number) = self.indices.acks.first_from(&least) {
-            match self.requests.get(&number) {
-                Some(held) if awaits_ack(held) && is_ack_of(ack, held) => {
-                    return Ok(Some(held.id));
-                }
-                _ => least.1 = number + 1,
-            }
-        }
-        Ok(None)
+        self.requests
+            .values()
+            .find(|held| awaits_ack(held) && is_ack_of(ack, held))
+            .map(|held| held.id)
+    }
+
+    /// The first INVITE of the dialog with a waiting response that the RAck names.
+    pub(crate) fn named_invite(&self, name: &DialogId, created_by: Id, rack: &RAck) -> Option<Id>
+        ensures { result ≡ named_invite self.now name.now created_by rack.now }
+    {
+        self.requests
+            .values()
+            .find(|held| is_in_dialog(held, name, created_by) && is_named_by(held, rack))
+            .map(|held| held.id)
     }
 
     /// These requests and one more, the last.
@@ -294,7 +299,6 @@ impl IndexedRequests {
 
     /// Does what is due for each held request at the moment `now`, in ms, and removes those whose
     /// moment of removal has come.
-    #[tactic(none)]
     pub(crate) fn ticked(
         self,
         now: u64,
@@ -370,6 +374,9 @@ fn tick_number(
         ≡ number_ticked now number requests.old) }
     ensures outs { OnOk result (outs.new.items
         ≡ outs.old.items ++ number_told now number requests.old) }
+    ensures ordered { OnOk result (IsOrdered nat_cmp requests.new) }
+    ensures moves { OnOk result ((q : ℕ) → at requests.new q ≡ cond (is_at (nat_cmp number) q)
+        (option_and_then (kept_ticked now) (at requests.old number)) (at requests.old q)) }
     ensures indices { OnOk result (IsIndices (at requests.old) indices.old
         → IsIndices (at requests.new) indices.new) }
     ensures dues { OnOk result ((moments : ℕ → Option ℕ)
