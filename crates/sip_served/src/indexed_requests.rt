@@ -1,6 +1,6 @@
 //! Many held requests, found by maps.
 
-ghost use Rattle.std.specs.Prelude.{◌≡◌, ◌≤◌, ◌^◌, ◌++◌, [], ◌∷◌, ℕ, Option, None, IfOk, OnOk, cond, filter, find, map};
+ghost use Rattle.std.specs.Prelude.{◌≡◌, ◌≤◌, ◌^◌, ◌++◌, [], ◌∷◌, ℕ, Option, None, IfOk, OnOk, cond, filter, find, length, map, nat_lt, not};
 ghost use Rattle.std.specs.List.{flat_map, list_any};
 ghost use Rattle.std.specs.Option.{option_and_then, option_copied};
 ghost use Rattle.std.specs.BTreeMap.{IsOrdered, is_at};
@@ -70,6 +70,13 @@ impl IndexedRequests {
             indices: Indices::new(alloc),
             dues: Schedule::new(alloc),
         }
+    }
+
+    /// Whether no request is held.
+    pub(crate) fn is_empty(&self) -> bool
+        ensures { result ≡ not (nat_lt 0 (length self.now)) }
+    {
+        self.requests.is_empty()
     }
 
     /// The first moment, in ms, at which something of a request is due, if there is one.

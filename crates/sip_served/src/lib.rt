@@ -9,6 +9,7 @@ mod held_requests;
 mod index;
 mod indexed_requests;
 mod indices;
+mod later_requests;
 mod laws;
 mod outputs;
 mod provisionals;
