@@ -13,6 +13,7 @@ pub mod NoStarts
 pub mod Numbers
 pub mod OwnCall
 pub mod Owing
+pub mod Parts
 pub mod FewWait
 pub mod FirstChanged
 pub mod Found
@@ -32,3 +33,10 @@ pub mod TickRules
 pub mod Ticks
 pub mod Unacknowledged
 pub mod ServedAnswers
+pub mod Indexes
+pub mod Numbered
+pub mod NumberedTicks
+pub mod Finds
+pub mod IndexedSteps
+pub mod IndexedTicks
+pub mod KeyTests

@@ -19,3 +19,7 @@ pub mod Telling
 pub mod Tick
 pub mod Unacknowledged
 pub mod Rules
+pub mod Index
+pub mod Indices
+pub mod Keys
+pub mod Indexed

@@ -25,7 +25,7 @@ pub(crate) fn acknowledged_invite(ack: &Message, requests: &[HeldRequest]) -> Op
         .map(|held| held.id)
 }
 
-fn awaits_ack(held: &HeldRequest) -> bool
+pub(crate) fn awaits_ack(held: &HeldRequest) -> bool
     ensures { result ≡ spec.awaits_ack held.now }
 {
     is_invite(held.request.get()) && is_awaited(held)
@@ -40,7 +40,7 @@ fn is_awaited(held: &HeldRequest) -> bool
     }
 }
 
-fn is_ack_of(ack: &Message, held: &HeldRequest) -> bool
+pub(crate) fn is_ack_of(ack: &Message, held: &HeldRequest) -> bool
     ensures { result ≡ spec.is_ack_of ack.now held.now }
 {
     token_eq(ack.to.tag(), held.tag.as_slice())
@@ -78,7 +78,7 @@ pub(crate) fn prack(requests: &mut Vec<HeldRequest>, invite: Id, rseq: u32)
     }
 }
 
-fn prack_one(held: &mut HeldRequest, rseq: u32)
+pub(crate) fn prack_one(held: &mut HeldRequest, rseq: u32)
     ensures { held.new ≡ pracked rseq held.old }
 {
     acknowledge_number(&mut held.ledger, rseq);

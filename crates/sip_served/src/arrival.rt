@@ -134,7 +134,7 @@ pub(crate) fn named_invite(
         .map(|held| held.id)
 }
 
-fn is_in_dialog(held: &HeldRequest, name: &DialogId, created_by: Id) -> bool
+pub(crate) fn is_in_dialog(held: &HeldRequest, name: &DialogId, created_by: Id) -> bool
     ensures { result ≡ arrival.is_in_dialog name.now created_by held.now }
 {
     match &held.dialog {
@@ -143,7 +143,7 @@ fn is_in_dialog(held: &HeldRequest, name: &DialogId, created_by: Id) -> bool
     }
 }
 
-fn is_named_by(held: &HeldRequest, rack: &RAck) -> bool
+pub(crate) fn is_named_by(held: &HeldRequest, rack: &RAck) -> bool
     ensures { result ≡ arrival.is_named_by rack.now held.now }
 {
     is_invite(held.request.get())

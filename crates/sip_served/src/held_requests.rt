@@ -15,30 +15,37 @@ use crate::acknowledgment::{acknowledge, acknowledged_invite, prack};
 use crate::arrival::{merges, named_invite};
 use crate::cancel::cancelled_request;
 use crate::held_request::HeldRequest;
-use crate::requests::held_request;
+use crate::later_requests::LaterRequests;
+use crate::requests::{held_request, is_held};
 use crate::respond::{answer, finish_one};
 use crate::tick::{next_due, remove_over, tick_requests};
 use sip_held_dialogs::DialogId;
 use sip_message::{Id, Key, Message, RAck};
 use sip_user::{CallOut, Reliability};
+use sip_timers::earlier;
 use std::alloc::{AllocError, Global};
 use std::marker::Model;
+
+/// How many requests are looked through one by one. Those after them are found by maps.
+const FEW: usize = 8;
 
 /// The held requests of one Call-ID, in the order in which they came up.
 ///
 /// Contracts see them as a list. If memory ran out in a call, it isn't known which are held.
 pub(crate) struct HeldRequests {
     alloc: Global,
-    requests: Vec<HeldRequest>,
+    few: Vec<HeldRequest>,
+    // Those that came up after the few.
+    later: LaterRequests,
 }
 
 impl Model for HeldRequests {
-    ghost use Rattle.std.specs.Prelude.{List};
+    ghost use Rattle.std.specs.Prelude.{List, ◌++◌};
     ghost use Rattle.sip_served.specs.declared.held_request.HeldRequest.{HeldRequest};
 
     ghost Value = { List HeldRequest };
 
-    ghost view = { λ h. h.requests.items };
+    ghost view = { λ h. h.few.items ++ h.later };
 }
 
 impl HeldRequests {
@@ -48,7 +55,8 @@ impl HeldRequests {
     {
         HeldRequests {
             alloc,
-            requests: Vec::new(alloc),
+            few: Vec::new(alloc),
+            later: LaterRequests::new(alloc),
         }
     }
 
@@ -56,28 +64,38 @@ impl HeldRequests {
     pub(crate) fn is_empty(&self) -> bool
         ensures { result ≡ not (nat_lt 0 (length self.now)) }
     {
-        self.requests.is_empty()
+        self.few.is_empty() && self.later.is_empty()
     }
 
     /// The first moment, in ms, at which something of a request is due, if there is one.
+    #[tactic(auto, using(crate::proofs::Parts::due_both))]
     pub(crate) fn next_due(&self) -> Option<u64>
         ensures { result ≡ next_due_of self.now }
     {
-        next_due(self.requests.as_slice())
+        earlier(next_due(self.few.as_slice()), self.later.next_due())
     }
 
     /// The held request of this id, the first if there are several.
+    #[tactic(auto, using(crate::proofs::Parts::found_first, crate::proofs::Parts::found_later))]
     pub(crate) fn get(&self, id: Id) -> Option<&HeldRequest>
         ensures { option_copied result ≡ find (has_id id) self.now }
     {
-        held_request(self.requests.as_slice(), id)
+        match held_request(self.few.as_slice(), id) {
+            Some(held) => Some(held),
+            None => self.later.get(id),
+        }
     }
 
     /// Whether the same request is already held.
+    #[tactic(auto, using(crate::proofs::Parts::any_first, crate::proofs::Parts::any_later))]
     pub(crate) fn merges(&self, request: &Message) -> Result<bool, AllocError>
         ensures { IfOk result (λ merges. merges ≡ list_any (is_merged request.now) self.now) }
     {
-        Ok(merges(self.requests.as_slice(), request))
+        if merges(self.few.as_slice(), request) {
+            Ok(true)
+        } else {
+            self.later.merges(request)
+        }
     }
 
     /// The first INVITE of the dialog with a waiting response that the RAck names.
@@ -90,32 +108,48 @@ impl HeldRequests {
         ensures { IfOk result (λ invite. invite
             ≡ named_invite self.now name.now created_by rack.now) }
     {
-        Ok(named_invite(self.requests.as_slice(), name, created_by, rack))
+        match named_invite(self.few.as_slice(), name, created_by, rack) {
+            Some(invite) => Ok(Some(invite)),
+            None => Ok(self.later.named_invite(name, created_by, rack)),
+        }
     }
 
     /// The id of the first INVITE whose 2xx this ACK is for.
     pub(crate) fn acknowledged_invite(&self, ack: &Message) -> Result<Option<Id>, AllocError>
         ensures { IfOk result (λ invite. invite ≡ acknowledged_invite ack.now self.now) }
     {
-        Ok(acknowledged_invite(ack, self.requests.as_slice()))
+        match acknowledged_invite(ack, self.few.as_slice()) {
+            Some(invite) => Ok(Some(invite)),
+            None => Ok(self.later.acknowledged_invite(ack)),
+        }
     }
 
     /// The held request that a CANCEL names; if there are several, the last that came up.
-    pub(crate) fn cancelled_request(&self, cancel: &Key) -> Option<&HeldRequest>
-        ensures { option_copied result ≡ cancelled_request cancel.now self.now }
+    pub(crate) fn cancelled_request(
+        &self,
+        cancel: &Key,
+    ) -> Result<Option<&HeldRequest>, AllocError>
+        ensures { IfOk result (λ held. option_copied held
+            ≡ cancelled_request cancel.now self.now) }
     {
-        cancelled_request(self.requests.as_slice(), cancel)
+        match self.later.cancelled_request(cancel)? {
+            Some(held) => Ok(Some(held)),
+            None => Ok(cancelled_request(self.few.as_slice(), cancel)),
+        }
     }
 
     /// Holds one more request, the last.
     pub(crate) fn push(&mut self, held: HeldRequest) -> Result<(), AllocError>
         ensures { OnOk result (self.new ≡ self.old ++ held ∷ []) }
     {
-        // Most calls hold one request, but a list that grows by itself begins with room for four.
-        if self.requests.is_empty() {
-            self.requests.reserve_exact(1)?;
+        if !self.later.is_empty() || self.few.len() >= FEW {
+            return self.later.push(held);
         }
-        self.requests.push(held)?;
+        // Most calls hold one request, but a list that grows by itself begins with room for four.
+        if self.few.is_empty() {
+            self.few.reserve_exact(1)?;
+        }
+        self.few.push(held)?;
         Ok(())
     }
 
@@ -124,16 +158,22 @@ impl HeldRequests {
         ensures { OnOk result (self.new
             ≡ changed_at invite (success_ended Acknowledged) self.old) }
     {
-        acknowledge(&mut self.requests, invite);
-        Ok(())
+        if is_held(self.few.as_slice(), invite) {
+            acknowledge(&mut self.few, invite);
+            return Ok(());
+        }
+        self.later.acknowledge(invite)
     }
 
     /// The PRACK of a response to the INVITE of this id came.
     pub(crate) fn prack(&mut self, invite: Id, rseq: u32) -> Result<(), AllocError>
         ensures { OnOk result (self.new ≡ changed_at invite (pracked rseq) self.old) }
     {
-        prack(&mut self.requests, invite, rseq);
-        Ok(())
+        if is_held(self.few.as_slice(), invite) {
+            prack(&mut self.few, invite, rseq);
+            return Ok(());
+        }
+        self.later.prack(invite, rseq)
     }
 
     /// The final response of this status to the request of this id goes out, at the moment `now`.
@@ -148,7 +188,10 @@ impl HeldRequests {
         ensures { OnOk result (self.new
             ≡ changed_at id (finished response.now status now) self.old) }
     {
-        finish_one(self.alloc, &mut self.requests, id, response, status, now)
+        if is_held(self.few.as_slice(), id) {
+            return finish_one(self.alloc, &mut self.few, id, response, status, now);
+        }
+        self.later.finish(id, response, status, now)
     }
 
     /// An answer of the user to the request of this id goes out in an event, at the moment `now`.
@@ -167,16 +210,21 @@ impl HeldRequests {
             (λ held. answered status reliability response.now now (with_dialog event status held))
             self.old) }
     {
-        answer(
-            self.alloc,
-            &mut self.requests,
-            id,
-            event,
-            status,
-            reliability,
-            response,
-            now,
-        )
+        if is_held(self.few.as_slice(), id) {
+            let few = &mut self.few;
+            return answer(
+                self.alloc,
+                few,
+                id,
+                event,
+                status,
+                reliability,
+                response,
+                now,
+            );
+        }
+        self.later
+            .answer(id, event, status, reliability, response, now)
     }
 
     /// Does what is due for each held request at the moment `now`, in ms, and removes those whose
@@ -188,9 +236,9 @@ impl HeldRequests {
         ensures outs { OnOk result (outs.new.items ≡ outs.old.items
             ++ flat_map (λ held. (request_ticked now held).1) self.old) }
     {
-        tick_requests(self.alloc, &mut self.requests, now, outs)?;
-        remove_over(&mut self.requests, now);
-        Ok(())
+        tick_requests(self.alloc, &mut self.few, now, outs)?;
+        remove_over(&mut self.few, now);
+        self.later.tick(now, outs)
     }
 }
 
@@ -198,7 +246,8 @@ impl Drop for HeldRequests {
     fn drop(self) {
         let HeldRequests {
             alloc: _,
-            requests: _,
+            few: _,
+            later: _,
         } = self;
     }
 }

@@ -216,7 +216,7 @@ pub(crate) fn answer(
     }
 }
 
-fn answer_one(
+pub(crate) fn answer_one(
     alloc: Global,
     held: &mut HeldRequest,
     event: Id,
@@ -305,7 +305,7 @@ pub(crate) fn finish_one(
 }
 
 // Notes the final response to a held request. No response follows it.
-fn finish(
+pub(crate) fn finish(
     alloc: Global,
     held: &mut HeldRequest,
     response: &Message,

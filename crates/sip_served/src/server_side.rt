@@ -213,7 +213,7 @@ impl ServerSide {
         ensures { IfOk result (λ outs. (self.new, outs.items)
             ≡ cancels.cancel_taken self.old call_id arrival.now now) }
     {
-        let Some(held) = self.requests.cancelled_request(arrival.key.get()) else {
+        let Some(held) = self.requests.cancelled_request(arrival.key.get())? else {
             return no_such_dialog(self.alloc, arrival);
         };
         if !is_unanswered_invite(held) {

@@ -1,0 +1,416 @@
+//! Many held requests, found by maps.
+
+ghost use Rattle.std.specs.Prelude.{◌≡◌, ◌≤◌, ◌^◌, ◌++◌, [], ◌∷◌, ℕ, Option, None, IfOk, OnOk, cond, filter, find, length, map, nat_lt, not};
+ghost use Rattle.std.specs.List.{flat_map, list_any};
+ghost use Rattle.std.specs.Option.{option_and_then, option_copied};
+ghost use Rattle.std.specs.BTreeMap.{IsOrdered, is_at};
+ghost use Rattle.std.specs.Ordering.{nat_cmp};
+ghost use Rattle.sip_timers.specs.Index as timers;
+ghost use Rattle.sip_served.specs.Acknowledgment as acks;
+ghost use Rattle.sip_served.specs.Arrival.{is_merged, named_invite, pracked};
+ghost use Rattle.sip_served.specs.Cancel as cancels;
+ghost use Rattle.sip_served.specs.Respond.{answered, finished, with_dialog};
+ghost use Rattle.sip_served.specs.State.{changed_at, has_id};
+ghost use Rattle.sip_served.specs.Indexed.{at, due_at, kept_ticked, number_ticked, number_told};
+ghost use Rattle.sip_served.specs.Indices.{IsIndices};
+ghost use Rattle.sip_served.specs.Tick.{is_kept_at, next_due_of, request_ticked};
+ghost use Rattle.sip_served.specs.declared.held_request.SuccessEnd.TheVariants.{Acknowledged};
+
+use crate::acknowledgment::{awaits_ack, end_success, is_ack_of, prack_one};
+use crate::arrival::{is_in_dialog, is_named_by};
+use crate::held_request::{HeldRequest, SuccessEnd};
+use crate::indices::Indices;
+use crate::request_keys::{branch_key, merge_key};
+use crate::respond::{answer_one, finish};
+use crate::tick::{is_kept, request_due, tick_request};
+use sip_held_dialogs::DialogId;
+use sip_message::{Id, Key, Message, RAck};
+use sip_timers::Schedule;
+use sip_user::{CallOut, Reliability};
+use std::alloc::{AllocError, Global};
+use std::collections::BTreeMap;
+use std::marker::Model;
+
+/// Many held requests in the order in which they came up, found by maps.
+///
+/// Contracts see them as a list.
+pub(crate) struct IndexedRequests {
+    alloc: Global,
+    // The number of the next request, above that of each request so far.
+    next: u64,
+    requests: BTreeMap<u64, HeldRequest>,
+    indices: Indices,
+    // When something of a request is due.
+    dues: Schedule<u64>,
+}
+
+impl Model for IndexedRequests {
+    ghost use Rattle.std.specs.Prelude.{List};
+    ghost use Rattle.std.specs.Map.{values_of};
+    ghost use Rattle.sip_served.specs.declared.held_request.HeldRequest.{HeldRequest};
+
+    ghost Value = { List HeldRequest };
+
+    ghost use Rattle.sip_served.specs.Indexed.{IsIndexed};
+
+    ghost view = { λ all. values_of all.requests.entries };
+
+    ghost invariant = { IsIndexed };
+}
+
+impl IndexedRequests {
+    /// No request is held. Takes no memory.
+    pub(crate) fn new(alloc: Global) -> IndexedRequests
+        ensures { result ≡ [] }
+    {
+        IndexedRequests {
+            alloc,
+            next: 0,
+            requests: BTreeMap::new(alloc),
+            indices: Indices::new(alloc),
+            dues: Schedule::new(alloc),
+        }
+    }
+
+    /// Whether no request is held.
+    pub(crate) fn is_empty(&self) -> bool
+        ensures { result ≡ not (nat_lt 0 (length self.now)) }
+    {
+        self.requests.is_empty()
+    }
+
+    /// The first moment, in ms, at which something of a request is due, if there is one.
+    pub(crate) fn next_due(&self) -> Option<u64>
+        ensures { result ≡ next_due_of self.now }
+    {
+        self.dues.next_due()
+    }
+
+    /// The held request of this id, the first if there are several.
+    pub(crate) fn get(&self, id: Id) -> Option<&HeldRequest>
+        ensures { option_copied result ≡ find (has_id id) self.now }
+    {
+        let number = self.indices.ids.first_from(&(id, 0))?;
+        self.requests.get(&number)
+    }
+
+    /// Whether the same request is already held.
+    pub(crate) fn merges(&self, request: &Message) -> Result<bool, AllocError>
+        ensures { IfOk result (λ merges. merges ≡ list_any (is_merged request.now) self.now) }
+    {
+        let key = merge_key(self.alloc, request)?;
+        Ok(self.indices.merges.first_from(&(key, 0)).is_some())
+    }
+
+    /// The held request that a CANCEL names; if there are several, the last that came up.
+    pub(crate) fn cancelled_request(
+        &self,
+        cancel: &Key,
+    ) -> Result<Option<&HeldRequest>, AllocError>
+        ensures { IfOk result (λ held. option_copied held
+            ≡ cancels.cancelled_request cancel.now self.now) }
+    {
+        let Some(branch) = branch_key(self.alloc, cancel)? else {
+            return Ok(None);
+        };
+        match self.indices.branches.last_up_to(&(branch, self.next)) {
+            Some(number) => Ok(self.requests.get(&number)),
+            None => Ok(None),
+        }
+    }
+
+    /// The id of the first INVITE whose 2xx this ACK is for.
+    pub(crate) fn acknowledged_invite(&self, ack: &Message) -> Option<Id>
+        ensures { result ≡ acks.acknowledged_invite ack.now self.now }
+    {
+        self.requests
+            .values()
+            .find(|held| awaits_ack(held) && is_ack_of(ack, held))
+            .map(|held| held.id)
+    }
+
+    /// The first INVITE of the dialog with a waiting response that the RAck names.
+    pub(crate) fn named_invite(&self, name: &DialogId, created_by: Id, rack: &RAck) -> Option<Id>
+        ensures { result ≡ named_invite self.now name.now created_by rack.now }
+    {
+        self.requests
+            .values()
+            .find(|held| is_in_dialog(held, name, created_by) && is_named_by(held, rack))
+            .map(|held| held.id)
+    }
+
+    /// These requests and one more, the last.
+    pub(crate) fn with(self, held: HeldRequest) -> Result<IndexedRequests, AllocError>
+        ensures { IfOk result (λ all. all ≡ self ++ held ∷ []) }
+    {
+        let IndexedRequests {
+            alloc,
+            next,
+            mut requests,
+            mut indices,
+            mut dues,
+        } = self;
+        if next >= u64::MAX {
+            return Err(AllocError);
+        }
+        indices.insert(alloc, &held, next)?;
+        move_due(&mut dues, next, None, request_due(&held))?;
+        requests.insert(next, held)?;
+        Ok(IndexedRequests {
+            alloc,
+            next: next + 1,
+            requests,
+            indices,
+            dues,
+        })
+    }
+
+    /// The ACK of the 2xx to the INVITE of this id came.
+    pub(crate) fn acknowledged(self, invite: Id) -> Result<IndexedRequests, AllocError>
+        ensures { IfOk result (λ all. all
+            ≡ changed_at invite (acks.success_ended Acknowledged) self) }
+    {
+        let Some(number) = self.indices.ids.first_from(&(invite, 0)) else {
+            return Ok(self);
+        };
+        let IndexedRequests {
+            alloc,
+            next,
+            mut requests,
+            indices,
+            mut dues,
+        } = self;
+        let Some(held) = requests.get_mut(&number) else {
+            unreachable!()
+        };
+        let former = request_due(held);
+        end_success(held, SuccessEnd::Acknowledged);
+        move_due(&mut dues, number, former, request_due(held))?;
+        Ok(IndexedRequests {
+            alloc,
+            next,
+            requests,
+            indices,
+            dues,
+        })
+    }
+
+    /// The PRACK of a response to the INVITE of this id came.
+    pub(crate) fn pracked(
+        self,
+        invite: Id,
+        rseq: u32,
+    ) -> Result<IndexedRequests, AllocError>
+        ensures { IfOk result (λ all. all ≡ changed_at invite (pracked rseq) self) }
+    {
+        let Some(number) = self.indices.ids.first_from(&(invite, 0)) else {
+            return Ok(self);
+        };
+        let IndexedRequests {
+            alloc,
+            next,
+            mut requests,
+            indices,
+            mut dues,
+        } = self;
+        let Some(held) = requests.get_mut(&number) else {
+            unreachable!()
+        };
+        let former = request_due(held);
+        prack_one(held, rseq);
+        move_due(&mut dues, number, former, request_due(held))?;
+        Ok(IndexedRequests {
+            alloc,
+            next,
+            requests,
+            indices,
+            dues,
+        })
+    }
+
+    /// The final response of this status to the request of this id goes out, at the moment `now`.
+    pub(crate) fn finished(
+        self,
+        id: Id,
+        response: &Message,
+        status: u16,
+        now: u64,
+    ) -> Result<IndexedRequests, AllocError>
+        requires { now ≤ 2 ^ 62 }
+        ensures { IfOk result (λ all. all ≡ changed_at id (finished response.now status now) self) }
+    {
+        let Some(number) = self.indices.ids.first_from(&(id, 0)) else {
+            return Ok(self);
+        };
+        let IndexedRequests {
+            alloc,
+            next,
+            mut requests,
+            indices,
+            mut dues,
+        } = self;
+        let Some(held) = requests.get_mut(&number) else {
+            unreachable!()
+        };
+        let former = request_due(held);
+        finish(alloc, held, response, status, now)?;
+        move_due(&mut dues, number, former, request_due(held))?;
+        Ok(IndexedRequests {
+            alloc,
+            next,
+            requests,
+            indices,
+            dues,
+        })
+    }
+
+    /// An answer of the user to the request of this id goes out in an event, at the moment `now`.
+    /// If it makes a dialog, the request refers to it.
+    pub(crate) fn answered(
+        self,
+        id: Id,
+        event: Id,
+        status: u16,
+        reliability: Reliability,
+        response: &Message,
+        now: u64,
+    ) -> Result<IndexedRequests, AllocError>
+        requires { now ≤ 2 ^ 62 }
+        ensures { IfOk result (λ all. all ≡ changed_at id (λ held. answered status reliability response.now now
+            (with_dialog event status held)) self) }
+    {
+        let Some(number) = self.indices.ids.first_from(&(id, 0)) else {
+            return Ok(self);
+        };
+        let IndexedRequests {
+            alloc,
+            next,
+            mut requests,
+            indices,
+            mut dues,
+        } = self;
+        let Some(held) = requests.get_mut(&number) else {
+            unreachable!()
+        };
+        let former = request_due(held);
+        answer_one(alloc, held, event, status, reliability, response, now)?;
+        move_due(&mut dues, number, former, request_due(held))?;
+        Ok(IndexedRequests {
+            alloc,
+            next,
+            requests,
+            indices,
+            dues,
+        })
+    }
+
+    /// Does what is due for each held request at the moment `now`, in ms, and removes those whose
+    /// moment of removal has come.
+    pub(crate) fn ticked(
+        self,
+        now: u64,
+        outs: &mut Vec<CallOut>,
+    ) -> Result<IndexedRequests, AllocError>
+        requires { now ≤ 2 ^ 62 }
+        ensures requests { IfOk result (λ all. all ≡ filter (is_kept_at now)
+            (map (λ held. (request_ticked now held).0) self)) }
+        ensures outs { OnOk result (outs.new.items ≡ outs.old.items
+            ++ flat_map (λ held. (request_ticked now held).1) self) }
+    {
+        let IndexedRequests {
+            alloc,
+            next,
+            mut requests,
+            mut indices,
+            mut dues,
+        } = self;
+        let numbers = dues.take_due(now)?;
+        for number in numbers.as_slice() {
+            tick_number(
+                alloc,
+                &mut requests,
+                &mut indices,
+                &mut dues,
+                *number,
+                now,
+                outs,
+            )?;
+        }
+        Ok(IndexedRequests {
+            alloc,
+            next,
+            requests,
+            indices,
+            dues,
+        })
+    }
+}
+
+// Notes that something of the request of this number is due at another moment than before.
+fn move_due(
+    dues: &mut Schedule<u64>,
+    number: u64,
+    former: Option<u64>,
+    due: Option<u64>,
+) -> Result<(), AllocError>
+    ensures { OnOk result ((moments : ℕ → Option ℕ)
+        → timers.IsIndexOf nat_cmp moments dues.old → moments number ≡ former
+        → timers.IsIndexOf nat_cmp (timers.with_moment nat_cmp moments number due) dues.new) }
+{
+    match (former, due) {
+        (None, None) => {}
+        (None, Some(due)) => dues.arm(number, due)?,
+        (Some(former), None) => dues.disarm(number, former),
+        (Some(former), Some(due)) => dues.rearm(number, former, due)?,
+    }
+    Ok(())
+}
+
+// Does what is due for the request of this number.
+fn tick_number(
+    alloc: Global,
+    requests: &mut BTreeMap<u64, HeldRequest>,
+    indices: &mut Indices,
+    dues: &mut Schedule<u64>,
+    number: u64,
+    now: u64,
+    outs: &mut Vec<CallOut>,
+) -> Result<(), AllocError>
+    requires { now ≤ 2 ^ 62 }
+    ensures requests { OnOk result (requests.new.entries
+        ≡ number_ticked now number requests.old) }
+    ensures outs { OnOk result (outs.new.items
+        ≡ outs.old.items ++ number_told now number requests.old) }
+    ensures ordered { OnOk result (IsOrdered nat_cmp requests.new) }
+    ensures moves { OnOk result ((q : ℕ) → at requests.new q ≡ cond (is_at (nat_cmp number) q)
+        (option_and_then (kept_ticked now) (at requests.old number)) (at requests.old q)) }
+    ensures indices { OnOk result (IsIndices (at requests.old) indices.old
+        → IsIndices (at requests.new) indices.new) }
+    ensures dues { OnOk result ((moments : ℕ → Option ℕ)
+        → timers.IsIndexOf nat_cmp moments dues.old → moments number ≡ None
+        → timers.IsIndexOf nat_cmp
+        (timers.with_moment nat_cmp moments number (due_at requests.new number)) dues.new) }
+{
+    let Some(held) = requests.get_mut(&number) else {
+        return Ok(());
+    };
+    tick_request(alloc, held, now, outs)?;
+    if is_kept(held, now) {
+        return move_due(dues, number, None, request_due(held));
+    }
+    indices.remove(alloc, held, number)?;
+    requests.remove(&number);
+    Ok(())
+}
+
+impl Drop for IndexedRequests {
+    fn drop(self) {
+        let IndexedRequests {
+            alloc: _,
+            next: _,
+            requests: _,
+            indices: _,
+            dues: _,
+        } = self;
+    }
+}
