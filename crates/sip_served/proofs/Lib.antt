@@ -13,7 +13,6 @@ pub mod NoStarts
 pub mod Numbers
 pub mod OwnCall
 pub mod Owing
-pub mod Parts
 pub mod FewWait
 pub mod FirstChanged
 pub mod Found

@@ -122,8 +122,11 @@ module _ {X : Type 0} where
         (λ apart.
         let later : get n es ≡ Some x = there_is e es n (Some x) apart found in
         by_bool (test e.1)
-        (λ too. absurd (omega (arith, past_first e es in_order n x later,
-        least e.0 e.1 (first_is e es) too)))
+        (λ too. absurd (omega (
+          arith,
+          past_first e es in_order n x later,
+          least e.0 e.1 (first_is e es) too,
+        )))
         (λ fails.
         ap (λ b. cond b (Some e.1) (find test (values_of es))) fails
         ∙ first_found es (sorted_tail nat_cmp e.0 (keys_of es) in_order) n x later passes
@@ -147,8 +150,11 @@ module _ {X : Type 0} where
         (λ apart.
         let later : get n es ≡ Some x = there_is e es n (Some x) apart found in
         by_bool (test e.1)
-        (λ too. absurd (omega (arith, past_first e es in_order n x later,
-        least e.0 e.1 (first_is e es) too)))
+        (λ too. absurd (omega (
+          arith,
+          past_first e es in_order n x later,
+          least e.0 e.1 (first_is e es) too,
+        )))
         (λ fails.
         ap (λ b. values_of (cond b ((e.0, w) ∷ es) (e ∷ set_value (is_at (nat_cmp n)) es w))) apart
         ∙ ap (λ ys. e.1 ∷ ys) (first_changed change es
@@ -196,8 +202,12 @@ module _ {X : Type 0} where
         let at : n ≡ e.0 = tied_numbers n e.0 here in
         find_back e es None (none_found_back es rest (λ m y there.
         by_bool (test y)
-        (λ ok. absurd (omega (arith, at, past_first e es in_order m y there,
-        greatest m y (still_there e es in_order m y there) ok)))
+        (λ ok. absurd (omega (
+          arith,
+          at,
+          past_first e es in_order m y there,
+          greatest m y (still_there e es in_order m y there) ok,
+        )))
         (λ fails. fails)))
         ∙ ap (λ b. cond b (Some e.1) None) (ap test same ∙ passes) ∙ ap (λ y. Some y) same)
         (λ apart.

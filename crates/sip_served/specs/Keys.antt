@@ -1,5 +1,6 @@
 -- The keys by which held requests are found.
 use Rattle.std.specs.Prelude.{ℕ, List, Option, None, Some, if◌then◌else◌}
+use Rattle.std.specs.Option.{option_map}
 use Rattle.std.specs.Str.{str_to_ascii_lowercase}
 use Rattle.sip_message.specs.declared.id.Id.{Id}
 use Rattle.sip_message.specs.declared.key.Key.{Key}
@@ -11,6 +12,7 @@ use Rattle.sip_served.specs.declared.held_request.HeldRequest.{HeldRequest}
 use Rattle.sip_served.specs.declared.request_keys.AckKey.{AckKey}
 use Rattle.sip_served.specs.declared.request_keys.BranchKey.{BranchKey}
 use Rattle.sip_served.specs.declared.request_keys.MergeKey.{MergeKey}
+use Rattle.sip_served.specs.declared.request_keys.PrackKey.{PrackKey}
 
 -- what the same request has that came by another path (RFC 3261, section 8.2.2.2)
 abbrev pub merge_key : Message → MergeKey
@@ -29,13 +31,18 @@ ack_key local remote number = record {
   number = number;
 }
 
+-- what the PRACK of a response to an INVITE has: the event that made its dialog, and the number of
+-- the CSeq in its RAck (RFC 3262, section 7.2)
+abbrev pub prack_key : Id → ℕ → PrackKey
+prack_key created_by number = record { created_by = created_by; number = number }
+
 -- what the CANCEL of a request has; a client's key has none of it (RFC 3261, section 9.2)
 abbrev pub branch_key : Key → Option BranchKey
 branch_key (Server branch sent_by method) =
     Some record { branch = branch; host = sent_by.host; port = sent_by.port }
 branch_key (Client branch method) = None
 
--- ---- of a held request; an ACK is only for an INVITE
+-- ---- of a held request; an ACK is only for an INVITE, a PRACK only for one in a dialog
 
 abbrev pub id_of : HeldRequest → Option Id
 id_of held = Some held.id
@@ -48,6 +55,10 @@ ack_of held =
     if is_invite held.request
     then Some (ack_key held.tag (tag_of held.request.from) held.request.cseq.number)
     else None
+
+abbrev pub prack_of : HeldRequest → Option PrackKey
+prack_of held =
+    option_map (λ dialog. prack_key dialog.created_by held.request.cseq.number) held.dialog
 
 abbrev pub branch_of : HeldRequest → Option BranchKey
 branch_of held = branch_key held.key

@@ -2,6 +2,8 @@ pub mod Acknowledgment
 pub mod Arrival
 pub mod Awaiting
 pub mod Cancel
+pub mod Change
+pub mod HeldRequests
 pub mod Lending
 pub mod OwnCall
 pub mod Provisionals

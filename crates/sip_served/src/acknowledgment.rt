@@ -5,11 +5,8 @@ ghost use Rattle.std.specs.Option.{option_map_or};
 ghost use Rattle.sip_reliable.specs.Ledger.{acknowledged};
 ghost use Rattle.sip_served.specs.Acknowledgment as spec;
 ghost use Rattle.sip_served.specs.Arrival.{pracked};
-ghost use Rattle.sip_served.specs.State.{changed_at};
-ghost use Rattle.sip_served.specs.declared.held_request.SuccessEnd.TheVariants.{Acknowledged};
 
 use crate::held_request::{HeldRequest, SuccessEnd};
-use crate::requests::place_of;
 use sip_held_dialogs::request::is_invite;
 use sip_message::{Id, Message};
 use sip_reliable::Outbound;
@@ -48,17 +45,6 @@ pub(crate) fn is_ack_of(ack: &Message, held: &HeldRequest) -> bool
         && ack.cseq.number == held.request.get().cseq.number
 }
 
-/// The ACK of the 2xx to the INVITE of this id came.
-#[tactic(auto, using(std::proofs::lemmas::Option::slice_get_read))]
-pub(crate) fn acknowledge(requests: &mut Vec<HeldRequest>, invite: Id)
-    ensures { requests.new.items
-        ≡ changed_at invite (spec.success_ended Acknowledged) requests.old.items }
-{
-    if let Some(index) = place_of(requests.as_slice(), invite) {
-        end_success(&mut requests[index], SuccessEnd::Acknowledged);
-    }
-}
-
 /// The 2xx isn't sent again.
 pub(crate) fn end_success(held: &mut HeldRequest, end: SuccessEnd)
     ensures { held.new ≡ spec.success_ended end held.old }
@@ -68,17 +54,8 @@ pub(crate) fn end_success(held: &mut HeldRequest, end: SuccessEnd)
     }
 }
 
-/// The PRACK of a response to the INVITE of this id came.
-#[tactic(auto, using(std::proofs::lemmas::Option::slice_get_read))]
-pub(crate) fn prack(requests: &mut Vec<HeldRequest>, invite: Id, rseq: u32)
-    ensures { requests.new.items ≡ changed_at invite (pracked rseq) requests.old.items }
-{
-    if let Some(index) = place_of(requests.as_slice(), invite) {
-        prack_one(&mut requests[index], rseq);
-    }
-}
-
-pub(crate) fn prack_one(held: &mut HeldRequest, rseq: u32)
+/// The PRACK of the response to this INVITE with this RSeq came.
+pub(crate) fn prack(held: &mut HeldRequest, rseq: u32)
     ensures { held.new ≡ pracked rseq held.old }
 {
     acknowledge_number(&mut held.ledger, rseq);

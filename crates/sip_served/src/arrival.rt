@@ -64,7 +64,7 @@ pub(crate) fn case_of(
         return Ok(ArrivalCase::BadExtension);
     }
     if has_to_tag(request) {
-        case_inside(requests, name, request, dialogs.get(name))
+        Ok(case_inside(requests, name, request, dialogs.get(name)))
     } else {
         Ok(case_outside(request))
     }
@@ -85,20 +85,20 @@ fn case_inside(
     name: &DialogId,
     request: &Message,
     dialog: Option<&HeldDialog>,
-) -> Result<ArrivalCase, AllocError>
-    ensures { IfOk result (λ case. case
-        ≡ arrival.case_inside requests.now name.now request.now (option_copied dialog.entry)) }
+) -> ArrivalCase
+    ensures { result
+        ≡ arrival.case_inside requests.now name.now request.now (option_copied dialog.entry) }
 {
     let Some(held) = dialog else {
-        return Ok(ArrivalCase::NoDialog);
+        return ArrivalCase::NoDialog;
     };
     if !takes(held, request.cseq.number) {
-        return Ok(ArrivalCase::OutOfOrder);
+        ArrivalCase::OutOfOrder
+    } else if is_prack(request) {
+        prack_case(requests, name, held.created_by, &request.rack)
+    } else {
+        ArrivalCase::ForUser
     }
-    if is_prack(request) {
-        return prack_case(requests, name, held.created_by, &request.rack);
-    }
-    Ok(ArrivalCase::ForUser)
 }
 
 fn prack_case(
@@ -106,16 +106,15 @@ fn prack_case(
     name: &DialogId,
     created_by: Id,
     rack: &Option<RAck>,
-) -> Result<ArrivalCase, AllocError>
-    ensures { IfOk result (λ case. case
-        ≡ arrival.prack_case requests.now name.now created_by rack.now) }
+) -> ArrivalCase
+    ensures { result ≡ arrival.prack_case requests.now name.now created_by rack.now }
 {
     let Some(rack) = rack else {
-        return Ok(ArrivalCase::AcknowledgesNothing);
+        return ArrivalCase::AcknowledgesNothing;
     };
-    match requests.named_invite(name, created_by, rack)? {
-        Some(invite) => Ok(ArrivalCase::Acknowledges(invite, rack.rseq)),
-        None => Ok(ArrivalCase::AcknowledgesNothing),
+    match requests.named_invite(name, created_by, rack) {
+        Some(invite) => ArrivalCase::Acknowledges(invite, rack.rseq),
+        None => ArrivalCase::AcknowledgesNothing,
     }
 }
 

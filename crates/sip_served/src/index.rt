@@ -57,6 +57,20 @@ impl<K: Ord + Drop> Index<K> {
         self.pairs.remove(&(key, number));
     }
 
+    /// Moves a number from its key, if it has one, to another, if that is one.
+    pub(crate) fn rekey(
+        &mut self,
+        former: Option<K>,
+        key: Option<K>,
+        number: u64,
+    ) -> Result<(), AllocError>
+        ensures { OnOk result ((keys : ℕ → Option K) → IsIndexOf K.cmp keys self.old
+            → keys number ≡ former → IsIndexOf K.cmp (with_key keys number key) self.new) }
+    {
+        self.remove(former, number);
+        self.insert(key, number)
+    }
+
     /// The least number of a key that isn't below another number, which is given with the key.
     pub(crate) fn first_from(&self, least: &(K, u64)) -> Option<u64>
         ensures number { (keys : ℕ → Option K) → IsIndexOf K.cmp keys self.now

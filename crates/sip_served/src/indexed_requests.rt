@@ -7,33 +7,33 @@ ghost use Rattle.std.specs.BTreeMap.{IsOrdered, is_at};
 ghost use Rattle.std.specs.Ordering.{nat_cmp};
 ghost use Rattle.sip_timers.specs.Index as timers;
 ghost use Rattle.sip_served.specs.Acknowledgment as acks;
-ghost use Rattle.sip_served.specs.Arrival.{is_merged, named_invite, pracked};
+ghost use Rattle.sip_served.specs.Arrival.{is_merged, named_invite};
 ghost use Rattle.sip_served.specs.Cancel as cancels;
-ghost use Rattle.sip_served.specs.Respond.{answered, finished, with_dialog};
+ghost use Rattle.sip_served.specs.Change.{after_change, moment_of};
 ghost use Rattle.sip_served.specs.State.{changed_at, has_id};
 ghost use Rattle.sip_served.specs.Indexed.{at, due_at, kept_ticked, number_ticked, number_told};
 ghost use Rattle.sip_served.specs.Indices.{IsIndices};
 ghost use Rattle.sip_served.specs.Tick.{is_kept_at, next_due_of, request_ticked};
-ghost use Rattle.sip_served.specs.declared.held_request.SuccessEnd.TheVariants.{Acknowledged};
 
-use crate::acknowledgment::{awaits_ack, end_success, is_ack_of, prack_one};
+use crate::acknowledgment::{awaits_ack, is_ack_of};
 use crate::arrival::{is_in_dialog, is_named_by};
-use crate::held_request::{HeldRequest, SuccessEnd};
+use crate::change::{Change, apply};
+use crate::held_request::HeldRequest;
 use crate::indices::Indices;
-use crate::request_keys::{branch_key, merge_key};
-use crate::respond::{answer_one, finish};
+use crate::request_keys::{PrackKey, ack_key, branch_key, merge_key, prack_of};
 use crate::tick::{is_kept, request_due, tick_request};
 use sip_held_dialogs::DialogId;
 use sip_message::{Id, Key, Message, RAck};
 use sip_timers::Schedule;
-use sip_user::{CallOut, Reliability};
+use sip_user::CallOut;
 use std::alloc::{AllocError, Global};
 use std::collections::BTreeMap;
 use std::marker::Model;
+use std::mem;
 
 /// Many held requests in the order in which they came up, found by maps.
 ///
-/// Contracts see them as a list.
+/// Contracts see them as a list. If memory ran out in a call, none is held any more.
 pub(crate) struct IndexedRequests {
     alloc: Global,
     // The number of the next request, above that of each request so far.
@@ -72,6 +72,20 @@ impl IndexedRequests {
         }
     }
 
+    /// These requests, in their order.
+    pub(crate) fn of(
+        alloc: Global,
+        requests: Vec<HeldRequest>,
+    ) -> Result<IndexedRequests, AllocError>
+        ensures { IfOk result (λ all. all ≡ requests.items) }
+    {
+        let mut all = IndexedRequests::new(alloc);
+        for held in requests {
+            all.push(held)?;
+        }
+        Ok(all)
+    }
+
     /// Whether no request is held.
     pub(crate) fn is_empty(&self) -> bool
         ensures { result ≡ not (nat_lt 0 (length self.now)) }
@@ -103,10 +117,7 @@ impl IndexedRequests {
     }
 
     /// The held request that a CANCEL names; if there are several, the last that came up.
-    pub(crate) fn cancelled_request(
-        &self,
-        cancel: &Key,
-    ) -> Result<Option<&HeldRequest>, AllocError>
+    pub(crate) fn cancelled_request(&self, cancel: &Key) -> Result<Option<&HeldRequest>, AllocError>
         ensures { IfOk result (λ held. option_copied held
             ≡ cancels.cancelled_request cancel.now self.now) }
     {
@@ -120,27 +131,82 @@ impl IndexedRequests {
     }
 
     /// The id of the first INVITE whose 2xx this ACK is for.
-    pub(crate) fn acknowledged_invite(&self, ack: &Message) -> Option<Id>
-        ensures { result ≡ acks.acknowledged_invite ack.now self.now }
+    pub(crate) fn acknowledged_invite(&self, ack: &Message) -> Result<Option<Id>, AllocError>
+        ensures { IfOk result (λ invite. invite ≡ acks.acknowledged_invite ack.now self.now) }
     {
-        self.requests
-            .values()
-            .find(|held| awaits_ack(held) && is_ack_of(ack, held))
-            .map(|held| held.id)
+        let key = ack_key(self.alloc, ack.to.tag(), ack.from.tag(), ack.cseq.number)?;
+        let mut least = (key, 0);
+        while let Some(number) = self.indices.acks.first_from(&least) {
+            match self.requests.get(&number) {
+                Some(held) if awaits_ack(held) && is_ack_of(ack, held) => {
+                    return Ok(Some(held.id));
+                }
+                _ => least.1 = number + 1,
+            }
+        }
+        Ok(None)
     }
 
     /// The first INVITE of the dialog with a waiting response that the RAck names.
     pub(crate) fn named_invite(&self, name: &DialogId, created_by: Id, rack: &RAck) -> Option<Id>
         ensures { result ≡ named_invite self.now name.now created_by rack.now }
     {
-        self.requests
-            .values()
-            .find(|held| is_in_dialog(held, name, created_by) && is_named_by(held, rack))
-            .map(|held| held.id)
+        let key = PrackKey {
+            created_by,
+            number: rack.cseq,
+        };
+        let mut least = (key, 0);
+        while let Some(number) = self.indices.pracks.first_from(&least) {
+            match self.requests.get(&number) {
+                Some(held) if is_in_dialog(held, name, created_by) && is_named_by(held, rack) => {
+                    return Some(held.id);
+                }
+                _ => least.1 = number + 1,
+            }
+        }
+        None
     }
 
-    /// These requests and one more, the last.
-    pub(crate) fn with(self, held: HeldRequest) -> Result<IndexedRequests, AllocError>
+    /// Holds one more request, the last.
+    pub(crate) fn push(&mut self, held: HeldRequest) -> Result<(), AllocError>
+        ensures { OnOk result (self.new ≡ self.old ++ held ∷ []) }
+    {
+        *self = self.take().with(held)?;
+        Ok(())
+    }
+
+    /// Changes the request of this id, the first if there are several.
+    pub(crate) fn change(&mut self, id: Id, change: Change) -> Result<(), AllocError>
+        requires { moment_of change ≤ 2 ^ 62 }
+        ensures { OnOk result (self.new ≡ changed_at id (after_change change) self.old) }
+    {
+        *self = self.take().with_change(id, change)?;
+        Ok(())
+    }
+
+    /// Does what is due for each held request at the moment `now`, in ms, and removes those whose
+    /// moment of removal has come.
+    pub(crate) fn tick(&mut self, now: u64, outs: &mut Vec<CallOut>) -> Result<(), AllocError>
+        requires { now ≤ 2 ^ 62 }
+        ensures requests { OnOk result (self.new ≡ filter (is_kept_at now)
+            (map (λ held. (request_ticked now held).0) self.old)) }
+        ensures outs { OnOk result (outs.new.items ≡ outs.old.items
+            ++ flat_map (λ held. (request_ticked now held).1) self.old) }
+    {
+        *self = self.take().ticked(now, outs)?;
+        Ok(())
+    }
+
+    // Takes all requests out, so that none is held if memory runs out.
+    fn take(&mut self) -> IndexedRequests
+        ensures { result ≡ self.old }
+    {
+        let alloc = self.alloc;
+        mem::replace(self, IndexedRequests::new(alloc))
+    }
+
+    // These requests and one more, the last.
+    fn with(self, held: HeldRequest) -> Result<IndexedRequests, AllocError>
         ensures { IfOk result (λ all. all ≡ self ++ held ∷ []) }
     {
         let IndexedRequests {
@@ -165,79 +231,10 @@ impl IndexedRequests {
         })
     }
 
-    /// The ACK of the 2xx to the INVITE of this id came.
-    pub(crate) fn acknowledged(self, invite: Id) -> Result<IndexedRequests, AllocError>
-        ensures { IfOk result (λ all. all
-            ≡ changed_at invite (acks.success_ended Acknowledged) self) }
-    {
-        let Some(number) = self.indices.ids.first_from(&(invite, 0)) else {
-            return Ok(self);
-        };
-        let IndexedRequests {
-            alloc,
-            next,
-            mut requests,
-            indices,
-            mut dues,
-        } = self;
-        let Some(held) = requests.get_mut(&number) else {
-            unreachable!()
-        };
-        let former = request_due(held);
-        end_success(held, SuccessEnd::Acknowledged);
-        move_due(&mut dues, number, former, request_due(held))?;
-        Ok(IndexedRequests {
-            alloc,
-            next,
-            requests,
-            indices,
-            dues,
-        })
-    }
-
-    /// The PRACK of a response to the INVITE of this id came.
-    pub(crate) fn pracked(
-        self,
-        invite: Id,
-        rseq: u32,
-    ) -> Result<IndexedRequests, AllocError>
-        ensures { IfOk result (λ all. all ≡ changed_at invite (pracked rseq) self) }
-    {
-        let Some(number) = self.indices.ids.first_from(&(invite, 0)) else {
-            return Ok(self);
-        };
-        let IndexedRequests {
-            alloc,
-            next,
-            mut requests,
-            indices,
-            mut dues,
-        } = self;
-        let Some(held) = requests.get_mut(&number) else {
-            unreachable!()
-        };
-        let former = request_due(held);
-        prack_one(held, rseq);
-        move_due(&mut dues, number, former, request_due(held))?;
-        Ok(IndexedRequests {
-            alloc,
-            next,
-            requests,
-            indices,
-            dues,
-        })
-    }
-
-    /// The final response of this status to the request of this id goes out, at the moment `now`.
-    pub(crate) fn finished(
-        self,
-        id: Id,
-        response: &Message,
-        status: u16,
-        now: u64,
-    ) -> Result<IndexedRequests, AllocError>
-        requires { now ≤ 2 ^ 62 }
-        ensures { IfOk result (λ all. all ≡ changed_at id (finished response.now status now) self) }
+    // These requests after a change of the one of this id, if there is one.
+    fn with_change(self, id: Id, change: Change) -> Result<IndexedRequests, AllocError>
+        requires { moment_of change ≤ 2 ^ 62 }
+        ensures { IfOk result (λ all. all ≡ changed_at id (after_change change) self) }
     {
         let Some(number) = self.indices.ids.first_from(&(id, 0)) else {
             return Ok(self);
@@ -246,15 +243,17 @@ impl IndexedRequests {
             alloc,
             next,
             mut requests,
-            indices,
+            mut indices,
             mut dues,
         } = self;
         let Some(held) = requests.get_mut(&number) else {
             unreachable!()
         };
-        let former = request_due(held);
-        finish(alloc, held, response, status, now)?;
-        move_due(&mut dues, number, former, request_due(held))?;
+        let former_due = request_due(held);
+        let former_key = prack_of(held);
+        apply(alloc, held, change)?;
+        move_due(&mut dues, number, former_due, request_due(held))?;
+        indices.pracks.rekey(former_key, prack_of(held), number)?;
         Ok(IndexedRequests {
             alloc,
             next,
@@ -264,53 +263,8 @@ impl IndexedRequests {
         })
     }
 
-    /// An answer of the user to the request of this id goes out in an event, at the moment `now`.
-    /// If it makes a dialog, the request refers to it.
-    pub(crate) fn answered(
-        self,
-        id: Id,
-        event: Id,
-        status: u16,
-        reliability: Reliability,
-        response: &Message,
-        now: u64,
-    ) -> Result<IndexedRequests, AllocError>
-        requires { now ≤ 2 ^ 62 }
-        ensures { IfOk result (λ all. all ≡ changed_at id (λ held. answered status reliability response.now now
-            (with_dialog event status held)) self) }
-    {
-        let Some(number) = self.indices.ids.first_from(&(id, 0)) else {
-            return Ok(self);
-        };
-        let IndexedRequests {
-            alloc,
-            next,
-            mut requests,
-            indices,
-            mut dues,
-        } = self;
-        let Some(held) = requests.get_mut(&number) else {
-            unreachable!()
-        };
-        let former = request_due(held);
-        answer_one(alloc, held, event, status, reliability, response, now)?;
-        move_due(&mut dues, number, former, request_due(held))?;
-        Ok(IndexedRequests {
-            alloc,
-            next,
-            requests,
-            indices,
-            dues,
-        })
-    }
-
-    /// Does what is due for each held request at the moment `now`, in ms, and removes those whose
-    /// moment of removal has come.
-    pub(crate) fn ticked(
-        self,
-        now: u64,
-        outs: &mut Vec<CallOut>,
-    ) -> Result<IndexedRequests, AllocError>
+    // These requests after a tick at the moment `now`, in ms.
+    fn ticked(self, now: u64, outs: &mut Vec<CallOut>) -> Result<IndexedRequests, AllocError>
         requires { now ≤ 2 ^ 62 }
         ensures requests { IfOk result (λ all. all ≡ filter (is_kept_at now)
             (map (λ held. (request_ticked now held).0) self)) }

@@ -7,7 +7,9 @@ ghost use Rattle.sip_served.specs.declared.held_request.HeldRequest.{HeldRequest
 
 use crate::held_request::HeldRequest;
 use crate::index::Index;
-use crate::request_keys::{AckKey, BranchKey, MergeKey, ack_of, branch_key, merge_key};
+use crate::request_keys::{
+    AckKey, BranchKey, MergeKey, PrackKey, ack_of, branch_key, merge_key, prack_of,
+};
 use sip_message::Id;
 use std::alloc::{AllocError, Global};
 
@@ -17,6 +19,7 @@ pub(crate) struct Indices {
     pub(crate) ids: Index<Id>,
     pub(crate) merges: Index<MergeKey>,
     pub(crate) acks: Index<AckKey>,
+    pub(crate) pracks: Index<PrackKey>,
     pub(crate) branches: Index<BranchKey>,
 }
 
@@ -29,6 +32,7 @@ impl Indices {
             ids: Index::new(alloc),
             merges: Index::new(alloc),
             acks: Index::new(alloc),
+            pracks: Index::new(alloc),
             branches: Index::new(alloc),
         }
     }
@@ -47,6 +51,7 @@ impl Indices {
         self.merges
             .insert(Some(merge_key(alloc, held.request.get())?), number)?;
         self.acks.insert(ack_of(alloc, held)?, number)?;
+        self.pracks.insert(prack_of(held), number)?;
         self.branches
             .insert(branch_key(alloc, held.key.get())?, number)
     }
@@ -65,6 +70,7 @@ impl Indices {
         self.merges
             .remove(Some(merge_key(alloc, held.request.get())?), number);
         self.acks.remove(ack_of(alloc, held)?, number);
+        self.pracks.remove(prack_of(held), number);
         self.branches
             .remove(branch_key(alloc, held.key.get())?, number);
         Ok(())

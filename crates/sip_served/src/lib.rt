@@ -4,12 +4,12 @@
 mod acknowledgment;
 mod arrival;
 mod cancel;
+mod change;
 mod held_request;
 mod held_requests;
 mod index;
 mod indexed_requests;
 mod indices;
-mod later_requests;
 mod laws;
 mod outputs;
 mod provisionals;

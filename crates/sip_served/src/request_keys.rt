@@ -6,7 +6,7 @@ ghost use Rattle.sip_served.specs.Keys as keys;
 use crate::held_request::HeldRequest;
 use sip_grammar::LowerText;
 use sip_held_dialogs::request::is_invite;
-use sip_message::{Key, Message};
+use sip_message::{Id, Key, Message};
 use sip_text::Text;
 use std::alloc::{AllocError, Global};
 
@@ -34,6 +34,14 @@ pub(crate) struct BranchKey {
     pub(crate) branch: Text,
     pub(crate) host: Text,
     pub(crate) port: u16,
+}
+
+/// What the PRACK of a response to an INVITE has: the event that made its dialog, and the number of
+/// the CSeq in its RAck (RFC 3262, section 7.2).
+#[derive(Clone, Copy, PartialEq, Eq, PartialOrd, Ord)]
+pub(crate) struct PrackKey {
+    pub(crate) created_by: Id,
+    pub(crate) number: u32,
 }
 
 /// The key of a request that comes up.
@@ -78,6 +86,17 @@ pub(crate) fn ack_of(alloc: Global, held: &HeldRequest) -> Result<Option<AckKey>
         request.cseq.number,
     )?;
     Ok(Some(key))
+}
+
+/// The key of a PRACK for a held request, if that is in a dialog.
+pub(crate) fn prack_of(held: &HeldRequest) -> Option<PrackKey>
+    ensures { result ≡ keys.prack_of held.now }
+{
+    let dialog = held.dialog.as_ref()?;
+    Some(PrackKey {
+        created_by: dialog.created_by,
+        number: held.request.get().cseq.number,
+    })
 }
 
 /// The branch and the sent-by of the key of a server transaction.

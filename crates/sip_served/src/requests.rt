@@ -1,6 +1,6 @@
 //! The held requests.
 
-ghost use Rattle.std.specs.Prelude.{◌≡◌, ◌<◌, is_some, IfNone, IfSome, find, position, length, None, Some};
+ghost use Rattle.std.specs.Prelude.{◌≡◌, ◌<◌, IfNone, IfSome, find, position, length, None, Some};
 ghost use Rattle.std.specs.List.{slice_get, slice_set, slice_index_or};
 ghost use Rattle.std.specs.Option.{option_copied};
 ghost use Rattle.sip_served.specs.State.{changed_at, has_id};
@@ -14,13 +14,6 @@ pub(crate) fn held_request(requests: &[HeldRequest], id: Id) -> Option<&HeldRequ
     ensures { option_copied result ≡ find (has_id id) requests.now }
 {
     requests.iter().find(|held| is_of(held, id))
-}
-
-/// Whether a request of this id is held.
-pub(crate) fn is_held(requests: &[HeldRequest], id: Id) -> bool
-    ensures { result ≡ is_some (find (has_id id) requests.now) }
-{
-    held_request(requests, id).is_some()
 }
 
 /// The place of the request with this id among the held ones.
