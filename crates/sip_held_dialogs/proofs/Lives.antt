@@ -7,9 +7,8 @@ use Rattle.sip_dialog.specs.Fault.{accept_fault, ended_fault, ok_unless as dialo
 use Rattle.sip_dialog.specs.Life as happen
 use Rattle.sip_dialog.specs.Life.{Happening, dialog_after}
 use Rattle.sip_dialog.specs.Opening.{Opening, contact_uri}
-use Rattle.sip_dialog.specs.Step.{confirmed_by, ended_now, with_accepted, with_next_number, with_target}
+use Rattle.sip_dialog.specs.Step.{confirmed_by, ended_now, with_accepted, with_target}
 use Rattle.sip_dialog.specs.declared.dialog.Dialog.{Dialog}
-use Rattle.sip_dialog.specs.declared.fault.DialogFault.{DialogFault}
 use Rattle.sip_dialog.proofs.Lives.{accept_stands, ack_stands, confirm_stands, end_stands, refresh_stands, request_stands}
 use Rattle.sip_held_dialogs.specs.Dialogs.{happened, retargets, takes}
 use Rattle.sip_held_dialogs.specs.Lives.{AllFit, CasesFit, Fits}
@@ -28,10 +27,7 @@ happened_on : (opening : Opening) (life : List Happening) (one : Happening)
     → Fits (dialog_after opening life) one
     → happened (dialog_after opening life) one ≡ dialog_after opening (life ++ one ∷ [])
 happened_on opening life (happen.Requests method) fits =
-    let dialog = dialog_after opening life in
-    request_stands {A = Unit {0}} {E = DialogFault} dialog (with_next_number dialog) (Ok tt) method
-    refl
-    opening life refl
+    request_stands (dialog_after opening life) method opening life refl
 happened_on opening life (happen.Acknowledges number) fits =
     ack_stands (dialog_after opening life) number opening life refl
 happened_on opening life (happen.Accepts number) fits =
