@@ -4,7 +4,7 @@ use Rattle.std.specs.Prelude.{find, is_some, nat_le, ◌==◌, IfNone, IfSome, i
 use Rattle.std.specs.BTreeMap.{BTreeMap, is_at}
 use Rattle.std.specs.List.{list_any}
 use Rattle.std.specs.Map.{remove_entry, set_value, values_of}
-use Rattle.std.specs.Option.{option_and_then}
+use Rattle.std.specs.Option.{option_and_then, option_map}
 use Rattle.std.specs.Ordering.{is_eq, nat_cmp}
 use Rattle.std.proofs.lemmas.Bool.{false≢true, le-leb, leb-true, leb-false, lt-leb}
 use Rattle.sip_timers.specs.Index as timers
@@ -15,18 +15,30 @@ use Rattle.sip_message.specs.declared.key.Key.{Key}
 use Rattle.sip_message.specs.declared.message.Message.{Message}
 use Rattle.sip_message.specs.Party.{tag_of}
 use Rattle.sip_held_dialogs.specs.Requests.{is_invite}
+use Rattle.sip_held_dialogs.specs.declared.held_dialog.DialogReference.{DialogReference}
+use Rattle.sip_reliable.specs.declared.tick.Tick.{Tick}
+use Rattle.sip_reliable.specs.declared.tick.Tick.TheVariants as tick
+use Rattle.sip_served.specs.contracts.request_keys.PrackKeyOrd.TheImpl as prack_order
+use Rattle.sip_served.specs.declared.change.Change.{Change}
+use Rattle.sip_served.specs.declared.change.Change.TheVariants.{Ack, Answer, FinalResponse, Prack}
 use Rattle.sip_served.specs.declared.held_request.HeldRequest.{HeldRequest}
+use Rattle.sip_served.specs.declared.held_request.SuccessEnd.TheVariants.{Acknowledged}
+use Rattle.sip_served.specs.declared.request_keys.PrackKey.{PrackKey}
+use Rattle.sip_served.specs.declared.tick.SuccessDue.{SuccessDue}
+use Rattle.sip_served.specs.declared.tick.SuccessDue.TheVariants as repeat
+use Rattle.sip_served.specs.Change.{after_change}
+use Rattle.sip_served.specs.Respond.{answers, makes, with_dialog}
 use Rattle.sip_served.specs.declared.indices.Indices.{Indices}
 use Rattle.sip_served.specs.Index.{IsIndexOf, with_key}
 use Rattle.sip_reliable.specs.Ledger.{tick_answer}
 use Rattle.sip_served.specs.declared.held_request.Success.{Success}
 use Rattle.sip_served.specs.Indexed.{at, due_at, kept_ticked, number_ticked, thing_ticked}
 use Rattle.sip_served.specs.Indices.{IsIndices, keys_at}
-use Rattle.sip_served.specs.Keys.{ack_key, ack_of, branch_key, branch_of, id_of, merge_key, merge_of}
+use Rattle.sip_served.specs.Keys.{ack_key, ack_of, branch_key, branch_of, id_of, merge_key, merge_of, prack_key, prack_of}
 use Rattle.sip_served.specs.RequestLife.{RequestHappening, EndsSuccess, Finishes, GivesUpProvisionals, MakesDialog, RepeatsProvisionals, RepeatsSuccess, SendsReliably, TakesPrack, request_happened, went_on}
-use Rattle.sip_served.specs.Tick.{is_kept_at, next_due_of, provisionals_go, request_due, request_ticked, success_at_tick, success_passes, success_ticked}
+use Rattle.sip_served.specs.Tick.{is_kept_at, next_due_of, provisionals_go, request_due, request_ticked, success_answer, success_at_tick, success_goes, success_passes, success_ticked}
 use Rattle.sip_served.proofs.Dues.{requests_due}
-use Rattle.sip_served.proofs.Indexes.{by_bool, index_same}
+use Rattle.sip_served.proofs.Indexes.{by_bool, index_same, thing_moved}
 use Rattle.sip_served.proofs.KeyTests.{number_equal}
 use Rattle.sip_served.proofs.Numbered.{InOrder, any_found, at_itself, get, none_found, tied_numbers}
 
@@ -41,6 +53,8 @@ indices_same before after indices same tied = record {
       (λ n. ap (option_and_then merge_of) (same n)) tied.merges;
   acks = index_same _ indices.acks (keys_at ack_of before) (keys_at ack_of after)
       (λ n. ap (option_and_then ack_of) (same n)) tied.acks;
+  pracks = index_same _ indices.pracks (keys_at prack_of before) (keys_at prack_of after)
+      (λ n. ap (option_and_then prack_of) (same n)) tied.pracks;
   branches = index_same _ indices.branches (keys_at branch_of before) (keys_at branch_of after)
       (λ n. ap (option_and_then branch_of) (same n)) tied.branches;
 }
@@ -57,6 +71,17 @@ module _ (old new : BTreeMap ℕ HeldRequest) (number : ℕ) (x : Option HeldReq
       → IsIndices (at new) indices
   indices_moved indices tied =
       indices_same (with_key (at old) number x) (at new) indices with_new tied
+
+  -- the key of the number's PRACK moved
+  pub pracks_moved : (pracks : List (PrackKey × ℕ)) (key : Option PrackKey)
+      → key ≡ option_and_then prack_of x
+      → IsIndexOf prack_order.ghosts.cmp (with_key (keys_at prack_of (at old)) number key) pracks
+      → IsIndexOf prack_order.ghosts.cmp (keys_at prack_of (at new)) pracks
+  pracks_moved pracks key is tied =
+      index_same prack_order.ghosts.cmp pracks
+      (λ n. option_and_then prack_of (with_key (at old) number x n)) (keys_at prack_of (at new))
+      (λ n. ap (option_and_then prack_of) (with_new n))
+      (thing_moved prack_order.ghosts.cmp prack_of (at old) number pracks x key is tied)
 
   pub dues_moved : (dues : List (ℕ × ℕ)) (moment : Option ℕ)
       → moment ≡ option_and_then request_due x
@@ -104,28 +129,37 @@ one_came (Finishes response status now) held = refl
 one_came (RepeatsSuccess now) held = refl
 one_came (EndsSuccess end) held = refl
 
-pub came_stays : (life : List RequestHappening) (held : HeldRequest)
+came_stays : (life : List RequestHappening) (held : HeldRequest)
     → came_with (went_on life held) ≡ came_with held
 came_stays [] held = refl
 came_stays (h ∷ life) held = came_stays life (request_happened held h) ∙ one_came h held
 
+-- so does each change
+pub came_changed : (change : Change) (held : HeldRequest)
+    → came_with (after_change change held) ≡ came_with held
+came_changed Ack held = came_stays (EndsSuccess Acknowledged ∷ []) held
+came_changed (Prack rseq) held = came_stays (TakesPrack rseq ∷ []) held
+came_changed (FinalResponse response status now) held =
+    came_stays (Finishes response.now status now ∷ []) held
+came_changed (Answer event response status reliability now) held =
+    let referring = with_dialog event status held in
+    came_stays (answers referring status reliability response.now now) referring
+    ∙ came_stays (makes event held status) held
+
 module _ (old new : BTreeMap ℕ HeldRequest) (number : ℕ) (x w : HeldRequest)
     (there : at old number ≡ Some x) (came : came_with w ≡ came_with x)
     (updates : (q : ℕ) → at new q ≡ cond (is_at (nat_cmp number) q) (Some w) (at old q)) where
-  keys_stay : {K : Type 0} (key_of : Came → Option K) (n : ℕ)
-      → option_and_then (λ held. key_of (came_with held)) (at old n)
-      ≡ option_and_then (λ held. key_of (came_with held)) (at new n)
-  keys_stay key_of n =
+  pub keys_stay : {K : Type 0} (key_of : HeldRequest → Option K) → key_of w ≡ key_of x → (n : ℕ)
+      → option_and_then key_of (at old n) ≡ option_and_then key_of (at new n)
+  keys_stay key_of same n =
       by_bool (is_at (nat_cmp number) n)
       (λ here.
-      ap (λ m. option_and_then (λ held. key_of (came_with held)) (at old m))
-      (sym (tied_numbers number n here))
-      ∙ ap (option_and_then (λ held. key_of (came_with held))) there
-      ∙ ap key_of (sym came)
-      ∙ sym (ap (option_and_then (λ held. key_of (came_with held)))
+      ap (λ m. option_and_then key_of (at old m)) (sym (tied_numbers number n here))
+      ∙ ap (option_and_then key_of) there ∙ sym same
+      ∙ sym (ap (option_and_then key_of)
       (updates n ∙ ap (λ b. cond b (Some w) (at old n)) here)))
       (λ apart.
-      sym (ap (option_and_then (λ held. key_of (came_with held)))
+      sym (ap (option_and_then key_of)
       (updates n ∙ ap (λ b. cond b (Some w) (at old n)) apart)))
 
   pub below_stays : (next : ℕ) → ((n : ℕ) → next ≤ n → at old n ≡ None) → (n : ℕ) → next ≤ n
@@ -140,18 +174,34 @@ module _ (old new : BTreeMap ℕ HeldRequest) (number : ℕ) (x w : HeldRequest)
       never : Some x ≡ None → ⊥
       never same = absurd cc
 
-  pub indices_stay : (indices : Indices) → IsIndices (at old) indices → IsIndices (at new) indices
-  indices_stay indices tied = record {
+  -- with an index by PRACKs that may be another
+  pub indices_stay : (indices : Indices) (pracks : List (PrackKey × ℕ)) → IsIndices (at old) indices
+      → IsIndexOf prack_order.ghosts.cmp (keys_at prack_of (at new)) pracks
+      → IsIndices (at new) (record indices { pracks = pracks })
+  indices_stay indices pracks tied moved = record {
     ids = index_same _ indices.ids (keys_at id_of (at old)) (keys_at id_of (at new))
-        (keys_stay (λ came. Some came.0)) tied.ids;
+        (keys_stay id_of (ap (λ (came : Came). Some came.0) came)) tied.ids;
     merges = index_same _ indices.merges (keys_at merge_of (at old)) (keys_at merge_of (at new))
-        (keys_stay (λ came. Some (merge_key came.2))) tied.merges;
+        (keys_stay merge_of (ap (λ (came : Came). Some (merge_key came.2)) came)) tied.merges;
     acks = index_same _ indices.acks (keys_at ack_of (at old)) (keys_at ack_of (at new))
-        (keys_stay (λ came. if is_invite came.2
-        then Some (ack_key came.3 (tag_of came.2.from) came.2.cseq.number) else None)) tied.acks;
+        (keys_stay ack_of (ap (λ (came : Came). if is_invite came.2
+        then Some (ack_key came.3 (tag_of came.2.from) came.2.cseq.number) else None) came))
+        tied.acks;
+    pracks = moved;
     branches = index_same _ indices.branches (keys_at branch_of (at old))
-        (keys_at branch_of (at new)) (keys_stay (λ came. branch_key came.1)) tied.branches;
+        (keys_at branch_of (at new))
+        (keys_stay branch_of (ap (λ (came : Came). branch_key came.1) came)) tied.branches;
   }
+
+  -- a change that also leaves the dialog
+  pub indices_stay_all : w.dialog ≡ x.dialog → (indices : Indices) → IsIndices (at old) indices
+      → IsIndices (at new) indices
+  indices_stay_all dialog indices tied =
+      indices_stay indices indices.pracks tied
+      (index_same _ indices.pracks (keys_at prack_of (at old)) (keys_at prack_of (at new))
+      (keys_stay prack_of (λ i.
+      option_map (λ (life : DialogReference). prack_key life.created_by (came i).2.cseq.number)
+      (dialog i))) tied.pracks)
 
 -- ---- the first moment at which something is due
 
@@ -243,6 +293,30 @@ came_ticked now held =
     came_stays (provisionals_go (tick_answer first.ledger now) now) first
     ∙ came_success now held held.success
 
+dialog_success : (now : ℕ) (held : HeldRequest) (success : Success) (due : SuccessDue)
+    → (went_on (success_goes due now) held).dialog ≡ held.dialog
+dialog_success now held success repeat.Nothing = refl
+dialog_success now held success repeat.Again = refl
+dialog_success now held success repeat.GivenUp = refl
+
+dialog_first : (now : ℕ) (held : HeldRequest) (o : Option Success)
+    → (success_at_tick now held o).0.dialog ≡ held.dialog
+dialog_first now held None = refl
+dialog_first now held (Some success) =
+    dialog_success now held success (success_answer now success)
+
+dialog_second : (now : ℕ) (held : HeldRequest) (answer : Tick)
+    → (went_on (provisionals_go answer now) held).dialog ≡ held.dialog
+dialog_second now held tick.Nothing = refl
+dialog_second now held (tick.Again numbers) = refl
+dialog_second now held tick.GivenUp = refl
+
+pub dialog_ticked : (now : ℕ) (held : HeldRequest)
+    → (request_ticked now held).0.dialog ≡ held.dialog
+dialog_ticked now held =
+    let first = (success_ticked now held).0 in
+    dialog_second now first (tick_answer first.ledger now) ∙ dialog_first now held held.success
+
 -- an entry that was changed is taken out
 pub removed_set : {X : Type 0} (n : ℕ) (es : List (ℕ × X)) (w : X)
     → remove_entry (is_at (nat_cmp n)) (set_value (is_at (nat_cmp n)) es w)
@@ -299,8 +373,8 @@ module _ (old new : BTreeMap ℕ HeldRequest) (now number : ℕ) (x w : HeldRequ
     indices_removed indices rest tied takes =
         indices_moved new gone number None removes rest
         (takes (at new)
-        (indices_stay old new number x w there (ap came_with is ∙ came_ticked now x) updates indices
-        tied)
+        (indices_stay_all old new number x w there (ap came_with is ∙ came_ticked now x) updates
+        (ap (λ (held : HeldRequest). held.dialog) is ∙ dialog_ticked now x) indices tied)
         (updates number ∙ ap (λ b. cond b (Some w) (at old number)) (at_itself number)))
 
     pub entries_removed : new.entries ≡ set_value (is_at (nat_cmp number)) old.entries w

@@ -6,7 +6,7 @@ use Rattle.std.specs.Ordering.{is_eq, is_gt, is_lt, ordering_then, ordering_reve
 use Rattle.std.specs.Cmp.{IsTotalOrder, Equal-is, eq_by_cmp_equiv}
 use Rattle.std.specs.declared.cmp.Ordering.{Ordering}
 use Rattle.std.specs.declared.cmp.Ordering.TheVariants.{Less, Equal, Greater}
-use Rattle.std.proofs.lemmas.Bool.{false≢true, eqb-true, ne_eqb, ltb-true}
+use Rattle.std.proofs.lemmas.Bool.{false≢true, eq-eqb, eqb-true, ne_eqb, ltb-true}
 use Rattle.std.proofs.lemmas.Cmp.{by_ranked, ranked, tied_itself}
 use Rattle.std.proofs.lemmas.Map.Keys.{ge_from_not_lt}
 use Rattle.sip_served.specs.Index.{pair_cmp, is_under, is_key_of, IsIndexOf, with_key}
@@ -247,6 +247,19 @@ same_at keys number key is n =
     (λ here.
     ap keys (sym (eqb-true number n here)) ∙ is ∙ sym (ap (λ b. cond b key (keys n)) here))
     (λ apart. sym (ap (λ b. cond b key (keys n)) apart))
+
+-- a number's key is taken away, and the number is given a key
+pub no_key : {K : Type 0} (keys : ℕ → Option K) (number : ℕ)
+    → with_key keys number None number ≡ None
+no_key keys number = ap (λ b. cond b None (keys number)) (eq-eqb number number refl)
+
+pub given_again : {K : Type 0} (keys : ℕ → Option K) (number : ℕ) (key : Option K) (n : ℕ)
+    → with_key (with_key keys number None) number key n ≡ with_key keys number key n
+given_again keys number key n = once (number == n) (keys n)
+  where
+    once : (b : Bool) (own : Option _) → cond b key (cond b None own) ≡ cond b key own
+    once true own = refl
+    once false own = refl
 
 -- the keys of things, with another thing at a number
 pub thing_moved : {K X : Type 0} (cmp : K → K → Ordering) (key_of : X → Option K)

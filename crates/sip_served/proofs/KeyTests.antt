@@ -3,6 +3,7 @@ use Rattle.std.proofs.Common.{◌≡◌, ℕ, Bool, true, false, ◌&&◌, List,
 use Rattle.std.specs.Prelude.{◌==◌, Option, None, Some, if◌then◌else◌}
 use Rattle.std.specs.Cmp.Lexicographic.{slice_cmp}
 use Rattle.std.specs.Ordering.{is_eq, nat_cmp, ordering_then}
+use Rattle.std.specs.Option.{option_map, option_map_or}
 use Rattle.std.specs.Str.{bytes_eq, str_eq_ignore_ascii_case, str_to_ascii_lowercase}
 use Rattle.std.specs.declared.cmp.Ordering.{Ordering}
 use Rattle.std.specs.declared.cmp.Ordering.TheVariants.{Less, Equal, Greater}
@@ -14,18 +15,25 @@ use Rattle.sip_message.specs.declared.id.Id.{Id}
 use Rattle.sip_message.specs.declared.key.Key.{Key}
 use Rattle.sip_message.specs.declared.key.Key.TheVariants.{Client, Server}
 use Rattle.sip_message.specs.declared.message.Message.{Message}
+use Rattle.sip_message.specs.declared.rack.RAck.{RAck}
 use Rattle.sip_message.specs.Party.{tag_of}
+use Rattle.sip_held_dialogs.specs.declared.held_dialog.DialogId.{DialogId}
+use Rattle.sip_held_dialogs.specs.declared.held_dialog.DialogReference.{DialogReference}
+use Rattle.sip_held_dialogs.specs.Dialogs.{is_dialog_id}
+use Rattle.sip_held_dialogs.specs.Ids.{is_id}
 use Rattle.sip_held_dialogs.specs.Requests.{is_invite}
+use Rattle.sip_reliable.specs.Ledger.{waits_for}
 use Rattle.sip_served.specs.contracts.request_keys.AckKeyOrd.TheImpl as ack_order
 use Rattle.sip_served.specs.contracts.request_keys.BranchKeyOrd.TheImpl as branch_order
 use Rattle.sip_served.specs.contracts.request_keys.MergeKeyOrd.TheImpl as merge_order
+use Rattle.sip_served.specs.contracts.request_keys.PrackKeyOrd.TheImpl as prack_order
 use Rattle.sip_served.specs.declared.held_request.HeldRequest.{HeldRequest}
 use Rattle.sip_served.specs.declared.request_keys.BranchKey.{BranchKey}
 use Rattle.sip_served.specs.Acknowledgment.{awaits_ack, is_ack_of}
-use Rattle.sip_served.specs.Arrival.{is_merged}
+use Rattle.sip_served.specs.Arrival.{is_in_dialog, is_merged, is_named_by}
 use Rattle.sip_served.specs.Cancel.{is_same_branch}
 use Rattle.sip_served.specs.Index.{is_key_of}
-use Rattle.sip_served.specs.Keys.{ack_key, ack_of, branch_key, id_of, merge_key, merge_of}
+use Rattle.sip_served.specs.Keys.{ack_key, ack_of, branch_key, id_of, merge_key, merge_of, prack_key, prack_of}
 use Rattle.sip_served.specs.State.{has_id}
 use Rattle.sip_served.proofs.Indexes.{by_bool}
 use Rattle.sip_served.proofs.Numbered.{at_itself, tied_numbers}
@@ -68,11 +76,14 @@ text_back a b = is_eq-slice_cmp a b ∙ nat_list_eq_equiv.symm a b
 
 -- ---- ids
 
+ids_equal : (a b : Id) → is_eq (id_order.ghosts.cmp a b) ≡ is_id b a
+ids_equal a b =
+    both_equal (nat_cmp a.round b.round) (nat_cmp a.place b.place)
+    ∙ (λ i. number_back a.round b.round i && number_back a.place b.place i)
+
 pub id_same : (id : Id) (held : HeldRequest)
     → has_id id held ≡ is_key_of id_order.ghosts.cmp id (id_of held)
-id_same id held =
-    sym (both_equal (nat_cmp id.round held.id.round) (nat_cmp id.place held.id.place)
-    ∙ (λ i. number_back id.round held.id.round i && number_back id.place held.id.place i))
+id_same id held = sym (ids_equal id held.id)
 
 -- ---- a request that came by another path
 
@@ -114,6 +125,40 @@ pub ack_has_key : (ack : Message) (held : HeldRequest)
     → is_key_of ack_order.ghosts.cmp (ack_key (tag_of ack.to) (tag_of ack.from) ack.cseq.number)
     (ack_of held) ≡ true
 ack_has_key ack held passes = key_from ack held (is_invite held.request) _ passes
+
+-- ---- a PRACK
+
+key_of_dialog : (name : DialogId) (created_by : Id) (rack : RAck) (number : ℕ) (invite method : Bool)
+    (waits : Bool) (dialog : Option DialogReference)
+    → (option_map_or (λ life. is_dialog_id life.name name && is_id life.created_by created_by) dialog
+    false && (invite && method && (number == rack.cseq) && waits)) ≡ true
+    → is_key_of prack_order.ghosts.cmp (prack_key created_by rack.cseq)
+    (option_map (λ dialog. prack_key dialog.created_by number) dialog) ≡ true
+key_of_dialog name created_by rack number invite method waits None passes =
+    absurd (false≢true passes)
+key_of_dialog name created_by rack number invite method waits (Some life) passes =
+    both_equal (id_order.ghosts.cmp created_by life.created_by) (nat_cmp rack.cseq number)
+    ∙ (λ i. ids_equal created_by life.created_by i && number_back rack.cseq number i)
+    ∙ these (is_dialog_id life.name name) (is_id life.created_by created_by) invite method
+    (number == rack.cseq) waits passes
+  where
+    these : (a b c d e f : Bool) → ((a && b) && (c && d && e && f)) ≡ true → (b && e) ≡ true
+    these true true true true true true is = refl
+    these true true true true true false is = absurd (false≢true is)
+    these true true true true false f is = absurd (false≢true is)
+    these true true true false e f is = absurd (false≢true is)
+    these true true false d e f is = absurd (false≢true is)
+    these true false c d e f is = absurd (false≢true is)
+    these false b c d e f is = absurd (false≢true is)
+
+-- an INVITE that the RAck names has its key
+pub prack_has_key : (name : DialogId) (created_by : Id) (rack : RAck) (held : HeldRequest)
+    → (is_in_dialog name created_by held && is_named_by rack held) ≡ true
+    → is_key_of prack_order.ghosts.cmp (prack_key created_by rack.cseq) (prack_of held) ≡ true
+prack_has_key name created_by rack held passes =
+    key_of_dialog name created_by rack held.request.cseq.number (is_invite held.request)
+    (bytes_eq rack.method held.request.cseq.method) (waits_for rack.rseq held.ledger) held.dialog
+    passes
 
 -- ---- a CANCEL
 

@@ -4,7 +4,8 @@ use Rattle.std.specs.Prelude.{is_some}
 use Rattle.std.specs.Option.{option_copied_mut}
 use Rattle.sip_served.specs.Indexed.{at}
 use Rattle.sip_served.specs.Tick.{is_kept_at}
-use Rattle.sip_served.proofs.IndexedSteps.{came_ticked, came_with, entries_removed, indices_removed, indices_stay, ticked_kept, ticked_none, ticked_removed}
+use Rattle.sip_served.specs.declared.held_request.HeldRequest.{HeldRequest}
+use Rattle.sip_served.proofs.IndexedSteps.{came_ticked, came_with, dialog_ticked, entries_removed, indices_removed, indices_stay_all, ticked_kept, ticked_none, ticked_removed}
 use Rattle.sip_served.proofs.Indexes.{on_ok_mapped}
 use Rattle.sip_served.proofs.indexed_requests.tick_number.Goals as goal
 
@@ -17,9 +18,11 @@ returns-then-is_kept-clause-indices c =
     let there : at old c.args.number ≡ Some x =
     sym c.get_mut.ensures.value ∙ ap option_copied_mut c.in-Some.is in
     on_ok_mapped _ _ c.move_due.result
-    (λ moved. indices_stay old (c.get_mut.follows.lender w) c.args.number x w there
+    (λ moved. indices_stay_all old (c.get_mut.follows.lender w) c.args.number x w there
     (ap came_with c.in_ok-tick_request.ensures.held ∙ came_ticked c.args.now x)
-    (told.3 (ap is_some there)).0 c.args.indices.now)
+    (told.3 (ap is_some there)).0
+    (ap (λ (held : HeldRequest). held.dialog) c.in_ok-tick_request.ensures.held
+    ∙ dialog_ticked c.args.now x) c.args.indices.now)
     c.move_due.ensures
 
 pub returns-then-is_kept-clause-moves : goal.returns-then-is_kept-clause-moves

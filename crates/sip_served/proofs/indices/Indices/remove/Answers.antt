@@ -5,8 +5,9 @@ use Rattle.sip_message.specs.contracts.id.IdOrd.TheImpl as id_order
 use Rattle.sip_served.specs.contracts.request_keys.AckKeyOrd.TheImpl as ack_order
 use Rattle.sip_served.specs.contracts.request_keys.BranchKeyOrd.TheImpl as branch_order
 use Rattle.sip_served.specs.contracts.request_keys.MergeKeyOrd.TheImpl as merge_order
+use Rattle.sip_served.specs.contracts.request_keys.PrackKeyOrd.TheImpl as prack_order
 use Rattle.sip_served.specs.Indices.{keys_at}
-use Rattle.sip_served.specs.Keys.{ack_of, branch_key, branch_of, id_of, merge_key, merge_of}
+use Rattle.sip_served.specs.Keys.{ack_of, branch_key, branch_of, id_of, merge_key, merge_of, prack_of}
 use Rattle.sip_served.proofs.Indexes.{on_ok_mapped, thing_moved}
 use Rattle.sip_served.proofs.indices.Indices.remove.Goals as goal
 
@@ -26,8 +27,12 @@ returns c =
       acks = thing_moved ack_order.ghosts.cmp ack_of at number c.remove-3.new.self None None refl
           (c.remove-3.ensures (keys_at ack_of at) before.acks
           (ap (option_and_then ack_of) there ∙ sym c.in_ok-ack_of.ensures));
-      branches = thing_moved branch_order.ghosts.cmp branch_of at number c.remove-4.new.self None
+      pracks = thing_moved prack_order.ghosts.cmp prack_of at number c.remove-4.new.self None None
+          refl
+          (c.remove-4.ensures (keys_at prack_of at) before.pracks
+          (ap (option_and_then prack_of) there ∙ sym c.prack_of.ensures));
+      branches = thing_moved branch_order.ghosts.cmp branch_of at number c.remove-5.new.self None
           None refl
-          (c.remove-4.ensures (keys_at branch_of at) before.branches
+          (c.remove-5.ensures (keys_at branch_of at) before.branches
           (ap (option_and_then branch_of) there ∙ sym branch));
     }
