@@ -110,7 +110,31 @@ never_found test fails (x ∷ xs) =
 abbrev pub NoneBelow : {X : Type 0} → (X → Bool) → List (ℕ × X) → ℕ → Type 0
 NoneBelow {X} test es least = (m : ℕ) (y : X) → m < least → get m es ≡ Some y → test y ≡ false
 
+-- a number that has a key is below the next
+pub key_below : {K X : Type 0} (cmp : K → K → Ordering) (key : K) (key_of : X → Option K)
+    (es : List (ℕ × X)) (next : ℕ) → ((n : ℕ) → next ≤ n → get n es ≡ None) → (m : ℕ)
+    → is_key_of cmp key (option_and_then key_of (get m es)) ≡ true → m < next
+key_below cmp key key_of es next none m has =
+    by_bool (nat_le next m)
+    (λ le.
+    absurd (false≢true (sym (ap (λ o. is_key_of cmp key (option_and_then key_of o))
+    (none m (leb-true next m le))) ∙ has)))
+    (λ gt. leb-false next m gt)
+
 module _ {X : Type 0} (test : X → Bool) (es : List (ℕ × X)) (in_order : InOrder es) where
+  -- no number is as high as the next
+  pub none_at_all : (next least : ℕ) → ((n : ℕ) → next ≤ n → get n es ≡ None) → next ≤ least
+      → NoneBelow test es least → find test (values_of es) ≡ None
+  none_at_all next least none reached below =
+      none_found test es in_order (λ m y there.
+      by_bool (nat_le next m)
+      (λ le. absurd (never y (sym there ∙ none m (leb-true next m le))))
+      (λ gt.
+      let lt : m < next = leb-false next m gt in below m y (omega (arith, lt, reached)) there))
+    where
+      never : (y : X) → Some y ≡ None → ⊥
+      never y same = absurd cc
+
   module _ {K : Type 0} (cmp : K → K → Ordering) (key : K) (key_of : X → Option K)
       (has : (x : X) → test x ≡ true → is_key_of cmp key (key_of x) ≡ true) where
     no_key : (y : X) → is_key_of cmp key (key_of y) ≡ false → test y ≡ false

@@ -28,7 +28,9 @@ use Rattle.sip_served.specs.contracts.request_keys.BranchKeyOrd.TheImpl as branc
 use Rattle.sip_served.specs.contracts.request_keys.MergeKeyOrd.TheImpl as merge_order
 use Rattle.sip_served.specs.contracts.request_keys.PrackKeyOrd.TheImpl as prack_order
 use Rattle.sip_served.specs.declared.held_request.HeldRequest.{HeldRequest}
+use Rattle.sip_served.specs.declared.request_keys.AckKey.{AckKey}
 use Rattle.sip_served.specs.declared.request_keys.BranchKey.{BranchKey}
+use Rattle.sip_served.specs.declared.request_keys.PrackKey.{PrackKey}
 use Rattle.sip_served.specs.Acknowledgment.{awaits_ack, is_ack_of}
 use Rattle.sip_served.specs.Arrival.{is_in_dialog, is_merged, is_named_by}
 use Rattle.sip_served.specs.Cancel.{is_same_branch}
@@ -120,11 +122,13 @@ key_from ack held true true passes =
     ∙ passes
 
 -- an INVITE that awaits the ACK has its key
-pub ack_has_key : (ack : Message) (held : HeldRequest)
+pub ack_has_key : (ack : Message) (key : AckKey)
+    → key ≡ ack_key (tag_of ack.to) (tag_of ack.from) ack.cseq.number → (held : HeldRequest)
     → (awaits_ack held && is_ack_of ack held) ≡ true
-    → is_key_of ack_order.ghosts.cmp (ack_key (tag_of ack.to) (tag_of ack.from) ack.cseq.number)
-    (ack_of held) ≡ true
-ack_has_key ack held passes = key_from ack held (is_invite held.request) _ passes
+    → is_key_of ack_order.ghosts.cmp key (ack_of held) ≡ true
+ack_has_key ack key is held passes =
+    ap (λ (k : AckKey). is_key_of ack_order.ghosts.cmp k (ack_of held)) is
+    ∙ key_from ack held (is_invite held.request) _ passes
 
 -- ---- a PRACK
 
@@ -152,11 +156,13 @@ key_of_dialog name created_by rack number invite method waits (Some life) passes
     these false b c d e f is = absurd (false≢true is)
 
 -- an INVITE that the RAck names has its key
-pub prack_has_key : (name : DialogId) (created_by : Id) (rack : RAck) (held : HeldRequest)
+pub prack_has_key : (name : DialogId) (created_by : Id) (rack : RAck) (key : PrackKey)
+    → key ≡ prack_key created_by rack.cseq → (held : HeldRequest)
     → (is_in_dialog name created_by held && is_named_by rack held) ≡ true
-    → is_key_of prack_order.ghosts.cmp (prack_key created_by rack.cseq) (prack_of held) ≡ true
-prack_has_key name created_by rack held passes =
-    key_of_dialog name created_by rack held.request.cseq.number (is_invite held.request)
+    → is_key_of prack_order.ghosts.cmp key (prack_of held) ≡ true
+prack_has_key name created_by rack key is held passes =
+    ap (λ (k : PrackKey). is_key_of prack_order.ghosts.cmp k (prack_of held)) is
+    ∙ key_of_dialog name created_by rack held.request.cseq.number (is_invite held.request)
     (bytes_eq rack.method held.request.cseq.method) (waits_for rack.rseq held.ledger) held.dialog
     passes
 

@@ -1,6 +1,6 @@
 //! The ACK of a 2xx, and PRACKs (RFC 3261, section 13.3.1.4; RFC 3262, section 3).
 
-ghost use Rattle.std.specs.Prelude.{◌≡◌, false, is_none};
+ghost use Rattle.std.specs.Prelude.{◌≡◌, ◌&&◌, false, is_none};
 ghost use Rattle.std.specs.Option.{option_map_or};
 ghost use Rattle.sip_reliable.specs.Ledger.{acknowledged};
 ghost use Rattle.sip_served.specs.Acknowledgment as spec;
@@ -18,11 +18,18 @@ pub(crate) fn acknowledged_invite(ack: &Message, requests: &[HeldRequest]) -> Op
 {
     requests
         .iter()
-        .find(|held| awaits_ack(held) && is_ack_of(ack, held))
+        .find(|held| takes_ack(held, ack))
         .map(|held| held.id)
 }
 
-pub(crate) fn awaits_ack(held: &HeldRequest) -> bool
+/// Whether the ACK is for the 2xx to this INVITE, which still waits for it.
+pub(crate) fn takes_ack(held: &HeldRequest, ack: &Message) -> bool
+    ensures { result ≡ (spec.awaits_ack held.now && spec.is_ack_of ack.now held.now) }
+{
+    awaits_ack(held) && is_ack_of(ack, held)
+}
+
+fn awaits_ack(held: &HeldRequest) -> bool
     ensures { result ≡ spec.awaits_ack held.now }
 {
     is_invite(held.request.get()) && is_awaited(held)
@@ -37,7 +44,7 @@ fn is_awaited(held: &HeldRequest) -> bool
     }
 }
 
-pub(crate) fn is_ack_of(ack: &Message, held: &HeldRequest) -> bool
+fn is_ack_of(ack: &Message, held: &HeldRequest) -> bool
     ensures { result ≡ spec.is_ack_of ack.now held.now }
 {
     token_eq(ack.to.tag(), held.tag.as_slice())

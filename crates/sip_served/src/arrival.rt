@@ -1,6 +1,6 @@
 //! A request that comes up, and which case it is.
 
-ghost use Rattle.std.specs.Prelude.{◌≡◌, IfOk, find, option_map};
+ghost use Rattle.std.specs.Prelude.{◌≡◌, ◌&&◌, IfOk, find, option_map};
 ghost use Rattle.std.specs.List.{list_any};
 ghost use Rattle.std.specs.Option.{option_copied};
 ghost use Rattle.sip_served.specs.Arrival as arrival;
@@ -129,11 +129,19 @@ pub(crate) fn named_invite(
 {
     requests
         .iter()
-        .find(|held| is_in_dialog(held, name, created_by) && is_named_by(held, rack))
+        .find(|held| takes_prack(held, name, created_by, rack))
         .map(|held| held.id)
 }
 
-pub(crate) fn is_in_dialog(held: &HeldRequest, name: &DialogId, created_by: Id) -> bool
+/// Whether this is an INVITE of the dialog with a waiting response that the RAck names.
+pub(crate) fn takes_prack(held: &HeldRequest, name: &DialogId, created_by: Id, rack: &RAck) -> bool
+    ensures { result ≡ (arrival.is_in_dialog name.now created_by held.now
+        && arrival.is_named_by rack.now held.now) }
+{
+    is_in_dialog(held, name, created_by) && is_named_by(held, rack)
+}
+
+fn is_in_dialog(held: &HeldRequest, name: &DialogId, created_by: Id) -> bool
     ensures { result ≡ arrival.is_in_dialog name.now created_by held.now }
 {
     match &held.dialog {
@@ -142,7 +150,7 @@ pub(crate) fn is_in_dialog(held: &HeldRequest, name: &DialogId, created_by: Id) 
     }
 }
 
-pub(crate) fn is_named_by(held: &HeldRequest, rack: &RAck) -> bool
+fn is_named_by(held: &HeldRequest, rack: &RAck) -> bool
     ensures { result ≡ arrival.is_named_by rack.now held.now }
 {
     is_invite(held.request.get())

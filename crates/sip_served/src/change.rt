@@ -41,7 +41,7 @@ pub(crate) enum Change<'a> {
 /// Changes a held request.
 pub(crate) fn apply(alloc: Global, held: &mut HeldRequest, change: Change) -> Result<(), AllocError>
     requires { moment_of change ≤ 2 ^ 62 }
-    ensures { OnOk result (held.new ≡ after_change change held.old) }
+    ensures { OnOk result (held.new ≡ after_change change.entry held.old) }
 {
     match change {
         Change::Ack => {
@@ -77,7 +77,7 @@ pub(crate) fn change_at(
 ) -> Result<(), AllocError>
     requires { moment_of change ≤ 2 ^ 62 }
     ensures { OnOk result (requests.new.items
-        ≡ changed_at id (after_change change) requests.old.items) }
+        ≡ changed_at id (after_change change.entry) requests.old.items) }
 {
     match place_of(requests.as_slice(), id) {
         Some(index) => apply(alloc, &mut requests[index], change),

@@ -157,7 +157,7 @@ impl HeldRequests {
     /// Changes the request of this id, the first if there are several.
     pub(crate) fn change(&mut self, id: Id, change: Change) -> Result<(), AllocError>
         requires { moment_of change ≤ 2 ^ 62 }
-        ensures { OnOk result (self.new ≡ changed_at id (after_change change) self.old) }
+        ensures { OnOk result (self.new ≡ changed_at id (after_change change.entry) self.old) }
     {
         match &mut self.held {
             Held::Few(requests) => change_at(self.alloc, requests, id, change),

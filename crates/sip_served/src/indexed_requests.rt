@@ -6,21 +6,23 @@ ghost use Rattle.std.specs.Option.{option_and_then, option_copied};
 ghost use Rattle.std.specs.BTreeMap.{IsOrdered, is_at};
 ghost use Rattle.std.specs.Ordering.{nat_cmp};
 ghost use Rattle.sip_timers.specs.Index as timers;
+ghost use Rattle.sip_message.specs.Party.{tag_of};
 ghost use Rattle.sip_served.specs.Acknowledgment as acks;
 ghost use Rattle.sip_served.specs.Arrival.{is_merged, named_invite};
 ghost use Rattle.sip_served.specs.Cancel as cancels;
 ghost use Rattle.sip_served.specs.Change.{after_change, moment_of};
+ghost use Rattle.sip_served.specs.Keys as keys;
 ghost use Rattle.sip_served.specs.State.{changed_at, has_id};
 ghost use Rattle.sip_served.specs.Indexed.{at, due_at, kept_ticked, number_ticked, number_told};
 ghost use Rattle.sip_served.specs.Indices.{IsIndices};
 ghost use Rattle.sip_served.specs.Tick.{is_kept_at, next_due_of, request_ticked};
 
-use crate::acknowledgment::{awaits_ack, is_ack_of};
-use crate::arrival::{is_in_dialog, is_named_by};
+use crate::acknowledgment::takes_ack;
+use crate::arrival::takes_prack;
 use crate::change::{Change, apply};
 use crate::held_request::HeldRequest;
 use crate::indices::Indices;
-use crate::request_keys::{PrackKey, ack_key, branch_key, merge_key, prack_of};
+use crate::request_keys::{AckKey, PrackKey, ack_key, branch_key, merge_key, prack_of};
 use crate::tick::{is_kept, request_due, tick_request};
 use sip_held_dialogs::DialogId;
 use sip_message::{Id, Key, Message, RAck};
@@ -135,16 +137,25 @@ impl IndexedRequests {
         ensures { IfOk result (λ invite. invite ≡ acks.acknowledged_invite ack.now self.now) }
     {
         let key = ack_key(self.alloc, ack.to.tag(), ack.from.tag(), ack.cseq.number)?;
+        Ok(self.invite_of_ack(key, ack))
+    }
+
+    // The first of the key that takes the ACK.
+    fn invite_of_ack(&self, key: AckKey, ack: &Message) -> Option<Id>
+        requires { key ≡ keys.ack_key (tag_of ack.now.to) (tag_of ack.now.from) ack.now.cseq.number }
+        ensures { result ≡ acks.acknowledged_invite ack.now self.now }
+    {
+        let next = self.next;
         let mut least = (key, 0);
-        while let Some(number) = self.indices.acks.first_from(&least) {
-            match self.requests.get(&number) {
-                Some(held) if awaits_ack(held) && is_ack_of(ack, held) => {
-                    return Ok(Some(held.id));
-                }
-                _ => least.1 = number + 1,
+        while least.1 < next {
+            let number = self.indices.acks.first_from(&least)?;
+            let held = self.requests.get(&number)?;
+            if takes_ack(held, ack) {
+                return Some(held.id);
             }
+            least.1 = number + 1;
         }
-        Ok(None)
+        None
     }
 
     /// The first INVITE of the dialog with a waiting response that the RAck names.
@@ -155,14 +166,15 @@ impl IndexedRequests {
             created_by,
             number: rack.cseq,
         };
+        let next = self.next;
         let mut least = (key, 0);
-        while let Some(number) = self.indices.pracks.first_from(&least) {
-            match self.requests.get(&number) {
-                Some(held) if is_in_dialog(held, name, created_by) && is_named_by(held, rack) => {
-                    return Some(held.id);
-                }
-                _ => least.1 = number + 1,
+        while least.1 < next {
+            let number = self.indices.pracks.first_from(&least)?;
+            let held = self.requests.get(&number)?;
+            if takes_prack(held, name, created_by, rack) {
+                return Some(held.id);
             }
+            least.1 = number + 1;
         }
         None
     }
@@ -178,7 +190,7 @@ impl IndexedRequests {
     /// Changes the request of this id, the first if there are several.
     pub(crate) fn change(&mut self, id: Id, change: Change) -> Result<(), AllocError>
         requires { moment_of change ≤ 2 ^ 62 }
-        ensures { OnOk result (self.new ≡ changed_at id (after_change change) self.old) }
+        ensures { OnOk result (self.new ≡ changed_at id (after_change change.entry) self.old) }
     {
         *self = self.take().with_change(id, change)?;
         Ok(())
@@ -234,7 +246,7 @@ impl IndexedRequests {
     // These requests after a change of the one of this id, if there is one.
     fn with_change(self, id: Id, change: Change) -> Result<IndexedRequests, AllocError>
         requires { moment_of change ≤ 2 ^ 62 }
-        ensures { IfOk result (λ all. all ≡ changed_at id (after_change change) self) }
+        ensures { IfOk result (λ all. all ≡ changed_at id (after_change change.entry) self) }
     {
         let Some(number) = self.indices.ids.first_from(&(id, 0)) else {
             return Ok(self);
