@@ -1,5 +1,5 @@
 -- The indices of held requests by number.
-use Rattle.std.specs.Prelude.{◌≡◌, ℕ, Option}
+use Rattle.std.specs.Prelude.{ℕ, Option}
 use Rattle.std.specs.Option.{option_and_then}
 use Rattle.sip_message.specs.contracts.id.IdOrd.TheImpl as id_order
 use Rattle.sip_served.specs.contracts.request_keys.AckKeyOrd.TheImpl as ack_order

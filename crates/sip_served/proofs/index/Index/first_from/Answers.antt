@@ -1,5 +1,5 @@
 -- `Index::first_from` gives the first number of the key from the given one on.
-use Rattle.std.proofs.Common.{◌≡◌, ◌≤◌, ◌∷◌, ℕ, List, Option, None, false, sym, ap, subst, ◌∙◌}
+use Rattle.std.proofs.Common.{◌≡◌, ◌≤◌, ℕ, List, Option, false, sym, ap, subst, ◌∙◌}
 use Rattle.std.specs.Prelude.{IfNone, IfSome}
 use Rattle.std.specs.BTreeSet.{IsKeyInRange}
 use Rattle.std.specs.BTreeMap.Range.{IsLeBy}

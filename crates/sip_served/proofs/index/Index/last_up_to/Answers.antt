@@ -1,5 +1,5 @@
 -- `Index::last_up_to` gives the last number of the key up to the given one.
-use Rattle.std.proofs.Common.{◌≡◌, ◌≤◌, ℕ, Option, None, false, sym, ap, subst, ◌∙◌}
+use Rattle.std.proofs.Common.{◌≡◌, ◌≤◌, ℕ, Option, false, sym, ap, subst, ◌∙◌}
 use Rattle.std.specs.Prelude.{IfNone}
 use Rattle.std.specs.Ordering.{is_eq}
 use Rattle.sip_served.specs.Index.{IsIndexOf, is_key_of}

@@ -1,6 +1,6 @@
 -- `IndexedRequests::cancelled_request` finds the last request of the branch by its number.
 use Rattle.std.proofs.Common.{List, sym, ap, ◌∙◌}
-use Rattle.std.specs.Prelude.{find, reverse}
+use Rattle.std.specs.Prelude.{reverse}
 use Rattle.sip_served.specs.contracts.request_keys.BranchKeyOrd.TheImpl as branch_order
 use Rattle.sip_served.specs.declared.held_request.HeldRequest.{HeldRequest}
 use Rattle.sip_served.specs.Cancel.{cancelled_request, is_same_branch}

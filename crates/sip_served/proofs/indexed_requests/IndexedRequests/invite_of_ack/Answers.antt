@@ -1,5 +1,5 @@
 -- `IndexedRequests::invite_of_ack` looks at the requests of the key in the order of their numbers.
-use Rattle.std.proofs.Common.{◌≡◌, ◌&&◌, List, None, Some, sym, ap, ◌∙◌, arith}
+use Rattle.std.proofs.Common.{◌≡◌, ◌&&◌, None, Some, sym, ap, ◌∙◌, arith}
 use Rattle.std.specs.Option.{option_and_then, option_copied, option_map}
 use Rattle.std.proofs.lemmas.Bool.{false≢true}
 use Rattle.sip_served.specs.contracts.request_keys.AckKeyOrd.TheImpl as ack_order

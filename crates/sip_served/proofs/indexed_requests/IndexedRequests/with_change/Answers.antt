@@ -1,5 +1,5 @@
 -- `IndexedRequests::with_change` changes the first request of the id, by its number.
-use Rattle.std.proofs.Common.{◌≡◌, [], ◌∷◌, List, None, Some, sym, ap, ◌∙◌, arith}
+use Rattle.std.proofs.Common.{◌≡◌, Some, sym, ap, ◌∙◌, arith}
 use Rattle.std.specs.Map.{values_of}
 use Rattle.std.specs.Prelude.{is_some}
 use Rattle.std.specs.Option.{option_and_then, option_copied_mut}
@@ -12,7 +12,6 @@ use Rattle.sip_served.specs.Indices.{keys_at}
 use Rattle.sip_served.specs.Keys.{id_of, prack_of}
 use Rattle.sip_served.specs.State.{changed_at, has_id}
 use Rattle.sip_served.specs.Tick.{request_due}
-use Rattle.sip_served.specs.declared.held_request.HeldRequest.{HeldRequest}
 use Rattle.sip_served.proofs.Finds.{changed_of_key, unchanged}
 use Rattle.sip_served.proofs.IndexedSteps.{below_stays, came_changed, came_with, dues_moved, indices_stay, pracks_moved}
 use Rattle.sip_served.proofs.KeyTests.{id_same}

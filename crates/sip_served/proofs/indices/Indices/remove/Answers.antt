@@ -1,5 +1,5 @@
 -- `Indices::remove`: no index has the request of the number.
-use Rattle.std.proofs.Common.{◌≡◌, None, Some, refl, sym, ap, ◌∙◌}
+use Rattle.std.proofs.Common.{None, Some, refl, sym, ap, ◌∙◌}
 use Rattle.std.specs.Option.{option_and_then}
 use Rattle.sip_message.specs.contracts.id.IdOrd.TheImpl as id_order
 use Rattle.sip_served.specs.contracts.request_keys.AckKeyOrd.TheImpl as ack_order
@@ -8,7 +8,7 @@ use Rattle.sip_served.specs.contracts.request_keys.MergeKeyOrd.TheImpl as merge_
 use Rattle.sip_served.specs.contracts.request_keys.PrackKeyOrd.TheImpl as prack_order
 use Rattle.sip_served.specs.Indices.{keys_at}
 use Rattle.sip_served.specs.Keys.{ack_of, branch_key, branch_of, id_of, merge_key, merge_of, prack_of}
-use Rattle.sip_served.proofs.Indexes.{on_ok_mapped, thing_moved}
+use Rattle.sip_served.proofs.Indexes.{thing_moved}
 use Rattle.sip_served.proofs.indices.Indices.remove.Goals as goal
 
 pub returns : goal.returns
