@@ -20,7 +20,7 @@ module _ {K X : Type 0} (cmp : K → K → Ordering) (key : K) (key_of : X → O
   abbrev pub has_key : Option X → Bool
   has_key o = is_key_of cmp key (option_and_then key_of o)
 
-  pub none_pass : ((m : ℕ) → has_key (get m es) ≡ false) → NonePass test es
+  none_pass : ((m : ℕ) → has_key (get m es) ≡ false) → NonePass test es
   none_pass none m y there = same y ∙ sym (ap has_key there) ∙ none m
 
   pub none_of_key : ((m : ℕ) → has_key (get m es) ≡ false) → find test (values_of es) ≡ None

@@ -44,7 +44,7 @@ use Rattle.sip_served.proofs.Numbered.{InOrder, any_found, at_itself, get, none_
 
 -- ---- equal requests have equal indices
 
-pub indices_same : (before after : ℕ → Option HeldRequest) (indices : Indices)
+indices_same : (before after : ℕ → Option HeldRequest) (indices : Indices)
     → ((n : ℕ) → before n ≡ after n) → IsIndices before indices → IsIndices after indices
 indices_same before after indices same tied = record {
   ids = index_same _ indices.ids (keys_at id_of before) (keys_at id_of after)
@@ -63,7 +63,7 @@ indices_same before after indices same tied = record {
 
 module _ (old new : BTreeMap ℕ HeldRequest) (number : ℕ) (x : Option HeldRequest)
     (updates : (q : ℕ) → at new q ≡ cond (is_at (nat_cmp number) q) x (at old q)) where
-  pub with_new : (n : ℕ) → with_key (at old) number x n ≡ at new n
+  with_new : (n : ℕ) → with_key (at old) number x n ≡ at new n
   with_new n =
       sym (updates n ∙ ap (λ b. cond b x (at old n)) (number_equal number n))
 
@@ -149,7 +149,7 @@ came_changed (Answer event response status reliability now) held =
 module _ (old new : BTreeMap ℕ HeldRequest) (number : ℕ) (x w : HeldRequest)
     (there : at old number ≡ Some x) (came : came_with w ≡ came_with x)
     (updates : (q : ℕ) → at new q ≡ cond (is_at (nat_cmp number) q) (Some w) (at old q)) where
-  pub keys_stay : {K : Type 0} (key_of : HeldRequest → Option K) → key_of w ≡ key_of x → (n : ℕ)
+  keys_stay : {K : Type 0} (key_of : HeldRequest → Option K) → key_of w ≡ key_of x → (n : ℕ)
       → option_and_then key_of (at old n) ≡ option_and_then key_of (at new n)
   keys_stay key_of same n =
       by_bool (is_at (nat_cmp number) n)
@@ -390,16 +390,3 @@ module _ (old new : BTreeMap ℕ HeldRequest) (now number : ℕ) (x w : HeldRequ
         (remove_entry (is_at (nat_cmp number)) old.entries)) (sym is)
         ∙ ap (λ b. cond b (set_value (is_at (nat_cmp number)) old.entries w)
         (remove_entry (is_at (nat_cmp number)) old.entries)) goes)
-
--- nothing has the number
-pub ticked_none : (old : BTreeMap ℕ HeldRequest) (now number : ℕ) → at old number ≡ None → (q : ℕ)
-    → at old q ≡ cond (is_at (nat_cmp number) q)
-    (option_and_then (kept_ticked now) (at old number)) (at old q)
-ticked_none old now number none q =
-    by_bool (is_at (nat_cmp number) q)
-    (λ here.
-    ap (at old) (sym (tied_numbers number q here)) ∙ none
-    ∙ sym (ap (option_and_then (kept_ticked now)) none)
-    ∙ sym (ap (λ b. cond b (option_and_then (kept_ticked now) (at old number)) (at old q)) here))
-    (λ apart.
-    sym (ap (λ b. cond b (option_and_then (kept_ticked now) (at old number)) (at old q)) apart))

@@ -44,7 +44,7 @@ apart_numbers a b above =
     by_bool (is_eq (nat_cmp a b))
     (λ same. absurd (omega (arith, above, tied_numbers a b same))) (λ apart. apart)
 
-pub above_is_greater : (a b : ℕ) → b < a → nat_cmp a b ≡ Greater
+above_is_greater : (a b : ℕ) → b < a → nat_cmp a b ≡ Greater
 above_is_greater a b above =
     by_ranked (a < b) (a ≡ b) (b < a) (nat_cmp a b) (ranked a b (nat_cmp a b) refl)
     (λ o lt. absurd (omega (arith, above, lt))) (λ o same. absurd (omega (arith, above, same)))
@@ -56,7 +56,7 @@ at_itself n = ap is_eq (tied_itself nat_cmp_total n)
 -- ---- the first of a map and the others
 
 module _ {X : Type 0} where
-  pub above_all : (k : ℕ) (es : List (ℕ × X))
+  above_all : (k : ℕ) (es : List (ℕ × X))
       → AllByRecursion (λ y. nat_cmp k y ≡ Less) (keys_of es)
       → (m : ℕ) (x : X) → get m es ≡ Some x → k < m
   above_all k [] all m x found = absurd cc
@@ -66,12 +66,12 @@ module _ {X : Type 0} where
       (λ apart.
       above_all k es all.1 m x (sym (ap (λ b. cond b (Some e.1) (get m es)) apart) ∙ found))
 
-  pub past_first : (e : ℕ × X) (es : List (ℕ × X)) → InOrder (e ∷ es) → (m : ℕ) (x : X)
+  past_first : (e : ℕ × X) (es : List (ℕ × X)) → InOrder (e ∷ es) → (m : ℕ) (x : X)
       → get m es ≡ Some x → e.0 < m
   past_first e es in_order m x found =
       above_all e.0 es (sorted_head nat_cmp e.0 (keys_of es) in_order) m x found
 
-  pub still_there : (e : ℕ × X) (es : List (ℕ × X)) → InOrder (e ∷ es) → (m : ℕ) (x : X)
+  still_there : (e : ℕ × X) (es : List (ℕ × X)) → InOrder (e ∷ es) → (m : ℕ) (x : X)
       → get m es ≡ Some x → get m (e ∷ es) ≡ Some x
   still_there e es in_order m x found =
       ap (λ b. cond b (Some e.1) (get m es))

@@ -28,7 +28,7 @@ not_among k (n ∷ ns) all q le =
     (λ same. absurd (omega (arith, above, le, tied_numbers q n same)))
     (λ apart. ap (λ b. b || has q ns) apart ∙ not_among k ns all.1 q le)
 
-pub same_numbers : (ns ms : List ℕ) → IsStrictlySortedBy nat_cmp ns → IsStrictlySortedBy nat_cmp ms
+same_numbers : (ns ms : List ℕ) → IsStrictlySortedBy nat_cmp ns → IsStrictlySortedBy nat_cmp ms
     → ((q : ℕ) → has q ns ≡ has q ms) → ns ≡ ms
 same_numbers [] [] rises climbs same = refl
 same_numbers [] (m ∷ ms) rises climbs same =
