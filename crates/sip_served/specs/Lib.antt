@@ -2,6 +2,8 @@ pub mod Acknowledgment
 pub mod Arrival
 pub mod Awaiting
 pub mod Cancel
+pub mod Change
+pub mod HeldRequests
 pub mod Lending
 pub mod OwnCall
 pub mod Provisionals
@@ -19,3 +21,7 @@ pub mod Telling
 pub mod Tick
 pub mod Unacknowledged
 pub mod Rules
+pub mod Index
+pub mod Indices
+pub mod Keys
+pub mod Indexed
