@@ -8,7 +8,7 @@ use Rattle.std.specs.Option.{option_and_then}
 use Rattle.std.specs.Ordering.{nat_cmp}
 use Rattle.std.specs.declared.cmp.Ordering.{Ordering}
 use Rattle.std.proofs.lemmas.Bool.{false≢true, leb-true, leb-false}
-use Rattle.sip_served.specs.Index.{is_key_of}
+use Rattle.sip_served.specs.Steps.Index.{is_key_of}
 use Rattle.sip_served.specs.State.{changed_first}
 use Rattle.sip_served.proofs.Indexes.{by_bool}
 use Rattle.sip_served.proofs.Numbered.{InOrder, any_found, NonePass, first_changed, first_found, get, last_found, none_changed, none_found, none_found_back}

@@ -26,15 +26,15 @@ use Rattle.sip_served.specs.declared.held_request.SuccessEnd.TheVariants.{Acknow
 use Rattle.sip_served.specs.declared.request_keys.PrackKey.{PrackKey}
 use Rattle.sip_served.specs.declared.tick.SuccessDue.{SuccessDue}
 use Rattle.sip_served.specs.declared.tick.SuccessDue.TheVariants as repeat
-use Rattle.sip_served.specs.Change.{after_change}
+use Rattle.sip_served.specs.Steps.Change.{after_change}
 use Rattle.sip_served.specs.Respond.{answers, makes, with_dialog}
 use Rattle.sip_served.specs.declared.indices.Indices.{Indices}
-use Rattle.sip_served.specs.Index.{IsIndexOf, with_key}
+use Rattle.sip_served.specs.Steps.Index.{IsIndexOf, with_key}
 use Rattle.sip_reliable.specs.Ledger.{tick_answer}
 use Rattle.sip_served.specs.declared.held_request.Success.{Success}
-use Rattle.sip_served.specs.Indexed.{at, due_at, kept_ticked, number_ticked, thing_ticked}
-use Rattle.sip_served.specs.Indices.{IsIndices, keys_at}
-use Rattle.sip_served.specs.Keys.{ack_key, ack_of, branch_key, branch_of, id_of, merge_key, merge_of, prack_key, prack_of}
+use Rattle.sip_served.specs.Steps.Indexed.{at, due_at, kept_ticked, number_ticked, thing_ticked}
+use Rattle.sip_served.specs.Steps.Indices.{IsIndices, keys_at}
+use Rattle.sip_served.specs.Steps.Keys.{ack_key, ack_of, branch_key, branch_of, id_of, merge_key, merge_of, prack_key, prack_of}
 use Rattle.sip_served.specs.RequestLife.{RequestHappening, EndsSuccess, Finishes, GivesUpProvisionals, MakesDialog, RepeatsProvisionals, RepeatsSuccess, SendsReliably, TakesPrack, request_happened, went_on}
 use Rattle.sip_served.specs.Tick.{is_kept_at, next_due_of, provisionals_go, request_due, request_ticked, success_answer, success_at_tick, success_goes, success_passes, success_ticked}
 use Rattle.sip_served.proofs.Dues.{requests_due}

@@ -16,7 +16,7 @@ use Rattle.sip_timers.specs.Queue.{if_later, is_due}
 use Rattle.sip_timers.proofs.Schedules as schedules
 use Rattle.sip_user.specs.declared.item.CallOut.{CallOut}
 use Rattle.sip_served.specs.declared.held_request.HeldRequest.{HeldRequest}
-use Rattle.sip_served.specs.Indexed.{at, due_at, kept_ticked, number_ticked, number_told}
+use Rattle.sip_served.specs.Steps.Indexed.{at, due_at, kept_ticked, number_ticked, number_told}
 use Rattle.sip_served.specs.Tick.{is_kept_at, request_due, request_ticked}
 use Rattle.sip_served.proofs.Indexes.{by_bool}
 use Rattle.sip_served.proofs.Numbered.{InOrder, tied_numbers}

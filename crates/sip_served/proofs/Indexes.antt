@@ -9,7 +9,7 @@ use Rattle.std.specs.declared.cmp.Ordering.TheVariants.{Less, Equal, Greater}
 use Rattle.std.proofs.lemmas.Bool.{false≢true, eq-eqb, eqb-true, ne_eqb, ltb-true}
 use Rattle.std.proofs.lemmas.Cmp.{by_ranked, ranked, tied_itself}
 use Rattle.std.proofs.lemmas.Map.Keys.{ge_from_not_lt}
-use Rattle.sip_served.specs.Index.{pair_cmp, is_under, is_key_of, IsIndexOf, with_key}
+use Rattle.sip_served.specs.Steps.Index.{pair_cmp, is_under, is_key_of, IsIndexOf, with_key}
 
 pub by_bool : {G : Type 0} (b : Bool) → (b ≡ true → G) → (b ≡ false → G) → G
 by_bool true on_true on_false = on_true refl

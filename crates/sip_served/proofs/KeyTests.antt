@@ -34,8 +34,8 @@ use Rattle.sip_served.specs.declared.request_keys.PrackKey.{PrackKey}
 use Rattle.sip_served.specs.Acknowledgment.{awaits_ack, is_ack_of}
 use Rattle.sip_served.specs.Arrival.{is_in_dialog, is_merged, is_named_by}
 use Rattle.sip_served.specs.Cancel.{is_same_branch}
-use Rattle.sip_served.specs.Index.{is_key_of}
-use Rattle.sip_served.specs.Keys.{ack_key, ack_of, branch_key, id_of, merge_key, merge_of, prack_key, prack_of}
+use Rattle.sip_served.specs.Steps.Index.{is_key_of}
+use Rattle.sip_served.specs.Steps.Keys.{ack_key, ack_of, branch_key, id_of, merge_key, merge_of, prack_key, prack_of}
 use Rattle.sip_served.specs.State.{has_id}
 use Rattle.sip_served.proofs.Indexes.{by_bool}
 use Rattle.sip_served.proofs.Numbered.{at_itself, tied_numbers}

@@ -2,8 +2,6 @@ pub mod Acknowledgment
 pub mod Arrival
 pub mod Awaiting
 pub mod Cancel
-pub mod Change
-pub mod HeldRequests
 pub mod Lending
 pub mod OwnCall
 pub mod Provisionals
@@ -16,12 +14,9 @@ pub mod Endings
 pub mod Happenings
 pub mod State
 pub mod Step
+pub mod Steps
 pub mod Story
 pub mod Telling
 pub mod Tick
 pub mod Unacknowledged
 pub mod Rules
-pub mod Index
-pub mod Indices
-pub mod Keys
-pub mod Indexed

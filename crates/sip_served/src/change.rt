@@ -1,7 +1,7 @@
 //! What changes a held request, other than a tick.
 
 ghost use Rattle.std.specs.Prelude.{◌≡◌, ◌≤◌, ◌^◌, OnOk};
-ghost use Rattle.sip_served.specs.Change.{after_change, moment_of};
+ghost use Rattle.sip_served.specs.Steps.Change.{after_change, moment_of};
 ghost use Rattle.sip_served.specs.State.{changed_at};
 
 use crate::acknowledgment::{end_success, prack};

@@ -6,7 +6,7 @@ ghost use Rattle.std.specs.Option.{option_copied};
 ghost use Rattle.sip_served.specs.Acknowledgment.{acknowledged_invite};
 ghost use Rattle.sip_served.specs.Arrival.{is_merged, named_invite};
 ghost use Rattle.sip_served.specs.Cancel.{cancelled_request};
-ghost use Rattle.sip_served.specs.Change.{after_change, moment_of};
+ghost use Rattle.sip_served.specs.Steps.Change.{after_change, moment_of};
 ghost use Rattle.sip_served.specs.State.{changed_at, has_id};
 ghost use Rattle.sip_served.specs.Tick.{is_kept_at, next_due_of, request_ticked};
 
@@ -47,7 +47,7 @@ pub(crate) enum Held {
 
 impl Model for HeldRequests {
     ghost use Rattle.std.specs.Prelude.{List};
-    ghost use Rattle.sip_served.specs.HeldRequests.{all_of};
+    ghost use Rattle.sip_served.specs.Steps.HeldRequests.{all_of};
     ghost use Rattle.sip_served.specs.declared.held_request.HeldRequest.{HeldRequest};
 
     ghost Value = { List HeldRequest };

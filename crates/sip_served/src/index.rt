@@ -1,7 +1,7 @@
 //! An index: numbers by their keys.
 
 ghost use Rattle.std.specs.Prelude.{◌≡◌, ◌≤◌, ℕ, [], Option, None, true, false, IfSome, IfNone, OnOk};
-ghost use Rattle.sip_served.specs.Index.{IsIndexOf, is_key_of, with_key};
+ghost use Rattle.sip_served.specs.Steps.Index.{IsIndexOf, is_key_of, with_key};
 
 use std::alloc::{AllocError, Global};
 use std::collections::BTreeSet;

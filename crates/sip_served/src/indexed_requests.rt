@@ -10,11 +10,11 @@ ghost use Rattle.sip_message.specs.Party.{tag_of};
 ghost use Rattle.sip_served.specs.Acknowledgment as acks;
 ghost use Rattle.sip_served.specs.Arrival.{is_merged, named_invite};
 ghost use Rattle.sip_served.specs.Cancel as cancels;
-ghost use Rattle.sip_served.specs.Change.{after_change, moment_of};
-ghost use Rattle.sip_served.specs.Keys as keys;
+ghost use Rattle.sip_served.specs.Steps.Change.{after_change, moment_of};
+ghost use Rattle.sip_served.specs.Steps.Keys as keys;
 ghost use Rattle.sip_served.specs.State.{changed_at, has_id};
-ghost use Rattle.sip_served.specs.Indexed.{at, due_at, kept_ticked, number_ticked, number_told};
-ghost use Rattle.sip_served.specs.Indices.{IsIndices};
+ghost use Rattle.sip_served.specs.Steps.Indexed.{at, due_at, kept_ticked, number_ticked, number_told};
+ghost use Rattle.sip_served.specs.Steps.Indices.{IsIndices};
 ghost use Rattle.sip_served.specs.Tick.{is_kept_at, next_due_of, request_ticked};
 
 use crate::acknowledgment::takes_ack;
@@ -53,7 +53,7 @@ impl Model for IndexedRequests {
 
     ghost Value = { List HeldRequest };
 
-    ghost use Rattle.sip_served.specs.Indexed.{IsIndexed};
+    ghost use Rattle.sip_served.specs.Steps.Indexed.{IsIndexed};
 
     ghost view = { λ all. values_of all.requests.entries };
 

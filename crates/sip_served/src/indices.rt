@@ -1,8 +1,8 @@
 //! The indices of held requests by number.
 
 ghost use Rattle.std.specs.Prelude.{◌≡◌, ℕ, Option, None, Some, OnOk};
-ghost use Rattle.sip_served.specs.Index.{with_key};
-ghost use Rattle.sip_served.specs.Indices.{IsIndices};
+ghost use Rattle.sip_served.specs.Steps.Index.{with_key};
+ghost use Rattle.sip_served.specs.Steps.Indices.{IsIndices};
 ghost use Rattle.sip_served.specs.declared.held_request.HeldRequest.{HeldRequest};
 
 use crate::held_request::HeldRequest;

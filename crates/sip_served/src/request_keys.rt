@@ -1,7 +1,7 @@
 //! The keys by which held requests are found.
 
 ghost use Rattle.std.specs.Prelude.{◌≡◌, IfOk};
-ghost use Rattle.sip_served.specs.Keys as keys;
+ghost use Rattle.sip_served.specs.Steps.Keys as keys;
 
 use crate::held_request::HeldRequest;
 use sip_grammar::LowerText;

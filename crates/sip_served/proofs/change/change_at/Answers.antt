@@ -1,7 +1,7 @@
 -- `change_at`: if the request is held, it is changed; all else is unchanged.
 use Rattle.std.proofs.Common.{◌≡◌}
 use Rattle.std.specs.List.{slice_set}
-use Rattle.sip_served.specs.Change.{after_change}
+use Rattle.sip_served.specs.Steps.Change.{after_change}
 use Rattle.sip_served.specs.State.{changed_at}
 use Rattle.sip_served.proofs.Changes.{ok_mapped, written}
 use Rattle.sip_served.proofs.change.change_at.Goals as goal

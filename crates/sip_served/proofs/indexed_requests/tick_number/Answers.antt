@@ -2,7 +2,7 @@
 use Rattle.std.proofs.Common.{◌≡◌, Some, sym, ap, ◌∙◌}
 use Rattle.std.specs.Prelude.{is_some}
 use Rattle.std.specs.Option.{option_copied_mut}
-use Rattle.sip_served.specs.Indexed.{at}
+use Rattle.sip_served.specs.Steps.Indexed.{at}
 use Rattle.sip_served.specs.declared.held_request.HeldRequest.{HeldRequest}
 use Rattle.sip_served.proofs.IndexedSteps.{came_ticked, came_with, dialog_ticked, entries_removed, indices_removed, indices_stay_all, ticked_kept, ticked_removed}
 use Rattle.sip_served.proofs.Indexes.{on_ok_mapped}

@@ -6,7 +6,7 @@ use Rattle.std.specs.BTreeMap.Range.{IsLeBy}
 use Rattle.std.specs.List.{slice_get}
 use Rattle.std.specs.Ordering.{is_eq}
 use Rattle.std.specs.declared.ops.Bound.TheVariants.{Included, Unbounded}
-use Rattle.sip_served.specs.Index.{IsIndexOf, is_key_of, pair_cmp}
+use Rattle.sip_served.specs.Steps.Index.{IsIndexOf, is_key_of, pair_cmp}
 use Rattle.sip_served.proofs.Indexes.{none_from, first_of_key, none_before, past_key}
 use Rattle.sip_served.proofs.index.Index.first_from.Goals as goal
 

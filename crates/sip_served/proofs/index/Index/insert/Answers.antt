@@ -1,6 +1,6 @@
 -- `Index::insert`: the index is that of the keys with the number's added.
 use Rattle.std.proofs.Common.{sym, subst, ◌∙◌}
-use Rattle.sip_served.specs.Index.{IsIndexOf, with_key}
+use Rattle.sip_served.specs.Steps.Index.{IsIndexOf, with_key}
 use Rattle.sip_served.proofs.Indexes.{index_same, put_in, same_at}
 use Rattle.sip_served.proofs.index.Index.insert.Goals as goal
 

@@ -2,7 +2,7 @@
 use Rattle.std.proofs.Common.{◌≡◌, ◌≤◌, ℕ, Option, false, sym, ap, subst, ◌∙◌}
 use Rattle.std.specs.Prelude.{IfNone}
 use Rattle.std.specs.Ordering.{is_eq}
-use Rattle.sip_served.specs.Index.{IsIndexOf, is_key_of}
+use Rattle.sip_served.specs.Steps.Index.{IsIndexOf, is_key_of}
 use Rattle.sip_served.proofs.Indexes.{none_up_to, last_of_key, none_after, before_key}
 use Rattle.sip_served.proofs.index.Index.last_up_to.Goals as goal
 

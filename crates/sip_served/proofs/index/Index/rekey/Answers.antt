@@ -1,6 +1,6 @@
 -- `Index::rekey`: the index is that of the keys with the number's changed.
 use Rattle.std.specs.Prelude.{None}
-use Rattle.sip_served.specs.Index.{with_key}
+use Rattle.sip_served.specs.Steps.Index.{with_key}
 use Rattle.sip_served.proofs.Indexes.{given_again, index_same, no_key, on_ok_mapped}
 use Rattle.sip_served.proofs.index.Index.rekey.Goals as goal
 

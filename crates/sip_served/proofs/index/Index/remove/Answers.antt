@@ -1,6 +1,6 @@
 -- `Index::remove`: the index is that of the keys without the number's.
 use Rattle.std.proofs.Common.{None, sym, subst, ◌∙◌}
-use Rattle.sip_served.specs.Index.{IsIndexOf, with_key}
+use Rattle.sip_served.specs.Steps.Index.{IsIndexOf, with_key}
 use Rattle.sip_served.proofs.Indexes.{index_same, taken_out, same_at}
 use Rattle.sip_served.proofs.index.Index.remove.Goals as goal
 

@@ -4,9 +4,9 @@ use Rattle.std.specs.Prelude.{reverse}
 use Rattle.sip_served.specs.contracts.request_keys.BranchKeyOrd.TheImpl as branch_order
 use Rattle.sip_served.specs.declared.held_request.HeldRequest.{HeldRequest}
 use Rattle.sip_served.specs.Cancel.{cancelled_request, is_same_branch}
-use Rattle.sip_served.specs.Indexed.{at}
-use Rattle.sip_served.specs.Indices.{keys_at}
-use Rattle.sip_served.specs.Keys.{branch_of}
+use Rattle.sip_served.specs.Steps.Indexed.{at}
+use Rattle.sip_served.specs.Steps.Indices.{keys_at}
+use Rattle.sip_served.specs.Steps.Keys.{branch_of}
 use Rattle.sip_served.proofs.Finds.{below_next, last_of_key, never_found, none_of_key_back, none_to_next}
 use Rattle.sip_served.proofs.KeyTests.{branch_same, no_branch}
 use Rattle.sip_served.proofs.indexed_requests.IndexedRequests.cancelled_request.Goals as goal

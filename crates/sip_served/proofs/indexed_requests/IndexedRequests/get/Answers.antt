@@ -3,9 +3,9 @@ use Rattle.std.proofs.Common.{sym, ap, ◌∙◌, arith}
 use Rattle.std.specs.Prelude.{find}
 use Rattle.std.specs.Option.{option_copied}
 use Rattle.sip_message.specs.contracts.id.IdOrd.TheImpl as id_order
-use Rattle.sip_served.specs.Indexed.{at}
-use Rattle.sip_served.specs.Indices.{keys_at}
-use Rattle.sip_served.specs.Keys.{id_of}
+use Rattle.sip_served.specs.Steps.Indexed.{at}
+use Rattle.sip_served.specs.Steps.Indices.{keys_at}
+use Rattle.sip_served.specs.Steps.Keys.{id_of}
 use Rattle.sip_served.specs.State.{has_id}
 use Rattle.sip_served.proofs.Finds.{first_of_key, none_of_key}
 use Rattle.sip_served.proofs.KeyTests.{id_same}

@@ -5,10 +5,10 @@ use Rattle.std.proofs.lemmas.Bool.{false≢true}
 use Rattle.sip_served.specs.contracts.request_keys.AckKeyOrd.TheImpl as ack_order
 use Rattle.sip_served.specs.declared.held_request.HeldRequest.{HeldRequest}
 use Rattle.sip_served.specs.Acknowledgment.{acknowledged_invite, awaits_ack, is_ack_of}
-use Rattle.sip_served.specs.Index.{is_key_of}
-use Rattle.sip_served.specs.Indexed.{at}
-use Rattle.sip_served.specs.Indices.{keys_at}
-use Rattle.sip_served.specs.Keys.{ack_of}
+use Rattle.sip_served.specs.Steps.Index.{is_key_of}
+use Rattle.sip_served.specs.Steps.Indexed.{at}
+use Rattle.sip_served.specs.Steps.Indices.{keys_at}
+use Rattle.sip_served.specs.Steps.Keys.{ack_of}
 use Rattle.sip_served.proofs.Finds.{first_passes, key_below, none_at_all, none_passes, none_up_to}
 use Rattle.sip_served.proofs.KeyTests.{ack_has_key}
 use Rattle.sip_served.proofs.indexed_requests.IndexedRequests.invite_of_ack.Goals as goal

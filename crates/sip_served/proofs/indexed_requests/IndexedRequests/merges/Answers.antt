@@ -2,10 +2,10 @@
 use Rattle.std.proofs.Common.{sym, ap, ◌∙◌}
 use Rattle.std.specs.List.{list_any}
 use Rattle.sip_served.specs.contracts.request_keys.MergeKeyOrd.TheImpl as merge_order
-use Rattle.sip_served.specs.Index.{is_key_of}
-use Rattle.sip_served.specs.Indexed.{at}
-use Rattle.sip_served.specs.Indices.{keys_at}
-use Rattle.sip_served.specs.Keys.{merge_of}
+use Rattle.sip_served.specs.Steps.Index.{is_key_of}
+use Rattle.sip_served.specs.Steps.Indexed.{at}
+use Rattle.sip_served.specs.Steps.Indices.{keys_at}
+use Rattle.sip_served.specs.Steps.Keys.{merge_of}
 use Rattle.sip_served.specs.Arrival.{is_merged}
 use Rattle.sip_served.proofs.Finds.{any_of_key}
 use Rattle.sip_served.proofs.KeyTests.{merge_same}

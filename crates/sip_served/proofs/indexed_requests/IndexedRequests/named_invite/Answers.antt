@@ -5,10 +5,10 @@ use Rattle.std.proofs.lemmas.Bool.{false≢true}
 use Rattle.sip_served.specs.contracts.request_keys.PrackKeyOrd.TheImpl as prack_order
 use Rattle.sip_served.specs.declared.held_request.HeldRequest.{HeldRequest}
 use Rattle.sip_served.specs.Arrival.{is_in_dialog, is_named_by, named_invite}
-use Rattle.sip_served.specs.Index.{is_key_of}
-use Rattle.sip_served.specs.Indexed.{at}
-use Rattle.sip_served.specs.Indices.{keys_at}
-use Rattle.sip_served.specs.Keys.{prack_of}
+use Rattle.sip_served.specs.Steps.Index.{is_key_of}
+use Rattle.sip_served.specs.Steps.Indexed.{at}
+use Rattle.sip_served.specs.Steps.Indices.{keys_at}
+use Rattle.sip_served.specs.Steps.Keys.{prack_of}
 use Rattle.sip_served.proofs.Finds.{first_passes, key_below, none_at_all, none_passes, none_up_to}
 use Rattle.sip_served.proofs.KeyTests.{prack_has_key}
 use Rattle.sip_served.proofs.indexed_requests.IndexedRequests.named_invite.Goals as goal

@@ -1,6 +1,6 @@
 -- `IndexedRequests::next_due` gives the first moment of the schedule.
 use Rattle.std.proofs.Common.{ap, ◌∙◌}
-use Rattle.sip_served.specs.Indexed.{due_at}
+use Rattle.sip_served.specs.Steps.Indexed.{due_at}
 use Rattle.sip_served.specs.Tick.{next_due_of}
 use Rattle.sip_served.proofs.IndexedSteps.{first_due}
 use Rattle.sip_served.proofs.indexed_requests.IndexedRequests.next_due.Goals as goal

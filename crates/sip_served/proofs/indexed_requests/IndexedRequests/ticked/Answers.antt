@@ -9,7 +9,7 @@ use Rattle.std.proofs.lemmas.List.{append-nil, drop_all, drop_more}
 use Rattle.std.proofs.lemmas.Map.Keys.{sorted_tail}
 use Rattle.sip_timers.specs.Index as timers
 use Rattle.sip_served.specs.declared.held_request.HeldRequest.{HeldRequest}
-use Rattle.sip_served.specs.Indexed.{due_at}
+use Rattle.sip_served.specs.Steps.Indexed.{due_at}
 use Rattle.sip_served.specs.Tick.{is_kept_at}
 use Rattle.sip_served.proofs.IndexedTicks.{below_ticked, first_hidden, hidden, hidden_next, none_hidden, ticked_at, told_at, told_next, whole_tick}
 use Rattle.sip_served.proofs.Numbered.{at_itself}

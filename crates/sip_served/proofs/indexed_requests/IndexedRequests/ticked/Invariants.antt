@@ -5,8 +5,8 @@ use Rattle.std.specs.BTreeMap.{IsOrdered}
 use Rattle.std.specs.List.Sorted.{IsStrictlySortedBy}
 use Rattle.std.specs.Ordering.{nat_cmp}
 use Rattle.sip_timers.specs.Index as timers
-use Rattle.sip_served.specs.Indexed.{at, due_at}
-use Rattle.sip_served.specs.Indices.{IsIndices}
+use Rattle.sip_served.specs.Steps.Indexed.{at, due_at}
+use Rattle.sip_served.specs.Steps.Indices.{IsIndices}
 use Rattle.sip_served.specs.Tick.{is_kept_at}
 use Rattle.sip_served.proofs.IndexedTicks.{hidden, ticked_at, told_at}
 use Rattle.sip_served.proofs.NumberedTicks.{all_ticked, all_told}

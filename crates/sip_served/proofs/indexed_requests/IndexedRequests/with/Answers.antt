@@ -1,7 +1,7 @@
 -- `IndexedRequests::with`: the request has the next number, and each index has it.
 use Rattle.std.proofs.Common.{◌+◌, ◌++◌, [], ◌∷◌, Some, List, ap, ◌∙◌, arith}
 use Rattle.std.specs.Map.{values_of}
-use Rattle.sip_served.specs.Indexed.{at, due_at}
+use Rattle.sip_served.specs.Steps.Indexed.{at, due_at}
 use Rattle.std.specs.Option.{option_and_then}
 use Rattle.sip_served.specs.Tick.{request_due}
 use Rattle.sip_served.specs.declared.held_request.HeldRequest.{HeldRequest}

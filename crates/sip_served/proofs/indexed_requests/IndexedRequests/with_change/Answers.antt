@@ -5,11 +5,11 @@ use Rattle.std.specs.Prelude.{is_some}
 use Rattle.std.specs.Option.{option_and_then, option_copied_mut}
 use Rattle.std.proofs.lemmas.Bool.{false≢true}
 use Rattle.sip_message.specs.contracts.id.IdOrd.TheImpl as id_order
-use Rattle.sip_served.specs.Change.{after_change}
-use Rattle.sip_served.specs.Index.{is_key_of}
-use Rattle.sip_served.specs.Indexed.{at, due_at}
-use Rattle.sip_served.specs.Indices.{keys_at}
-use Rattle.sip_served.specs.Keys.{id_of, prack_of}
+use Rattle.sip_served.specs.Steps.Change.{after_change}
+use Rattle.sip_served.specs.Steps.Index.{is_key_of}
+use Rattle.sip_served.specs.Steps.Indexed.{at, due_at}
+use Rattle.sip_served.specs.Steps.Indices.{keys_at}
+use Rattle.sip_served.specs.Steps.Keys.{id_of, prack_of}
 use Rattle.sip_served.specs.State.{changed_at, has_id}
 use Rattle.sip_served.specs.Tick.{request_due}
 use Rattle.sip_served.proofs.Finds.{changed_of_key, unchanged}

@@ -6,8 +6,8 @@ use Rattle.sip_served.specs.contracts.request_keys.AckKeyOrd.TheImpl as ack_orde
 use Rattle.sip_served.specs.contracts.request_keys.BranchKeyOrd.TheImpl as branch_order
 use Rattle.sip_served.specs.contracts.request_keys.MergeKeyOrd.TheImpl as merge_order
 use Rattle.sip_served.specs.contracts.request_keys.PrackKeyOrd.TheImpl as prack_order
-use Rattle.sip_served.specs.Indices.{keys_at}
-use Rattle.sip_served.specs.Keys.{ack_of, branch_key, branch_of, id_of, merge_key, merge_of, prack_of}
+use Rattle.sip_served.specs.Steps.Indices.{keys_at}
+use Rattle.sip_served.specs.Steps.Keys.{ack_of, branch_key, branch_of, id_of, merge_key, merge_of, prack_of}
 use Rattle.sip_served.proofs.Indexes.{on_ok_mapped, thing_moved}
 use Rattle.sip_served.proofs.indices.Indices.insert.Goals as goal
 

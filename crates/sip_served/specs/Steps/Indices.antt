@@ -8,8 +8,8 @@ use Rattle.sip_served.specs.contracts.request_keys.MergeKeyOrd.TheImpl as merge_
 use Rattle.sip_served.specs.contracts.request_keys.PrackKeyOrd.TheImpl as prack_order
 use Rattle.sip_served.specs.declared.held_request.HeldRequest.{HeldRequest}
 use Rattle.sip_served.specs.declared.indices.Indices.{Indices}
-use Rattle.sip_served.specs.Index.{IsIndexOf}
-use Rattle.sip_served.specs.Keys.{ack_of, branch_of, id_of, merge_of, prack_of}
+use Rattle.sip_served.specs.Steps.Index.{IsIndexOf}
+use Rattle.sip_served.specs.Steps.Keys.{ack_of, branch_of, id_of, merge_of, prack_of}
 
 -- the keys of the requests of these numbers
 abbrev pub keys_at : {K : Type 0} → (HeldRequest → Option K) → (ℕ → Option HeldRequest) → ℕ

@@ -8,7 +8,7 @@ use Rattle.sip_timers.specs.Index as timers
 use Rattle.sip_user.specs.declared.item.CallOut.{CallOut}
 use Rattle.sip_served.specs.declared.held_request.HeldRequest.{HeldRequest}
 use Rattle.sip_served.specs.declared.indexed_requests.IndexedRequests.TheInside.{Inside}
-use Rattle.sip_served.specs.Indices.{IsIndices}
+use Rattle.sip_served.specs.Steps.Indices.{IsIndices}
 use Rattle.sip_served.specs.Tick.{is_kept_at, request_due, request_ticked}
 
 -- the request of a number
