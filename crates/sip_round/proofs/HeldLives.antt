@@ -10,7 +10,7 @@ use Rattle.keyed_machine.specs.Phase.{Phase, states_after}
 use Rattle.sip_shards.proofs.Cutting.{map_long}
 use Rattle.sip_shards.specs.Parts.{owner_of}
 use Rattle.sip_transactions.specs.Idle as transactions
-use Rattle.sip_transactions.specs.Keys.{exact_keys}
+use Rattle.sip_message.specs.Keys.{exact_keys}
 use Rattle.sip_transactions.specs.Machine.{life_due, transaction_machine}
 use Rattle.sip_transactions.specs.Shard.{Lives, life_at}
 use Rattle.sip_transactions.specs.Steps.Life.{state_of}
