@@ -1,0 +1,857 @@
+"""Calls as objects, over asyncio.
+
+    async with await open_user_agent("./libsip_ua.so", ("192.0.2.1", 5060)) as agent:
+        call = await agent.call("sip:bob@192.0.2.9", offer)
+        answer = await call.answered()       # raises CallFailed if the call is refused
+        async for event in call:             # what happens until the call ends
+            ..
+        call.hang_up()
+
+        async for call in agent.incoming():  # calls of peers
+            call.ring()
+            call.answer(sdp)
+
+What goes out by itself: ACKs, a BYE to each further branch of a fork that answers, the answer to
+each challenge by Digest, the 200 of a BYE. When the `async with` ends, `close` ends all calls.
+sip_ua_registration.py registers a user agent. Use everything from the thread of the event loop.
+"""
+
+import asyncio
+import ipaddress
+import re
+import socket
+from dataclasses import dataclass
+from secrets import token_hex
+from typing import (
+    AsyncIterator,
+    Callable,
+    Dict,
+    Generic,
+    List,
+    NamedTuple,
+    Optional,
+    Set,
+    Tuple,
+    TypeVar,
+    Union,
+)
+
+from sip_ua import (
+    Ack,
+    AckNotice,
+    Address,
+    Cancel,
+    CancelNotice,
+    Command,
+    Drop,
+    EndedNotice,
+    FailedNotice,
+    Headers,
+    Id,
+    Invite,
+    Message,
+    NoAckNotice,
+    NoPrackNotice,
+    Notice,
+    Plain,
+    PrackNotice,
+    RefusedNotice,
+    Request,
+    RequestNotice,
+    Response,
+    ResponseNotice,
+    TimeoutNotice,
+)
+from sip_ua_digest import CHALLENGES, Authenticator
+from sip_ua_udp import Endpoint, open_endpoint
+
+__all__ = (
+    "UserAgent open_user_agent Call OutgoingCall IncomingCall CallFailed FinalResponse "
+    "Event Progress Answered IncomingRequest Ended Stream address_of uri_of"
+).split()
+
+SIP_PORT = 5060
+# 64 times T1: so long can other branches of a fork answer, and a cancelled INVITE go without its
+# response.
+TRANSACTION_S = 32.0
+# How long `close` waits for the ends of calls.
+CLOSE_S = 4.0
+# How many calls a user agent takes at one time, and when it says that others may come.
+MOST_CALLS = 1000
+RETRY_AFTER_S = 5
+# How many events of a call wait for its iterator; those that come then count as unread.
+MOST_UNREAD = 256
+# How often a request answers challenges.
+MOST_ANSWERS = 3
+ALLOW = ("Allow", "INVITE, ACK, CANCEL, OPTIONS, BYE, PRACK")
+
+_HOST = re.compile(r"sip:(?:[^@]*@)?([^:;?>]+)(?::(\d+))?", re.IGNORECASE)
+_Handler = Callable[[Notice], None]
+# A Call-ID, a local and a remote tag.
+Dialog = Tuple[str, str, str]
+_Item = TypeVar("_Item")
+
+
+class FinalResponse(NamedTuple):
+    """The final response to a request. The message is None if no response came: then the status is
+    408 after a timeout, 503 if a send failed (RFC 3261, section 8.1.3.1), and 481 if the agent
+    refused the request."""
+
+    status: int
+    reason: str
+    message: Optional[Message] = None
+
+    @property
+    def is_success(self) -> bool:
+        return 200 <= self.status < 300
+
+
+class CallFailed(Exception):
+    """A call wasn't answered, for the reason in `response`."""
+
+    def __init__(self, response: FinalResponse):
+        self.response = response
+        super().__init__(f"{response.status} {response.reason}")
+
+
+# ---- the events of a call
+
+
+@dataclass(frozen=True)
+class Progress:
+    """A provisional response to your INVITE came."""
+
+    status: int
+    message: Message
+
+
+@dataclass(frozen=True)
+class Answered:
+    """The call is up. The message is the 2xx of an outgoing call, the ACK of an incoming one."""
+
+    message: Message
+
+
+@dataclass(frozen=True)
+class Ended:
+    """The call has ended. If it was never up, `response` says why; after a call that was up it is
+    None. The message is the peer's BYE or CANCEL, if there was one."""
+
+    response: Optional[FinalResponse] = None
+    message: Optional[Message] = None
+
+
+class IncomingRequest:
+    """A request of the peer: one in a call, such as INFO or a re-INVITE, or one outside of calls.
+    `respond` answers it."""
+
+    def __init__(self, agent: "UserAgent", notice: RequestNotice, message: Message):
+        self.method = notice.method
+        self.message = message
+        self._agent = agent
+        self._call_id = notice.call_id
+        self._id = notice.id
+        self._is_answered = False
+        self._ack: "asyncio.Future[Optional[Message]]" = asyncio.get_running_loop().create_future()
+        if self.method == "INVITE":
+            agent.handle(self._id, self._told)
+
+    def respond(
+        self, status: int = 200, reason: str = "OK", body: bytes = b"", headers: Headers = ()
+    ) -> None:
+        """Responds to the request. After its final response, or its CANCEL, this does nothing."""
+        if self._is_answered:
+            return
+        self._agent.ask(Response(self._call_id, self._id, status, reason, body, headers))
+        self._is_answered = status >= 200
+        if status >= 300:
+            self.end()
+
+    async def acknowledged(self) -> Optional[Message]:
+        """Waits for the ACK of your 2xx to a re-INVITE. None if it never comes."""
+        return await asyncio.shield(self._ack)
+
+    def refuse(self) -> None:
+        """Responds to what nobody reads: 200 to OPTIONS, 488 to a re-INVITE, which leaves the call
+        as it is, and 405 to others."""
+        if self.method == "OPTIONS":
+            self.respond(200, "OK", headers=[ALLOW])
+        elif self.method == "INVITE":
+            self.respond(488, "Not Acceptable Here")
+        else:
+            self.respond(405, "Method Not Allowed", headers=[ALLOW])
+
+    def _told(self, notice: Notice) -> None:
+        if isinstance(notice, AckNotice):
+            self.end(self._agent.message(notice.place, notice.body))
+        elif not isinstance(notice, PrackNotice):
+            self._is_answered = True
+            self.end()
+
+    def end(self, ack: Optional[Message] = None) -> None:
+        """No ACK will come any more."""
+        self._agent.forget(self._id)
+        if not self._ack.done():
+            self._ack.set_result(ack)
+
+
+Event = Union[Progress, Answered, IncomingRequest, Ended]
+
+
+class Stream(Generic[_Item]):
+    """What an iterator reads. Nothing is kept while nobody iterates."""
+
+    def __init__(self) -> None:
+        self._queue: "Optional[asyncio.Queue[Optional[_Item]]]" = None
+        self._is_ended = False
+
+    def put(self, item: _Item, is_last: bool = False) -> bool:
+        """Adds an item, if it is read; the last one always."""
+        if self._queue is None or (self._queue.qsize() >= MOST_UNREAD and not is_last):
+            return False
+        self._queue.put_nowait(item)
+        if is_last:
+            self.end()
+        return True
+
+    def end(self) -> None:
+        self._is_ended = True
+        if self._queue is not None:
+            self._queue.put_nowait(None)
+
+    async def read(self) -> AsyncIterator[_Item]:
+        queue: "asyncio.Queue[Optional[_Item]]" = asyncio.Queue()
+        self._queue = queue
+        try:
+            while not self._is_ended or not queue.empty():
+                item = await queue.get()
+                if item is None:
+                    return
+                yield item
+        finally:
+            if self._queue is queue:
+                self._queue = None
+
+
+# ---- calls
+
+
+class Call:
+    """A call, incoming or outgoing. `async for` gives its events from then on, Ended last. While
+    nobody reads them, requests of the peer are refused."""
+
+    def __init__(self, agent: "UserAgent", call_id: str):
+        loop = asyncio.get_running_loop()
+        self.call_id = call_id
+        self.dialogs: Set[Dialog] = set()
+        self._agent = agent
+        self._tags: Optional[Tuple[str, str]] = None
+        self._target = ""
+        self._authenticator = agent.authenticator()
+        self._answer: Optional[Message] = None
+        self._bye: Optional[Message] = None
+        self._reinvite: Optional[IncomingRequest] = None
+        self._is_left = False
+        self._owes_ack = False
+        self._is_settled: "asyncio.Future[None]" = loop.create_future()
+        self._end: "asyncio.Future[Ended]" = loop.create_future()
+        self._events: Stream[Event] = Stream()
+
+    @property
+    def is_up(self) -> bool:
+        """Whether it was answered, and hasn't ended."""
+        return self._answer is not None and not self._end.done()
+
+    async def answered(self) -> Message:
+        """Waits until the call is up. Returns the 2xx of an outgoing call, the ACK of an incoming
+        one. Raises CallFailed if it was refused, cancelled, or not answered in time."""
+        await asyncio.shield(self._is_settled)
+        if self._answer is None:
+            response = self._end.result().response
+            raise CallFailed(response or FinalResponse(487, "Request Terminated"))
+        return self._answer
+
+    async def ended(self) -> Ended:
+        """Waits until the call has ended: by a BYE, or since it was never up."""
+        return await asyncio.shield(self._end)
+
+    def __aiter__(self) -> AsyncIterator[Event]:
+        return self._read()
+
+    async def _read(self) -> AsyncIterator[Event]:
+        if self._end.done():
+            yield self._end.result()
+            return
+        async for event in self._events.read():
+            yield event
+
+    async def request(
+        self, method: str, body: bytes = b"", headers: Headers = ()
+    ) -> FinalResponse:
+        """Sends a request in the call, such as INFO or a re-INVITE, and returns its final response.
+        481 and 408 end the call (RFC 3261, section 12.2.1.2)."""
+        if self._tags is None or not self.is_up:
+            return FinalResponse(481, "Call/Transaction Does Not Exist")
+        call_id, tags = self.call_id, self._tags
+
+        def request(credentials: Headers) -> Command:
+            return Request(call_id, *tags, method, body, [*headers, *credentials])
+
+        response = await self._agent.exchange(request, self._authenticator, method, self._target)
+        if response.is_success and method == "INVITE" and response.message is not None:
+            self._owes_ack = bool(response.message.body) and not body
+        if response.status in (408, 481):
+            self.hang_up()
+        return response
+
+    def acknowledge(self, answer: bytes = b"", headers: Headers = ()) -> None:
+        """Sends the ACK of a 2xx whose INVITE had no body: the 2xx has the offer, and the ACK the
+        answer. Other ACKs go out by themselves."""
+        if self._owes_ack and self._tags is not None:
+            self._owes_ack = False
+            self._agent.ask(Ack(self.call_id, *self._tags, answer, headers))
+
+    def hang_up(self, body: bytes = b"", headers: Headers = ()) -> None:
+        """Ends the call: by BYE if it is up, else by CANCEL or 603. If it is answered anyway, or
+        its ACK hasn't come yet, its BYE follows then. The body and the headers are the BYE's. A
+        call that has ended, or is about to, stays as it is."""
+        if self._is_left or self._end.done():
+            return
+        self._is_left = True
+        if self._answer is not None:
+            self._say_bye(body, headers)
+        else:
+            self._give_up()
+
+    def _give_up(self) -> None:
+        """Leaves a call that isn't up."""
+        raise NotImplementedError
+
+    def _say_bye(self, body: bytes = b"", headers: Headers = ()) -> None:
+        """Ends the dialog. A 2xx that needs an ACK gets it first."""
+        if self._tags is None:
+            return
+        self.acknowledge()
+        credentials = self._authenticator.headers("BYE", self._target) if self._authenticator else []
+        said = (body, [*headers, *credentials])
+        asked = self._agent.ask(Request(self.call_id, *self._tags, "BYE", *said))
+        self._agent.handle(asked, lambda notice: self._told_of_bye(asked, notice))
+
+    def _told_of_bye(self, asked: Id, notice: Notice) -> None:
+        if not isinstance(notice, ResponseNotice) or notice.status >= 200:
+            self._agent.forget(asked)
+            self._finish(Ended())
+
+    def _begin(self, tags: Tuple[str, str], message: Message, answer: Message) -> None:
+        """The call is up, in the dialog with these tags. The message has the peer's Contact."""
+        self._tags, self._answer = tags, answer
+        self._target = uri_of(message.value("Contact"))
+        self._settle()
+        self._tell(Answered(answer))
+
+    def _tell(self, event: Event) -> None:
+        is_read = self._events.put(event)
+        if isinstance(event, IncomingRequest) and not is_read:
+            event.refuse()
+
+    def _settle(self) -> None:
+        if not self._is_settled.done():
+            self._is_settled.set_result(None)
+
+    def _finish(self, end: Ended) -> None:
+        if self._end.done():
+            return
+        self._end.set_result(end)
+        self._settle()
+        if self._reinvite is not None:
+            self._reinvite.end()
+        self._events.put(end, is_last=True)
+        self._agent.over(self)
+
+    # -- what the user agent says
+
+    def requested(self, notice: RequestNotice, message: Message) -> None:
+        """A request of the peer in this call."""
+        request = IncomingRequest(self._agent, notice, message)
+        if notice.method == "BYE":
+            self._bye = message
+            request.respond()
+            return
+        if notice.method == "INVITE":
+            self._reinvite = request
+        self._tell(request)
+
+    def dialog_ended(self, tags: Tuple[str, str]) -> None:
+        """A dialog of this call has ended."""
+        if tags == self._tags:
+            self._finish(Ended(message=self._bye))
+
+
+class OutgoingCall(Call):
+    """A call that `UserAgent.call` started."""
+
+    def __init__(self, agent: "UserAgent", invite: Invite):
+        super().__init__(agent, invite.call_id)
+        self._invite = invite
+        self._challenged: List[int] = []
+        self._id = self._send()
+
+    def _send(self) -> Id:
+        """Sends the INVITE, with the credentials for the challenges that came."""
+        invite = self._invite
+        headers = [*invite.headers]
+        if self._authenticator is not None:
+            headers += self._authenticator.headers("INVITE", invite.request_uri)
+        asked = self._agent.ask(
+            Invite(
+                self.call_id,
+                invite.address,
+                invite.request_uri,
+                invite.from_uri,
+                invite.to_uri,
+                invite.body,
+                headers,
+                invite.supports_100rel,
+            )
+        )
+        self._agent.handle(asked, self._told)
+        return asked
+
+    def _give_up(self) -> None:
+        """Cancels the INVITE. Its response is waited for, but not for ever."""
+        self._agent.ask(Cancel(self.call_id, self._id))
+        end = Ended(FinalResponse(408, "Request Timeout"))
+        asyncio.get_running_loop().call_later(TRANSACTION_S, self._fail, end)
+
+    def _fail(self, end: Ended) -> None:
+        if self._answer is None:
+            self._agent.forget(self._id)
+            self._finish(end)
+
+    def _told(self, notice: Notice) -> None:
+        if isinstance(notice, ResponseNotice):
+            message = self._agent.message(notice.place, notice.body)
+            if message is not None:
+                self._responded(notice, message)
+        else:
+            self._fail(Ended(self._agent.outcome(notice)))
+
+    def _responded(self, notice: ResponseNotice, message: Message) -> None:
+        """A response to the INVITE came."""
+        tags = (notice.local_tag, notice.remote_tag)
+        if notice.status < 200:
+            if notice.status > 100:
+                self._agent.hold(self, tags)
+            self._tell(Progress(notice.status, message))
+        elif notice.status < 300:
+            self._agent.hold(self, tags)
+            self._take_answer(tags, message)
+        elif not self._is_left and self._takes_challenge(notice.status, message):
+            self._agent.forget(self._id)
+            self.call_id = token_hex(8)
+            self._id = self._send()
+        else:
+            self._fail(Ended(FinalResponse(notice.status, message.start.reason or "", message)))
+
+    def _take_answer(self, tags: Tuple[str, str], message: Message) -> None:
+        """Takes a 2xx. One of another branch of a fork, or after a CANCEL, is ended at once."""
+        owes_ack = bool(message.body) and not self._invite.body
+        if self._tags is None and not self._end.done():
+            self._agent.forget_later(self._id)
+            self._owes_ack = owes_ack
+            if not self._is_left:
+                self._begin(tags, message, message)
+                return
+            self._tags = tags
+            self._settle()
+            self._say_bye()
+        elif self._tags != tags:
+            if owes_ack:
+                self._agent.ask(Ack(self.call_id, *tags))
+            self._agent.ask(Request(self.call_id, *tags, "BYE"))
+
+    def _takes_challenge(self, status: int, message: Message) -> bool:
+        is_again = status in self._challenged
+        self._challenged.append(status)
+        is_often = len(self._challenged) > MOST_ANSWERS
+        return not is_often and takes_challenge(self._authenticator, status, message, is_again)
+
+
+class IncomingCall(Call):
+    """A call of a peer, which `UserAgent.incoming` gave. `invite` is its INVITE."""
+
+    def __init__(self, agent: "UserAgent", notice: RequestNotice, invite: Message):
+        super().__init__(agent, notice.call_id)
+        self.invite = invite
+        self._id = notice.id
+        self._has_final = False
+        self._tags = (notice.local_tag, notice.remote_tag)
+        agent.handle(notice.id, self._told)
+        agent.hold(self, self._tags)
+
+    def ring(self) -> None:
+        """Responds 180."""
+        self.respond(180, "Ringing")
+
+    def answer(self, body: bytes = b"", headers: Headers = ()) -> None:
+        """Responds 200, with the answer to the INVITE's offer. If it has none, the body is the
+        offer, and the ACK has the answer."""
+        self.respond(200, "OK", body, headers)
+
+    def reject(
+        self,
+        status: int = 486,
+        reason: str = "Busy Here",
+        body: bytes = b"",
+        headers: Headers = (),
+    ) -> None:
+        """Refuses the call, by a status from 300 to 699."""
+        self._is_left = True
+        self.respond(status, reason, body, headers)
+
+    def respond(
+        self,
+        status: int,
+        reason: str,
+        body: bytes = b"",
+        headers: Headers = (),
+        is_reliable: bool = False,
+    ) -> None:
+        """Responds to the INVITE. After its final response, or its CANCEL, this does nothing."""
+        if self._has_final or self._end.done():
+            return
+        response = Response(self.call_id, self._id, status, reason, body, headers, is_reliable)
+        self._agent.ask(response)
+        self._has_final = status >= 200
+        if status >= 300:
+            self._close(Ended(FinalResponse(status, reason)))
+
+    def _give_up(self) -> None:
+        # Once it is answered, the BYE waits for the ACK (RFC 3261, section 15).
+        if not self._has_final:
+            self.reject(603, "Decline")
+
+    def _close(self, end: Ended) -> None:
+        self._agent.forget(self._id)
+        self._finish(end)
+
+    def _told(self, notice: Notice) -> None:
+        if isinstance(notice, AckNotice):
+            self._acknowledged(notice)
+        elif isinstance(notice, CancelNotice):
+            message = self._agent.message(notice.place)
+            self._close(Ended(FinalResponse(487, "Request Terminated"), message))
+        elif isinstance(notice, NoAckNotice):
+            self._agent.forget(self._id)
+            self._is_left = True
+            self._say_bye()
+        elif isinstance(notice, NoPrackNotice):
+            self.reject(504, "Server Time-out")
+        elif isinstance(notice, (TimeoutNotice, FailedNotice)):
+            self._close(Ended(self._agent.outcome(notice)))
+
+    def _acknowledged(self, notice: AckNotice) -> None:
+        self._agent.forget(self._id)
+        ack = self._agent.message(notice.place, notice.body)
+        if ack is not None and self._tags is not None:
+            self._begin(self._tags, self.invite, ack)
+        if self._is_left:
+            self._say_bye()
+
+    def requested(self, notice: RequestNotice, message: Message) -> None:
+        super().requested(notice, message)
+        if notice.method == "BYE":
+            # It ends the early dialog too (RFC 3261, section 15.1.2).
+            self.respond(487, "Request Terminated")
+
+
+def takes_challenge(
+    authenticator: Optional[Authenticator], status: int, message: Optional[Message], is_again: bool
+) -> bool:
+    """Whether a response is a challenge that the authenticator can answer."""
+    if authenticator is None or message is None or status not in CHALLENGES:
+        return False
+    return authenticator.takes(status, message.values(CHALLENGES[status][0]), is_again)
+
+
+def uri_of(value: str) -> str:
+    """The URI of the value of a header such as From, To or Contact."""
+    before, bracket, rest = value.partition("<")
+    return rest.partition(">")[0] if bracket else before.partition(";")[0].strip()
+
+
+async def address_of(uri: str) -> Address:
+    """The address of a URI's host, by DNS if it is a name, and its port, 5060 without one."""
+    found = _HOST.match(uri)
+    if found is None:
+        raise ValueError(f"no host in {uri!r}")
+    host, port = found[1], int(found[2] or SIP_PORT)
+    try:
+        return str(ipaddress.IPv4Address(host)), port
+    except ValueError:
+        loop = asyncio.get_running_loop()
+        kinds = {"family": socket.AF_INET, "type": socket.SOCK_DGRAM}
+        ip = (await loop.getaddrinfo(host, port, **kinds))[0][4][0]
+        return str(ip), port
+
+
+# ---- the user agent
+
+
+class UserAgent:
+    """An endpoint whose calls are objects. `open_user_agent` opens one; `close` ends its calls and
+    closes it, as does leaving its `async with`.
+
+    `uri` is the user's own, which From says. `proxy` is where all requests go, otherwise to the
+    address in their URI. The username and the password answer challenges. `on_request` is called
+    with each request outside of calls; without it, they are refused. More calls than `most_calls`
+    at one time get 503."""
+
+    endpoint: Endpoint
+    uri: str
+
+    def __init__(
+        self,
+        proxy: Optional[Address] = None,
+        username: str = "",
+        password: str = "",
+        on_request: Optional[Callable[[IncomingRequest], None]] = None,
+        most_calls: int = MOST_CALLS,
+    ):
+        self.proxy = proxy
+        self.calls: Set[Call] = set()
+        self._login = (username, password)
+        self._on_request = on_request
+        self._most_calls = most_calls
+        self._dialogs: Dict[Dialog, Call] = {}
+        self._handlers: Dict[Id, _Handler] = {}
+        # INVITEs that were answered, while other branches of a fork may answer too.
+        self._answered: Dict[Id, _Handler] = {}
+        self._incoming: Stream[IncomingCall] = Stream()
+        self._is_closing = False
+        self._is_idle = asyncio.Event()
+
+    async def __aenter__(self) -> "UserAgent":
+        return self
+
+    async def __aexit__(self, *_: object) -> None:
+        await self.close()
+
+    async def call(
+        self,
+        uri: str,
+        offer: bytes = b"",
+        headers: Headers = (),
+        address: Optional[Address] = None,
+        from_uri: Optional[str] = None,
+        supports_100rel: bool = False,
+    ) -> OutgoingCall:
+        """Starts a call: sends an INVITE to the address, else to the proxy or the address in the
+        URI. Without an offer, the 2xx has one, and `acknowledge` answers it; then leave out
+        `supports_100rel`."""
+        to = address or self.proxy or await address_of(uri)
+        uris = (uri, from_uri or self.uri, uri)
+        invite = Invite(token_hex(8), to, *uris, offer, tuple(headers), supports_100rel)
+        call = OutgoingCall(self, invite)
+        self.calls.add(call)
+        return call
+
+    def incoming(self) -> AsyncIterator[IncomingCall]:
+        """The calls of peers, until `close`. While nobody iterates, they get 480."""
+        return self._incoming.read()
+
+    async def request(
+        self,
+        method: str,
+        uri: str,
+        body: bytes = b"",
+        headers: Headers = (),
+        address: Optional[Address] = None,
+        from_uri: Optional[str] = None,
+        to_uri: Optional[str] = None,
+        authenticator: Optional[Authenticator] = None,
+    ) -> FinalResponse:
+        """Sends a request outside of calls, such as OPTIONS, and returns its final response."""
+        to = address or self.proxy or await address_of(uri)
+        uris = (uri, from_uri or self.uri, to_uri or uri)
+
+        def plain(credentials: Headers) -> Command:
+            return Plain(token_hex(8), to, method, *uris, body, [*headers, *credentials])
+
+        return await self.exchange(plain, authenticator or self.authenticator(), method, uri)
+
+    async def close(self, patience_s: float = CLOSE_S) -> None:
+        """Ends all calls: 480 to those that nobody answered, else CANCEL or BYE. Waits for their
+        ends, at most so many seconds, and closes the endpoint."""
+        self._is_closing = True
+        self._incoming.end()
+        for call in list(self.calls):
+            if isinstance(call, IncomingCall):
+                call.respond(480, "Temporarily Unavailable")
+            call.hang_up()
+        await asyncio.sleep(0)  # the round that sends this
+        try:
+            await asyncio.wait_for(self._idle(), patience_s)
+        except asyncio.TimeoutError:
+            pass
+        self.endpoint.close()
+
+    async def _idle(self) -> None:
+        """Waits until no request waits for its end."""
+        while self._handlers:
+            self._is_idle.clear()
+            await self._is_idle.wait()
+
+    # -- for calls, requests and registrations
+
+    def ask(self, command: Command) -> Id:
+        return self.endpoint.ask(command)
+
+    def handle(self, event: Id, handler: _Handler) -> None:
+        """Has notices about a request go to this handler, until `forget`."""
+        self._handlers[event] = handler
+
+    def forget(self, event: Id) -> None:
+        self._handlers.pop(event, None)
+        if not self._handlers:
+            self._is_idle.set()
+
+    def forget_later(self, event: Id) -> None:
+        """Forgets an INVITE that was answered once no other branch of a fork can answer."""
+        handler = self._handlers.get(event)
+        if handler is not None:
+            self._answered[event] = handler
+            loop = asyncio.get_running_loop()
+            loop.call_later(TRANSACTION_S, self._answered.pop, event, None)
+        self.forget(event)
+
+    def hold(self, call: Call, tags: Tuple[str, str]) -> None:
+        """Has requests in this dialog go to the call."""
+        dialog = (call.call_id, *tags)
+        self._dialogs[dialog] = call
+        call.dialogs.add(dialog)
+
+    def over(self, call: Call) -> None:
+        """Forgets a call that has ended, with its dialogs."""
+        self.calls.discard(call)
+        for dialog in call.dialogs:
+            self._dialogs.pop(dialog, None)
+        call.dialogs.clear()
+
+    def authenticator(self) -> Optional[Authenticator]:
+        return Authenticator(*self._login) if self._login[0] else None
+
+    def message(self, place: int, body: bytes = b"") -> Optional[Message]:
+        """The message that caused a notice of this round."""
+        return self.endpoint.agent.message_at(place, body)
+
+    def outcome(self, notice: Notice) -> FinalResponse:
+        """How the request of this notice has ended."""
+        if isinstance(notice, ResponseNotice):
+            message = self.message(notice.place, notice.body)
+            reason = message.start.reason if message is not None else None
+            return FinalResponse(notice.status, reason or "", message)
+        if isinstance(notice, TimeoutNotice):
+            return FinalResponse(408, "Request Timeout")
+        if isinstance(notice, RefusedNotice):
+            return FinalResponse(481, str(notice.refusal))
+        return FinalResponse(503, "Service Unavailable")
+
+    async def exchange(
+        self,
+        request: Callable[[Headers], Command],
+        authenticator: Optional[Authenticator],
+        method: str,
+        uri: str,
+    ) -> FinalResponse:
+        """Sends a request, which is made with the headers that authenticate it, and answers
+        challenges. Returns the final response."""
+        challenged: List[int] = []
+        while True:
+            headers = authenticator.headers(method, uri) if authenticator is not None else []
+            response = await self._responded(self.ask(request(headers)))
+            is_again = response.status in challenged
+            challenged.append(response.status)
+            if len(challenged) > MOST_ANSWERS or not takes_challenge(
+                authenticator, response.status, response.message, is_again
+            ):
+                return response
+
+    async def _responded(self, asked: Id) -> FinalResponse:
+        """Waits for the final response to a request."""
+        response: "asyncio.Future[FinalResponse]" = asyncio.get_running_loop().create_future()
+
+        def told(notice: Notice) -> None:
+            if isinstance(notice, ResponseNotice) and notice.status < 200:
+                return
+            self.forget(asked)
+            if not response.done():
+                response.set_result(self.outcome(notice))
+
+        self.handle(asked, told)
+        return await response
+
+    # -- notices
+
+    def told(self, output: Union[Notice, Drop]) -> None:
+        """Takes a notice of the endpoint."""
+        if isinstance(output, RequestNotice):
+            message = self.message(output.place, output.body)
+            if message is not None:
+                self._requested(output, message)
+        elif isinstance(output, EndedNotice):
+            tags = (output.local_tag, output.remote_tag)
+            call = self._dialogs.pop((output.call_id, *tags), None)
+            if call is not None:
+                call.dialogs.discard((output.call_id, *tags))
+                call.dialog_ended(tags)
+        elif isinstance(output, Notice):
+            # All other notices have the id of a request or of a command.
+            event: Id = getattr(output, "id")
+            handler = self._handlers.get(event) or self._answered.get(event)
+            if handler is not None:
+                handler(output)
+
+    def _requested(self, notice: RequestNotice, message: Message) -> None:
+        call = self._dialogs.get((notice.call_id, notice.local_tag, notice.remote_tag))
+        if call is not None:
+            call.requested(notice, message)
+        elif notice.method == "INVITE":
+            self._called(notice, message)
+        else:
+            request = IncomingRequest(self, notice, message)
+            if self._on_request is not None:
+                self._on_request(request)
+            else:
+                request.refuse()
+
+    def _called(self, notice: RequestNotice, invite: Message) -> None:
+        """A call of a peer."""
+        call = IncomingCall(self, notice, invite)
+        if len(self.calls) >= self._most_calls:
+            headers = [("Retry-After", str(RETRY_AFTER_S))]
+            call.reject(503, "Service Unavailable", headers=headers)
+        elif self._is_closing or not self._incoming.put(call):
+            call.reject(480, "Temporarily Unavailable")
+        else:
+            self.calls.add(call)
+
+
+async def open_user_agent(
+    library: str,
+    address: Address,
+    uri: Optional[str] = None,
+    proxy: Optional[Address] = None,
+    username: str = "",
+    password: str = "",
+    on_request: Optional[Callable[[IncomingRequest], None]] = None,
+    most_calls: int = MOST_CALLS,
+    local: Optional[Address] = None,
+) -> UserAgent:
+    """Opens a user agent whose socket has this address; port 0 takes a free one. `local` is as for
+    `open_endpoint`. Without a URI, its own is that of its address."""
+    agent = UserAgent(proxy, username, password, on_request, most_calls)
+    agent.endpoint = await open_endpoint(library, address, agent.told, local)
+    ip, port = agent.endpoint.local
+    agent.uri = uri or f"sip:{ip}:{port}"
+    return agent
