@@ -4,8 +4,9 @@
 
 LOCAL and REGISTRAR are an address and a port, as in 192.0.2.1:5060. With a URI, it calls that URI
 once it is registered, and hangs up after three seconds. Without one, it answers each call. It
-answers a challenge by Digest with MD5 (RFC 3261, section 22), and follows a 302."""
+answers a challenge by Digest, and follows a 302."""
 
+import os
 import re
 import subprocess
 import sys
@@ -13,7 +14,9 @@ import threading
 from dataclasses import dataclass, replace
 from secrets import token_hex
 
-from digest import credentials
+# Of the bindings it only needs Digest.
+sys.path.append(os.path.join(os.path.dirname(os.path.abspath(__file__)), "..", "bindings"))
+from sip_ua_digest import Challenge  # noqa: E402
 
 SPELLED = {"\r": r"\r", "\n": r"\n", "\t": r"\t", "\\": r"\\", " ": r"\s"}
 PLAIN = {spelled: plain for plain, spelled in SPELLED.items()}
@@ -83,11 +86,11 @@ class Phone:
         if not request or headers["cseq"].split()[1] != request.method or status < "200":
             return
         print(request.method, status)
-        challenge, answer = CHALLENGES.get(status, (None, None))
+        name, answer = CHALLENGES.get(status, (None, None))
+        challenge = Challenge.read(headers.get(name, ""))
         if challenge and answer not in dict(request.headers):
-            line = (answer, credentials(headers[challenge], self.name, self.password,
-                                        request.method, request.uri))
-            self.ask(replace(request, headers=(*request.headers, line)))
+            value = challenge.credentials(self.name, self.password, request.method, request.uri)
+            self.ask(replace(request, headers=(*request.headers, (answer, value))))
         elif status == "302":
             uri = re.search("sip:[^>;?]*", headers["contact"])[0]
             self.ask(replace(request, uri=uri, address=uri.rpartition("@")[2]))
