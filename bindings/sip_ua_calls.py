@@ -86,6 +86,7 @@ MOST_ANSWERS = 3
 ALLOW = ("Allow", "INVITE, ACK, CANCEL, OPTIONS, BYE, PRACK")
 
 _HOST = re.compile(r"sip:(?:[^@]*@)?([^:;?>]+)(?::(\d+))?", re.IGNORECASE)
+_QUOTED = re.compile(r'"(?:[^"\\]|\\.)*"')
 _Handler = Callable[[Notice], None]
 # A Call-ID, a local and a remote tag.
 Dialog = Tuple[str, str, str]
@@ -576,7 +577,7 @@ def takes_challenge(
 
 def uri_of(value: str) -> str:
     """The URI of the value of a header such as From, To or Contact."""
-    before, bracket, rest = value.partition("<")
+    before, bracket, rest = _QUOTED.sub("", value).partition("<")
     return rest.partition(">")[0] if bracket else before.partition(";")[0].strip()
 
 

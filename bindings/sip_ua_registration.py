@@ -33,8 +33,10 @@ MOST_RETRY_S = 1800
 MOST_TOO_BRIEF = 2
 INTERVAL_TOO_BRIEF = 423
 
-_PIECE = re.compile(r'(?:"(?:[^"\\]|\\.)*"|<[^>]*>|[^,"<])+')
-_EXPIRES = re.compile(r';\s*expires\s*=\s*"?(\d+)', re.IGNORECASE)
+_QUOTED = r'"(?:[^"\\]|\\.)*"'
+# A Contact of a list; its parts that have no parameter, or its parameter.
+_CONTACT = re.compile(rf'(?:{_QUOTED}|<[^>]*>|[^,"<])+')
+_EXPIRES = re.compile(rf'{_QUOTED}|<[^>]*>|;\s*expires\s*=\s*"?(\d+)', re.IGNORECASE)
 
 
 class RegistrationFailed(Exception):
@@ -196,16 +198,16 @@ def number_of(text: str) -> int:
 def contacts_of(message: Message) -> Iterator[str]:
     """The Contacts of a message, one by one."""
     for value in message.values("Contact"):
-        yield from (piece.strip() for piece in _PIECE.findall(value))
+        yield from (piece.strip() for piece in _CONTACT.findall(value))
 
 
 def granted_s(message: Message, contact: str, asked_s: int) -> int:
     """The time in s that a 200 grants to a contact: the parameter of that Contact, else Expires,
     else what was asked for (RFC 3261, section 10.2.4)."""
     for value in contacts_of(message):
-        expires = _EXPIRES.search(value.rpartition(">")[2])
+        expires = next(filter(None, _EXPIRES.findall(value)), None)
         if expires is not None and is_same(uri_of(value), contact):
-            return int(expires[1])
+            return int(expires)
     expires_header = message.value("Expires")
     return number_of(expires_header) if expires_header else asked_s
 

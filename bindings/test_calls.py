@@ -409,6 +409,29 @@ class RegistrationTest(unittest.IsolatedAsyncioTestCase):
         self.assertEqual(granted(("m", other), ("m", "sip:alice@192.0.2.1:5060;expires=80")), 80)
         self.assertEqual(granted(("Contact", f"{other},{own}"), ("Expires", "70")), 70)
         self.assertEqual(granted(("Contact", own)), 600)
+        quoted = f'"A, <B>" {own};q="1;expires=7";Expires = 60'
+        self.assertEqual(granted(("Contact", quoted)), 60)
+
+    @unittest.skipUnless("SIP_UA_REGISTER" in os.environ, "names no built examples/c/register.c")
+    async def test_in_c(self) -> None:
+        """The same by examples/c/register.c, for as long as one refresh."""
+        for algorithm in ("MD5", "SHA-256"):
+            registrar, address = await self.registrar(algorithm)
+            own = await open_peer(Peer(lambda _: []))
+            words = ["127.0.0.1", str(own.port), "127.0.0.1", str(address[1])]
+            own.close()
+            await asyncio.sleep(0.05)
+            account = ["alice", "example.test", "secret", "60", "2"]
+            ran = await asyncio.create_subprocess_exec(
+                os.environ["SIP_UA_REGISTER"], *words, *account, stdout=asyncio.subprocess.PIPE
+            )
+            told, _ = await soon(ran.communicate())
+            self.assertEqual(ran.returncode, 0)
+            self.assertEqual(
+                told.decode().splitlines(), 2 * ["registered for 2 s"] + ["unregistered"]
+            )
+            self.assertEqual(registrar.contacts, [])
+            self.assertEqual(registrar.counts, [f"{count:08x}" for count in range(1, 5)])
 
 
 if __name__ == "__main__":
