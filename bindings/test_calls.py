@@ -1,11 +1,13 @@
 """Calls and registrations as objects, on loopback: between two user agents, and with scripted
-peers. The environment variable SIP_UA_LIBRARY names libsip_ua.so."""
+peers. The environment variable SIP_UA_LIBRARY names libsip_ua.so, SIP_UA_REGISTER the built
+examples/c/register.c. The examples are on the path."""
 
 import asyncio
 import os
 import unittest
 from typing import Any, Awaitable, Callable, List, Tuple, TypeVar
 
+from click_to_call import connect
 from scripted import Peer, Registrar, header, is_answer_right, open_peer, response
 from sip_ua import Message
 from sip_ua_calls import (
@@ -245,6 +247,25 @@ class CallsTest(unittest.IsolatedAsyncioTestCase):
         await soon(outgoing.answered())
         outgoing.hang_up()
         self.assertEqual([type(event) for event in await soon(told)], [Answered, Ended])
+
+    async def test_click_to_call(self) -> None:
+        """The offer of the one phone goes to the other, whose answer goes back."""
+        coming = asyncio.gather(next_call(self.one), next_call(self.two))
+        async with await open_user_agent(LIBRARY, ANY_PORT) as agent:
+            connecting = asyncio.ensure_future(connect(agent, self.one.uri, self.two.uri))
+            await soon(until(lambda: bool(self.one.calls)))
+            (first,) = self.one.calls
+            assert isinstance(first, IncomingCall)
+            self.assertEqual(first.invite.body, b"")
+            first.answer(OFFER)
+            _, second = await soon(coming)
+            self.assertEqual(second.invite.body, OFFER)
+            second.ring()
+            second.answer(ANSWER)
+            await soon(second.answered())
+            self.assertEqual((await soon(first.answered())).body, ANSWER)
+            second.hang_up()
+            await soon(asyncio.gather(first.ended(), connecting))
 
     async def test_close(self) -> None:
         outgoing, incoming = await self.up()
