@@ -120,7 +120,7 @@ class CallFailed(Exception):
 
 @dataclass(frozen=True)
 class Progress:
-    """A provisional response to your INVITE came."""
+    """A provisional response above 100 to your INVITE came."""
 
     status: int
     message: Message
@@ -160,8 +160,9 @@ class IncomingRequest:
     def respond(
         self, status: int = 200, reason: str = "OK", body: bytes = b"", headers: Headers = ()
     ) -> None:
-        """Responds to the request. After its final response, or its CANCEL, this does nothing."""
-        if self._is_answered:
+        """Responds to the request. After its final response, its CANCEL or `close`, this does
+        nothing."""
+        if self._is_answered or self._agent.endpoint.is_closed:
             return
         self._agent.ask(Response(self._call_id, self._id, status, reason, body, headers))
         self._is_answered = status >= 200
@@ -200,31 +201,35 @@ Event = Union[Progress, Answered, IncomingRequest, Ended]
 
 
 class Stream(Generic[_Item]):
-    """What an iterator reads. Nothing is kept while nobody iterates."""
+    """What one iterator reads. `refuse` is called with each item that it doesn't: while nobody
+    iterates, when MOST_UNREAD items wait, and with those that wait when it ends."""
 
-    def __init__(self) -> None:
+    def __init__(self, refuse: Callable[[_Item], None]) -> None:
+        self._refuse = refuse
         self._queue: "Optional[asyncio.Queue[Optional[_Item]]]" = None
         self._is_ended = False
 
-    def put(self, item: _Item, is_last: bool = False) -> bool:
-        """Adds an item, if it is read; the last one always."""
-        if self._queue is None or (self._queue.qsize() >= MOST_UNREAD and not is_last):
-            return False
-        self._queue.put_nowait(item)
-        if is_last:
-            self.end()
-        return True
+    def put(self, item: _Item) -> None:
+        if self._queue is None or self._queue.qsize() >= MOST_UNREAD:
+            self._refuse(item)
+        else:
+            self._queue.put_nowait(item)
 
-    def end(self) -> None:
+    def end(self, last: Optional[_Item] = None) -> None:
+        """Ends the iterator, after a last item."""
         self._is_ended = True
         if self._queue is not None:
+            if last is not None:
+                self._queue.put_nowait(last)
             self._queue.put_nowait(None)
 
     async def read(self) -> AsyncIterator[_Item]:
+        if self._is_ended:
+            return
         queue: "asyncio.Queue[Optional[_Item]]" = asyncio.Queue()
         self._queue = queue
         try:
-            while not self._is_ended or not queue.empty():
+            while True:
                 item = await queue.get()
                 if item is None:
                     return
@@ -232,6 +237,10 @@ class Stream(Generic[_Item]):
         finally:
             if self._queue is queue:
                 self._queue = None
+            while not queue.empty():
+                unread = queue.get_nowait()
+                if unread is not None:
+                    self._refuse(unread)
 
 
 # ---- calls
@@ -240,6 +249,9 @@ class Stream(Generic[_Item]):
 class Call:
     """A call, incoming or outgoing. `async for` gives its events from then on, Ended last. While
     nobody reads them, requests of the peer are refused."""
+
+    # The id of its INVITE.
+    _id: Id
 
     def __init__(self, agent: "UserAgent", call_id: str):
         loop = asyncio.get_running_loop()
@@ -253,10 +265,12 @@ class Call:
         self._bye: Optional[Message] = None
         self._reinvite: Optional[IncomingRequest] = None
         self._is_left = False
+        # The body and the headers of the BYE.
+        self._farewell: Tuple[bytes, Headers] = (b"", ())
         self._owes_ack = False
         self._is_settled: "asyncio.Future[None]" = loop.create_future()
         self._end: "asyncio.Future[Ended]" = loop.create_future()
-        self._events: Stream[Event] = Stream()
+        self._events: Stream[Event] = Stream(refuse_event)
 
     @property
     def is_up(self) -> bool:
@@ -319,8 +333,9 @@ class Call:
         if self._is_left or self._end.done():
             return
         self._is_left = True
+        self._farewell = (body, headers)
         if self._answer is not None:
-            self._say_bye(body, headers)
+            self._say_bye()
         else:
             self._give_up()
 
@@ -328,14 +343,15 @@ class Call:
         """Leaves a call that isn't up."""
         raise NotImplementedError
 
-    def _say_bye(self, body: bytes = b"", headers: Headers = ()) -> None:
+    def _say_bye(self) -> None:
         """Ends the dialog. A 2xx that needs an ACK gets it first."""
         if self._tags is None:
             return
         self.acknowledge()
-        credentials = self._authenticator.headers("BYE", self._target) if self._authenticator else []
-        said = (body, [*headers, *credentials])
-        asked = self._agent.ask(Request(self.call_id, *self._tags, "BYE", *said))
+        body, headers = self._farewell
+        if self._authenticator is not None:
+            headers = [*headers, *self._authenticator.headers("BYE", self._target)]
+        asked = self._agent.ask(Request(self.call_id, *self._tags, "BYE", body, headers))
         self._agent.handle(asked, lambda notice: self._told_of_bye(asked, notice))
 
     def _told_of_bye(self, asked: Id, notice: Notice) -> None:
@@ -347,29 +363,26 @@ class Call:
         """The call is up, in the dialog with these tags. The message has the peer's Contact."""
         self._tags, self._answer = tags, answer
         self._target = uri_of(message.value("Contact"))
-        self._settle()
-        self._tell(Answered(answer))
-
-    def _tell(self, event: Event) -> None:
-        is_read = self._events.put(event)
-        if isinstance(event, IncomingRequest) and not is_read:
-            event.refuse()
-
-    def _settle(self) -> None:
-        if not self._is_settled.done():
-            self._is_settled.set_result(None)
+        self._is_settled.set_result(None)
+        self._events.put(Answered(answer))
 
     def _finish(self, end: Ended) -> None:
         if self._end.done():
             return
         self._end.set_result(end)
-        self._settle()
+        if not self._is_settled.done():
+            self._is_settled.set_result(None)
         if self._reinvite is not None:
             self._reinvite.end()
-        self._events.put(end, is_last=True)
+        self._events.end(end)
+        self._agent.forget(self._id)
         self._agent.over(self)
 
     # -- what the user agent says
+
+    def abandon(self) -> None:
+        """The endpoint closes before this call has ended."""
+        self._finish(Ended(None if self.is_up else FinalResponse(408, "Request Timeout")))
 
     def requested(self, notice: RequestNotice, message: Message) -> None:
         """A request of the peer in this call."""
@@ -380,7 +393,7 @@ class Call:
             return
         if notice.method == "INVITE":
             self._reinvite = request
-        self._tell(request)
+        self._events.put(request)
 
     def dialog_ended(self, tags: Tuple[str, str]) -> None:
         """A dialog of this call has ended."""
@@ -426,7 +439,6 @@ class OutgoingCall(Call):
 
     def _fail(self, end: Ended) -> None:
         if self._answer is None:
-            self._agent.forget(self._id)
             self._finish(end)
 
     def _told(self, notice: Notice) -> None:
@@ -440,12 +452,13 @@ class OutgoingCall(Call):
     def _responded(self, notice: ResponseNotice, message: Message) -> None:
         """A response to the INVITE came."""
         tags = (notice.local_tag, notice.remote_tag)
-        if notice.status < 200:
-            if notice.status > 100:
-                self._agent.hold(self, tags)
-            self._tell(Progress(notice.status, message))
-        elif notice.status < 300:
+        if notice.status == 100:
+            return
+        if notice.status < 300:
             self._agent.hold(self, tags)
+        if notice.status < 200:
+            self._events.put(Progress(notice.status, message))
+        elif notice.status < 300:
             self._take_answer(tags, message)
         elif not self._is_left and self._takes_challenge(notice.status, message):
             self._agent.forget(self._id)
@@ -464,7 +477,6 @@ class OutgoingCall(Call):
                 self._begin(tags, message, message)
                 return
             self._tags = tags
-            self._settle()
             self._say_bye()
         elif self._tags != tags:
             if owes_ack:
@@ -507,7 +519,6 @@ class IncomingCall(Call):
         headers: Headers = (),
     ) -> None:
         """Refuses the call, by a status from 300 to 699."""
-        self._is_left = True
         self.respond(status, reason, body, headers)
 
     def respond(
@@ -525,23 +536,19 @@ class IncomingCall(Call):
         self._agent.ask(response)
         self._has_final = status >= 200
         if status >= 300:
-            self._close(Ended(FinalResponse(status, reason)))
+            self._finish(Ended(FinalResponse(status, reason)))
 
     def _give_up(self) -> None:
         # Once it is answered, the BYE waits for the ACK (RFC 3261, section 15).
         if not self._has_final:
             self.reject(603, "Decline")
 
-    def _close(self, end: Ended) -> None:
-        self._agent.forget(self._id)
-        self._finish(end)
-
     def _told(self, notice: Notice) -> None:
         if isinstance(notice, AckNotice):
             self._acknowledged(notice)
         elif isinstance(notice, CancelNotice):
             message = self._agent.message(notice.place)
-            self._close(Ended(FinalResponse(487, "Request Terminated"), message))
+            self._finish(Ended(FinalResponse(487, "Request Terminated"), message))
         elif isinstance(notice, NoAckNotice):
             self._agent.forget(self._id)
             self._is_left = True
@@ -549,7 +556,7 @@ class IncomingCall(Call):
         elif isinstance(notice, NoPrackNotice):
             self.reject(504, "Server Time-out")
         elif isinstance(notice, (TimeoutNotice, FailedNotice)):
-            self._close(Ended(self._agent.outcome(notice)))
+            self._finish(Ended(self._agent.outcome(notice)))
 
     def _acknowledged(self, notice: AckNotice) -> None:
         self._agent.forget(self._id)
@@ -564,6 +571,17 @@ class IncomingCall(Call):
         if notice.method == "BYE":
             # It ends the early dialog too (RFC 3261, section 15.1.2).
             self.respond(487, "Request Terminated")
+
+
+def refuse_event(event: Event) -> None:
+    """An event that nobody reads."""
+    if isinstance(event, IncomingRequest):
+        event.refuse()
+
+
+def refuse_call(call: IncomingCall) -> None:
+    """A call that nobody takes."""
+    call.reject(480, "Temporarily Unavailable")
 
 
 def takes_challenge(
@@ -628,7 +646,8 @@ class UserAgent:
         self._handlers: Dict[Id, _Handler] = {}
         # INVITEs that were answered, while other branches of a fork may answer too.
         self._answered: Dict[Id, _Handler] = {}
-        self._incoming: Stream[IncomingCall] = Stream()
+        self._incoming: Stream[IncomingCall] = Stream(refuse_call)
+        self._responses: "Set[asyncio.Future[FinalResponse]]" = set()
         self._is_closing = False
         self._is_idle = asyncio.Event()
 
@@ -688,7 +707,7 @@ class UserAgent:
         self._incoming.end()
         for call in list(self.calls):
             if isinstance(call, IncomingCall):
-                call.respond(480, "Temporarily Unavailable")
+                refuse_call(call)
             call.hang_up()
         await asyncio.sleep(0)  # the round that sends this
         try:
@@ -696,6 +715,11 @@ class UserAgent:
         except asyncio.TimeoutError:
             pass
         self.endpoint.close()
+        for call in list(self.calls):
+            call.abandon()
+        for response in self._responses:
+            if not response.done():
+                response.set_result(FinalResponse(408, "Request Timeout"))
 
     async def _idle(self) -> None:
         """Waits until no request waits for its end."""
@@ -790,7 +814,11 @@ class UserAgent:
                 response.set_result(self.outcome(notice))
 
         self.handle(asked, told)
-        return await response
+        self._responses.add(response)
+        try:
+            return await response
+        finally:
+            self._responses.discard(response)
 
     # -- notices
 
@@ -829,13 +857,14 @@ class UserAgent:
     def _called(self, notice: RequestNotice, invite: Message) -> None:
         """A call of a peer."""
         call = IncomingCall(self, notice, invite)
-        if len(self.calls) >= self._most_calls:
+        if self._is_closing:
+            refuse_call(call)
+        elif len(self.calls) >= self._most_calls:
             headers = [("Retry-After", str(RETRY_AFTER_S))]
             call.reject(503, "Service Unavailable", headers=headers)
-        elif self._is_closing or not self._incoming.put(call):
-            call.reject(480, "Temporarily Unavailable")
         else:
             self.calls.add(call)
+            self._incoming.put(call)
 
 
 async def open_user_agent(

@@ -79,7 +79,7 @@ class Registration:
         # A REGISTER is sent once the one before it has its final response (section 10.2).
         self._lock = asyncio.Lock()
         self._keeper: "Optional[asyncio.Task[None]]" = None
-        self._responses: Stream[FinalResponse] = Stream()
+        self._responses: Stream[FinalResponse] = Stream(lambda _: None)
 
     @property
     def is_registered(self) -> bool:

@@ -37,7 +37,7 @@ class Endpoint(asyncio.DatagramProtocol):
         self._next: Optional[asyncio.Handle] = None
         self._transport: Optional[asyncio.DatagramTransport] = None
         self._has_failed = False
-        self._is_closed = False
+        self.is_closed = False
 
     def ask(self, command: Command) -> Id:
         """Gives a command. Notices about it have the id that this returns."""
@@ -47,9 +47,9 @@ class Endpoint(asyncio.DatagramProtocol):
 
     def close(self) -> None:
         """Frees the agent and closes the socket. A second close does nothing."""
-        if self._is_closed:
+        if self.is_closed:
             return
-        self._is_closed = True
+        self.is_closed = True
         if self._next is not None:
             self._next.cancel()
         self.agent.close()
@@ -60,7 +60,7 @@ class Endpoint(asyncio.DatagramProtocol):
         self._transport = cast(asyncio.DatagramTransport, transport)
 
     def datagram_received(self, data: bytes, addr: Address) -> None:
-        if self._is_closed:
+        if self.is_closed:
             return
         try:
             self.agent.datagram(addr, data)
@@ -86,9 +86,9 @@ class Endpoint(asyncio.DatagramProtocol):
             if isinstance(output, Send) and not self._sends(output.datagram, output.to):
                 self._fail(output)
         for output in outputs:
-            if isinstance(output, (Notice, Drop)) and not self._is_closed:
+            if isinstance(output, (Notice, Drop)) and not self.is_closed:
                 self._tell(output)
-        if self._next is None and not self._is_closed:
+        if self._next is None and not self.is_closed:
             self._wait()
 
     def _tell(self, output: Union[Notice, Drop]) -> None:

@@ -29,6 +29,8 @@ LIBRARY = os.environ["SIP_UA_LIBRARY"]
 ANY_PORT = ("127.0.0.1", 0)
 OFFER, ANSWER = b"v=0\r\ns=offer\r\n", b"v=0\r\ns=answer\r\n"
 PATIENCE_S = 10.0
+# The bound of a round.
+MOST_EVENTS = 65536
 T = TypeVar("T")
 
 
@@ -116,10 +118,13 @@ class CallsTest(unittest.IsolatedAsyncioTestCase):
         outgoing, incoming = await self.ringing()
         told = asyncio.gather(events_of(outgoing), events_of(incoming))
         incoming.answer(ANSWER)
-        incoming.hang_up()
+        incoming.hang_up(headers=[("Reason", "Q.850;cause=16")])
         ours, theirs = await soon(told)
         self.assertEqual([type(event) for event in ours][-2:], [Answered, Ended])
         self.assertEqual([type(event) for event in theirs], [Answered, Ended])
+        end = await outgoing.ended()
+        assert end.message is not None
+        self.assertEqual(end.message.value("Reason"), "Q.850;cause=16")
 
     async def test_it_is_cancelled(self) -> None:
         outgoing, incoming = await self.ringing()
@@ -159,6 +164,20 @@ class CallsTest(unittest.IsolatedAsyncioTestCase):
         with self.assertRaises(CallFailed) as failed:
             await soon(outgoing.answered())
         self.assertEqual(failed.exception.response.status, 480)
+
+    async def test_calls_that_wait_when_the_iterator_ends(self) -> None:
+        """The second call came, but nobody takes it any more."""
+        calls = self.two.incoming()
+        coming = asyncio.ensure_future(calls.__anext__())
+        await asyncio.sleep(0)
+        first, second = [await self.one.call(self.two.uri, OFFER) for _ in range(2)]
+        incoming = await soon(coming)
+        await soon(until(lambda: len(self.two.calls) == 2))
+        await calls.aclose()  # type: ignore[attr-defined]
+        with self.assertRaises(CallFailed) as failed:
+            await soon((first if incoming.call_id == second.call_id else second).answered())
+        self.assertEqual(failed.exception.response.status, 480)
+        incoming.reject()
 
     async def test_too_many_calls(self) -> None:
         busy = await open_user_agent(LIBRARY, ANY_PORT, most_calls=0)
@@ -278,6 +297,29 @@ class CallsTest(unittest.IsolatedAsyncioTestCase):
         with self.assertRaises(CallFailed) as failed:
             await soon(unanswered.answered())
         self.assertEqual(failed.exception.response.status, 480)
+
+
+    async def test_close_does_not_wait_for_ever(self) -> None:
+        """A phone that rings on in spite of the CANCEL; nobody answers the OPTIONS."""
+        silent = await open_peer(Peer(lambda _: []))
+        self.addCleanup(silent.close)
+        uri = f"sip:b@127.0.0.1:{silent.port}"
+        async with await open_user_agent(LIBRARY, ANY_PORT) as agent:
+            call = await agent.call(uri, OFFER)
+            asked = asyncio.ensure_future(agent.request("OPTIONS", uri))
+            await asyncio.sleep(0)
+            await soon(agent.close(0.1))
+        with self.assertRaises(CallFailed):
+            await soon(call.answered())
+        self.assertEqual((await soon(asked)).status, 408)
+
+    async def test_more_datagrams_than_a_round_takes(self) -> None:
+        """Those above the bound are lost, and the agent goes on."""
+        endpoint = self.two.endpoint
+        for _ in range(MOST_EVENTS + 3):
+            endpoint.datagram_received(b"x", ("127.0.0.1", 9))
+        self.assertEqual(endpoint.lost, 3)
+        self.assertEqual((await soon(self.one.request("OPTIONS", self.two.uri))).status, 200)
 
 
 class ScriptedTest(unittest.IsolatedAsyncioTestCase):

@@ -22,6 +22,7 @@
 #include <time.h>
 #include <unistd.h>
 
+/* How many datagrams go into one round; others wait in the socket. */
 #define MOST_AT_ONCE 512
 
 /* The answer to an offer of audio, and the offer if an INVITE has none. Media isn't shown here: a
@@ -51,7 +52,8 @@ static void must(uint32_t status, const char *call)
     }
 }
 
-/* Hands over the datagrams that came. */
+/* Hands over the datagrams that came. One that a round has no room for is lost, as any datagram may
+ * be. */
 static void receive(void)
 {
     for (int count = 0; count < MOST_AT_ONCE; count++) {
@@ -63,7 +65,10 @@ static void receive(void)
             return;
         sip_ua_address source = { .port = ntohs(from.sin_port) };
         memcpy(source.ip, &from.sin_addr, 4);
-        must(sip_ua_datagram(&agent, &source, datagram, (size_t)len), "sip_ua_datagram");
+        uint32_t status = sip_ua_datagram(&agent, &source, datagram, (size_t)len);
+        if (status == SIP_UA_TOO_MANY_EVENTS)
+            return;
+        must(status, "sip_ua_datagram");
     }
 }
 
