@@ -7,6 +7,7 @@ import os
 import unittest
 from typing import Any, Awaitable, Callable, List, Tuple, TypeVar
 
+from b2bua import B2bua
 from click_to_call import connect
 from scripted import Peer, Registrar, header, is_answer_right, open_peer, response
 from sip_ua import Message
@@ -28,7 +29,7 @@ from sip_ua_registration import RegistrationFailed, granted_s, register
 LIBRARY = os.environ["SIP_UA_LIBRARY"]
 ANY_PORT = ("127.0.0.1", 0)
 OFFER, ANSWER = b"v=0\r\ns=offer\r\n", b"v=0\r\ns=answer\r\n"
-PATIENCE_S = 10.0
+PATIENCE_S = 30.0
 # The bound of a round.
 MOST_EVENTS = 65536
 T = TypeVar("T")
@@ -320,6 +321,88 @@ class CallsTest(unittest.IsolatedAsyncioTestCase):
             endpoint.datagram_received(b"x", ("127.0.0.1", 9))
         self.assertEqual(endpoint.lost, 3)
         self.assertEqual((await soon(self.one.request("OPTIONS", self.two.uri))).status, 200)
+
+
+class BridgeTest(unittest.IsolatedAsyncioTestCase):
+    """Calls through examples/b2bua.py."""
+
+    async def asyncSetUp(self) -> None:
+        self.one = await open_user_agent(LIBRARY, ANY_PORT, "sip:one@127.0.0.1")
+        self.two = await open_user_agent(LIBRARY, ANY_PORT)
+        self.bridge = await open_user_agent(LIBRARY, ANY_PORT)
+        self.running = asyncio.ensure_future(
+            B2bua(self.bridge, self.two.endpoint.local).run()
+        )
+        await asyncio.sleep(0)
+
+    async def asyncTearDown(self) -> None:
+        for agent in (self.one, self.bridge, self.two):
+            await agent.close()
+        await soon(self.running)
+
+    async def ringing(self, offer: bytes = OFFER) -> Tuple[OutgoingCall, IncomingCall]:
+        coming = asyncio.ensure_future(next_call(self.two))
+        await asyncio.sleep(0)
+        outgoing = await self.one.call(f"{self.bridge.uri}", offer, [("X-A", "b")])
+        incoming = await soon(coming)
+        self.assertEqual(incoming.invite.value("X-A"), "b")
+        self.assertIn("<sip:one@127.0.0.1>", incoming.invite.value("From"))
+        return outgoing, incoming
+
+    async def test_both_ways(self) -> None:
+        """Requests within a call go through, and so do their responses; at last a BYE."""
+        outgoing, incoming = await self.ringing()
+        incoming.answer(ANSWER)
+        await soon(asyncio.gather(outgoing.answered(), incoming.answered()))
+        sides: List[Tuple[Call, Call]] = [(outgoing, incoming), (incoming, outgoing)]
+        for asking, asked in sides:
+            serving = asyncio.ensure_future(self.serve(asked))
+            await asyncio.sleep(0)
+            answer = await soon(asking.request("INFO", b"tone", [("Content-Type", "text/x")]))
+            assert answer.message is not None
+            self.assertEqual((answer.status, answer.message.body), (299, b"tone"))
+            # A re-INVITE without an offer: the ACK has the answer.
+            offer = await soon(asking.request("INVITE"))
+            assert offer.message is not None
+            self.assertEqual((offer.status, offer.message.body), (299, OFFER))
+            asking.acknowledge(ANSWER)
+            self.assertEqual(await soon(serving), ANSWER)
+        incoming.hang_up(headers=[("Reason", "Q.850;cause=16")])
+        end = await soon(outgoing.ended())
+        assert end.message is not None
+        self.assertEqual(end.message.value("Reason"), "Q.850;cause=16")
+
+    async def serve(self, call: Call) -> bytes:
+        """Responds to the requests in a call; returns the body of the ACK of a re-INVITE."""
+        async for event in call:
+            if isinstance(event, IncomingRequest):
+                event.respond(299, "Fine", event.message.body or OFFER)
+            if isinstance(event, IncomingRequest) and event.method == "INVITE":
+                ack = await event.acknowledged()
+                return ack.body if ack is not None else b""
+        return b""
+
+    async def test_the_answer_in_the_ack(self) -> None:
+        outgoing, incoming = await self.ringing(b"")
+        incoming.answer(OFFER)
+        self.assertEqual((await soon(outgoing.answered())).body, OFFER)
+        outgoing.acknowledge(ANSWER)
+        self.assertEqual((await soon(incoming.answered())).body, ANSWER)
+
+    async def test_it_is_cancelled(self) -> None:
+        outgoing, incoming = await self.ringing()
+        outgoing.hang_up()
+        await soon(asyncio.gather(outgoing.ended(), incoming.ended()))
+
+    async def test_it_is_moved(self) -> None:
+        outgoing, incoming = await self.ringing()
+        incoming.reject(302, "Moved Temporarily", headers=[("Contact", "<sip:c@192.0.2.7>")])
+        with self.assertRaises(CallFailed) as failed:
+            await soon(outgoing.answered())
+        response = failed.exception.response
+        assert response.message is not None
+        self.assertEqual(response.status, 302)
+        self.assertEqual(response.message.value("Contact"), "<sip:c@192.0.2.7>")
 
 
 class ScriptedTest(unittest.IsolatedAsyncioTestCase):
