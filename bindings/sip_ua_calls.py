@@ -123,6 +123,7 @@ class Progress:
     """A provisional response above 100 to your INVITE came."""
 
     status: int
+    reason: str
     message: Message
 
 
@@ -201,8 +202,9 @@ Event = Union[Progress, Answered, IncomingRequest, Ended]
 
 
 class Stream(Generic[_Item]):
-    """What one iterator reads. `refuse` is called with each item that it doesn't: while nobody
-    iterates, when MOST_UNREAD items wait, and with those that wait when it ends."""
+    """What one iterator reads, the last one that began. `refuse` is called with each item that it
+    doesn't read: while nobody iterates, when MOST_UNREAD items wait, and with those that wait when
+    it ends."""
 
     def __init__(self, refuse: Callable[[_Item], None]) -> None:
         self._refuse = refuse
@@ -226,6 +228,8 @@ class Stream(Generic[_Item]):
     async def read(self) -> AsyncIterator[_Item]:
         if self._is_ended:
             return
+        if self._queue is not None:
+            self._queue.put_nowait(None)
         queue: "asyncio.Queue[Optional[_Item]]" = asyncio.Queue()
         self._queue = queue
         try:
@@ -385,15 +389,18 @@ class Call:
         self._finish(Ended(None if self.is_up else FinalResponse(408, "Request Timeout")))
 
     def requested(self, notice: RequestNotice, message: Message) -> None:
-        """A request of the peer in this call."""
+        """A request of the peer in a dialog of this call."""
         request = IncomingRequest(self._agent, notice, message)
+        is_of_branch = self._tags not in (None, (notice.local_tag, notice.remote_tag))
         if notice.method == "BYE":
-            self._bye = message
             request.respond()
-            return
-        if notice.method == "INVITE":
-            self._reinvite = request
-        self._events.put(request)
+        if is_of_branch:
+            request.refuse()
+        elif notice.method == "BYE":
+            self._bye = message
+        else:
+            self._reinvite = request if notice.method == "INVITE" else self._reinvite
+            self._events.put(request)
 
     def dialog_ended(self, tags: Tuple[str, str]) -> None:
         """A dialog of this call has ended."""
@@ -434,8 +441,13 @@ class OutgoingCall(Call):
     def _give_up(self) -> None:
         """Cancels the INVITE. Its response is waited for, but not for ever."""
         self._agent.ask(Cancel(self.call_id, self._id))
-        end = Ended(FinalResponse(408, "Request Timeout"))
-        asyncio.get_running_loop().call_later(TRANSACTION_S, self._fail, end)
+        asyncio.get_running_loop().call_later(TRANSACTION_S, self._miss_response)
+
+    def _miss_response(self) -> None:
+        """The cancelled INVITE got no response. A 2xx that still comes is ended by a BYE."""
+        if not self._end.done():
+            self._agent.forget_later(self._id)
+            self._finish(Ended(FinalResponse(408, "Request Timeout")))
 
     def _fail(self, end: Ended) -> None:
         if self._answer is None:
@@ -456,8 +468,9 @@ class OutgoingCall(Call):
             return
         if notice.status < 300:
             self._agent.hold(self, tags)
+        reason = message.start.reason or ""
         if notice.status < 200:
-            self._events.put(Progress(notice.status, message))
+            self._events.put(Progress(notice.status, reason, message))
         elif notice.status < 300:
             self._take_answer(tags, message)
         elif not self._is_left and self._takes_challenge(notice.status, message):
@@ -465,7 +478,7 @@ class OutgoingCall(Call):
             self.call_id = token_hex(8)
             self._id = self._send()
         else:
-            self._fail(Ended(FinalResponse(notice.status, message.start.reason or "", message)))
+            self._fail(Ended(FinalResponse(notice.status, reason, message)))
 
     def _take_answer(self, tags: Tuple[str, str], message: Message) -> None:
         """Takes a 2xx. One of another branch of a fork, or after a CANCEL, is ended at once."""
@@ -703,6 +716,8 @@ class UserAgent:
     async def close(self, patience_s: float = CLOSE_S) -> None:
         """Ends all calls: 480 to those that nobody answered, else CANCEL or BYE. Waits for their
         ends, at most so many seconds, and closes the endpoint."""
+        if self.endpoint.is_closed:
+            return
         self._is_closing = True
         self._incoming.end()
         for call in list(self.calls):

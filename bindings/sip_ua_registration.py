@@ -13,7 +13,7 @@ import random
 import re
 from typing import AsyncIterator, Iterator, List, Optional
 
-from sip_ua import Address, Headers, Message
+from sip_ua import Address, Error, Headers, Message
 from sip_ua_calls import CLOSE_S, FinalResponse, Stream, UserAgent, uri_of
 from sip_ua_digest import Authenticator
 
@@ -25,6 +25,7 @@ EXPIRES_S = 3600
 # time (3GPP TS 24.229, section 5.1.1.4.1).
 LONG_S = 1200
 EARLY_S = 600
+SHORTEST_PAUSE_S = 1.0
 # After a failure, the first of several: so long until the next REGISTER, twice as long after each
 # further one (RFC 5626, section 4.5).
 RETRY_S = 30
@@ -36,7 +37,7 @@ INTERVAL_TOO_BRIEF = 423
 _QUOTED = r'"(?:[^"\\]|\\.)*"'
 # A Contact of a list; its parts that have no parameter, or its parameter.
 _CONTACT = re.compile(rf'(?:{_QUOTED}|<[^>]*>|[^,"<])+')
-_EXPIRES = re.compile(rf'{_QUOTED}|<[^>]*>|;\s*expires\s*=\s*"?(\d+)', re.IGNORECASE)
+_EXPIRES = re.compile(rf'{_QUOTED}|<[^>]*>|;\s*expires\s*=\s*"?(\d{{1,10}})', re.IGNORECASE)
 
 
 class RegistrationFailed(Exception):
@@ -119,7 +120,7 @@ class Registration:
         return response
 
     async def _keep(self) -> None:
-        while True:
+        while not self._agent.endpoint.is_closed:
             await asyncio.sleep(self._pause_s())
             async with self._lock:
                 await self._register()
@@ -128,7 +129,8 @@ class Registration:
         """How long until the next REGISTER, in s."""
         if self._failures == 0:
             granted = self.expires_s
-            return granted - EARLY_S if granted > LONG_S else granted / 2
+            pause = granted - EARLY_S if granted > LONG_S else granted / 2
+            return max(pause, SHORTEST_PAUSE_S)
         longest = min(MOST_RETRY_S, RETRY_S * 2 ** (self._failures - 1))
         message = self.response.message
         wanted = number_of(message.value("Retry-After")) if message is not None else 0
@@ -148,15 +150,19 @@ class Registration:
         return response
 
     async def _ask(self, headers: Headers) -> FinalResponse:
-        return await self._agent.request(
-            "REGISTER",
-            self._registrar,
-            headers=headers,
-            address=self._address,
-            from_uri=self.uri,
-            to_uri=self.uri,
-            authenticator=self._authenticator,
-        )
+        """The final response to a REGISTER: 503 if it can't be sent, as without DNS."""
+        try:
+            return await self._agent.request(
+                "REGISTER",
+                self._registrar,
+                headers=headers,
+                address=self._address,
+                from_uri=self.uri,
+                to_uri=self.uri,
+                authenticator=self._authenticator,
+            )
+        except (OSError, Error) as error:
+            return FinalResponse(503, str(error))
 
     def _take(self, response: FinalResponse, asked_s: int) -> None:
         self.response = response
@@ -191,7 +197,7 @@ async def register(
 
 def number_of(text: str) -> int:
     """The number that a header value begins with, 0 without one."""
-    found = re.match(r"\d+", text)
+    found = re.match(r"\d{1,10}", text)
     return int(found[0]) if found else 0
 
 

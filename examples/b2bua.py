@@ -44,10 +44,6 @@ def passed(message: Optional[Message], status: int = 0) -> List[Tuple[str, str]]
     return [(name, value) for name, value in message.headers if name.lower() not in left_out]
 
 
-def reason_of(message: Message) -> str:
-    return message.start.reason or ""
-
-
 class B2bua:
     def __init__(self, agent: UserAgent, next_hop: Address):
         self.agent, self.next_hop = agent, next_hop
@@ -96,8 +92,8 @@ class B2bua:
         elif isinstance(event, Ended):
             self.end(event, other)
         elif isinstance(event, Progress) and isinstance(other, IncomingCall):
-            message = event.message
-            other.respond(event.status, reason_of(message), message.body, passed(message))
+            headers = passed(event.message)
+            other.respond(event.status, event.reason, event.message.body, headers)
         elif isinstance(event, Answered) and isinstance(other, IncomingCall):
             other.answer(event.message.body, passed(event.message))
         elif isinstance(event, Answered) and isinstance(other, OutgoingCall):

@@ -123,7 +123,7 @@ class Phone:
 
     def tell(self, event: Event) -> None:
         if isinstance(event, Progress):
-            say(event.status, event.message.start.reason)
+            say(event.status, event.reason)
         elif isinstance(event, Answered):
             say("up")
         elif isinstance(event, IncomingRequest):

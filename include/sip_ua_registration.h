@@ -48,7 +48,7 @@ enum {
 #define SIP_UA_MOST_TRIES 4
 /* The room for a challenge, and for other values of headers. */
 #define SIP_UA_VALUE_ROOM 2048
-/* What unregisters all bindings of the user, as `contact` (RFC 3261, section 10.2.2). */
+/* The Contact that stands for all bindings of the user (section 10.2.2). */
 #define SIP_UA_ALL_CONTACTS "*"
 
 /* The challenge of one status, 401 or 407, for the requests after it. */
@@ -296,10 +296,10 @@ static inline void sip_ua_raw_take_success(sip_ua_registration *registration, si
     uint32_t granted = sip_ua_raw_granted(registration, agent, place);
     registration->state = SIP_UA_REGISTERED;
     registration->granted = granted;
-    sip_ua_raw_set_due(registration, moment,
-                       granted > SIP_UA_LONG_REGISTRATION
-                           ? 1000 * (uint64_t)(granted - SIP_UA_EARLY_REFRESH)
-                           : 500 * (uint64_t)granted);
+    uint64_t pause = granted > SIP_UA_LONG_REGISTRATION
+        ? 1000 * (uint64_t)(granted - SIP_UA_EARLY_REFRESH)
+        : 500 * (uint64_t)granted;
+    sip_ua_raw_set_due(registration, moment, pause < 1000 ? 1000 : pause);
 }
 
 /* The REGISTER failed. The next one waits between half of the pause and all of it. */
