@@ -1,5 +1,5 @@
-/* Digest of sip_ua_digest.h against the examples of RFC 2617, section 3.5, and RFC 7616, section 3.9,
- * and what sip_ua_registration.h reads of Contacts. Prints `digest: passed`. */
+/* Digest of sip_ua_digest.h against the examples of RFC 2617, section 3.5, and RFC 7616, section
+ * 3.9, and what sip_ua_registration.h reads of Contacts. Prints `digest: passed`. */
 #include "sip_ua_registration.h"
 
 #include <stdlib.h>
@@ -59,7 +59,8 @@ static void answer_examples(void)
                  "response=\"9b231b1ff6b36490558415417cc5981a\"", buffer),
          "MD5-sess");
     must(strstr(buffer, "nc=00001a2b") != NULL, "the count");
-    must(answers("Digest realm=\"r\", nonce=\"n\"", "p", "", 1, "response=\"9751d92a32ff61a7c3716b4554ed66dd\"", buffer),
+    must(answers("Digest realm=\"r\", nonce=\"n\"", "p", "", 1,
+                 "response=\"9751d92a32ff61a7c3716b4554ed66dd\"", buffer),
          "without qop");
     must(strstr(buffer, "cnonce") == NULL, "a cnonce without qop");
 }

@@ -656,7 +656,7 @@ def _long_name(name: str) -> str:
 
 
 def _header_lines(data: bytes) -> Tuple[Tuple[str, str], ...]:
-    """The header lines of a message, unfolded."""
+    """The header lines of a message."""
     lines: List[List[str]] = []
     head = _HEAD_END.split(data.lstrip(_LINE_END_BYTES), 1)[0]
     for line in _LINE_END.split(_decoded(head)):
@@ -664,9 +664,14 @@ def _header_lines(data: bytes) -> Tuple[Tuple[str, str], ...]:
             lines[-1].append(line)
         else:
             lines.append([line])
-    unfolded = (" ".join(filter(None, (part.strip(_BLANKS) for part in line))) for line in lines[1:])
-    parts = (line.partition(":") for line in unfolded)
-    return tuple((name.strip(_BLANKS), value.strip(_BLANKS)) for name, _, value in parts)
+    return tuple(map(_header, lines[1:]))
+
+
+def _header(line: List[str]) -> Tuple[str, str]:
+    """The name and the value of a header line, which has several parts if it is folded."""
+    unfolded = " ".join(filter(None, (part.strip(_BLANKS) for part in line)))
+    name, _, value = unfolded.partition(":")
+    return name.strip(_BLANKS), value.strip(_BLANKS)
 
 
 def _id(event: Id) -> Tuple[int, int]:

@@ -304,9 +304,7 @@ class Call:
         async for event in self._events.read():
             yield event
 
-    async def request(
-        self, method: str, body: bytes = b"", headers: Headers = ()
-    ) -> FinalResponse:
+    async def request(self, method: str, body: bytes = b"", headers: Headers = ()) -> FinalResponse:
         """Sends a request in the call, such as INFO or a re-INVITE, and returns its final response.
         481 and 408 end the call (RFC 3261, section 12.2.1.2)."""
         if self._tags is None or not self.is_up:

@@ -21,8 +21,8 @@ __all__ = ["Registration", "RegistrationFailed", "register"]
 
 # What is asked for, in s.
 EXPIRES_S = 3600
-# A binding for longer than LONG_S is refreshed EARLY_S before its end, another one after half of its
-# time (3GPP TS 24.229, section 5.1.1.4.1).
+# A binding for longer than LONG_S is refreshed EARLY_S before its end, another one after half of
+# its time (3GPP TS 24.229, section 5.1.1.4.1).
 LONG_S = 1200
 EARLY_S = 600
 SHORTEST_PAUSE_S = 1.0
@@ -102,7 +102,8 @@ class Registration:
             pass
 
     async def start(self) -> None:
-        """Registers, and keeps the binding. Raises RegistrationFailed if the first REGISTER fails."""
+        """Registers, and keeps the binding from then on. Raises RegistrationFailed if this first
+        REGISTER fails."""
         if not (await self._register()).is_success:
             raise RegistrationFailed(self.response)
         self._keeper = asyncio.ensure_future(self._keep())

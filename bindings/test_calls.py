@@ -65,7 +65,9 @@ class CallsTest(unittest.IsolatedAsyncioTestCase):
         await self.one.close()
         await self.two.close()
 
-    async def ringing(self, offer: bytes = OFFER, **words: Any) -> Tuple[OutgoingCall, IncomingCall]:
+    async def ringing(
+        self, offer: bytes = OFFER, **words: Any
+    ) -> Tuple[OutgoingCall, IncomingCall]:
         """A call that rings."""
         coming = asyncio.ensure_future(next_call(self.two))
         await asyncio.sleep(0)
@@ -299,7 +301,6 @@ class CallsTest(unittest.IsolatedAsyncioTestCase):
             await soon(unanswered.answered())
         self.assertEqual(failed.exception.response.status, 480)
 
-
     async def test_close_does_not_wait_for_ever(self) -> None:
         """A phone that rings on in spite of the CANCEL; nobody answers the OPTIONS."""
         silent = await open_peer(Peer(lambda _: []))
@@ -330,9 +331,7 @@ class BridgeTest(unittest.IsolatedAsyncioTestCase):
         self.one = await open_user_agent(LIBRARY, ANY_PORT, "sip:one@127.0.0.1")
         self.two = await open_user_agent(LIBRARY, ANY_PORT)
         self.bridge = await open_user_agent(LIBRARY, ANY_PORT)
-        self.running = asyncio.ensure_future(
-            B2bua(self.bridge, self.two.endpoint.local).run()
-        )
+        self.running = asyncio.ensure_future(B2bua(self.bridge, self.two.endpoint.local).run())
         await asyncio.sleep(0)
 
     async def asyncTearDown(self) -> None:
@@ -468,7 +467,8 @@ class ScriptedTest(unittest.IsolatedAsyncioTestCase):
                 return []
             if not is_answer_right(message, "alice", "secret", "md5"):
                 challenge = 'Proxy-Authenticate: Digest realm="example.test", nonce="n1", qop=auth'
-                return [response(message, "407 Proxy Authentication Required", "p", f"{challenge}\r\n")]
+                status = "407 Proxy Authentication Required"
+                return [response(message, status, "p", f"{challenge}\r\n")]
             return [response(message, "200 OK", "t", peer.contact())]
 
         peer, uri = await self.peer(answer)
@@ -520,7 +520,7 @@ class RegistrationTest(unittest.IsolatedAsyncioTestCase):
                 self.assertEqual((kept.is_registered, kept.expires_s), (True, 2))
                 self.assertEqual(registrar.contacts, [f"<{kept.contact}>"])
                 self.assertEqual(len(registrar.requests), 3)
-                self.assertEqual(header(registrar.requests[0], "From").partition(";")[0], f"<{uri}>")
+                self.assertIn(f"<{uri}>", header(registrar.requests[0], "From"))
                 async for again in kept:
                     self.assertEqual(again.status, 200)
                     break

@@ -1,5 +1,5 @@
-"""Connects two phones: calls the first one, and once it answers, the second one, with what the first
-offers. When one hangs up, so does the other (RFC 3725, section 4.1).
+"""Connects two phones: calls the first one, and once it answers, the second one, with what the
+first offers. When one hangs up, so does the other (RFC 3725, section 4.1).
 
     PYTHONPATH=bindings python3 examples/click_to_call.py LIBRARY LOCAL FIRST SECOND
 

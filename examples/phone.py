@@ -181,7 +181,9 @@ async def keep_registered(registration: Registration) -> None:
         say("not registered:", failed)
 
 
-async def main(library: str, local: str, user: str, registrar: str = "", password: str = "") -> None:
+async def main(
+    library: str, local: str, user: str, registrar: str = "", password: str = ""
+) -> None:
     at = await address_of(f"sip:{registrar}") if registrar else None
     name = user.partition("@")[0]
     own = await address_of(f"sip:{local}")

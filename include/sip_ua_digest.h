@@ -1,6 +1,7 @@
-/* Digest for programs over sip_ua.h: the credentials that answer a challenge, by which a user proves
- * a password (RFC 3261, section 22; RFC 7616; RFC 8760). It is optional, and no part of the library.
- * The hashes, MD5 and SHA-256, are those of OpenSSL's libcrypto, 1.1 or later: link with -lcrypto.
+/* Digest for programs over sip_ua.h: the credentials that answer a challenge, by which a user
+ * proves a password (RFC 3261, section 22; RFC 7616; RFC 8760). It is optional, and no part of the
+ * library. The hashes, MD5 and SHA-256, are those of OpenSSL's libcrypto, 1.1 or later: link with
+ * -lcrypto.
  *
  *     sip_ua_challenge challenge;
  *     if (sip_ua_challenge_at(&agent, output.place, output.status, &challenge, value, sizeof value)
@@ -47,8 +48,9 @@ typedef struct sip_ua_challenge {
     bool is_session; /* an algorithm that ends in -sess */
 } sip_ua_challenge;
 
-/* Who proves what for which request. `count` says how many requests have used the challenge's nonce,
- * with this one. `cnonce` has the form of a token; all requests with one nonce have the same. */
+/* Who proves what for which request. `count` says how many requests have used the challenge's
+ * nonce, with this one. `cnonce` has the form of a token; all requests with one nonce have the
+ * same. */
 typedef struct sip_ua_proof {
     sip_ua_bytes username;
     sip_ua_bytes password;

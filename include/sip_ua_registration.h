@@ -1,7 +1,7 @@
 /* A registration for programs over sip_ua.h (RFC 3261, section 10): registers a Contact, answers
  * challenges by sip_ua_digest.h, asks for longer after a 423, refreshes the binding by what the
- * registrar granted, tries again after a failure, and unregisters. It is optional, and no part of the
- * library. Link with -lcrypto. For C99 and C++.
+ * registrar granted, tries again after a failure, and unregisters. It is optional, and no part of
+ * the library. Link with -lcrypto. For C99 and C++.
  *
  *     sip_ua_registration registration;
  *     memset(&registration, 0, sizeof registration);
@@ -16,8 +16,8 @@
  *     wait no longer than until
  *         sip_ua_registration_due(&registration)
  *
- * Commands are events of the next round, so run one after each of these calls that returned SIP_UA_OK
- * and left events (sip_ua_stats counts them). */
+ * Each of these calls may give a command, which is an event of the next round. So run one at once
+ * if an event waits (sip_ua_stats). */
 #ifndef SIP_UA_REGISTRATION_H
 #define SIP_UA_REGISTRATION_H
 
@@ -72,8 +72,8 @@ typedef struct sip_ua_registration {
     uint32_t expires; /* what to ask for, in s */
     /* What it tells. */
     uint32_t state;   /* SIP_UA_REGISTERED .. */
-    uint32_t status;  /* of the last final response; 408 after a timeout, 503 if a send failed, 481 if
-                         the agent refused the request */
+    uint32_t status;  /* of the last final response; 408 after a timeout, 503 if a send failed, 481
+                         if the agent refused the request */
     uint32_t granted; /* in s */
     /* Private. */
     sip_ua_kept_challenge challenges[2];
@@ -178,8 +178,8 @@ static inline bool sip_ua_raw_number_at(sip_ua *agent, uint32_t place, const cha
     return sip_ua_raw_number(read, number);
 }
 
-/* Reads one address of a list, with the comma after it: up to a comma outside of quotes and of angle
- * brackets. `parameters` is what follows the URI. */
+/* Reads one address of a list, with the comma after it: up to a comma outside of quotes and of
+ * angle brackets. `parameters` is what follows the URI. */
 static inline bool sip_ua_raw_read_address(sip_ua_raw_text *text, sip_ua_bytes *uri,
                                            sip_ua_bytes *parameters)
 {

@@ -2,8 +2,8 @@
  *
  *     register IP PORT REGISTRAR-IP REGISTRAR-PORT NAME DOMAIN PASSWORD EXPIRES SECONDS
  *
- * asks for EXPIRES s, and unregisters after SECONDS. It prints each change. Its status is 0 if it was
- * registered and has unregistered.
+ * asks for EXPIRES s, and unregisters after SECONDS. It prints each change. Its status is 0 if it
+ * was registered and has unregistered.
  *
  * The registration is that of sip_ua_registration.h, with Digest over OpenSSL:
  *
