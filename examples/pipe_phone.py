@@ -124,7 +124,7 @@ class Phone:
             value = challenge.credentials(self.name, self.password, request.method, request.uri)
             self.ask(replace(request, headers=(*request.headers, (answer, value))))
         elif status == "302":
-            uri = headers["contact"].partition("<")[2].partition(">")[0]
+            uri = "sip:" + re.split("[>;?]", headers["contact"].partition("sip:")[2])[0]
             self.ask(replace(request, uri=uri, address=uri.rpartition("@")[2]))
         elif request.method == "REGISTER" and status == "200" and self.callee:
             print("calling", self.callee)
