@@ -9,7 +9,6 @@ from typing import Callable, Dict, List, Optional, Tuple, cast
 Address = Tuple[str, int]
 
 REALM = "example.test"
-NONCE = "n1"
 
 
 def header(message: str, name: str) -> str:
@@ -71,47 +70,61 @@ async def open_peer(peer: Peer) -> Peer:
     return peer
 
 
+def credentials_of(request: str) -> Dict[str, str]:
+    """The parameters of the credentials of a request."""
+    name = "Proxy-Authorization" if "Proxy-Authorization" in request else "Authorization"
+    found = re.findall(r'(\w+)=(?:"([^"]*)"|([^\s,]+))', header(request, name))
+    return {key: quoted or token for key, quoted, token in found}
+
+
 def is_answer_right(request: str, username: str, password: str, hash_name: str) -> bool:
     """Whether the credentials of a request prove the password, by RFC 7616, section 3.4."""
 
     def digest(text: str) -> str:
         return hashlib.new(hash_name, text.encode()).hexdigest()
 
-    name = "Proxy-Authorization" if "Proxy-Authorization" in request else "Authorization"
-    found = re.findall(r'(\w+)=(?:"([^"]*)"|([^\s,]+))', header(request, name))
-    given: Dict[str, str] = {key: quoted or token for key, quoted, token in found}
-    if given.get("username") != username or given.get("nonce") != NONCE:
+    parameters = credentials_of(request)
+    if parameters.get("username") != username:
         return False
     secret = digest(f"{username}:{REALM}:{password}")
-    asked = digest(f"{request.split(' ')[0]}:{given['uri']}")
-    between = f"{given['nonce']}:{given['nc']}:{given['cnonce']}:auth"
-    return given["response"] == digest(f"{secret}:{between}:{asked}")
+    asked = digest(f"{request.split(' ')[0]}:{parameters['uri']}")
+    between = f"{parameters['nonce']}:{parameters['nc']}:{parameters['cnonce']}:auth"
+    return parameters["response"] == digest(f"{secret}:{between}:{asked}")
 
 
 class Registrar(Peer):
-    """A registrar of one user, alice with the password secret. It challenges, grants only bindings
-    of MIN_S and longer, and of those GRANTED_S. `contacts` are its bindings; `counts` are the nonce
-    counts that came."""
+    """A registrar of one user, alice with the password secret. It challenges by a status, 401 or
+    407, with nonces that are good for NONCE_USES requests. It grants only bindings of MIN_S and
+    longer, and of those GRANTED_S. `contacts` are its bindings; `uses` are the nonces and nonce
+    counts of the requests that proved the password."""
 
     MIN_S = 1800
     GRANTED_S = 2
+    NONCE_USES = 3
 
-    def __init__(self, algorithm: str = "SHA-256", username: str = "alice"):
-        super().__init__(self.registered)
-        self.algorithm, self.username = algorithm, username
+    def __init__(self, algorithm: str = "SHA-256", status: int = 401):
+        super().__init__(self.answer_register)
+        self.algorithm, self.status = algorithm, status
         self.contacts: List[str] = []
-        self.counts: List[str] = []
+        self.uses: List[Tuple[str, int]] = []
 
-    def registered(self, request: str) -> List[str]:
+    def answer_register(self, request: str) -> List[str]:
         hash_name = self.algorithm.replace("-", "").lower()
-        if not is_answer_right(request, self.username, "secret", hash_name):
-            challenge = f'Digest realm="{REALM}", nonce="{NONCE}", algorithm={self.algorithm}'
-            headers = f'WWW-Authenticate: {challenge}, qop="auth"\r\n'
-            return [response(request, "401 Unauthorized", "r", headers)]
-        self.counts.append(header(request, "Authorization").rpartition("nc=")[2])
-        return [self.bound(request, int(header(request, "Expires")))]
+        if not is_answer_right(request, "alice", "secret", hash_name):
+            return [self.challenge(request, "n1", "false")]
+        credentials = credentials_of(request)
+        self.uses.append((credentials["nonce"], int(credentials["nc"], 16)))
+        if self.uses[-1][1] > self.NONCE_USES:
+            return [self.challenge(request, "n2", "true")]
+        return [self.bind(request, int(header(request, "Expires")))]
 
-    def bound(self, request: str, expires_s: int) -> str:
+    def challenge(self, request: str, nonce: str, stale: str) -> str:
+        name = "WWW" if self.status == 401 else "Proxy"
+        value = f'Digest realm="{REALM}", nonce="{nonce}", algorithm={self.algorithm}'
+        headers = f'{name}-Authenticate: {value}, qop="auth", stale={stale}\r\n'
+        return response(request, f"{self.status} Password", "r", headers)
+
+    def bind(self, request: str, expires_s: int) -> str:
         """The response to a REGISTER that proved the password."""
         contact = header(request, "Contact")
         if contact == "*" or expires_s == 0:

@@ -412,7 +412,7 @@ class OutgoingCall(Call):
     def __init__(self, agent: "UserAgent", invite: Invite):
         super().__init__(agent, invite.call_id)
         self._invite = invite
-        self._challenged: List[int] = []
+        self._statuses: List[int] = []
         self._id = self._send()
 
     def _send(self) -> Id:
@@ -495,9 +495,9 @@ class OutgoingCall(Call):
             self._agent.ask(Request(self.call_id, *tags, "BYE"))
 
     def _takes_challenge(self, status: int, message: Message) -> bool:
-        is_again = status in self._challenged
-        self._challenged.append(status)
-        is_often = len(self._challenged) > MOST_ANSWERS
+        is_again = status in self._statuses
+        self._statuses.append(status)
+        is_often = len(self._statuses) > MOST_ANSWERS
         return not is_often and takes_challenge(self._authenticator, status, message, is_again)
 
 
@@ -656,7 +656,7 @@ class UserAgent:
         self._dialogs: Dict[Dialog, Call] = {}
         self._handlers: Dict[Id, _Handler] = {}
         # INVITEs that were answered, while other branches of a fork may answer too.
-        self._answered: Dict[Id, _Handler] = {}
+        self._answered_invites: Dict[Id, _Handler] = {}
         self._incoming: Stream[IncomingCall] = Stream(refuse_call)
         self._responses: "Set[asyncio.Future[FinalResponse]]" = set()
         self._is_closing = False
@@ -758,9 +758,9 @@ class UserAgent:
         """Forgets an INVITE that was answered once no other branch of a fork can answer."""
         handler = self._handlers.get(event)
         if handler is not None:
-            self._answered[event] = handler
+            self._answered_invites[event] = handler
             loop = asyncio.get_running_loop()
-            loop.call_later(TRANSACTION_S, self._answered.pop, event, None)
+            loop.call_later(TRANSACTION_S, self._answered_invites.pop, event, None)
         self.forget(event)
 
     def hold(self, call: Call, tags: Tuple[str, str]) -> None:
@@ -804,13 +804,13 @@ class UserAgent:
     ) -> FinalResponse:
         """Sends a request, which is made with the headers that authenticate it, and answers
         challenges. Returns the final response."""
-        challenged: List[int] = []
+        statuses: List[int] = []
         while True:
             headers = authenticator.headers(method, uri) if authenticator is not None else []
             response = await self._responded(self.ask(request(headers)))
-            is_again = response.status in challenged
-            challenged.append(response.status)
-            if len(challenged) > MOST_ANSWERS or not takes_challenge(
+            is_again = response.status in statuses
+            statuses.append(response.status)
+            if len(statuses) > MOST_ANSWERS or not takes_challenge(
                 authenticator, response.status, response.message, is_again
             ):
                 return response
@@ -850,7 +850,7 @@ class UserAgent:
         elif isinstance(output, Notice):
             # All other notices have the id of a request or of a command.
             event: Id = getattr(output, "id")
-            handler = self._handlers.get(event) or self._answered.get(event)
+            handler = self._handlers.get(event) or self._answered_invites.get(event)
             if handler is not None:
                 handler(output)
 

@@ -20,7 +20,7 @@ CHALLENGES = {
     401: ("WWW-Authenticate", "Authorization"),
     407: ("Proxy-Authenticate", "Proxy-Authorization"),
 }
-_HASHES = {"MD5": hashlib.md5, "SHA-256": hashlib.sha256}
+_HASHES = {"MD5": "md5", "SHA-256": "sha256"}
 _SESSION = "-SESS"
 _SCHEME = re.compile(r"\s*Digest\s+(.*)", re.IGNORECASE | re.DOTALL)
 _PARAMETER = re.compile(r'([\w.-]+)\s*=\s*(?:"((?:[^"\\]|\\.)*)"|([^\s,"]+))')
@@ -50,16 +50,16 @@ class Challenge:
         scheme = _SCHEME.match(value)
         if scheme is None:
             return None
-        given: Dict[str, str] = {}
+        parameters: Dict[str, str] = {}
         for name, quoted, token in _PARAMETER.findall(scheme[1]):
-            given.setdefault(name.lower(), quoted or token)
-        algorithm, qop = given.get("algorithm", ""), given.get("qop")
+            parameters.setdefault(name.lower(), quoted or token)
+        algorithm, qop = parameters.get("algorithm", ""), parameters.get("qop")
         is_known = _hash_name(algorithm) in _HASHES
         has_auth = qop is None or "auth" in re.split(r"[\s,]+", qop.lower())
-        if "realm" not in given or "nonce" not in given or not is_known or not has_auth:
+        if "realm" not in parameters or "nonce" not in parameters or not is_known or not has_auth:
             return None
-        is_stale = given.get("stale", "").lower() == "true"
-        texts = (given["realm"], given["nonce"], given.get("opaque"), algorithm)
+        is_stale = parameters.get("stale", "").lower() == "true"
+        texts = (parameters["realm"], parameters["nonce"], parameters.get("opaque"), algorithm)
         return cls(*texts, qop is not None, is_stale)
 
     def credentials(
@@ -74,12 +74,12 @@ class Challenge:
         """The value of Authorization or Proxy-Authorization for a request with this method and
         Request-URI. `count` says how many requests have used this nonce, with this one. Without a
         `cnonce` it takes a random one."""
-        own = token_hex(_CNONCE_BYTES) if cnonce is None else cnonce
-        counted, is_session = f"{count:08x}", self.algorithm.upper().endswith(_SESSION)
+        cnonce = token_hex(_CNONCE_BYTES) if cnonce is None else cnonce
+        nonce_count, is_session = f"{count:08x}", self.algorithm.upper().endswith(_SESSION)
         secret = self._digest(username, self.realm, password)
         if is_session:
-            secret = self._digest(secret, self.nonce, own)
-        between = (counted, own, "auth") if self.has_qop else ()
+            secret = self._digest(secret, self.nonce, cnonce)
+        between = (nonce_count, cnonce, "auth") if self.has_qop else ()
         response = self._digest(secret, self.nonce, *between, self._digest(method, uri))
         fields = [
             ("username", _quoted(username)),
@@ -93,15 +93,16 @@ class Challenge:
         if self.opaque is not None:
             fields.append(("opaque", f'"{self.opaque}"'))
         if self.has_qop or is_session:
-            fields.append(("cnonce", f'"{own}"'))
+            fields.append(("cnonce", f'"{cnonce}"'))
         if self.has_qop:
-            fields += [("qop", "auth"), ("nc", counted)]
+            fields += [("qop", "auth"), ("nc", nonce_count)]
         return "Digest " + ", ".join(f"{name}={value}" for name, value in fields)
 
     def _digest(self, *parts: str) -> str:
         """The hash of the parts with colons between them, in hexadecimal digits."""
         text = ":".join(parts).encode("utf-8", "surrogateescape")
-        return _HASHES[_hash_name(self.algorithm)](text).hexdigest()
+        name = _HASHES[_hash_name(self.algorithm)]
+        return hashlib.new(name, text, usedforsecurity=False).hexdigest()
 
 
 def _hash_name(algorithm: str) -> str:
@@ -122,13 +123,13 @@ class Authenticator:
     def __init__(self, username: str, password: str):
         self._login = (username, password)
         # By status: the challenge, the cnonce for it, and how many requests have used its nonce.
-        self._kept: Dict[int, Tuple[Challenge, str, int]] = {}
+        self._challenges: Dict[int, Tuple[Challenge, str, int]] = {}
 
     def headers(self, method: str, uri: str) -> List[Tuple[str, str]]:
         """The credentials for a request, one header for each challenge that is kept."""
         headers = []
-        for status, (challenge, cnonce, used) in self._kept.items():
-            self._kept[status] = (challenge, cnonce, used + 1)
+        for status, (challenge, cnonce, used) in self._challenges.items():
+            self._challenges[status] = (challenge, cnonce, used + 1)
             value = challenge.credentials(*self._login, method, uri, used + 1, cnonce)
             headers.append((CHALLENGES[status][1], value))
         return headers
@@ -140,5 +141,5 @@ class Authenticator:
         challenge = first_challenge(values)
         if challenge is None or (is_again and not challenge.is_stale):
             return False
-        self._kept[status] = (challenge, token_hex(_CNONCE_BYTES), 0)
+        self._challenges[status] = (challenge, token_hex(_CNONCE_BYTES), 0)
         return True

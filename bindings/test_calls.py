@@ -30,6 +30,10 @@ LIBRARY = os.environ["SIP_UA_LIBRARY"]
 ANY_PORT = ("127.0.0.1", 0)
 OFFER, ANSWER = b"v=0\r\ns=offer\r\n", b"v=0\r\ns=answer\r\n"
 PATIENCE_S = 30.0
+# How a registrar challenges.
+SCHEMES = [("MD5", 407), ("SHA-256", 401)]
+# The nonces and their counts for a 423, a 200, a refresh, a stale nonce and a removal.
+NONCE_USES = [("n1", 1), ("n1", 2), ("n1", 3), ("n1", 4), ("n2", 1)]
 # The bound of a round.
 MOST_EVENTS = 65536
 T = TypeVar("T")
@@ -502,17 +506,19 @@ class RegistrationTest(unittest.IsolatedAsyncioTestCase):
     async def asyncTearDown(self) -> None:
         await self.agent.close(0.5)
 
-    async def registrar(self, algorithm: str = "SHA-256") -> Tuple[Registrar, Tuple[str, int]]:
-        registrar = Registrar(algorithm)
+    async def registrar(
+        self, algorithm: str = "SHA-256", status: int = 401
+    ) -> Tuple[Registrar, Tuple[str, int]]:
+        registrar = Registrar(algorithm, status)
         await open_peer(registrar)
         self.addCleanup(registrar.close)
         return registrar, ("127.0.0.1", registrar.port)
 
     async def test_it_is_kept(self) -> None:
-        """After a 401 and a 423 it stands for two seconds. It is refreshed after one, with
-        credentials at once, and removed at the end."""
-        for algorithm in ("MD5", "SHA-256"):
-            registrar, address = await self.registrar(algorithm)
+        """After a challenge and a 423 it stands for two seconds. It is refreshed after one, with
+        credentials at once, and removed at the end, after a nonce that has become stale."""
+        for algorithm, status in SCHEMES:
+            registrar, address = await self.registrar(algorithm, status)
             uri = "sip:alice@example.test"
             async with await register(self.agent, uri, "secret", address, expires_s=60) as kept:
                 port = self.agent.endpoint.local[1]
@@ -528,7 +534,7 @@ class RegistrationTest(unittest.IsolatedAsyncioTestCase):
                 self.assertEqual(header(registrar.requests[3], "Expires"), "1800")
             self.assertEqual(registrar.contacts, [])
             self.assertFalse(kept.is_registered)
-            self.assertEqual(registrar.counts, [f"{count:08x}" for count in range(1, 5)])
+            self.assertEqual(registrar.uses, NONCE_USES)
 
     async def test_all_bindings_are_removed(self) -> None:
         registrar, address = await self.registrar()
@@ -561,8 +567,8 @@ class RegistrationTest(unittest.IsolatedAsyncioTestCase):
     @unittest.skipUnless("SIP_UA_REGISTER" in os.environ, "names no built examples/c/register.c")
     async def test_in_c(self) -> None:
         """The same by examples/c/register.c, for as long as one refresh."""
-        for algorithm in ("MD5", "SHA-256"):
-            registrar, address = await self.registrar(algorithm)
+        for algorithm, status in SCHEMES:
+            registrar, address = await self.registrar(algorithm, status)
             own = await open_peer(Peer(lambda _: []))
             words = ["127.0.0.1", str(own.port), "127.0.0.1", str(address[1])]
             own.close()
@@ -577,7 +583,7 @@ class RegistrationTest(unittest.IsolatedAsyncioTestCase):
                 told.decode().splitlines(), 2 * ["registered for 2 s"] + ["unregistered"]
             )
             self.assertEqual(registrar.contacts, [])
-            self.assertEqual(registrar.counts, [f"{count:08x}" for count in range(1, 5)])
+            self.assertEqual(registrar.uses, NONCE_USES)
 
 
 if __name__ == "__main__":

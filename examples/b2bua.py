@@ -17,6 +17,7 @@ from sip_ua_calls import (
     Answered,
     Call,
     Ended,
+    Event,
     IncomingCall,
     IncomingRequest,
     OutgoingCall,
@@ -36,7 +37,7 @@ OF_ONE_SIDE = CONTACT | set(
 REDIRECTION = range(300, 400)
 
 
-def passed(message: Optional[Message], status: int = 0) -> List[Tuple[str, str]]:
+def headers_to_pass(message: Optional[Message], status: int = 0) -> List[Tuple[str, str]]:
     """The headers of a message that are passed on, of a redirection also its Contacts."""
     if message is None:
         return []
@@ -73,7 +74,7 @@ class B2bua:
         user, at, _ = (invite.start.uri or "").rpartition("@")
         uri = f"{user}@{ip}:{port}" if at else f"sip:{ip}:{port}"
         own = uri_of(invite.value("From"))
-        said = (invite.body, passed(invite))
+        said = (invite.body, headers_to_pass(invite))
         callee = await self.agent.call(uri, *said, address=self.next_hop, from_uri=own)
         self.spawn(self.follow(caller, callee))
         self.spawn(self.follow(callee, caller))
@@ -86,28 +87,28 @@ class B2bua:
             except Error as error:
                 print("not passed on:", error, flush=True)
 
-    def pass_on(self, event: object, other: Call) -> None:
+    def pass_on(self, event: Event, other: Call) -> None:
         if isinstance(event, IncomingRequest):
             self.spawn(self.ask(event, other))
         elif isinstance(event, Ended):
             self.end(event, other)
         elif isinstance(event, Progress) and isinstance(other, IncomingCall):
-            headers = passed(event.message)
+            headers = headers_to_pass(event.message)
             other.respond(event.status, event.reason, event.message.body, headers)
         elif isinstance(event, Answered) and isinstance(other, IncomingCall):
-            other.answer(event.message.body, passed(event.message))
+            other.answer(event.message.body, headers_to_pass(event.message))
         elif isinstance(event, Answered) and isinstance(other, OutgoingCall):
-            other.acknowledge(event.message.body, passed(event.message))
+            other.acknowledge(event.message.body, headers_to_pass(event.message))
 
     def end(self, event: Ended, other: Call) -> None:
         """One call has ended, so the other one ends too."""
         response = event.response
         if response is not None and isinstance(other, IncomingCall) and not other.is_up:
             body = response.message.body if response.message is not None else b""
-            headers = passed(response.message, response.status)
+            headers = headers_to_pass(response.message, response.status)
             other.reject(response.status, response.reason, body, headers)
         elif event.message is not None and event.message.start.method == "BYE":
-            other.hang_up(event.message.body, passed(event.message))
+            other.hang_up(event.message.body, headers_to_pass(event.message))
         else:
             other.hang_up()
 
@@ -118,16 +119,18 @@ class B2bua:
             return
         message = request.message
         try:
-            response = await other.request(request.method, message.body, passed(message))
+            response = await other.request(request.method, message.body, headers_to_pass(message))
             body = response.message.body if response.message is not None else b""
-            request.respond(response.status, response.reason, body, passed(response.message))
+            request.respond(
+                response.status, response.reason, body, headers_to_pass(response.message)
+            )
         except Error as error:
             print("not passed on:", error, flush=True)
             request.respond(400, "Bad Request")
             return
         if request.method == "INVITE":
             ack = await request.acknowledged()
-            other.acknowledge(ack.body if ack is not None else b"", passed(ack))
+            other.acknowledge(ack.body if ack is not None else b"", headers_to_pass(ack))
 
 
 async def main(library: str, local: str, next_hop: str) -> None:

@@ -238,9 +238,9 @@ static inline sip_ua_bytes sip_ua_raw_digits(const sip_ua_raw_hash *hash)
     return digits;
 }
 
-/* The response to a challenge (RFC 7616, section 3.4.1). `counted` is the count in 8 digits. */
+/* The response to a challenge (RFC 7616, section 3.4.1). `nonce_count` is the count in 8 digits. */
 static inline bool sip_ua_raw_response(const sip_ua_challenge *challenge, const sip_ua_proof *proof,
-                                       sip_ua_bytes counted, sip_ua_raw_hash *response)
+                                       sip_ua_bytes nonce_count, sip_ua_raw_hash *response)
 {
     sip_ua_raw_hash secret, session, request;
     sip_ua_bytes a1[] = { proof->username, challenge->realm, proof->password };
@@ -259,7 +259,8 @@ static inline bool sip_ua_raw_response(const sip_ua_challenge *challenge, const 
                                  sip_ua_raw_digits(&request) };
         return sip_ua_raw_hash_of(challenge->is_sha256, parts, 3, response);
     }
-    sip_ua_bytes parts[] = { sip_ua_raw_digits(&secret), challenge->nonce, counted, proof->cnonce,
+    sip_ua_bytes parts[] = { sip_ua_raw_digits(&secret), challenge->nonce,
+                             nonce_count,                proof->cnonce,
                              sip_ua_string("auth"),      sip_ua_raw_digits(&request) };
     return sip_ua_raw_hash_of(challenge->is_sha256, parts, 6, response);
 }
@@ -271,7 +272,7 @@ static inline bool sip_ua_raw_response(const sip_ua_challenge *challenge, const 
 static inline bool sip_ua_challenge_read(sip_ua_bytes value, sip_ua_challenge *challenge)
 {
     bool has_realm = false, has_nonce = false, has_auth = true;
-    sip_ua_bytes name, given;
+    sip_ua_bytes name, parameter;
     memset(challenge, 0, sizeof *challenge);
     if (value.len == 0)
         return false;
@@ -280,23 +281,23 @@ static inline bool sip_ua_challenge_read(sip_ua_bytes value, sip_ua_challenge *c
     sip_ua_raw_skip_blanks(&text);
     if (!sip_ua_raw_is_word(sip_ua_raw_read_token(&text, ","), "Digest"))
         return false;
-    while (sip_ua_raw_read_parameter(&text, &name, &given)) {
+    while (sip_ua_raw_read_parameter(&text, &name, &parameter)) {
         if (sip_ua_raw_is_word(name, "realm")) {
-            challenge->realm = given;
+            challenge->realm = parameter;
             has_realm = true;
         } else if (sip_ua_raw_is_word(name, "nonce")) {
-            challenge->nonce = given;
+            challenge->nonce = parameter;
             has_nonce = true;
         } else if (sip_ua_raw_is_word(name, "opaque")) {
-            challenge->opaque = given;
+            challenge->opaque = parameter;
             challenge->has_opaque = true;
         } else if (sip_ua_raw_is_word(name, "algorithm")) {
-            challenge->algorithm = given;
+            challenge->algorithm = parameter;
         } else if (sip_ua_raw_is_word(name, "stale")) {
-            challenge->is_stale = sip_ua_raw_is_word(given, "true");
+            challenge->is_stale = sip_ua_raw_is_word(parameter, "true");
         } else if (sip_ua_raw_is_word(name, "qop")) {
             challenge->has_qop = true;
-            has_auth = sip_ua_raw_has_word(given, "auth");
+            has_auth = sip_ua_raw_has_word(parameter, "auth");
         }
     }
     return has_realm && has_nonce && has_auth && sip_ua_raw_take_algorithm(challenge);
@@ -312,10 +313,10 @@ static inline uint32_t sip_ua_challenge_at(sip_ua *agent, uint32_t place, uint32
     const char *name = status == 407 ? "Proxy-Authenticate" : "WWW-Authenticate";
     for (size_t number = 0;; number++) {
         sip_ua_text text;
-        uint32_t told = sip_ua_header_value(agent, place, name, strlen(name), number, &text, buffer,
-                                            room);
-        if (told != SIP_UA_OK)
-            return told;
+        uint32_t fault = sip_ua_header_value(agent, place, name, strlen(name), number, &text,
+                                             buffer, room);
+        if (fault != SIP_UA_OK)
+            return fault;
         sip_ua_bytes value = { buffer, text.len };
         if (!text.is_there)
             return SIP_UA_BAD_FIELD;
@@ -349,11 +350,11 @@ static inline uint32_t sip_ua_credentials(const sip_ua_challenge *challenge,
 {
     sip_ua_raw_writer writer = { buffer, room, 0 };
     sip_ua_raw_hash response;
-    char counted[9];
+    char nonce_count[9];
     if (challenge == NULL || proof == NULL || len == NULL || (buffer == NULL && room != 0))
         return SIP_UA_NULL;
-    snprintf(counted, sizeof counted, "%08lx", (unsigned long)proof->count);
-    if (!sip_ua_raw_response(challenge, proof, sip_ua_string(counted), &response))
+    snprintf(nonce_count, sizeof nonce_count, "%08lx", (unsigned long)proof->count);
+    if (!sip_ua_raw_response(challenge, proof, sip_ua_string(nonce_count), &response))
         return SIP_UA_NO_CRYPTO;
     sip_ua_raw_write_quoted(&writer, "Digest username=", proof->username, true);
     sip_ua_raw_write_quoted(&writer, ", realm=", challenge->realm, false);
@@ -370,7 +371,7 @@ static inline uint32_t sip_ua_credentials(const sip_ua_challenge *challenge,
         sip_ua_raw_write_quoted(&writer, ", cnonce=", proof->cnonce, false);
     if (challenge->has_qop) {
         sip_ua_raw_write(&writer, ", qop=auth, nc=", strlen(", qop=auth, nc="));
-        sip_ua_raw_write(&writer, counted, strlen(counted));
+        sip_ua_raw_write(&writer, nonce_count, strlen(nonce_count));
     }
     *len = writer.len;
     return writer.len > room ? SIP_UA_NO_ROOM : SIP_UA_OK;

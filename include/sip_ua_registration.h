@@ -52,13 +52,13 @@ enum {
 #define SIP_UA_ALL_CONTACTS "*"
 
 /* The challenge of one status, 401 or 407, for the requests after it. */
-typedef struct sip_ua_kept_challenge {
+typedef struct sip_ua_registrar_challenge {
     uint8_t value[SIP_UA_VALUE_ROOM];
     size_t len; /* 0: none */
     char cnonce[SIP_UA_CNONCE_LEN];
     uint32_t count;   /* of the requests that have used its nonce */
     bool is_answered; /* by the REGISTER that is on its way */
-} sip_ua_kept_challenge;
+} sip_ua_registrar_challenge;
 
 /* A registration. All bytes are 0 before the fields are set. */
 typedef struct sip_ua_registration {
@@ -76,7 +76,7 @@ typedef struct sip_ua_registration {
                          if the agent refused the request */
     uint32_t granted; /* in s */
     /* Private. */
-    sip_ua_kept_challenge challenges[2];
+    sip_ua_registrar_challenge challenges[2];
     char call_id[SIP_UA_CNONCE_LEN + 1];
     bool is_pending; /* a REGISTER is on its way */
     bool is_removal; /* the REGISTER on its way removes the binding */
@@ -91,13 +91,13 @@ typedef struct sip_ua_registration {
 
 /* The credentials for a kept challenge. */
 static inline uint32_t sip_ua_raw_answer(const sip_ua_registration *registration,
-                                         sip_ua_kept_challenge *kept, uint8_t *buffer, size_t room,
-                                         size_t *len)
+                                         sip_ua_registrar_challenge *entry, uint8_t *buffer,
+                                         size_t room, size_t *len)
 {
     sip_ua_challenge challenge;
     sip_ua_proof proof;
-    sip_ua_bytes value = { kept->value, kept->len };
-    sip_ua_bytes cnonce = { kept->cnonce, sizeof kept->cnonce };
+    sip_ua_bytes value = { entry->value, entry->len };
+    sip_ua_bytes cnonce = { entry->cnonce, sizeof entry->cnonce };
     if (!sip_ua_challenge_read(value, &challenge))
         return SIP_UA_BAD_FIELD;
     proof.username = sip_ua_string(registration->username);
@@ -105,7 +105,7 @@ static inline uint32_t sip_ua_raw_answer(const sip_ua_registration *registration
     proof.method = sip_ua_string("REGISTER");
     proof.uri = sip_ua_string(registration->registrar_uri);
     proof.cnonce = cnonce;
-    proof.count = ++kept->count;
+    proof.count = ++entry->count;
     return sip_ua_credentials(&challenge, &proof, buffer, room, len);
 }
 
@@ -137,17 +137,17 @@ static inline uint32_t sip_ua_raw_ask_register(sip_ua_registration *registration
 static inline bool sip_ua_raw_keep_challenge(sip_ua_registration *registration, sip_ua *agent,
                                              uint32_t place, uint32_t status)
 {
-    sip_ua_kept_challenge *kept = &registration->challenges[status == 407];
+    sip_ua_registrar_challenge *entry = &registration->challenges[status == 407];
     uint8_t value[SIP_UA_VALUE_ROOM];
     sip_ua_challenge challenge;
     if (sip_ua_challenge_at(agent, place, status, &challenge, value, sizeof value) != SIP_UA_OK
-        || (kept->is_answered && !challenge.is_stale))
+        || (entry->is_answered && !challenge.is_stale))
         return false;
-    memcpy(kept->value, challenge.value.at, challenge.value.len);
-    kept->len = challenge.value.len;
-    kept->count = 0;
-    kept->is_answered = true;
-    return sip_ua_cnonce(kept->cnonce) == SIP_UA_OK;
+    memcpy(entry->value, challenge.value.at, challenge.value.len);
+    entry->len = challenge.value.len;
+    entry->count = 0;
+    entry->is_answered = true;
+    return sip_ua_cnonce(entry->cnonce) == SIP_UA_OK;
 }
 
 /* The number that a text begins with; false without one. */
