@@ -75,6 +75,7 @@ typedef struct sip_ua_registration {
     uint32_t status;  /* of the last final response; 408 after a timeout, 503 if a send failed, 481
                          if the agent refused the request */
     uint32_t granted; /* in s */
+    uint32_t results; /* how many REGISTERs have come to an end, whose challenges are answered */
     /* Private. */
     sip_ua_registrar_challenge challenges[2];
     char call_id[SIP_UA_CNONCE_LEN + 1];
@@ -288,6 +289,7 @@ static inline void sip_ua_raw_take_success(sip_ua_registration *registration, si
                                            uint32_t place, uint64_t moment)
 {
     registration->failures = 0;
+    registration->results++;
     if (registration->is_removal) {
         registration->state = SIP_UA_UNREGISTERED;
         registration->granted = 0;
@@ -309,6 +311,7 @@ static inline void sip_ua_raw_take_failure(sip_ua_registration *registration, ui
     uint64_t pause = 1000 * SIP_UA_RETRY;
     unsigned char random = 0;
     registration->granted = 0;
+    registration->results++;
     registration->state = SIP_UA_NOT_REGISTERED;
     if (registration->is_removal)
         return;

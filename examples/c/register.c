@@ -98,15 +98,15 @@ static void refuse(const sip_ua_typed_output *request)
     must(sip_ua_respond(&agent, &fields, NULL), "sip_ua_respond");
 }
 
-/* Prints how the registration stands, if a final response to a REGISTER changed that. */
-static void tell_state(uint32_t before)
+/* Prints how the registration stands. */
+static void tell_state(void)
 {
     if (registration.state == SIP_UA_REGISTERED) {
         was_registered = true;
         printf("registered for %u s\n", (unsigned)registration.granted);
     } else if (registration.state == SIP_UA_NOT_REGISTERED) {
         printf("not registered: %u\n", (unsigned)registration.status);
-    } else if (registration.state == SIP_UA_UNREGISTERED && before != registration.state) {
+    } else {
         printf("unregistered\n");
     }
     fflush(stdout);
@@ -114,14 +114,13 @@ static void tell_state(uint32_t before)
 
 static void tell(const sip_ua_typed_output *output)
 {
-    uint32_t before = registration.state;
-    bool was_pending = registration.is_pending;
+    uint32_t results = registration.results;
     if (output->kind == SIP_UA_NOTICE_REQUEST)
         refuse(output);
     must(sip_ua_registration_tell(&registration, &agent, output, texts, moment),
          "sip_ua_registration_tell");
-    if (was_pending && !registration.is_pending)
-        tell_state(before);
+    if (registration.results != results)
+        tell_state();
 }
 
 /* Runs a round and handles its outputs. */
