@@ -20,7 +20,8 @@ returns datagrams to send, and notices:
         agent.datagram(source, data)
 
 The commands are Invite, Plain, Request, Response, Ack, Prack and Cancel. A round gives outputs: a
-Send, a Drop, or a Notice of one of eleven types. sip_ua_udp.py runs this loop on asyncio.
+Send, a Drop, or a Notice of one of eleven types. sip_ua_udp.py runs this loop on asyncio, and
+sip_ua_calls.py has calls as objects over that.
 
 Texts are str, in UTF-8 on the wire. Bytes that aren't UTF-8 pass through unchanged
 (surrogateescape). Bodies and datagrams are bytes. Moments are times in ms from any starting point,

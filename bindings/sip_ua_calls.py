@@ -18,6 +18,7 @@ sip_ua_registration.py registers a user agent. Use everything from the thread of
 
 import asyncio
 import ipaddress
+import random
 import re
 import socket
 from dataclasses import dataclass
@@ -79,6 +80,8 @@ CLOSE_S = 4.0
 # How many calls a user agent takes at one time, and when it says that others may come.
 MOST_CALLS = 1000
 RETRY_AFTER_S = 5
+# The longest time until a re-INVITE may come again that came too early.
+MOST_RETRY_AFTER_S = 10
 # How many events of a call wait for its iterator; those that come then count as unread.
 MOST_UNREAD = 256
 # How often a request answers challenges.
@@ -145,7 +148,7 @@ class Ended:
 
 class IncomingRequest:
     """A request of the peer: one in a call, such as INFO or a re-INVITE, or one outside of calls.
-    `respond` answers it."""
+    `respond` answers it; `is_answered` says whether it has its final response."""
 
     def __init__(self, agent: "UserAgent", notice: RequestNotice, message: Message):
         self.method = notice.method
@@ -153,7 +156,7 @@ class IncomingRequest:
         self._agent = agent
         self._call_id = notice.call_id
         self._id = notice.id
-        self._is_answered = False
+        self.is_answered = False
         self._ack: "asyncio.Future[Optional[Message]]" = asyncio.get_running_loop().create_future()
         if self.method == "INVITE":
             agent.handle(self._id, self._told)
@@ -163,10 +166,10 @@ class IncomingRequest:
     ) -> None:
         """Responds to the request. After its final response, its CANCEL or `close`, this does
         nothing."""
-        if self._is_answered or self._agent.endpoint.is_closed:
+        if self.is_answered or self._agent.endpoint.is_closed:
             return
         self._agent.ask(Response(self._call_id, self._id, status, reason, body, headers))
-        self._is_answered = status >= 200
+        self.is_answered = status >= 200
         if status >= 300:
             self.end()
 
@@ -188,7 +191,7 @@ class IncomingRequest:
         if isinstance(notice, AckNotice):
             self.end(self._agent.message(notice.place, notice.body))
         elif not isinstance(notice, PrackNotice):
-            self._is_answered = True
+            self.is_answered = True
             self.end()
 
     def end(self, ack: Optional[Message] = None) -> None:
@@ -267,6 +270,8 @@ class Call:
         self._authenticator = agent.authenticator()
         self._answer: Optional[Message] = None
         self._bye: Optional[Message] = None
+        # An INVITE of our own waits for its final response; the peer's last re-INVITE.
+        self._is_inviting = False
         self._reinvite: Optional[IncomingRequest] = None
         self._is_left = False
         # The body and the headers of the BYE.
@@ -314,8 +319,14 @@ class Call:
         def request(credentials: Headers) -> Command:
             return Request(call_id, *tags, method, body, [*headers, *credentials])
 
-        response = await self._agent.exchange(request, self._authenticator, method, self._target)
-        if response.is_success and method == "INVITE" and response.message is not None:
+        is_invite = method == "INVITE"
+        self._is_inviting = self._is_inviting or is_invite
+        exchange = self._agent.exchange(request, self._authenticator, method, self._target)
+        try:
+            response = await exchange
+        finally:
+            self._is_inviting = self._is_inviting and not is_invite
+        if response.is_success and is_invite and response.message is not None:
             self._owes_ack = bool(response.message.body) and not body
         if response.status in (408, 481):
             self.hang_up()
@@ -364,6 +375,7 @@ class Call:
     def _begin(self, tags: Tuple[str, str], message: Message, answer: Message) -> None:
         """The call is up, in the dialog with these tags. The message has the peer's Contact."""
         self._tags, self._answer = tags, answer
+        self._is_inviting = False
         self._target = uri_of(message.value("Contact"))
         self._is_settled.set_result(None)
         self._events.put(Answered(answer))
@@ -378,7 +390,7 @@ class Call:
             self._reinvite.end()
         self._events.end(end)
         self._agent.forget(self._id)
-        self._agent.over(self)
+        self._agent.forget_call(self)
 
     # -- what the user agent says
 
@@ -386,18 +398,30 @@ class Call:
         """The endpoint closes before this call has ended."""
         self._finish(Ended(None if self.is_up else FinalResponse(408, "Request Timeout")))
 
-    def requested(self, notice: RequestNotice, message: Message) -> None:
+    def take_request(self, notice: RequestNotice, message: Message) -> None:
         """A request of the peer in a dialog of this call."""
         request = IncomingRequest(self._agent, notice, message)
         is_of_branch = self._tags not in (None, (notice.local_tag, notice.remote_tag))
         if notice.method == "BYE":
             request.respond()
-        if is_of_branch:
+            self._bye = self._bye if is_of_branch else message
+        elif is_of_branch:
             request.refuse()
-        elif notice.method == "BYE":
-            self._bye = message
+        elif notice.method == "INVITE":
+            self._take_reinvite(request)
         else:
-            self._reinvite = request if notice.method == "INVITE" else self._reinvite
+            self._events.put(request)
+
+    def _take_reinvite(self, request: IncomingRequest) -> None:
+        """A re-INVITE of the peer. One that crosses an INVITE of our own is refused, and one before
+        the answer to the last (RFC 3261, section 14.2)."""
+        if self._is_inviting:
+            request.respond(491, "Request Pending")
+        elif self._reinvite is not None and not self._reinvite.is_answered:
+            headers = [("Retry-After", str(random.randint(0, MOST_RETRY_AFTER_S)))]
+            request.respond(500, "Server Internal Error", headers=headers)
+        else:
+            self._reinvite = request
             self._events.put(request)
 
     def dialog_ended(self, tags: Tuple[str, str]) -> None:
@@ -413,6 +437,7 @@ class OutgoingCall(Call):
         super().__init__(agent, invite.call_id)
         self._invite = invite
         self._statuses: List[int] = []
+        self._is_inviting = True
         self._id = self._send()
 
     def _send(self) -> Id:
@@ -455,11 +480,11 @@ class OutgoingCall(Call):
         if isinstance(notice, ResponseNotice):
             message = self._agent.message(notice.place, notice.body)
             if message is not None:
-                self._responded(notice, message)
+                self._take_response(notice, message)
         else:
             self._fail(Ended(self._agent.outcome(notice)))
 
-    def _responded(self, notice: ResponseNotice, message: Message) -> None:
+    def _take_response(self, notice: ResponseNotice, message: Message) -> None:
         """A response to the INVITE came."""
         tags = (notice.local_tag, notice.remote_tag)
         if notice.status == 100:
@@ -556,7 +581,7 @@ class IncomingCall(Call):
 
     def _told(self, notice: Notice) -> None:
         if isinstance(notice, AckNotice):
-            self._acknowledged(notice)
+            self._take_ack(notice)
         elif isinstance(notice, CancelNotice):
             message = self._agent.message(notice.place)
             self._finish(Ended(FinalResponse(487, "Request Terminated"), message))
@@ -569,7 +594,7 @@ class IncomingCall(Call):
         elif isinstance(notice, (TimeoutNotice, FailedNotice)):
             self._finish(Ended(self._agent.outcome(notice)))
 
-    def _acknowledged(self, notice: AckNotice) -> None:
+    def _take_ack(self, notice: AckNotice) -> None:
         self._agent.forget(self._id)
         ack = self._agent.message(notice.place, notice.body)
         if ack is not None and self._tags is not None:
@@ -577,8 +602,8 @@ class IncomingCall(Call):
         if self._is_left:
             self._say_bye()
 
-    def requested(self, notice: RequestNotice, message: Message) -> None:
-        super().requested(notice, message)
+    def take_request(self, notice: RequestNotice, message: Message) -> None:
+        super().take_request(notice, message)
         if notice.method == "BYE":
             # It ends the early dialog too (RFC 3261, section 15.1.2).
             self.respond(487, "Request Terminated")
@@ -769,7 +794,7 @@ class UserAgent:
         self._dialogs[dialog] = call
         call.dialogs.add(dialog)
 
-    def over(self, call: Call) -> None:
+    def forget_call(self, call: Call) -> None:
         """Forgets a call that has ended, with its dialogs."""
         self.calls.discard(call)
         for dialog in call.dialogs:
@@ -807,7 +832,7 @@ class UserAgent:
         statuses: List[int] = []
         while True:
             headers = authenticator.headers(method, uri) if authenticator is not None else []
-            response = await self._responded(self.ask(request(headers)))
+            response = await self._final_response(self.ask(request(headers)))
             is_again = response.status in statuses
             statuses.append(response.status)
             if len(statuses) > MOST_ANSWERS or not takes_challenge(
@@ -815,7 +840,7 @@ class UserAgent:
             ):
                 return response
 
-    async def _responded(self, asked: Id) -> FinalResponse:
+    async def _final_response(self, asked: Id) -> FinalResponse:
         """Waits for the final response to a request."""
         response: "asyncio.Future[FinalResponse]" = asyncio.get_running_loop().create_future()
 
@@ -840,7 +865,7 @@ class UserAgent:
         if isinstance(output, RequestNotice):
             message = self.message(output.place, output.body)
             if message is not None:
-                self._requested(output, message)
+                self._take_request(output, message)
         elif isinstance(output, EndedNotice):
             tags = (output.local_tag, output.remote_tag)
             call = self._dialogs.pop((output.call_id, *tags), None)
@@ -854,12 +879,12 @@ class UserAgent:
             if handler is not None:
                 handler(output)
 
-    def _requested(self, notice: RequestNotice, message: Message) -> None:
+    def _take_request(self, notice: RequestNotice, message: Message) -> None:
         call = self._dialogs.get((notice.call_id, notice.local_tag, notice.remote_tag))
         if call is not None:
-            call.requested(notice, message)
+            call.take_request(notice, message)
         elif notice.method == "INVITE":
-            self._called(notice, message)
+            self._take_call(notice, message)
         else:
             request = IncomingRequest(self, notice, message)
             if self._on_request is not None:
@@ -867,7 +892,7 @@ class UserAgent:
             else:
                 request.refuse()
 
-    def _called(self, notice: RequestNotice, invite: Message) -> None:
+    def _take_call(self, notice: RequestNotice, invite: Message) -> None:
         """A call of a peer."""
         call = IncomingCall(self, notice, invite)
         if self._is_closing:

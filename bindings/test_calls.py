@@ -244,6 +244,14 @@ class CallsTest(unittest.IsolatedAsyncioTestCase):
         await soon(serving)
         self.assertEqual((await outgoing.request("INFO")).status, 481)
 
+    async def test_reinvites_that_cross(self) -> None:
+        outgoing, incoming = await self.up()
+        crossing = asyncio.gather(
+            outgoing.request("INVITE", OFFER), incoming.request("INVITE", OFFER)
+        )
+        self.assertEqual([response.status for response in await soon(crossing)], [491, 491])
+        self.assertEqual((await soon(outgoing.request("INVITE", OFFER))).status, 488)
+
     async def test_requests_that_nobody_reads(self) -> None:
         outgoing, incoming = await self.up()
         statuses = {"INVITE": 488, "OPTIONS": 200, "INFO": 405}
