@@ -270,6 +270,17 @@ public:
         return due.is_due ? std::optional(due.moment) : std::nullopt;
     }
 
+    /// Whether a datagram would begin a transaction if it came in the next round: it is a request
+    /// other than ACK, and no transaction with its key is held. An agent that holds too much can be
+    /// spared such datagrams.
+    bool would_begin(std::string_view bytes) {
+        const char *data = bytes.empty() ? "" : bytes.data();
+        bool begins = false;
+        check(sip_ua_would_begin(&agent, reinterpret_cast<const std::uint8_t *>(data),
+                                 bytes.size(), &begins));
+        return begins;
+    }
+
     /// The datagram with this place in the last round, if there is one.
     std::optional<Datagram> datagram_at(std::uint32_t place) {
         sip_ua_arrival came{};

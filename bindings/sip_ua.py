@@ -605,6 +605,7 @@ _FUNCTIONS = {
     "run": (ctypes.c_uint64,),
     "next_due": (_at(_Due),),
     "last_id": (_at(_Id),),
+    "would_begin": _text + (_at(ctypes.c_bool),),
     "datagram_at": (_place, _at(_Arrival)) + _room,
     "start_line": (_place, _at(_Start)) + _room,
     "header_value": (_place,) + _text + (_size, _at(_Text)) + _room,
@@ -857,6 +858,14 @@ class Agent:
         due = _Due()
         self._call("next_due", due)
         return due.moment if due.is_due else None
+
+    def would_begin(self, data: bytes) -> bool:
+        """Whether a datagram would begin a transaction if it came in the next round: it is a
+        request other than ACK, and no transaction with its key is held. An agent that holds too
+        much can be spared such datagrams."""
+        begins = ctypes.c_bool()
+        self._call("would_begin", data, begins)
+        return begins.value
 
     # -- what the datagrams of the last round say
 

@@ -510,6 +510,7 @@ uint32_t sip_ua_raw_skip(sip_ua *agent);
 uint32_t sip_ua_raw_stats(sip_ua *agent, sip_ua_counts *counts);
 uint32_t sip_ua_raw_next_due(sip_ua *agent, sip_ua_due *due);
 uint32_t sip_ua_raw_last_id(sip_ua *agent, sip_ua_id *id);
+uint32_t sip_ua_raw_would_begin(sip_ua *agent, const uint8_t *bytes, size_t len, bool *begins);
 uint32_t sip_ua_raw_datagram_at(sip_ua *agent, uint32_t place, sip_ua_arrival *arrival,
                                 uint8_t *buffer, size_t room);
 uint32_t sip_ua_raw_start_line(sip_ua *agent, uint32_t place, sip_ua_start *start, uint8_t *buffer,
@@ -864,6 +865,17 @@ static inline uint32_t sip_ua_last_id(sip_ua *agent, sip_ua_id *id)
     if (agent == NULL || id == NULL)
         return SIP_UA_NULL;
     return sip_ua_raw_last_id(agent, id);
+}
+
+/* Whether a datagram would begin a transaction if it came in the next round: it is a request other
+ * than ACK, and no transaction with its key is held. An agent that holds too much can be spared
+ * such datagrams. Fault: SIP_UA_NO_MEMORY. */
+static inline uint32_t sip_ua_would_begin(sip_ua *agent, const uint8_t *bytes, size_t len,
+                                          bool *begins)
+{
+    if (agent == NULL || bytes == NULL || begins == NULL)
+        return SIP_UA_NULL;
+    return sip_ua_raw_would_begin(agent, bytes, len, begins);
 }
 
 /* The datagram with this place in the last round, if there is one: the cause of the outputs with

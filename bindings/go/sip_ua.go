@@ -143,6 +143,16 @@ func (a *Agent) NextDue() (uint64, bool, error) {
 	return uint64(due.moment), bool(due.is_due), err
 }
 
+// WouldBegin says whether a datagram would begin a transaction if it came in the next round: it is a
+// request other than ACK, and no transaction with its key is held. An agent that holds too much can
+// be spared such datagrams.
+func (a *Agent) WouldBegin(datagram []byte) (bool, error) {
+	var begins C.bool
+	at, size := bytesOf(datagram)
+	err := done(C.sip_ua_raw_would_begin(&a.agent, at, size, &begins))
+	return bool(begins), err
+}
+
 // HeaderValue is the value of the header line with this number, from 0, of the datagram with a
 // place in the last round.
 func (a *Agent) HeaderValue(place uint32, name string, number uint64) (string, bool, error) {

@@ -245,10 +245,29 @@ def contacts_fit(event):
     (RFC 3261, 10.2.2 and 20.10)."""
     if all(contact.uri != "*" for contact in event.contacts):
         return True
-    expires = [value for name, value in event.others if lower(name) == "expires"]
     is_register = event.kind == "plain" and event.method == "REGISTER"
-    is_at_once = len(expires) == 1 and match("0+", expires[0]) is not None
-    return is_register and is_at_once and event.contacts == (Party(uri="*"),)
+    return is_register and is_only_star(event.contacts) and expiries(event.others) == [True]
+
+
+def is_only_star(contacts):
+    return contacts == (Party(uri="*"),)
+
+
+def expiries(headers):
+    """Of each Expires, whether it is 0."""
+    expires = [value for name, value in headers if lower(name) == "expires"]
+    return [match("0+", value) is not None for value in expires]
+
+
+def may_go_on(lines):
+    """Whether a command may follow these header lines, maybe after more of them."""
+    given = [given_by(line) for line in lines]
+    contacts, others = (
+        tuple(value for where, values in given if where == name for value in values)
+        for name in ("contacts", "others"))
+    if all(contact.uri != "*" for contact in contacts):
+        return True
+    return is_only_star(contacts) and expiries(others) in ([], [True])
 
 
 def is_header_line(line):
@@ -281,7 +300,9 @@ def read_events(text, is_session=False):
         may_be_header = first == "sip-session 1" and rounds and not is_last
         if may_be_header and is_header_line(line):
             headers.append(line)
-            continue
+            if may_go_on(headers):
+                continue
+            raise FileFault(1, f"event file line {at}")
         if stage == "rounds":
             read_line(line, rounds, first, headers)
             headers = []

@@ -266,7 +266,7 @@ def start_of(line):
 
 def header_of(line):
     """The name of a header, one of NAMES or as it is spelled, and its value (7.3.1)."""
-    parts = match(rf"({TOKEN}){BLANK}:([^\r]*)", line)
+    parts = match(rf"({TOKEN}){BLANK}:([^\r\n]*)", line)
     if not parts:
         raise ReadFault("BadHeader")
     name = COMPACT.get(lower(parts[1]), parts[1])

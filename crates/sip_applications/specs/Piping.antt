@@ -1,5 +1,5 @@
 -- What the lines of the pipe say, what is posted for them, and what is asked for.
-use Rattle.std.specs.Prelude.{◌≡◌, ℕ, ◌+◌, ◌<◌, ◌==◌, Bool, true, false, if◌then◌else◌, List, [], ◌∷◌, ◌++◌, length, Option, Some, None, IsTrue, IsFalse}
+use Rattle.std.specs.Prelude.{◌≡◌, ℕ, ◌+◌, ◌^◌, ◌<◌, nat_le, ◌==◌, Bool, true, false, not, ◌&&◌, if◌then◌else◌, List, [], ◌∷◌, ◌++◌, length, Option, Some, None, IsTrue, IsFalse}
 use Rattle.std.specs.Option.{option_map}
 use Rattle.std.specs.Io.BufRead.{take_through, drop_through}
 use Rattle.sip_round.specs.declared.round.Event.{Event}
@@ -31,18 +31,25 @@ is_for_header file_kind.Events text = false
 is_for_header file_kind.Session [] = false
 is_for_header file_kind.Session (b ∷ text) = b == 32
 
+-- the longest line that is looked at has 2^20 bytes
+abbrev pub is_looked_at : List ℕ → Bool
+is_looked_at text = not (is_comment text) && nat_le (length text) (2 ^ 20)
+
 -- whose line it is: a command's, a header's, or none of these; a comment says nothing
 abbrev pub Says : FileKind → List ℕ → Said → Type 0
 Says kind text said.Comment = IsTrue (is_comment text)
+Says kind text said.TooLong =
+    IsFalse (is_comment text) × IsFalse (is_looked_at text)
 Says kind text (said.Command command) =
-    IsFalse (is_for_header kind text) × SpellsCommand text command
+    IsTrue (is_looked_at text) × IsFalse (is_for_header kind text) × SpellsCommand text command
 Says kind text said.NoCommand =
-    IsFalse (is_comment text) × IsFalse (is_for_header kind text)
+    IsTrue (is_looked_at text) × IsFalse (is_for_header kind text)
     × ((command : UserCommand) → ¬ SpellsCommand text command)
 Says kind text (said.Header header) =
-    IsTrue (is_for_header kind text) × SpellsHeader text header
+    IsTrue (is_looked_at text) × IsTrue (is_for_header kind text) × SpellsHeader text header
 Says kind text said.NoHeader =
-    IsTrue (is_for_header kind text) × ((header : GivenHeader) → ¬ SpellsHeader text header)
+    IsTrue (is_looked_at text) × IsTrue (is_for_header kind text)
+    × ((header : GivenHeader) → ¬ SpellsHeader text header)
 
 -- a line that was read with its end, and its number
 abbrev pub SaysRead : FileKind → ℕ → List ℕ → PipeLine → Type 0
@@ -86,6 +93,7 @@ asked_by headers said.Comment = []
 asked_by headers said.NoCommand = []
 asked_by headers (said.Header header) = []
 asked_by headers said.NoHeader = []
+asked_by headers said.TooLong = []
 
 -- the header lines that stand right before the next line; comments don't count
 abbrev pub headers_after : Option (List GivenHeader) → Said → Option (List GivenHeader)
@@ -94,6 +102,7 @@ headers_after headers (said.Command command) = Some []
 headers_after headers said.NoCommand = Some []
 headers_after headers (said.Header header) = option_map (λ given. given ++ header ∷ []) headers
 headers_after headers said.NoHeader = None
+headers_after headers said.TooLong = Some []
 
 -- the same for several lines, where such header lines stand before the first
 abbrev pub all_asked : Option (List GivenHeader) → List PipeLine → List Event

@@ -36,6 +36,8 @@ pub(crate) struct Answering {
     plan: ListenPlan,
     unanswered: Vec<Unanswered>,
     dialogs: MadeDialogs,
+    // How many calls got a 2xx.
+    answered: u32,
     is_leaving: bool,
 }
 
@@ -46,6 +48,7 @@ impl Answering {
             plan,
             unanswered: Vec::new(alloc),
             dialogs: MadeDialogs::new(alloc),
+            answered: 0,
             is_leaving: false,
         }
     }
@@ -123,7 +126,10 @@ impl Answering {
         self.dialogs.hang_up(alloc, events)
     }
 
-    fn final_answer(&self, alloc: Global, invite: &Unanswered) -> Result<Event, AllocError> {
+    fn final_answer(&mut self, alloc: Global, invite: &Unanswered) -> Result<Event, AllocError> {
+        if invite.before == 0 && self.plan.makes_dialogs() {
+            self.answered = self.answered.saturating_add(1);
+        }
         let Unanswered { call_id, id, .. } = invite;
         let status = self.plan.status;
         let content = self.content(alloc, invite)?;
@@ -265,6 +271,6 @@ impl User for Answering {
     }
 
     fn is_satisfied(&self) -> bool {
-        true
+        self.answered >= self.plan.must_answer
     }
 }

@@ -20,6 +20,8 @@ pub struct ListenPlan {
     pub body: AnswerBody,
     /// Where a response that isn't a 2xx sends its caller (RFC 3261, section 21.3).
     pub contact: Option<Uri>,
+    /// How many calls have to get a 2xx.
+    pub must_answer: u32,
 }
 
 /// The body of a 2xx to an INVITE.
@@ -60,6 +62,7 @@ impl ListenPlan {
             status: SUCCESS,
             body: AnswerBody::Nothing,
             contact: None,
+            must_answer: 0,
         }
     }
 

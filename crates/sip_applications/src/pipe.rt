@@ -17,6 +17,9 @@ use std::sync::Arc;
 use std::sync::atomic::{AtomicBool, Ordering};
 use std::thread;
 
+/// The longest line that is looked at, in bytes without its end. Comments may be longer.
+pub(crate) const MAX_LINE: usize = 1 << 20;
+
 /// A line of the pipe.
 #[derive(Drop)]
 pub struct PipeLine {
@@ -40,6 +43,8 @@ pub enum Said {
     Header(GivenHeader),
     /// It begins like a header line, but isn't one.
     NoHeader,
+    /// It has more bytes than a line may have.
+    TooLong,
 }
 
 /// Posts what each line of the input says, and waits while there is no room, until the input ends
@@ -123,6 +128,9 @@ fn line_says(alloc: Global, kind: FileKind, line: &[u8]) -> Result<Said, AllocEr
 {
     if is_comment(line) {
         return Ok(Said::Comment);
+    }
+    if line.len() > MAX_LINE {
+        return Ok(Said::TooLong);
     }
     if is_for_header(kind, line) {
         return Ok(match read_header_line(alloc, line)? {

@@ -14,8 +14,8 @@ use sip_message::{Addr, CallId, Uri, ip_text};
 use sip_round::Event;
 use sip_text::Text;
 use sip_udp::{
-    Bell, CountedSocket, Endpoint, Flags, Heard, Limit, Losses, MOST_COLLECTED, Record, Turns,
-    UaFault, User, hear, system_drops,
+    Admission, Bell, CountedSocket, Endpoint, Flags, Heard, Limit, Losses, MOST_COLLECTED, Record,
+    Turns, UaFault, User, hear, system_drops,
 };
 use std::alloc::{AllocError, Global};
 use std::io::{self, BufRead, Write};
@@ -260,15 +260,19 @@ fn turns_at<R: Clock, U: User, F: Write + Drop, E: Write>(
         record,
         kind,
         is_counted,
+        is_announced: _,
         tells_drops,
         seconds,
+        most_held,
         input,
     } = endpoint;
     let record = Record::new(kind, record);
     let limit = Limit::new(seconds, input);
+    let admission = Admission::new(most_held);
     let drops = tells_drops || user.is_eager();
     let turns = Turns::new(
-        rt, alloc, config, division, record, limit, drops, is_counted, user, bell, errors,
+        rt, alloc, config, division, record, limit, admission, drops, is_counted, user, bell,
+        errors,
     )?;
     Ok((turns, socket))
 }
@@ -285,6 +289,7 @@ fn talk<R: Threads + Clock + Files + Sync, U: User, F: Write + Drop, W: Write, E
     errors: &mut E,
 ) -> Result<(), UaFault> {
     let local = endpoint.config.local;
+    let is_announced = endpoint.is_announced;
     let flags = flags_with(alloc, bell.clone()?)?;
     let (mut desk, ears) = Ears::open(alloc, &endpoint.socket, &flags)?;
     let (mut own, socket) = turns_at(rt, alloc, endpoint, user, bell, errors)?;
@@ -300,6 +305,9 @@ fn talk<R: Threads + Clock + Files + Sync, U: User, F: Write + Drop, W: Write, E
     }) else {
         return Err(UaFault::Socket);
     };
+    if is_announced {
+        let _ = writeln!(errors, "ua: ready at {local}");
+    }
     let has_ended = &flags.ended;
     let mut outlet = CountedSocket { socket, failed: 0 };
     let end = own.take(

@@ -4,7 +4,7 @@ ghost use Rattle.std.specs.Prelude.{◌≡◌, ◌++◌, Some, [], IfOk, OnOk};
 ghost use Rattle.sip_applications.specs.Piping as piping;
 ghost use Rattle.sip_applications.specs.declared.pipe.Said.TheVariants as said;
 
-use crate::pipe::{PipeLine, Said};
+use crate::pipe::{MAX_LINE, PipeLine, Said};
 use crate::wrong_word::WrongWord;
 use sip_files::{GivenHeader, with_given};
 use sip_round::Event;
@@ -28,6 +28,8 @@ enum Wrong {
     Word(WrongWord),
     /// It isn't a header line that a user may give.
     Header,
+    /// It is too long.
+    Length,
 }
 
 /// Lines of the pipe that have no part in a command yet.
@@ -77,13 +79,14 @@ impl Waiting {
         }
         let wrong = match said {
             Said::NoHeader => Some(Wrong::Header),
+            Said::TooLong => Some(Wrong::Length),
             _ => wrong.map(Wrong::Word),
         };
         self.lines.push(Line { number, wrong })?;
         match said {
             Said::Comment => Ok(()),
             Said::Command(command) => self.ask(alloc, command, events, errors),
-            Said::NoCommand => {
+            Said::NoCommand | Said::TooLong => {
                 self.refuse(alloc, errors);
                 Ok(())
             }
@@ -169,6 +172,9 @@ fn tell<E: Write>(lines: Vec<Line>, errors: &mut E) {
                     errors,
                     "ua: line {number}: expected a header line of a user"
                 );
+            }
+            Some(Wrong::Length) => {
+                let _ = writeln!(errors, "ua: line {number}: longer than {MAX_LINE} bytes");
             }
             None => {}
         }

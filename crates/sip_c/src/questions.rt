@@ -1,8 +1,8 @@
 //! The functions by which C asks for the id of an event, for what an agent holds, and for what a
 //! datagram says.
 
-ghost use Rattle.std.specs.Prelude.{◌≡◌, ◌+◌, ◌≤◌, IfSome, None, Some, length};
-ghost use Rattle.sip_host.specs.Hosting.{HoldsSo, last_id_of};
+ghost use Rattle.std.specs.Prelude.{◌≡◌, ◌⊎◌, ◌+◌, ◌≤◌, IfSome, None, Some, false, length};
+ghost use Rattle.sip_host.specs.Hosting.{HoldsSo, TellsIfItBegins, last_id_of};
 ghost use Rattle.sip_host.specs.declared.holdings.Holdings.{Holdings as AHoldings};
 ghost use Rattle.sip_c.specs.Status as spec;
 ghost use Rattle.sip_c.specs.Called.{TellsDatagram, TellsNothing, TellsOrNot, TellsStart, TellsValue, datagram_of, id_of, length_of, start_line_of, stats_of};
@@ -44,6 +44,35 @@ pub extern "C" fn sip_ua_raw_stats(alloc: Global, handle: &mut Handle, stats: &m
     *stats = values::stats_of(Some(host.holdings()));
     handle.put(host);
     OK
+}
+
+/// Whether a datagram would begin a transaction if it came in the next round.
+#[unsafe(no_mangle)]
+pub extern "C" fn sip_ua_raw_would_begin(
+    alloc: Global,
+    handle: &mut Handle,
+    bytes: &[u8],
+    begins: &mut bool,
+) -> u32
+    ensures same { handle.new.owned.host ≡ handle.old.owned.host }
+    ensures none { handle.old.owned.host ≡ None → (result ≡ 1) × (begins.new ≡ false) }
+    ensures told { IfSome handle.old.owned.host (λ host.
+        ((result ≡ 0) × TellsIfItBegins bytes.now host begins.new)
+        ⊎ ((result ≡ 10) × (begins.new ≡ false))) }
+{
+    *begins = false;
+    let Some(host) = handle.take(alloc) else {
+        return NO_AGENT;
+    };
+    let answer = host.would_begin(bytes);
+    handle.put(host);
+    match answer {
+        Ok(would) => {
+            *begins = would;
+            OK
+        }
+        Err(_) => NO_MEMORY,
+    }
 }
 
 /// The datagram that came in at a place of the last round, if one did.

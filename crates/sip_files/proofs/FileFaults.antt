@@ -1,6 +1,6 @@
 -- What a reader of a file finds: a draft, or the line with which no file goes on, and the fault
 -- that says so.
-use Rattle.std.proofs.Common.{◌≡◌, ℕ, ◌≤◌, ◌^◌, true, IsTrue, cond, List, [], ◌∷◌, ◌++◌, length, map, Option, Some, None, refl, sym, ap, subst, ◌∙◌, append_assoc, append-nil, arith, inl, inr, codes}
+use Rattle.std.proofs.Common.{◌≡◌, ℕ, ◌≤◌, ◌^◌, true, false, IsTrue, cond, List, [], ◌∷◌, ◌++◌, length, map, Option, Some, None, refl, sym, ap, subst, ◌∙◌, append_assoc, append-nil, arith, inl, inr, codes}
 use Rattle.std.specs.List.{flat_map, AllZip}
 use Rattle.std.specs.Option.{option_map}
 use Rattle.std.specs.Str.{bytes_eq}
@@ -12,11 +12,15 @@ use Rattle.sip_text.proofs.Options.{bind_some, same_some, chosen, passed}
 use Rattle.sip_text.specs.Cut.{cut_at}
 use Rattle.sip_text.specs.Character.{is_token_byte}
 use Rattle.sip_text.specs.Token.{is_token}
+use Rattle.sip_grammar.specs.HeaderEntry.{is_named}
+use Rattle.sip_grammar.specs.HeaderValue.{is_header_value}
+use Rattle.sip_grammar.specs.OtherName.{is_compact_name, is_other_name}
 use Rattle.sip_grammar.specs.Uri.{is_uri, is_uri_byte}
 use Rattle.sip_grammar.specs.Word.{is_word, is_word_byte}
 use Rattle.sip_message.specs.declared.addr.Addr.{Addr}
 use Rattle.sip_message.specs.Content.{content_of_body}
 use Rattle.sip_user.specs.declared.command.Plain.{Plain}
+use Rattle.sip_user.specs.declared.command.UserCommand.{UserCommand}
 use Rattle.sip_user.specs.declared.command.UserCommand.TheVariants as command
 use Rattle.sip_round.specs.declared.config.Config.{Config}
 use Rattle.sip_round.specs.declared.round.Event.{Event}
@@ -37,15 +41,20 @@ use Rattle.sip_files.specs.declared.events_fault.EventsFault.TheVariants.{TooLon
 use Rattle.sip_files.specs.Field.{address_field}
 use Rattle.sip_files.specs.Events.{IsPlain, SpellsLine, command_text}
 use Rattle.sip_files.specs.EventFile.{Head, config_of, HeadedLine, SaysHeaded, headed_lines, with_ends, version_line, file_text, is_of_kind, SpellsFile, SpellsIn, IsFile, IsBegun, IsBadLine, HasVersion, TellsFault}
+use Rattle.sip_files.specs.declared.given_header.GivenHeader.TheVariants as given
 use Rattle.sip_files.specs.Given.{gathered, plain_with}
-use Rattle.sip_files.specs.Steps.Drafting.{is_begun, nothing_read, no_lines, with_event, went, all_gone, drafted, gone}
+use Rattle.sip_files.specs.Unregister.{contacts_fit}
+use Rattle.sip_files.specs.Written.{line_text}
+use Rattle.sip_files.specs.Steps.Drafting.{is_begun, nothing_read, no_lines, with_event, taken, went, all_gone, drafted, gone}
 use Rattle.sip_files.specs.Steps.Lines.{version_at, version_in, FollowsVersion, TellsVersion, TellsLine, Drafts, Stuck}
 use Rattle.sip_files.proofs.FieldLaws.{same_text}
 use Rattle.sip_files.proofs.FileLines.{SayAll, no_line, same_line, with_end, same_front, longer, each_one, no_text, version_no, first_line, in_version}
 use Rattle.sip_files.proofs.LineEnds.{line_no}
 use Rattle.sip_files.proofs.DraftStages.{file_of, nothing_of, begun_unless}
 use Rattle.sip_files.proofs.Drafts.{gone-push, next_gone, Begun}
-use Rattle.sip_files.proofs.HeadedLines.{zip_push, waiting, Headed, headed_of}
+use Rattle.sip_files.proofs.HeadedLines.{zip_push, waiting, Headed, header_goes, headed_of}
+use Rattle.sip_files.proofs.Unregistering.{at_once, by_bool, fit_goes_on, register_fits}
+use Rattle.sip_files.proofs.WrittenHeaders.{other_spelled}
 use Rattle.sip_files.proofs.OneFile.{after_version, said_by, lines_of, gives, goes, further_of, not_stuck, has_version, not_alone}
 
 -- ---- what a reader finds
@@ -135,12 +144,12 @@ no_lines_begun kind version fits = (
       (sym (flat_map-append (λ text. text ++ 10 ∷ []) (version_line version ∷ []) least_lines)),
 )
 
--- a command before which any header may stand
+-- a command before which any header may stand, a `*` too if an Expires of 0 seconds does
 abbrev least_plain : Plain
 least_plain = record {
   call_id = codes "c";
   address = some_address;
-  method = codes "A";
+  method = codes "REGISTER";
   request_uri = codes "a";
   from = codes "a";
   to = codes "a";
@@ -188,21 +197,63 @@ ended_lines : (version : Version) (lines : List (List ℕ)) (next : List ℕ)
 ended_lines version lines next =
     sym (flat_map-append (λ text. text ++ 10 ∷ []) (version_line version ∷ lines) (next ∷ []))
 
--- after header lines a file can go on with such a command
-goes_on : (kind : FileKind) (version : Version) (lines : List (List ℕ)) (said : List EventLine)
+-- the line of an Expires of 0 seconds
+abbrev expires_line : List ℕ
+expires_line = line_text (line.Header (given.Other at_once))
+
+expires_spelled : SpellsLine SessionOne expires_line (line.Header (given.Other at_once))
+unfolding is_header_value is_named is_compact_name is_other_name is_token is_token_byte
+expires_spelled = other_spelled at_once (record { name = refl; value = refl }, refl, refl)
+
+-- it may stand where a header line may
+expires_says : (version : Version) (text : List ℕ) (header : GivenHeader)
+    → SpellsLine version text (line.Header header)
+    → SpellsLine version expires_line (line.Header (given.Other at_once))
+expires_says One text header says = absurd says
+expires_says Two text header says = absurd says
+expires_says SessionOne text header says = expires_spelled
+
+expires_in : (version : Version) (lines : List (List ℕ)) (before after : List EventLine)
+    (header : GivenHeader) → SayAll version lines (before ++ line.Header header ∷ after)
+    → SpellsLine version expires_line (line.Header (given.Other at_once))
+expires_in version [] [] after header says = elim says [ ]
+expires_in version (text ∷ lines) [] after header says = expires_says version text header says.0
+expires_in version [] (item ∷ before) after header says = elim says [ ]
+expires_in version (text ∷ lines) (item ∷ before) after header says =
+    expires_in version lines before after header says.1
+
+-- a front of a file that begins is one, too
+fewer_lines : (kind : FileKind) (version : Version) (lines : List (List ℕ)) (next : List ℕ)
+    → IsBegun kind (file_text version (lines ++ next ∷ [])) → IsBegun kind (file_text version lines)
+fewer_lines kind version lines next begun = (
+  with_ends (next ∷ []) ++ begun.0,
+  begun.1,
+  begun.2,
+  subst (SpellsFile kind begun.1 begun.2)
+      (ap (λ text. text ++ begun.0) (sym (ended_lines version lines next))
+      ∙ append_assoc (file_text version lines) (with_ends (next ∷ [])) begun.0) begun.3,
+)
+
+-- after header lines that such a command takes, a file can go on with it
+goes_on_fit : (kind : FileKind) (version : Version) (lines : List (List ℕ)) (said : List EventLine)
     (draft : Draft) (header : GivenHeader) (headers : List GivenHeader)
     → IsTrue (is_of_kind kind version)
     → gone no_lines said ≡ Some (waiting draft (header ∷ headers)) → SayAll version lines said
+    → contacts_fit (gathered (header ∷ headers)) (command.Plain least_plain) ≡ true
     → IsBegun kind (file_text version lines)
-goes_on kind version lines said draft header headers fits e says =
+goes_on_fit kind version lines said draft header headers fits e says taken_by =
     let waits = waiting draft (header ∷ headers) in
     let h = headed_of said waits e in
     let event = Command (command.Plain (plain_with (gathered (header ∷ headers)) least_plain)) in
     let some : header ∷ headers ≡ [] → ⊥ = λ none. cc in
     let more = some_event draft.rounds event (h.in_round some) in
     let next : Draft = record draft { rounds = more.0 } in
+    let whole : Option UserCommand =
+    Some (command.Plain (plain_with (gathered (header ∷ headers)) least_plain)) in
     let went_on : went waits plain_line ≡ Some (waiting next []) =
-    ap (λ o. option_map (λ d. waiting d [])
+    ap (λ b. option_map (λ (c : UserCommand). line.Event (Command c)) (cond b whole None)
+    >>= λ item. option_map (λ (d : Draft). waiting d []) (taken draft item)) taken_by
+    ∙ ap (λ o. option_map (λ d. waiting d [])
     (option_map (λ rounds. record draft { rounds = rounds }) o)) more.1 in
     let text = command_text (command.Plain least_plain) in (
       with_ends (text ∷ []),
@@ -216,6 +267,31 @@ goes_on kind version lines said draft header headers fits e says =
           (least_is_plain, refl))
           (ended_lines version lines text),
     )
+
+-- after any header lines it can, maybe with an Expires of 0 seconds before that
+goes_on : (kind : FileKind) (version : Version) (lines : List (List ℕ)) (said : List EventLine)
+    (draft : Draft) (header : GivenHeader) (headers : List GivenHeader)
+    → IsTrue (is_of_kind kind version)
+    → gone no_lines said ≡ Some (waiting draft (header ∷ headers)) → SayAll version lines said
+    → IsBegun kind (file_text version lines)
+goes_on kind version lines said draft header headers fits e says =
+    let all = header ∷ headers in
+    let register = command.Plain least_plain in
+    let h = headed_of said (waiting draft all) e in
+    by_bool (contacts_fit (gathered all) register)
+    (λ fit. goes_on_fit kind version lines said draft header headers fits e says fit)
+    (λ unfit.
+    let last = given.Other at_once in
+    let fit = register_fits all register refl h.goes_on unfit in
+    let went_on = header_goes draft.rounds (waiting draft all) last (h.in_round (λ none. cc))
+    (fit_goes_on (gathered (all ++ last ∷ [])) register fit) in
+    fewer_lines kind version lines expires_line
+    (goes_on_fit kind version (lines ++ expires_line ∷ []) (said ++ line.Header last ∷ []) draft
+    header (headers ++ last ∷ []) fits
+    (gone-push went no_lines (waiting draft all) said (line.Header last) e ∙ went_on)
+    (zip_push (SpellsLine version) lines said expires_line (line.Header last) says
+    (expires_in version lines (flat_map headed_lines h.headed) (map line.Header headers) header
+    (subst (SayAll version lines) h.whole says))) fit))
 
 none_headed : (headed : List HeadedLine) (items : List EventLine)
     → AllZip SaysHeaded headed items → items ≡ [] → headed ≡ []

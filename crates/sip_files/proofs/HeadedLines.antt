@@ -1,12 +1,12 @@
 -- Lines with the header lines before them. They can be read on as what they say together is taken,
 -- and whatever can be read on is such lines.
-use Rattle.std.proofs.Common.{◌≡◌, List, [], ◌∷◌, ◌++◌, map, Option, Some, None, refl, sym, ap, subst, ◌∙◌, append_assoc, append-nil}
+use Rattle.std.proofs.Common.{◌≡◌, Bool, true, false, cond, List, [], ◌∷◌, ◌++◌, map, Option, Some, None, refl, sym, ap, subst, ◌∙◌, append_assoc, append-nil}
 use Rattle.std.specs.List.{flat_map, AllZip}
 use Rattle.std.specs.Option.{option_map}
 use Rattle.std.proofs.lemmas.List.{map-append}
 use Rattle.std.proofs.lemmas.List.Concat.{flat_map-append}
 use Rattle.sip_text.specs.Options.{◌>>=◌}
-use Rattle.sip_text.proofs.Options.{bind_some, same_some}
+use Rattle.sip_text.proofs.Options.{bind_some, passed, same_some}
 use Rattle.sip_user.specs.declared.command.UserCommand.{UserCommand}
 use Rattle.sip_round.specs.declared.round.Event.{Event}
 use Rattle.sip_round.specs.declared.round.Event.TheVariants.{Datagram, Failed, Command}
@@ -17,11 +17,13 @@ use Rattle.sip_files.specs.declared.event_line.EventLine.TheVariants as line
 use Rattle.sip_files.specs.declared.given_header.GivenHeader.{GivenHeader}
 use Rattle.sip_files.specs.declared.progress.Progress.{Progress}
 use Rattle.sip_files.specs.EventFile.{HeadedLine, SaysHeaded, headed_lines}
-use Rattle.sip_files.specs.Given.{with_given, with_headers}
-use Rattle.sip_files.specs.Steps.Drafting.{nothing_read, no_lines, with_event, taken, header_in_round, line_went, went, all_gone, drafted, gone}
+use Rattle.sip_files.specs.Given.{command_with, gathered, with_given, with_headers}
+use Rattle.sip_files.specs.Steps.Drafting.{nothing_read, no_lines, with_event, taken, header_in_round, line_went, may_go_on, went, all_gone, drafted, gone}
 use Rattle.sip_files.proofs.CommandLines.{mapped}
 use Rattle.sip_files.proofs.Drafts.{gone-append, gone-one, gone-push}
 use Rattle.sip_files.proofs.DraftStages.{event_none}
+use Rattle.sip_files.proofs.Unregistering.{fit_goes_on, may_prefix}
+use Rattle.sip_files.specs.Unregister.{contacts_fit}
 
 pub zip_push : {A B : Type 0} (P : A → B → Type 0) (xs : List A) (ys : List B) (x : A) (y : B)
     → AllZip P xs ys → P x y → AllZip P (xs ++ x ∷ []) (ys ++ y ∷ [])
@@ -60,23 +62,52 @@ in_round draft next header headers (line.Event (Command c)) x e f none =
     event_in draft next (Command made.0) x made.2 f none
 in_round draft next header headers (line.Header a) x e f none = absurd cc
 
-header_goes : (rounds : List Round) (progress : Progress) (header : GivenHeader)
-    → (rounds ≡ [] → ⊥) → header_in_round rounds progress header
+pub header_goes : (rounds : List Round) (progress : Progress) (header : GivenHeader)
+    → (rounds ≡ [] → ⊥) → may_go_on (gathered (progress.headers ++ header ∷ [])) ≡ true
+    → header_in_round rounds progress header
     ≡ Some (record progress { headers = progress.headers ++ header ∷ [] })
-header_goes [] progress header some = absurd (some refl)
-header_goes (round ∷ rounds) progress header some = refl
+header_goes [] progress header some may = absurd (some refl)
+header_goes (round ∷ rounds) progress header some may =
+    ap (λ b. cond b (Some (record progress { headers = progress.headers ++ header ∷ [] })) None) may
 
 headers_go : (draft : Draft) (done headers : List GivenHeader) → (draft.rounds ≡ [] → ⊥)
+    → may_go_on (gathered (done ++ headers)) ≡ true
     → gone (waiting draft done) (map line.Header headers) ≡ Some (waiting draft (done ++ headers))
 unfolding all_gone
-headers_go draft done [] some =
+headers_go draft done [] some may =
     ap (λ (hs : List GivenHeader). Some (waiting draft hs)) (sym (append-nil done))
-headers_go draft done (header ∷ headers) some =
+headers_go draft done (header ∷ headers) some may =
+    let joined = append_assoc done (header ∷ []) headers in
+    let all : may_go_on (gathered ((done ++ header ∷ []) ++ headers)) ≡ true =
+    ap (λ (hs : List GivenHeader). may_go_on (gathered hs)) joined ∙ may in
     ap (λ o. o >>= λ next. gone next (map line.Header headers))
-    (header_goes draft.rounds (waiting draft done) header some)
-    ∙ headers_go draft (done ++ header ∷ []) headers some
-    ∙ ap (λ (hs : List GivenHeader). Some (waiting draft hs))
-    (append_assoc done (header ∷ []) headers)
+    (header_goes draft.rounds (waiting draft done) header some
+    (may_prefix (done ++ header ∷ []) headers all))
+    ∙ headers_go draft (done ++ header ∷ []) headers some all
+    ∙ ap (λ (hs : List GivenHeader). Some (waiting draft hs)) joined
+
+-- header lines before a command that takes them
+may_stand : (header : GivenHeader) (headers : List GivenHeader) (item x : EventLine)
+    → with_headers (header ∷ headers) item ≡ Some x
+    → may_go_on (gathered (header ∷ headers)) ≡ true
+may_stand header headers (line.Local a) x e = absurd cc
+may_stand header headers (line.Seed a) x e = absurd cc
+may_stand header headers (line.First a) x e = absurd cc
+may_stand header headers (line.Round a) x e = absurd cc
+may_stand header headers (line.Event (Datagram from bytes)) x e = absurd cc
+may_stand header headers (line.Event (Failed key)) x e = absurd cc
+may_stand header headers (line.Event (Command c)) x e =
+    let made = mapped (λ (d : UserCommand). line.Event (Command d))
+    (with_given (header ∷ headers) c) x e in
+    fit_goes_on (gathered (header ∷ headers)) c
+    (unless_none (contacts_fit (gathered (header ∷ headers)) c)
+    (command_with (gathered (header ∷ headers)) c) made.0 made.1)
+  where
+    unless_none : (b : Bool) (o : Option UserCommand) (y : UserCommand) → cond b o None ≡ Some y
+        → b ≡ true
+    unless_none true o y e = refl
+    unless_none false o y e = absurd cc
+may_stand header headers (line.Header a) x e = absurd cc
 
 before_goes : (draft next : Draft) (headers : List GivenHeader) (item x : EventLine)
     → with_headers headers item ≡ Some x → taken draft x ≡ Some next
@@ -85,6 +116,7 @@ unfolding all_gone
 before_goes draft next [] item x e f = refl
 before_goes draft next (header ∷ headers) item x e f =
     headers_go draft [] (header ∷ headers) (in_round draft next header headers item x e f)
+    (may_stand header headers item x e)
 
 line_goes : (draft next : Draft) (headers : List GivenHeader) (item x : EventLine)
     → with_headers headers item ≡ Some x → taken draft x ≡ Some next
@@ -145,6 +177,7 @@ pub record Headed (progress : Progress) (said : List EventLine) : Type 0 where
   pub takes : drafted nothing_read items ≡ Some progress.draft
   pub whole : said ≡ flat_map headed_lines headed ++ map line.Header progress.headers
   pub in_round : (progress.headers ≡ [] → ⊥) → progress.draft.rounds ≡ [] → ⊥
+  pub goes_on : may_go_on (gathered progress.headers) ≡ true
 
 module _ (progress next : Progress) (said : List EventLine) (h : Headed progress said) where
   header_step : (rounds : List Round) (header : GivenHeader) → progress.draft.rounds ≡ rounds
@@ -154,8 +187,9 @@ module _ (progress next : Progress) (said : List EventLine) (h : Headed progress
   header_step (round ∷ rounds) header is e =
       let more : Progress = record progress { headers = progress.headers ++ header ∷ [] } in
       let before = flat_map headed_lines h.headed in
+      let stands = passed (may_go_on (gathered (progress.headers ++ header ∷ []))) more next e in
       subst (λ (p : Progress). Headed p (said ++ line.Header header ∷ []))
-      (same_some more next e) (record {
+      stands.1 (record {
         headed = h.headed;
         items = h.items;
         made = h.made;
@@ -166,6 +200,7 @@ module _ (progress next : Progress) (said : List EventLine) (h : Headed progress
             (sym (map-append line.Header progress.headers (header ∷ [])));
         in_round = λ some none.
             (let no : ◌≡◌ {A = List Round} (round ∷ rounds) [] = sym is ∙ none in absurd cc);
+        goes_on = stands.0;
       })
 
   line_step : (item : EventLine) → line_went progress item ≡ Some next
@@ -187,6 +222,7 @@ module _ (progress next : Progress) (said : List EventLine) (h : Headed progress
             ∙ sym (flat_map-append headed_lines h.headed (one ∷ []))
             ∙ sym (append-nil (flat_map headed_lines (h.headed ++ one ∷ [])));
         in_round = λ some. absurd (some refl);
+        goes_on = refl;
       })
 
   step_headed : (item : EventLine) → went progress item ≡ Some next
@@ -219,6 +255,7 @@ nothing_headed = record {
   takes = refl;
   whole = refl;
   in_round = λ some. absurd (some refl);
+  goes_on = refl;
 }
 
 pub headed_of : (said : List EventLine) (end : Progress) → gone no_lines said ≡ Some end

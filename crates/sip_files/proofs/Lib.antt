@@ -2,6 +2,7 @@ pub mod Hex
 pub mod Escapes
 pub mod Pairs
 pub mod Pushed
+pub mod Unregistering
 pub mod WordLaws
 pub mod Cuts
 pub mod Shown

@@ -189,7 +189,7 @@ own_name name is =
       long = rw (first.0, others.0, others.1) refl;
     }
 
-other_spelled : (h : Header) → IsKeptHeader h → SpelledHeader (given.Other h)
+pub other_spelled : (h : Header) → IsKeptHeader h → SpelledHeader (given.Other h)
 other_spelled h fits =
     let own = own_name h.name (fits.0).name in
     let good : Good h.value = record {

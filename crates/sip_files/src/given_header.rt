@@ -26,6 +26,20 @@ pub enum GivenHeader {
     Other(Header),
 }
 
+impl Clone for GivenHeader {
+    ghost is_clone = { λ original copy. copy ≡ original };
+
+    fn clone(&self) -> Result<GivenHeader, AllocError> {
+        Ok(match self {
+            GivenHeader::Contact(contacts) => GivenHeader::Contact(contacts.clone()?),
+            GivenHeader::Route(routes) => GivenHeader::Route(routes.clone()?),
+            GivenHeader::Supported(tokens) => GivenHeader::Supported(tokens.clone()?),
+            GivenHeader::Require(tokens) => GivenHeader::Require(tokens.clone()?),
+            GivenHeader::Other(header) => GivenHeader::Other(header.clone()?),
+        })
+    }
+}
+
 /// What the fields of a header line say, if a file of this version may have one: only a session
 /// file may.
 pub(crate) fn header_in(

@@ -1,11 +1,14 @@
 //! The header lines before the line of a command, put into its content.
 
 ghost use Rattle.std.specs.Prelude.{◌≡◌, [], IfOk, OnOk};
+ghost use Rattle.std.specs.List.{list_any};
+ghost use Rattle.sip_message.specs.Wildcard.{has_wildcard_uri};
 ghost use Rattle.sip_files.specs.Given as given;
+ghost use Rattle.sip_files.specs.Steps.Drafting as drafting;
 
 use crate::event_line::EventLine;
 use crate::given_header::GivenHeader;
-use crate::unregister::contacts_fit;
+use crate::unregister::{contacts_fit, has_wildcard_uri, may_unregister};
 use sip_message::{Content, ContentHeaders, Header, NameAddr, Token};
 use sip_round::Event;
 use sip_text::Series;
@@ -116,6 +119,44 @@ pub fn with_given(
         return Ok(None);
     }
     command_with(alloc, headers, command)
+}
+
+/// Whether a command may follow these header lines, maybe after more of them: the Contact `*` stands
+/// alone, with no Expires yet, or one, which is 0.
+///
+/// # Errors
+///
+/// Memory ran out. Without a `*` none is taken.
+pub(crate) fn may_go_on(alloc: Global, headers: &Series<GivenHeader>) -> Result<bool, AllocError>
+    ensures { IfOk result (λ may. may ≡ drafting.may_go_on (given.gathered headers.now)) }
+{
+    if !has_wildcard_line(headers.as_slice()) {
+        return Ok(true);
+    }
+    let headers = gathered_copy(alloc, headers)?;
+    Ok(may_unregister(&headers))
+}
+
+fn gathered_copy(alloc: Global, headers: &Series<GivenHeader>) -> Result<GivenHeaders, AllocError>
+    ensures { IfOk result (λ all. all ≡ given.gathered headers.now) }
+{
+    gathered(alloc, headers.clone()?)
+}
+
+fn has_wildcard_line(headers: &[GivenHeader]) -> bool
+    ensures { result ≡ list_any (λ header. list_any has_wildcard_uri (given.contacts_in header))
+        headers.now }
+{
+    headers.iter().any(has_wildcard)
+}
+
+fn has_wildcard(header: &GivenHeader) -> bool
+    ensures { result ≡ list_any has_wildcard_uri (given.contacts_in header.now) }
+{
+    match header {
+        GivenHeader::Contact(contacts) => has_wildcard_uri(contacts.as_slice()),
+        _ => false,
+    }
 }
 
 fn gathered(alloc: Global, headers: Series<GivenHeader>) -> Result<GivenHeaders, AllocError>

@@ -7,7 +7,7 @@ ghost use Rattle.sip_files.specs.Steps.Drafting as drafting;
 use crate::draft::{Draft, with_line};
 use crate::event_line::EventLine;
 use crate::given_header::GivenHeader;
-use crate::given_headers::with_headers;
+use crate::given_headers::{may_go_on, with_headers};
 use sip_text::Series;
 use std::alloc::{AllocError, Global};
 
@@ -47,20 +47,28 @@ pub(crate) fn with_next(
     ensures { IfOk result (λ next. next ≡ drafting.went progress line) }
 {
     match line {
-        EventLine::Header(header) => with_header(progress, header),
+        EventLine::Header(header) => with_header(alloc, progress, header),
         line => with_whole(alloc, progress, line),
     }
 }
 
-// Header lines may stand only in rounds.
-fn with_header(mut progress: Progress, header: GivenHeader) -> Result<Option<Progress>, AllocError>
+// Header lines may stand only in rounds, and only where a command may follow them.
+fn with_header(
+    alloc: Global,
+    mut progress: Progress,
+    header: GivenHeader,
+) -> Result<Option<Progress>, AllocError>
     ensures { IfOk result (λ next. next ≡ drafting.header_went progress header) }
 {
     match progress.draft.rounds.as_slice() {
         [] => Ok(None),
         [_, ..] => {
             progress.headers.push(header)?;
-            Ok(Some(progress))
+            if may_go_on(alloc, &progress.headers)? {
+                Ok(Some(progress))
+            } else {
+                Ok(None)
+            }
         }
     }
 }

@@ -3,6 +3,7 @@
 ghost use Rattle.std.specs.Prelude.{◌≡◌, count_by};
 ghost use Rattle.std.specs.List.{list_any};
 ghost use Rattle.sip_message.specs.Wildcard as wildcard;
+ghost use Rattle.sip_files.specs.Steps.Drafting as drafting;
 ghost use Rattle.sip_files.specs.Unregister as unregister;
 
 use crate::given_headers::GivenHeaders;
@@ -23,7 +24,8 @@ pub(crate) fn contacts_fit(headers: &GivenHeaders, command: &UserCommand) -> boo
         && expires_at_once(headers.others.as_slice())
 }
 
-fn has_wildcard_uri(contacts: &[NameAddr]) -> bool
+/// Whether one of them has the URI `*`.
+pub(crate) fn has_wildcard_uri(contacts: &[NameAddr]) -> bool
     ensures { result ≡ list_any wildcard.has_wildcard_uri contacts.now }
 {
     contacts.iter().any(NameAddr::has_wildcard_uri)
@@ -45,6 +47,15 @@ fn is_only_wildcard(contacts: &[NameAddr]) -> bool
         [contact] => contact.is_wildcard(),
         _ => false,
     }
+}
+
+/// Whether `*` is the only Contact, and there is no Expires yet, or one, which is 0.
+pub(crate) fn may_unregister(headers: &GivenHeaders) -> bool
+    ensures { result ≡ drafting.may_unregister headers.now }
+{
+    let others = headers.others.as_slice();
+    is_only_wildcard(headers.contacts.as_slice())
+        && (count_expires(others) == 0 || expires_at_once(others))
 }
 
 fn expires_at_once(headers: &[Header]) -> bool

@@ -2,7 +2,6 @@
 use Rattle.std.specs.Prelude.{◌≡◌, ◌⊎◌, ◌<◌, ◌≤◌, ℕ, ◌+◌, Bool, ◌&&◌, true, List, [], ◌∷◌, ◌++◌, length, Option, None, Some, IfOk, IfSome, IsSome, IsSomeAnd, IsTrue, OnErr, OnOk, Result, Err, nat_le, if◌then◌else◌}
 use Rattle.sip_text.specs.Token.{is_token}
 use Rattle.sip_grammar.specs.Reason.{is_reason}
-use Rattle.sip_grammar.specs.Uri.{is_uri}
 use Rattle.sip_grammar.specs.Word.{is_word}
 use Rattle.sip_message.specs.Content.{content_of_body}
 use Rattle.sip_message.specs.declared.id.Id.{Id}
@@ -13,6 +12,7 @@ use Rattle.sip_round.specs.declared.round.Event.TheVariants.{Command}
 use Rattle.sip_files.specs.Given.{IsGiven, with_given}
 use Rattle.sip_files.specs.Written.{header_text}
 use Rattle.sip_files.specs.declared.given_header.GivenHeader.{GivenHeader}
+use Rattle.sip_host.specs.Absolute.{is_absolute}
 use Rattle.sip_host.specs.Hosting.{Answer, with_events}
 use Rattle.sip_host.specs.declared.fields.BodyFields.{BodyFields}
 use Rattle.sip_host.specs.declared.fields.CancelFields.{CancelFields}
@@ -113,12 +113,12 @@ dialog_rules call_id local_tag remote_tag =
 -- 25.1)
 abbrev pub rules_of : UserCommand → List (Field × Bool)
 rules_of (command.Invite c) =
-    (field.CallId, is_word c.call_id) ∷ (field.RequestUri, is_uri c.request_uri)
-    ∷ (field.From, is_uri c.from) ∷ (field.To, is_uri c.to) ∷ []
+    (field.CallId, is_word c.call_id) ∷ (field.RequestUri, is_absolute c.request_uri)
+    ∷ (field.From, is_absolute c.from) ∷ (field.To, is_absolute c.to) ∷ []
 rules_of (command.Plain c) =
     (field.CallId, is_word c.call_id) ∷ (field.Method, is_token c.method)
-    ∷ (field.RequestUri, is_uri c.request_uri) ∷ (field.From, is_uri c.from)
-    ∷ (field.To, is_uri c.to) ∷ []
+    ∷ (field.RequestUri, is_absolute c.request_uri) ∷ (field.From, is_absolute c.from)
+    ∷ (field.To, is_absolute c.to) ∷ []
 rules_of (command.Request c) =
     dialog_rules c.call_id c.local_tag c.remote_tag ++ (field.Method, is_token c.method) ∷ []
 rules_of (command.Respond c) =

@@ -1,5 +1,5 @@
 -- What the calls of a host do to it.
-use Rattle.std.specs.Prelude.{◌≡◌, ◌⊎◌, ◌<◌, ◌≤◌, ℕ, ◌+◌, ◌-◌, ◌==◌, false, true, IfSome, IsSomeAnd, List, [], ◌∷◌, ◌++◌, OnErr, OnOk, Option, None, Some, Result, Err, length, map, nat_lt, if◌then◌else◌}
+use Rattle.std.specs.Prelude.{Bool, ◌≡◌, ◌⊎◌, ◌<◌, ◌≤◌, ℕ, ◌+◌, ◌-◌, ◌==◌, false, true, IfSome, IsSomeAnd, List, [], ◌∷◌, ◌++◌, OnErr, OnOk, Option, None, Some, Result, Err, length, map, nat_lt, if◌then◌else◌}
 use Rattle.std.specs.List.{slice_get}
 use Rattle.std.specs.Option.{option_map}
 use Rattle.sip_files.specs.EventLines.{SpellsLines}
@@ -8,11 +8,14 @@ use Rattle.sip_message.specs.Cut.{spread_shard}
 use Rattle.sip_message.specs.declared.addr.Addr.{Addr}
 use Rattle.sip_message.specs.declared.cut.Spread.{Spread}
 use Rattle.sip_message.specs.declared.id.Id.{Id}
+use Rattle.sip_message.specs.declared.message.Message.{Message}
 use Rattle.sip_round.specs.AgentState.{refusal_of, shard_count}
 use Rattle.sip_reader.specs.Head.{BeginsWith, HasValues}
+use Rattle.sip_reader.specs.Spells.{Spells}
 use Rattle.sip_reader.specs.declared.first_line.FirstLine.{FirstLine}
 use Rattle.sip_round.specs.Answers.{StandsFor, answers, past_of, placed_answers}
 use Rattle.sip_round.specs.Live.{live_of}
+use Rattle.sip_round.specs.NewTransactions.{would_begin}
 use Rattle.sip_round.specs.Places.{datagram_at}
 use Rattle.sip_round.specs.declared.config.Config.{Config}
 use Rattle.sip_round.specs.declared.output.Output.{Output}
@@ -179,3 +182,12 @@ pub record HasValuesAt (host : Host) (place : ℕ) (name : List ℕ) (values : L
     Type 0 where
   pub of_datagram : IfSome (datagram_at host.last_events place) (HasValues name values)
   pub none : datagram_at host.last_events place ≡ None → values ≡ []
+
+-- ---- what a datagram would do
+
+-- whether it would begin a transaction; one that spells no message wouldn't
+pub record TellsIfItBegins (bytes : List ℕ) (host : Host) (begins : Bool) : Type 0 where
+  pub message : begins ≡ true → (message : Message) × Spells message bytes
+  pub told : (message : Message) → Spells message bytes → (config : Config) (rounds : List Round)
+      → StandsFor shard_of host.agent config rounds → begins ≡ would_begin config rounds message
+  pub broken : host.agent.shards ≡ None → begins ≡ false

@@ -1,3 +1,4 @@
+pub mod Absolute
 pub mod Asking
 pub mod Handing
 pub mod Hosting

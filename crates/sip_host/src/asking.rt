@@ -6,12 +6,13 @@ ghost use Rattle.sip_message.specs.Content.{content_of_body};
 ghost use Rattle.sip_host.specs.Asking as asking;
 ghost use Rattle.sip_host.specs.declared.host_fault.HostFault.TheVariants as fault;
 
+use crate::absolute::is_absolute;
 use crate::field::Field;
 use crate::fields::{
     BodyFields, CancelFields, InviteFields, PlainFields, RequestFields, RespondFields,
 };
 use crate::host_fault::HostFault;
-use sip_grammar::{has_no_line_byte, is_uri, is_word};
+use sip_grammar::{has_no_line_byte, is_word};
 use sip_message::{CallId, Content, Reason, Token, Uri};
 use sip_text::{Series, Text, is_token};
 use sip_user::{Cancel, DialogBody, DialogRequest, Invite, Plain, Respond, UserCommand};
@@ -34,9 +35,9 @@ pub(crate) fn invite_command(
     ensures { asking.Makes (asking.invite_of fields.now) result }
 {
     keep(Field::CallId, is_word(fields.call_id))?;
-    keep(Field::RequestUri, is_uri(fields.request_uri))?;
-    keep(Field::From, is_uri(fields.from))?;
-    keep(Field::To, is_uri(fields.to))?;
+    keep(Field::RequestUri, is_absolute(fields.request_uri))?;
+    keep(Field::From, is_absolute(fields.from))?;
+    keep(Field::To, is_absolute(fields.to))?;
     Ok(UserCommand::Invite(Invite {
         call_id: CallId::copy_of(alloc, fields.call_id)?,
         address: fields.address,
@@ -62,9 +63,9 @@ pub(crate) fn plain_command(
 {
     keep(Field::CallId, is_word(fields.call_id))?;
     keep(Field::Method, is_token(fields.method))?;
-    keep(Field::RequestUri, is_uri(fields.request_uri))?;
-    keep(Field::From, is_uri(fields.from))?;
-    keep(Field::To, is_uri(fields.to))?;
+    keep(Field::RequestUri, is_absolute(fields.request_uri))?;
+    keep(Field::From, is_absolute(fields.from))?;
+    keep(Field::To, is_absolute(fields.to))?;
     Ok(UserCommand::Plain(Plain {
         call_id: CallId::copy_of(alloc, fields.call_id)?,
         address: fields.address,

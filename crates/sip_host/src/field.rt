@@ -7,7 +7,8 @@ pub enum Field {
     CallId,
     /// Not a token (RFC 3261, section 7.1).
     Method,
-    /// Empty, or with a space, a tab, a line end, `<`, `>` or `"`. The same for From and To.
+    /// Empty, with a space, a tab, a line end, `<`, `>` or `"`, or without a scheme such as `sip:`.
+    /// The same for From and To.
     RequestUri,
     From,
     To,

@@ -16,7 +16,7 @@ ghost use Rattle.sip_files.specs.Given.{with_given};
 ghost use Rattle.sip_round.specs.declared.round.Event.TheVariants.{Command};
 ghost use Rattle.sip_host.specs.Asking.{Makes, TakesCommand, TakesHeader, ack_of, cancel_of, invite_of, plain_of, prack_of, request_of, respond_of, without_headers};
 ghost use Rattle.sip_host.specs.Handing.{datagram_in, head_of, put_if, put_in, start_of, start_text, text_of};
-ghost use Rattle.sip_host.specs.Hosting.{Begins, BeginsAt, HasValuesAt, HoldsSo, RunsRound, TakesDatagram, TakesFailure, TakesLine, TakesLines, after_one, after_taking, last_id_of, output_at, shard_of, with_events};
+ghost use Rattle.sip_host.specs.Hosting.{Begins, BeginsAt, HasValuesAt, HoldsSo, RunsRound, TakesDatagram, TakesFailure, TakesLine, TakesLines, TellsIfItBegins, after_one, after_taking, last_id_of, output_at, shard_of, with_events};
 ghost use Rattle.sip_host.specs.declared.field.Field.TheVariants as field;
 ghost use Rattle.sip_host.specs.declared.host_fault.HostFault.TheVariants as fault;
 
@@ -35,8 +35,8 @@ use crate::host_fault::HostFault;
 use crate::next_output::NextOutput;
 use crate::start_length::StartLength;
 use sip_files::{GivenHeader, read_event_line, read_event_lines, with_given};
-use sip_message::{Addr, Id, Spread, Token};
-use sip_reader::{FirstLine, HeaderLine, header_lines, header_values, start_line};
+use sip_message::{Addr, Id, ReadFault, Spread, Token};
+use sip_reader::{FirstLine, HeaderLine, header_lines, header_values, read, start_line};
 use sip_round::{
     Agent, Config, Event, MAX_EVENTS_OF_ROUND, NoMemory, PlacedOutput, Round, datagram_at, event_at,
 };
@@ -478,6 +478,24 @@ impl Host {
         };
         put(value.as_slice(), buffer);
         Ok(Some(value.len()))
+    }
+
+    /// Whether a datagram would begin a transaction if it came in the next round: it is a request
+    /// other than ACK, and no transaction with its key is held (RFC 3261, section 17.2.3). A host
+    /// that holds too much can leave such a datagram unread. Events that wait for the next round
+    /// don't count.
+    ///
+    /// # Errors
+    ///
+    /// Memory ran out.
+    pub fn would_begin(&self, bytes: &[u8]) -> Result<bool, AllocError>
+        ensures { IfOk result (TellsIfItBegins bytes.now self.now) }
+    {
+        match read(self.alloc, bytes) {
+            Ok(message) => self.agent.would_begin(&message),
+            Err(ReadFault::NoMemory) => Err(AllocError),
+            Err(_) => Ok(false),
+        }
     }
 
     /// The id of the event that was given last, if the next round has one. Notices about a

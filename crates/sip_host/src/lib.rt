@@ -2,6 +2,7 @@
 //! and moments as values, and gives its outputs one after another. It starts no thread.
 #![tactic(auto)]
 
+mod absolute;
 mod asking;
 mod field;
 mod fields;

@@ -54,7 +54,9 @@ fn listen_by<'a, T: Threads + Host, N: Write + Send + Drop + 'static, E: Write>(
     errors: &mut E,
 ) -> Result<(), Failure<'a>> {
     let plan = listen_plan(rt, alloc, words)?;
-    let endpoint = endpoint_of_turns(rt, alloc, words.own, words.length, words.drops)?;
+    let mut endpoint = endpoint_of_turns(rt, alloc, words.own, words.length, words.drops)?;
+    endpoint.most_held = words.most_held;
+    endpoint.is_announced = true;
     let turns = words.length.turns();
     let mut notices = notice_writer(rt, alloc, stream)?;
     let end = listen_at(rt, alloc, endpoint, plan, turns, &mut notices, errors);
@@ -102,6 +104,7 @@ fn listen_plan<'a, T: Files>(
         status: words.status,
         body,
         contact,
+        must_answer: words.must_answer,
     })
 }
 
@@ -220,6 +223,7 @@ fn agent_by<'a, T: Threads + Host, N: Write + Send + Drop + 'static, E: Write>(
     let mut endpoint = endpoint_of(rt, alloc, words.own)?;
     endpoint.division = words.division;
     endpoint.kind = words.kind;
+    endpoint.is_announced = true;
     let pipe = rt.commands();
     let mut notices = notice_writer(rt, alloc, stream)?;
     let end = agent(

@@ -37,7 +37,7 @@ Exit status:
   3  a round was refused: its time goes back or is too large, or it has too many events
   4  a file, a stream or the socket failed
   5  out of memory
-  6  the call was not answered (with --must-answer)";
+  6  the call was not answered, or too few were (with --must-answer)";
 
 const REPLAY_EXAMPLE: &str = "\
 Example:
@@ -133,6 +133,8 @@ pub(crate) struct ListenWords<'a> {
     pub contact: Option<&'a str>,
     pub body: Option<&'a str>,
     pub no_body: bool,
+    pub most_held: Option<u32>,
+    pub must_answer: u32,
     pub drops: bool,
 }
 
@@ -338,6 +340,8 @@ pub(crate) fn listen_words<'a>(matches: &ArgMatches<'a>) -> Option<ListenWords<'
         contact: listen.get_str("contact"),
         body: listen.get_str("body"),
         no_body: listen.get_flag("no-body"),
+        most_held: listen.get_one::<u32>("held"),
+        must_answer: listen.get_one::<u32>("must-answer").unwrap_or(0),
         drops: listen.get_flag("drops"),
     })
 }
@@ -410,6 +414,8 @@ fn listen_command<'a>(alloc: Global) -> Result<Command<'a>, AllocError> {
             since there is no media",
         ),
         no_body,
+        held_argument(alloc),
+        must_answer_calls_argument(alloc),
         drops_argument(alloc),
         record_argument(alloc),
         stats_argument(alloc),
@@ -469,6 +475,25 @@ fn no_body_argument<'a>(alloc: Global) -> Result<Arg<'a>, AllocError> {
         .action(ArgAction::SetTrue)
         .help("Send no body in a 2xx to an INVITE");
     argument.conflicts_with("body")
+}
+
+fn held_argument<'a>(alloc: Global) -> Arg<'a> {
+    Arg::new(alloc, "held")
+        .long("held")
+        .value_name("N")
+        .value_parser(value_parser!(u32).range(1..))
+        .help(
+            "While N transactions are held, ignore requests that would begin another one; but take \
+            those in a dialog, and CANCEL, until 2 * N are held",
+        )
+}
+
+fn must_answer_calls_argument<'a>(alloc: Global) -> Arg<'a> {
+    Arg::new(alloc, "must-answer")
+        .long("must-answer")
+        .value_name("N")
+        .value_parser(value_parser!(u32))
+        .help("Exit with status 6 if fewer than N calls got a 2xx")
 }
 
 fn call_command<'a>(alloc: Global) -> Result<Command<'a>, AllocError> {

@@ -10,6 +10,7 @@ pub mod FewUps
 pub mod GivenNotices
 pub mod GivenSends
 pub mod HeldInShards
+pub mod HeldLives
 pub mod Leading
 pub mod IdleRound
 pub mod InForm

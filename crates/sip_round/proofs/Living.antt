@@ -1,8 +1,10 @@
 -- How many keys the tables of all shards hold.
 use Rattle.std.proofs.Common.{◌≡◌, ℕ, zero, suc, ◌+◌, ◌<◌, Bool, true, false, cond, ◌&&◌, List, [], ◌∷◌, length, get_or, take, ◌++◌, nat_eq, nat_le, nat_lt, refl, sym, ◌∙◌, ap, subst, arith, All}
-use Rattle.std.specs.Prelude.{Option, None, is_some, IsSome, count_by, sum_by}
+use Rattle.std.specs.Prelude.{Option, None, Some, is_some, IsSome, count_by, sum_by}
 use Rattle.std.specs.declared.cmp.Ordering.{Ordering}
 use Rattle.std.specs.Cmp.{IsTotalOrder}
+use Rattle.std.specs.List.{slice_get}
+use Rattle.std.proofs.lemmas.Bool.{eq-eqb}
 use Rattle.std.proofs.lemmas.Grind.{common_steps}
 use Rattle.std.proofs.lemmas.List.Elements.{All-nil, All-cons}
 use Rattle.std.proofs.lemmas.List.Sums.{sum_by-append, sum_by-cons}
@@ -108,6 +110,23 @@ module _ {K S I O : Type 0} {cmp : K → K → Ordering} (total : IsTotalOrder c
       (λ key. cond (inside (suc number) (length ts) (owner key) && is_some (states key)) 1 0)
       (λ key. cond (inside number (suc (length ts)) (owner key) && is_some (states key)) 1 0)
       (λ key. one_more number (length ts) (owner key) (is_some (states key))) keys
+
+  -- the table that owns a key holds its state
+  pub state_of_owner : (number : ℕ) (tables : List (Held K S))
+      → HoldFrom cmp machine tick owner number tables phases
+      → (i : ℕ) (table : Held K S) (key : K) → slice_get tables i ≡ Some table
+      → owner key ≡ number + i → state_at cmp table key ≡ states key
+  state_of_owner number [] hold i table key at owns = absurd cc
+  state_of_owner number (t ∷ ts) hold zero table key at owns =
+      let this : t ≡ table = cc (at) in
+      let here : owner key ≡ number = omega (arith, owns) in
+      let own : nat_eq (owner key) number ≡ true = eq-eqb (owner key) number here in
+      ap (λ held. state_at cmp held key) (sym this) ∙ hold.0.states key
+      ∙ owned_states total exact machine due tick idle (is_owned owner number) phases key
+      ∙ ap (λ own. cond own (states key) None) own
+  state_of_owner number (t ∷ ts) hold (suc i) table key at owns =
+      let next : owner key ≡ suc number + i = omega (arith, owns) in
+      state_of_owner (suc number) ts hold.1 i table key at next
 
   covered_from : (number : ℕ) (tables : List (Held K S))
       → HoldFrom cmp machine tick owner number tables phases

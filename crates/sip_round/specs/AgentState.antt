@@ -1,5 +1,5 @@
 -- What an agent shows between its rounds, and when it refuses a round before anything is done.
-use Rattle.std.specs.Prelude.{◌≡◌, ℕ, ◌<◌, ◌≤◌, ◌^◌, nat_lt, List, Option, None, Some, length, map, is_some, if◌then◌else◌}
+use Rattle.std.specs.Prelude.{◌≡◌, ◌⊎◌, ℕ, ◌<◌, ◌≤◌, ◌^◌, nat_lt, true, false, List, Option, None, Some, IfSome, Result, Err, OnErr, OnOk, length, map, is_some, if◌then◌else◌}
 use Rattle.std.specs.Option.{option_map_or}
 use Rattle.sip_calls.specs.CallShard.{HeldCalls}
 use Rattle.sip_calls.specs.declared.call.Call.{Call}
@@ -9,7 +9,7 @@ use Rattle.keyed_machine.specs.Table.{Held}
 use Rattle.sip_transactions.specs.Shard.{Lives}
 use Rattle.sip_transactions.specs.declared.life.Life.{Life}
 use Rattle.sip_round.specs.declared.round_fault.RoundFault.{RoundFault}
-use Rattle.sip_round.specs.declared.round_fault.RoundFault.TheVariants.{Broken, MomentBackwards, MomentTooLarge, TooManyEvents, RoundsUsedUp}
+use Rattle.sip_round.specs.declared.round_fault.RoundFault.TheVariants.{Broken, MomentBackwards, MomentTooLarge, NoMemory, TooManyEvents, RoundsUsedUp}
 use Rattle.sip_round.specs.declared.round.Round.{Round}
 
 -- the shards of the transactions and those of the calls, in order
@@ -56,3 +56,14 @@ round_fault last number round =
 abbrev pub refusal_of : {C : Type 0} → AgentState C → Round → Option RoundFault
 refusal_of agent round = if is_some agent.shards
     then round_fault agent.last_moment agent.next_round round else Some Broken
+
+-- how a call that runs a round ends: a round that is refused leaves the agent as it was; otherwise
+-- the only fault is that memory ran out, which leaves it as it was, or broken
+pub record EndsRound {C O : Type 0} (old new : AgentState C) (round : Round)
+    (answer : Result O RoundFault) : Type 0 where
+  pub refused : IfSome (refusal_of old round) (λ fault. (answer ≡ Err fault) × (new ≡ old))
+  pub memory : refusal_of old round ≡ None
+      → OnErr answer ((answer ≡ Err (NoMemory false)) ⊎ (answer ≡ Err (NoMemory true)))
+  pub unbroken : answer ≡ Err (NoMemory false) → new ≡ old
+  pub broken : answer ≡ Err (NoMemory true) → new.shards ≡ None
+  pub count : OnOk answer (shard_count new ≡ shard_count old)

@@ -5,6 +5,7 @@ pub mod CallsHeld
 pub mod Given
 pub mod Laws
 pub mod Live
+pub mod NewTransactions
 pub mod NextDue
 pub mod Outputs
 pub mod Phases

@@ -20,11 +20,11 @@ use crate::shards::Shards;
 use crate::waiting::{SetOut, set_out};
 use keyed_machine::laws_of_phases;
 use sip_calls::Calls;
-use sip_message::Cut;
+use sip_message::{Cut, Message, key_of};
 use sip_shards::{parts_of, tell_of_each};
 use sip_transactions::Transactions;
 use sip_workers::{Gate, NoMemory};
-use std::alloc::Global;
+use std::alloc::{AllocError, Global};
 use std::marker::Model;
 use std::thread::Threads;
 
@@ -82,11 +82,12 @@ impl<C: Cut + Drop> Drop for Agent<C> {
 }
 
 impl<C: Cut + Drop> Agent<C> {
-    ghost use Rattle.sip_round.specs.AgentState.{ShardTables, refusal_of, shard_count};
+    ghost use Rattle.sip_round.specs.AgentState.{EndsRound, ShardTables, refusal_of, shard_count};
     ghost use Rattle.sip_round.specs.Answers.{StandsFor, answers, past_of, placed_answers};
     ghost use Rattle.sip_round.specs.Steps.Led.{Deals};
     ghost use Rattle.sip_round.specs.Steps.OneMore.{GivesOneMore};
     ghost use Rattle.sip_round.specs.Live.{live_of};
+    ghost use Rattle.sip_round.specs.NewTransactions.{would_begin};
     ghost use Rattle.sip_round.specs.NextDue.{IsDueAfter, IsQuietAfter};
     ghost use Rattle.sip_timers.specs.Queue.{is_due};
     ghost use Rattle.sip_round.specs.declared.config.Config.{Config};
@@ -133,6 +134,29 @@ impl<C: Cut + Drop> Agent<C> {
         }
     }
 
+    /// Whether a request would begin a transaction if it came in the next round (RFC 3261, section
+    /// 17.2.3): it isn't an ACK, and no transaction with its key is held. Under load a host can
+    /// leave such a datagram unread.
+    ///
+    /// # Errors
+    ///
+    /// Memory ran out.
+    pub fn would_begin(&self, message: &Message) -> Result<bool, AllocError>
+        ensures broken { self.now.shards ≡ None → IfOk result (λ begins. begins ≡ false) }
+        ensures begins { IfOk result (λ begins. (config : Config) (rounds : List Round)
+            → StandsFor C.shard_of self.now config rounds
+            → begins ≡ would_begin config rounds message.now) }
+    {
+        let Some(shards) = &self.shards else {
+            return Ok(false);
+        };
+        if !message.is_request() || message.method().as_slice() == b"ACK".as_slice() {
+            return Ok(false);
+        }
+        let key = key_of(self.alloc, message)?;
+        Ok(!shards.holds(&self.cut, &key))
+    }
+
     /// The number of the next round. The ids of its events have it. Takes no memory.
     pub fn next_round(&self) -> u64
         ensures { result ≡ self.now.next_round }
@@ -177,14 +201,7 @@ impl<C: Cut + Drop> Agent<C> {
     ) -> Result<Vec<Output>, RoundFault>
         requires some { 0 < workers }
         requires most { workers ≤ 64 }
-        ensures refused { IfSome (refusal_of self.old round.now)
-            (λ fault. (result ≡ Err fault) × (self.new ≡ self.old)) }
-        ensures memory { refusal_of self.old round.now ≡ None
-            → OnErr result ((result ≡ Err (round_fault.NoMemory false))
-            ⊎ (result ≡ Err (round_fault.NoMemory true))) }
-        ensures unbroken { result ≡ Err (round_fault.NoMemory false) → self.new ≡ self.old }
-        ensures broken { result ≡ Err (round_fault.NoMemory true) → self.new.shards ≡ None }
-        ensures count { OnOk result (shard_count self.new ≡ shard_count self.old) }
+        ensures ends { EndsRound self.old self.new round.now result }
 
         // Whatever rounds the agent stood for, it now stands for this one too. Its answer is the
         // one to this round after those.
@@ -212,14 +229,7 @@ impl<C: Cut + Drop> Agent<C> {
     ) -> Result<Vec<PlacedOutput>, RoundFault>
         requires some { 0 < workers }
         requires most { workers ≤ 64 }
-        ensures refused { IfSome (refusal_of self.old round.now)
-            (λ fault. (result ≡ Err fault) × (self.new ≡ self.old)) }
-        ensures memory { refusal_of self.old round.now ≡ None
-            → OnErr result ((result ≡ Err (round_fault.NoMemory false))
-            ⊎ (result ≡ Err (round_fault.NoMemory true))) }
-        ensures unbroken { result ≡ Err (round_fault.NoMemory false) → self.new ≡ self.old }
-        ensures broken { result ≡ Err (round_fault.NoMemory true) → self.new.shards ≡ None }
-        ensures count { OnOk result (shard_count self.new ≡ shard_count self.old) }
+        ensures ends { EndsRound self.old self.new round.now result }
 
         // Whatever rounds the agent stood for, it now stands for this one too. Its answer is the
         // one to this round after those, each output with its place.
@@ -248,14 +258,7 @@ impl<C: Cut + Drop> Agent<C> {
     ) -> Result<Vec<F>, RoundFault>
         requires some { 0 < workers }
         requires most { workers ≤ 64 }
-        ensures refused { IfSome (refusal_of self.old round.now)
-            (λ fault. (result ≡ Err fault) × (self.new ≡ self.old)) }
-        ensures memory { refusal_of self.old round.now ≡ None
-            → OnErr result ((result ≡ Err (round_fault.NoMemory false))
-            ⊎ (result ≡ Err (round_fault.NoMemory true))) }
-        ensures unbroken { result ≡ Err (round_fault.NoMemory false) → self.new ≡ self.old }
-        ensures broken { result ≡ Err (round_fault.NoMemory true) → self.new.shards ≡ None }
-        ensures count { OnOk result (shard_count self.new ≡ shard_count self.old) }
+        ensures ends { EndsRound self.old self.new round.now result }
         ensures gives { IfOk result (λ outputs.
             GivesOneMore C.shard_of F.form self.old self.new round.now outputs.items) }
     {
@@ -306,14 +309,7 @@ impl<C: Cut + Drop> Agent<C> {
     ///
     /// As `run_round`.
     pub fn run_round_in_turn(&mut self, round: &Round) -> Result<Vec<Output>, RoundFault>
-        ensures refused { IfSome (refusal_of self.old round.now)
-            (λ fault. (result ≡ Err fault) × (self.new ≡ self.old)) }
-        ensures memory { refusal_of self.old round.now ≡ None
-            → OnErr result ((result ≡ Err (round_fault.NoMemory false))
-            ⊎ (result ≡ Err (round_fault.NoMemory true))) }
-        ensures unbroken { result ≡ Err (round_fault.NoMemory false) → self.new ≡ self.old }
-        ensures broken { result ≡ Err (round_fault.NoMemory true) → self.new.shards ≡ None }
-        ensures count { OnOk result (shard_count self.new ≡ shard_count self.old) }
+        ensures ends { EndsRound self.old self.new round.now result }
 
         // Whatever rounds the agent stood for, it now stands for this one too. Its answer is the
         // one to this round after those.
@@ -335,14 +331,7 @@ impl<C: Cut + Drop> Agent<C> {
         &mut self,
         round: &Round,
     ) -> Result<Vec<PlacedOutput>, RoundFault>
-        ensures refused { IfSome (refusal_of self.old round.now)
-            (λ fault. (result ≡ Err fault) × (self.new ≡ self.old)) }
-        ensures memory { refusal_of self.old round.now ≡ None
-            → OnErr result ((result ≡ Err (round_fault.NoMemory false))
-            ⊎ (result ≡ Err (round_fault.NoMemory true))) }
-        ensures unbroken { result ≡ Err (round_fault.NoMemory false) → self.new ≡ self.old }
-        ensures broken { result ≡ Err (round_fault.NoMemory true) → self.new.shards ≡ None }
-        ensures count { OnOk result (shard_count self.new ≡ shard_count self.old) }
+        ensures ends { EndsRound self.old self.new round.now result }
 
         // Whatever rounds the agent stood for, it now stands for this one too. Its answer is the
         // one to this round after those, each output with its place.
@@ -363,14 +352,7 @@ impl<C: Cut + Drop> Agent<C> {
 
     // A round on the calling thread, with its outputs in this form.
     fn run_in_turn<F: Form>(&mut self, round: &Round) -> Result<Vec<F>, RoundFault>
-        ensures refused { IfSome (refusal_of self.old round.now)
-            (λ fault. (result ≡ Err fault) × (self.new ≡ self.old)) }
-        ensures memory { refusal_of self.old round.now ≡ None
-            → OnErr result ((result ≡ Err (round_fault.NoMemory false))
-            ⊎ (result ≡ Err (round_fault.NoMemory true))) }
-        ensures unbroken { result ≡ Err (round_fault.NoMemory false) → self.new ≡ self.old }
-        ensures broken { result ≡ Err (round_fault.NoMemory true) → self.new.shards ≡ None }
-        ensures count { OnOk result (shard_count self.new ≡ shard_count self.old) }
+        ensures ends { EndsRound self.old self.new round.now result }
         ensures gives { IfOk result (λ outputs.
             GivesOneMore C.shard_of F.form self.old self.new round.now outputs.items) }
     {

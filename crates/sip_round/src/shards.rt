@@ -14,8 +14,8 @@ ghost use Rattle.sip_transactions.specs.Machine.{life_due, transaction_machine};
 
 use keyed_machine::KeyShard;
 use sip_calls::{CallShard, Calls};
-use sip_message::{Addr, Cut};
-use sip_shards::{are_idle, next_due_in, transfer};
+use sip_message::{Addr, Cut, SharedKey};
+use sip_shards::{Named, are_idle, next_due_in, transfer};
 use sip_timers::earlier;
 use sip_transactions::{Shard, Transactions};
 use sip_workers::NoMemory;
@@ -50,7 +50,7 @@ impl Drop for Shards {
 }
 
 impl Shards {
-    ghost use Rattle.keyed_machine.specs.Phase.{Phase};
+    ghost use Rattle.keyed_machine.specs.Phase.{Phase, states_after};
     ghost use Rattle.sip_round.specs.AgentState.{ShardTables, AreShards, calls_held, lives_held};
     ghost use Rattle.sip_round.specs.Answers.{HoldCalls, HoldTransactions};
     ghost use Rattle.keyed_machine.specs.Machine.{Timed, tick_at};
@@ -176,6 +176,19 @@ impl Shards {
             ⊎ IsDueIn call_cmp call_due due (calls_held self.now)) }
     {
         earlier(next_due_in(&self.transactions), next_due_in(&self.calls))
+    }
+
+    /// Whether a transaction with this key is held. Takes no memory.
+    pub(crate) fn holds<C: Cut>(&self, cut: &C, key: &SharedKey) -> bool
+        ensures { (past : List (Phase Key (Timed Input)))
+            → HoldTransactions (C.shard_of cut.now) self.now past
+            → result ≡ is_some (states_after key_cmp transaction_machine tick_at past key.now) }
+    {
+        let owner = cut.shard(key.name(), self.count());
+        match self.transactions.get(owner) {
+            Some(shard) => shard.state_of(key).is_some(),
+            None => false,
+        }
     }
 
     /// How many transactions and how many calls are held.

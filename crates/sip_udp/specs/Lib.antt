@@ -1,3 +1,4 @@
+pub mod Admission
 pub mod KeepAlive
 pub mod LineEnd
 pub mod Prepared

@@ -24,6 +24,8 @@ pub(crate) struct Counts {
     outcomes: Outcomes,
     most_held: u128,
     pub(crate) losses: Losses,
+    /// Datagrams that weren't taken since too much was held, if there is a limit.
+    pub(crate) shed: Option<u64>,
 }
 
 /// The datagrams that were lost on their way in or out.
@@ -58,6 +60,7 @@ impl Counts {
             outcomes: Outcomes::new(alloc),
             most_held: 0,
             losses: Losses::default(),
+            shed: None,
         }
     }
 
@@ -157,8 +160,11 @@ impl fmt::Display for Counts {
             ", {sent} sent, {unsent} failed, {again} again, {outcomes}, {most_held} held at most, \
             {unposted} lost"
         )?;
-        match by_system {
-            Some(count) => write!(f, ", {count} lost by the system"),
+        if let Some(count) = by_system {
+            write!(f, ", {count} lost by the system")?;
+        }
+        match self.shed {
+            Some(count) => write!(f, ", {count} shed"),
             None => Ok(()),
         }
     }

@@ -22,10 +22,15 @@ pub struct Endpoint<F> {
     pub kind: FileKind,
     /// Whether the counts are written at the end.
     pub is_counted: bool,
+    /// Whether it is said when datagrams can come.
+    pub is_announced: bool,
     /// Whether drops are told, too. A user on a pipe is always told of them.
     pub tells_drops: bool,
     /// After how many seconds the turns end, if at all.
     pub seconds: Option<u32>,
+    /// How many transactions are to be held at most, if there is a limit. Above it requests are
+    /// shed.
+    pub most_held: Option<u32>,
     /// The input whose end ends the turns of `listen` and `call`, if one does.
     pub input: Option<Arc<InputEnd>>,
 }
@@ -45,8 +50,10 @@ impl<F> Endpoint<F> {
             record,
             kind: FileKind::Events,
             is_counted: false,
+            is_announced: false,
             tells_drops: false,
             seconds: None,
+            most_held: None,
             input: None,
         }
     }

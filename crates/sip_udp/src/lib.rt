@@ -2,6 +2,7 @@
 //! records and counts. Each turn asks a user what to do: one of `sip_applications`.
 #![tactic(auto)]
 
+mod admission;
 mod bell;
 mod counts;
 mod division;
@@ -24,6 +25,7 @@ mod socket_table;
 mod turns;
 mod user;
 
+pub use admission::Admission;
 pub use bell::Bell;
 pub use counts::Losses;
 pub use division::Division;

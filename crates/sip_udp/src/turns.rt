@@ -5,6 +5,7 @@ ghost use Rattle.sip_desk.specs.Lines.{KeepsLines};
 ghost use Rattle.sip_round.specs.declared.round.Event.{Event as AnEvent};
 ghost use Rattle.sip_udp.specs.Sending.{SendsAll};
 
+use crate::admission::Admission;
 use crate::bell::Bell;
 use crate::counts::{Counts, Losses};
 use crate::division::Division;
@@ -44,6 +45,7 @@ pub struct Turns<U, F> {
     division: Division,
     record: Record<F>,
     limit: Limit,
+    admission: Admission,
     // Whether drops are told.
     drops: bool,
     // The counts, if they are told at the end.
@@ -65,6 +67,7 @@ impl<U: User, F: Write + Drop> Turns<U, F> {
         division: Division,
         mut record: Record<F>,
         limit: Limit,
+        admission: Admission,
         drops: bool,
         is_counted: bool,
         mut user: U,
@@ -86,6 +89,7 @@ impl<U: User, F: Write + Drop> Turns<U, F> {
             division,
             record,
             limit,
+            admission,
             drops,
             counts: is_counted.then(|| Counts::new(alloc, config.local)),
             start,
@@ -148,6 +152,7 @@ impl<U: User, F: Write + Drop> Turns<U, F> {
     pub fn tell_counts<E: Write>(&mut self, losses: Losses, errors: &mut E) {
         if let Some(counts) = &mut self.counts {
             counts.losses = losses;
+            counts.shed = self.admission.shed();
             let _ = writeln!(errors, "ua: {counts}");
         }
     }
@@ -241,12 +246,13 @@ impl<U: User, F: Write + Drop> Turns<U, F> {
             .map_err(|_| UaFault::Socket)
     }
 
-    // Puts what was posted behind what waits, as far as the next round has room.
+    // Puts what was posted and is admitted behind what waits, as far as the next round has room.
     fn collect(&mut self, desk: &mut Desk<Event>) -> Result<(), UaFault>
         ensures { KeepsLines desk.old desk.new }
     {
         let room = MAX_EVENTS_OF_ROUND.saturating_sub(self.waiting.len());
-        let mut events = desk.collect(room.min(MOST_COLLECTED))?;
+        let events = desk.collect(room.min(MOST_COLLECTED))?;
+        let mut events = self.admission.admit(self.alloc, &self.agent, events)?;
         self.waiting.append(&mut events)?;
         Ok(())
     }

@@ -1,7 +1,9 @@
 -- Reading the lines of a file one after another, each where it may stand.
-use Rattle.std.specs.Prelude.{ℕ, Bool, true, false, ◌&&◌, ◌==◌, List, [], ◌∷◌, ◌++◌, length, Option, Some, None, replicate}
+use Rattle.std.specs.Prelude.{ℕ, nat_eq, Bool, true, false, not, ◌&&◌, ◌||◌, ◌==◌, List, [], ◌∷◌, ◌++◌, length, count_by, Option, Some, None, replicate, if◌then◌else◌}
+use Rattle.std.specs.List.{list_any}
 use Rattle.std.specs.Option.{option_map}
 use Rattle.sip_text.specs.Options.{◌>>=◌}
+use Rattle.sip_message.specs.Wildcard.{has_wildcard_uri}
 use Rattle.sip_message.specs.declared.addr.Addr.{Addr}
 use Rattle.sip_round.specs.declared.round.Event.{Event}
 use Rattle.sip_round.specs.declared.round.Round.{Round}
@@ -12,7 +14,9 @@ use Rattle.sip_files.specs.declared.draft.Stage.TheVariants as stage
 use Rattle.sip_files.specs.declared.draft.Draft.{Draft}
 use Rattle.sip_files.specs.declared.given_header.GivenHeader.{GivenHeader}
 use Rattle.sip_files.specs.declared.progress.Progress.{Progress}
-use Rattle.sip_files.specs.Given.{with_headers}
+use Rattle.sip_files.specs.declared.given_headers.GivenHeaders.{GivenHeaders}
+use Rattle.sip_files.specs.Given.{gathered, with_headers}
+use Rattle.sip_files.specs.Unregister.{expires_at_once, is_expires, is_only_wildcard}
 
 abbrev pub nothing_read : Draft
 nothing_read = record {
@@ -103,11 +107,22 @@ no_lines = record { draft = nothing_read; headers = [] }
 abbrev pub is_whole : Progress → Bool
 is_whole progress = is_begun progress.draft.stage && (length progress.headers == 0)
 
--- header lines may stand only in a round
+-- `*` is the only Contact, and there is no Expires yet, or one of 0 seconds
+abbrev pub may_unregister : GivenHeaders → Bool
+may_unregister headers = is_only_wildcard headers.contacts
+    && (nat_eq (count_by is_expires headers.others) 0 || expires_at_once headers.others)
+
+-- a command may follow these headers, maybe after more of them
+abbrev pub may_go_on : GivenHeaders → Bool
+may_go_on headers =
+    not (list_any has_wildcard_uri headers.contacts) || may_unregister headers
+
+-- header lines may stand only in a round, where a command may follow them
 abbrev pub header_in_round : List Round → Progress → GivenHeader → Option Progress
 header_in_round [] progress header = None
 header_in_round (round ∷ rounds) progress header =
-    Some (record progress { headers = progress.headers ++ header ∷ [] })
+    if may_go_on (gathered (progress.headers ++ header ∷ []))
+    then Some (record progress { headers = progress.headers ++ header ∷ [] }) else None
 
 abbrev pub header_went : Progress → GivenHeader → Option Progress
 header_went progress header = header_in_round progress.draft.rounds progress header

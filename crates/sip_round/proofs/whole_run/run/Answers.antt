@@ -17,7 +17,7 @@ loop-index-preserved g c =
     c.push.new.self.items c.in-Ok-run_round.outputs
     c.loop-index.invariant c.loop-index-test.true c.index-rounds-index.is
     (fine_where_ok g.C.Cut.shard_of _ _ c.run_round.result c.in-Ok-run_round.outputs
-    c.in-Ok-run_round.is c.run_round.ensures.refused) c.in-Ok-run_round.ensures.answers
+    c.in-Ok-run_round.is c.run_round.ensures.ends.refused) c.in-Ok-run_round.ensures.answers
     c.in-Ok-push.ensures.items
 
 pub returns-in-Err-clause-refused : goal.returns-in-Err-clause-refused
@@ -26,7 +26,7 @@ returns-in-Err-clause-refused g c =
     c.index-rounds-index.result c.loop-index.agent c.loop-index.made.items c.run_round.result
     c.in-Err.fault
     c.loop-index.invariant c.loop-index-test.true c.index-rounds-index.is
-    c.run_round.ensures.refused c.run_round.ensures.memory c.in-Err.is
+    c.run_round.ensures.ends.refused c.run_round.ensures.ends.memory c.in-Err.is
 
 pub returns-in_default-push-clause-refused : goal.returns-in_default-push-clause-refused
 returns-in_default-push-clause-refused g c =
@@ -39,7 +39,7 @@ returns-in_default-push-clause-refused g c =
             c.index-rounds-index.result c.loop-index.agent c.loop-index.made.items
             c.loop-index.invariant c.loop-index-test.true c.index-rounds-index.is
             (fine_where_ok g.C.Cut.shard_of _ _ c.run_round.result c.in-Ok-run_round.outputs
-            c.in-Ok-run_round.is c.run_round.ensures.refused),
+            c.in-Ok-run_round.is c.run_round.ensures.ends.refused),
       ),
     )
 

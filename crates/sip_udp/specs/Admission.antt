@@ -1,0 +1,50 @@
+-- Which datagrams an agent that holds much doesn't take.
+use Rattle.std.specs.Prelude.{ℕ, ◌*◌, nat_lt, Bool, true, false, not, ◌&&◌, ◌||◌, List, codes, length, Option, None, Some, Result, Ok, Err, ◌==◌, if◌then◌else◌}
+use Rattle.std.specs.Str.{bytes_eq}
+use Rattle.sip_message.specs.Cut.{spread_shard}
+use Rattle.sip_message.specs.Party.{tag_of}
+use Rattle.sip_message.specs.declared.cut.Spread.{Spread}
+use Rattle.sip_message.specs.declared.fault.ReadFault.{ReadFault}
+use Rattle.sip_message.specs.declared.message.Message.{Message}
+use Rattle.sip_reader.specs.ReadMessage.{message_at}
+use Rattle.sip_round.specs.NewTransactions.{would_begin}
+use Rattle.sip_round.specs.declared.config.Config.{Config}
+use Rattle.sip_round.specs.declared.round.Event.{Event}
+use Rattle.sip_round.specs.declared.round.Event.TheVariants.{Command, Datagram, Failed}
+use Rattle.sip_round.specs.declared.round.Round.{Round}
+use Rattle.sip_udp.specs.declared.admission.Load.{Load}
+use Rattle.sip_udp.specs.declared.admission.Load.TheVariants as load
+
+-- how the names of the agent are cut among its shards
+abbrev pub shard_of : Spread → List ℕ → ℕ → ℕ
+shard_of cut name shards = spread_shard name shards
+
+-- the load of so many transactions that are held, where so many are wanted at most
+abbrev pub load_of : Option ℕ → ℕ → Load
+load_of None held = load.Low
+load_of (Some most) held = if nat_lt held most then load.Low
+    else if nat_lt held (2 * most) then load.High else load.Full
+
+-- a request may be of a call that stands: it is in a dialog, since its To has a tag (12.2.2), or it
+-- cancels an INVITE (9.2)
+abbrev pub is_of_a_call : Message → Bool
+is_of_a_call message =
+    not (length (tag_of message.to) == 0) || bytes_eq message.cseq.method (codes "CANCEL")
+
+-- at a high load only such requests may begin a transaction, at a full one none
+abbrev pub is_let_in : Load → Message → Bool
+is_let_in load.Low message = true
+is_let_in load.High message = is_of_a_call message
+is_let_in load.Full message = false
+
+-- after these rounds, the datagram with this message isn't taken
+abbrev pub is_shed_message : Config → List Round → Load → Result Message ReadFault → Bool
+is_shed_message config rounds load (Ok message) =
+    not (is_let_in load message) && would_begin config rounds message
+is_shed_message config rounds load (Err fault) = false
+
+abbrev pub is_shed : Config → List Round → Load → Event → Bool
+is_shed config rounds load (Datagram from bytes) =
+    is_shed_message config rounds load (message_at bytes)
+is_shed config rounds load (Failed key) = false
+is_shed config rounds load (Command command) = false
