@@ -64,7 +64,7 @@ from sip_ua import (
     TimeoutNotice,
 )
 from sip_ua_digest import CHALLENGES, Authenticator
-from sip_ua_udp import Endpoint, open_endpoint
+from sip_ua_udp import MOST_TRANSACTIONS, Endpoint, open_endpoint
 
 __all__ = (
     "UserAgent open_user_agent Call OutgoingCall IncomingCall CallFailed FinalResponse "
@@ -914,12 +914,16 @@ async def open_user_agent(
     password: str = "",
     on_request: Optional[Callable[[IncomingRequest], None]] = None,
     most_calls: int = MOST_CALLS,
+    most_transactions: int = MOST_TRANSACTIONS,
     local: Optional[Address] = None,
 ) -> UserAgent:
-    """Opens a user agent whose socket has this address; port 0 takes a free one. `local` is as for
-    `open_endpoint`. Without a URI, its own is that of its address."""
+    """Opens a user agent whose socket has this address; port 0 takes a free one. `local` and
+    `most_transactions` are as for `open_endpoint`. Without a URI, its own is that of its address.
+    """
     agent = UserAgent(proxy, username, password, on_request, most_calls)
-    agent.endpoint = await open_endpoint(library, address, agent.told, local)
+    agent.endpoint = await open_endpoint(
+        library, address, agent.told, local, most_transactions=most_transactions
+    )
     ip, port = agent.endpoint.local
     agent.uri = uri or f"sip:{ip}:{port}"
     return agent

@@ -12,12 +12,20 @@ sip_ua_calls.py has calls as objects over this.
 
 import asyncio
 import os
+import re
 import socket
 from typing import Callable, Optional, Tuple, Union, cast
 
 from sip_ua import LARGEST_DATAGRAM, Agent, Command, Drop, Error, Id, Notice, Send, Status
 
-__all__ = ["Endpoint", "open_endpoint"]
+__all__ = ["Endpoint", "MOST_TRANSACTIONS", "open_endpoint"]
+
+# How many transactions are held at one time: those of some 3,000 requests a second.
+MOST_TRANSACTIONS = 100000
+# A CANCEL, or a request with a tag in To.
+_OF_CALL = re.compile(
+    rb"\A\s*CANCEL |^(?:to|t)[ \t]*:[^\r\n]*;[ \t]*tag[ \t]*=", re.IGNORECASE | re.MULTILINE
+)
 
 Address = Tuple[str, int]
 OnTold = Callable[[Union[Notice, Drop]], None]
@@ -25,12 +33,14 @@ OnTold = Callable[[Union[Notice, Drop]], None]
 
 class Endpoint(asyncio.DatagramProtocol):
     """An agent with its socket. `open_endpoint` opens one, and `close` closes it. `local` is what
-    Via and Contact say. `lost` counts the datagrams that had no room in a round."""
+    Via and Contact say. `lost` counts the datagrams that had no room in a round or above
+    `most_transactions`."""
 
-    def __init__(self, agent: Agent, local: Address, on_told: OnTold):
+    def __init__(self, agent: Agent, local: Address, on_told: OnTold, most_transactions: int):
         self.agent = agent
         self.local = local
         self.lost = 0
+        self._most_transactions = most_transactions
         self._on_told = on_told
         self._loop = asyncio.get_running_loop()
         self._start = self._loop.time()
@@ -62,6 +72,9 @@ class Endpoint(asyncio.DatagramProtocol):
     def datagram_received(self, data: bytes, addr: Address) -> None:
         if self.is_closed:
             return
+        if self._is_shed(data):
+            self.lost += 1
+            return
         try:
             self.agent.datagram(addr, data)
         except Error as error:
@@ -69,6 +82,15 @@ class Endpoint(asyncio.DatagramProtocol):
                 raise
             self.lost += 1
         self._run_soon()
+
+    def _is_shed(self, data: bytes) -> bool:
+        """Whether a datagram would begin a transaction while too many are held. Those of calls that
+        stand are shed at twice that load."""
+        load = self.agent.stats().transactions
+        if load < self._most_transactions:
+            return False
+        is_of_call = load < 2 * self._most_transactions and _OF_CALL.search(data) is not None
+        return not is_of_call and self.agent.would_begin(data)
 
     def error_received(self, exc: Exception) -> None:
         """A send failed: called within sendto, or later if the network refused it."""
@@ -132,10 +154,12 @@ async def open_endpoint(
     on_told: OnTold,
     local: Optional[Address] = None,
     seed: Optional[bytes] = None,
+    most_transactions: int = MOST_TRANSACTIONS,
 ) -> Endpoint:
     """Opens an endpoint whose socket has this address; port 0 takes a free one. `local` is what Via
     and Contact say, if that isn't the socket's address: behind a NAT the one at which peers reach
-    it. Without a seed it takes a random one."""
+    it. Without a seed it takes a random one. While `most_transactions` are held, new requests
+    are ignored, except in calls; while twice as many are, these too."""
     udp = socket.socket(socket.AF_INET, socket.SOCK_DGRAM)
     try:
         udp.setblocking(False)
@@ -146,6 +170,6 @@ async def open_endpoint(
         udp.close()
         raise
     _, endpoint = await asyncio.get_running_loop().create_datagram_endpoint(
-        lambda: Endpoint(agent, own, on_told), sock=udp
+        lambda: Endpoint(agent, own, on_told, most_transactions), sock=udp
     )
     return endpoint

@@ -327,6 +327,24 @@ class CallsTest(unittest.IsolatedAsyncioTestCase):
             await soon(call.answered())
         self.assertEqual((await soon(asked)).status, 408)
 
+    async def test_more_transactions_than_may_be(self) -> None:
+        """New requests are ignored, but not those of a call."""
+        busy = await open_user_agent(LIBRARY, ANY_PORT, most_transactions=2)
+        self.assertEqual((await soon(self.one.request("OPTIONS", busy.uri))).status, 200)
+        coming = asyncio.ensure_future(next_call(busy))
+        await asyncio.sleep(0)
+        outgoing = await self.one.call(busy.uri, OFFER)
+        incoming = await soon(coming)
+        asked = asyncio.ensure_future(self.one.request("OPTIONS", busy.uri))
+        await soon(until(lambda: busy.endpoint.lost > 0))
+        incoming.answer(ANSWER)
+        await soon(asyncio.gather(outgoing.answered(), incoming.answered()))
+        outgoing.hang_up()
+        await soon(incoming.ended())
+        self.assertFalse(asked.done())
+        asked.cancel()
+        await busy.close(0.1)
+
     async def test_more_datagrams_than_a_round_takes(self) -> None:
         """Those above the bound are lost, and the agent goes on."""
         endpoint = self.two.endpoint
