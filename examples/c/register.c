@@ -23,6 +23,8 @@
 
 /* How many datagrams go into one round; others wait in the socket. */
 #define MOST_AT_ONCE 512
+/* How long the response to the last REGISTER is waited for, in ms. */
+#define LEAVE_MS 5000
 
 static uint8_t datagram[65536];
 static uint8_t texts[65536];
@@ -219,14 +221,14 @@ int main(int count, char **words)
     registration.expires = (uint32_t)strtoul(words[8], NULL, 10);
     uint64_t end = now() + 1000 * strtoull(words[9], NULL, 10);
     must(sip_ua_register(&registration, &agent, now()), "sip_ua_register");
-    /* After the end it unregisters, and waits for the response: by a timer, if none comes. */
     bool is_leaving = false;
-    while (!is_leaving || registration.state == SIP_UA_UNREGISTERING) {
+    while (!is_leaving || (registration.state == SIP_UA_UNREGISTERING && now() < end)) {
         struct pollfd waiting = { udp, POLLIN, 0 };
-        poll(&waiting, 1, patience(is_leaving ? now() + 1000 : end));
+        poll(&waiting, 1, patience(end));
         receive();
         if (!is_leaving && now() >= end) {
             is_leaving = true;
+            end = now() + LEAVE_MS;
             must(sip_ua_unregister(&registration, &agent, now(), false), "sip_ua_unregister");
         }
         run();
