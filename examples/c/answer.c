@@ -27,7 +27,7 @@
 #define MOST_AT_ONCE 512
 /* How many calls are held at one time. Another one gets 503, and may come again after this time, in
  * s. */
-#define MOST_CALLS 4096
+#define MOST_CALLS 16384
 #define RETRY_AFTER "10"
 /* How long the ends of calls are waited for, in ms. */
 #define LEAVE_MS 5000
@@ -54,8 +54,9 @@ typedef struct dialog {
     char call_id[256], local_tag[128], remote_tag[128];
 } dialog;
 
+/* Those that are held lie among the first `used`. */
 static dialog dialogs[MOST_CALLS];
-static size_t held_dialogs;
+static size_t used, held_dialogs;
 static bool is_leaving;
 static volatile sig_atomic_t is_interrupted;
 
@@ -155,7 +156,7 @@ static bool keep(sip_ua_bytes text, char *room, size_t size)
 /* The call with these texts of a notice, or NULL. */
 static dialog *dialog_of(const sip_ua_texts *said)
 {
-    for (size_t i = 0; i < MOST_CALLS; i++)
+    for (size_t i = 0; i < used; i++)
         if (dialogs[i].is_held && sip_ua_is(said->call_id, dialogs[i].call_id)
             && sip_ua_is(said->local_tag, dialogs[i].local_tag)
             && sip_ua_is(said->remote_tag, dialogs[i].remote_tag))
@@ -166,7 +167,7 @@ static dialog *dialog_of(const sip_ua_texts *said)
 /* The call whose INVITE or BYE has this id, or NULL. */
 static dialog *dialog_with(sip_ua_id id)
 {
-    for (size_t i = 0; i < MOST_CALLS; i++)
+    for (size_t i = 0; i < used; i++)
         if (dialogs[i].is_held
             && (sip_ua_is_id(id, dialogs[i].invite) || sip_ua_is_id(id, dialogs[i].bye)))
             return &dialogs[i];
@@ -185,8 +186,11 @@ static dialog *hold(const sip_ua_typed_output *request, const sip_ua_texts *said
         one->is_held = keep(said->call_id, one->call_id, sizeof one->call_id)
             && keep(said->local_tag, one->local_tag, sizeof one->local_tag)
             && keep(said->remote_tag, one->remote_tag, sizeof one->remote_tag);
-        held_dialogs += one->is_held ? 1 : 0;
-        return one->is_held ? one : NULL;
+        if (!one->is_held)
+            return NULL;
+        held_dialogs++;
+        used = i < used ? used : i + 1;
+        return one;
     }
     return NULL;
 }
@@ -195,6 +199,8 @@ static void drop(dialog *one)
 {
     one->is_held = false;
     held_dialogs--;
+    while (used > 0 && !dialogs[used - 1].is_held)
+        used--;
 }
 
 /* A call of a peer. */
@@ -241,7 +247,7 @@ static void hang_up(dialog *one)
 static void leave(void)
 {
     is_leaving = true;
-    for (size_t i = 0; i < MOST_CALLS; i++)
+    for (size_t i = 0; i < used; i++)
         if (dialogs[i].is_held && dialogs[i].is_up && !dialogs[i].is_left)
             hang_up(&dialogs[i]);
 }
@@ -273,7 +279,7 @@ static void tell_of_dialog(const sip_ua_typed_output *output, dialog *one)
 /* Our BYE was refused: the peer's came first. */
 static void drop_refused(sip_ua_bytes call_id)
 {
-    for (size_t i = 0; i < MOST_CALLS; i++)
+    for (size_t i = 0; i < used; i++)
         if (dialogs[i].is_held && dialogs[i].is_left && sip_ua_is(call_id, dialogs[i].call_id))
             drop(&dialogs[i]);
 }
