@@ -27,8 +27,8 @@ struct Unanswered {
 }
 
 /// Answers INVITEs by its plan, re-INVITEs at once, BYE and OPTIONS with 200, and every other
-/// request with 501. When the input has ended, INVITEs that aren't answered yet get 480, and each
-/// dialog gets a BYE.
+/// request with 501. A dialog without the ACK of its INVITE gets a BYE. When the input has ended,
+/// INVITEs that aren't answered yet get 480, and each dialog gets a BYE.
 #[derive(Drop)]
 pub(crate) struct Answering {
     // The agent's own IP address.
@@ -228,6 +228,7 @@ impl User for Answering {
                 Ok(())
             }
             Notice::Ack { call_id, id, .. } => self.confirm(alloc, call_id, *id, events),
+            Notice::NoAck { call_id, id } => self.dialogs.give_up(alloc, call_id, *id, events),
             Notice::Ended {
                 call_id,
                 local_tag,

@@ -92,6 +92,25 @@ impl MadeDialogs {
         }
     }
 
+    /// No ACK of this INVITE came in time. Sends a BYE in its dialog (RFC 3261, section 13.3.1.4).
+    pub(crate) fn give_up(
+        &self,
+        alloc: Global,
+        call_id: &CallId,
+        id: Id,
+        events: &mut Vec<Event>,
+    ) -> Result<(), AllocError> {
+        let Some(dialogs) = self.calls.get(call_id) else {
+            return Ok(());
+        };
+        for made in dialogs {
+            if made.id == id {
+                events.push(bye(alloc, call_id, &made.local_tag, &made.remote_tag)?)?;
+            }
+        }
+        Ok(())
+    }
+
     /// This INVITE was cancelled.
     pub(crate) fn remove_of(&mut self, call_id: &CallId, id: Id) {
         if let Some(dialogs) = self.calls.get_mut(call_id) {

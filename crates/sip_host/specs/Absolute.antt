@@ -19,5 +19,8 @@ abbrev pub has_scheme : Option (List ℕ × List ℕ) → Bool
 has_scheme None = false
 has_scheme (Some parts) = is_scheme parts.0
 
+unfoldable pub names_scheme : List ℕ → Bool
+names_scheme text = has_scheme (cut_at 58 text)
+
 abbrev pub is_absolute : List ℕ → Bool
-is_absolute text = is_uri text && has_scheme (cut_at 58 text)
+is_absolute text = is_uri text && names_scheme text

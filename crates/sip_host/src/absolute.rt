@@ -2,7 +2,6 @@
 
 ghost use Rattle.std.specs.Prelude.{◌≡◌, List};
 ghost use Rattle.std.specs.List.{list_all};
-ghost use Rattle.sip_text.specs.Cut.{cut_at};
 ghost use Rattle.sip_host.specs.Absolute as spec;
 
 use sip_grammar::is_uri;
@@ -13,11 +12,12 @@ use sip_text::cut;
 pub(crate) fn is_absolute(text: &[u8]) -> bool
     ensures { result ≡ spec.is_absolute text.now }
 {
-    is_uri(text) && has_scheme(text)
+    is_uri(text) && names_scheme(text)
 }
 
-fn has_scheme(text: &[u8]) -> bool
-    ensures { result ≡ spec.has_scheme (cut_at 58 text.now) }
+#[tactic(auto, unfolding(crate::specs::Absolute::names_scheme))]
+fn names_scheme(text: &[u8]) -> bool
+    ensures { result ≡ spec.names_scheme text.now }
 {
     match cut(b':', text) {
         Some((scheme, _)) => is_scheme(scheme),

@@ -9,7 +9,9 @@ ghost use Rattle.sip_round.specs.NextDue.{IsDueAfter, IsQuietAfter};
 ghost use Rattle.sip_round.specs.Places.{datagram_at, event_at};
 ghost use Rattle.sip_round.specs.declared.config.Config.{Config as AConfig};
 ghost use Rattle.sip_round.specs.declared.round.Round.{Round as ARound};
+ghost use Rattle.sip_message.specs.declared.message.Message.{Message};
 ghost use Rattle.sip_reader.specs.Head.{HasHeaderLines};
+ghost use Rattle.sip_reader.specs.Spells.{Answers};
 ghost use Rattle.sip_reader.specs.declared.first_line.FirstLine.{FirstLine as AFirstLine};
 ghost use Rattle.sip_user.specs.declared.command.UserCommand.{UserCommand as AUserCommand};
 ghost use Rattle.sip_files.specs.Given.{with_given};
@@ -493,8 +495,7 @@ impl Host {
     {
         match read(self.alloc, bytes) {
             Ok(message) => self.agent.would_begin(&message),
-            Err(ReadFault::NoMemory) => Err(AllocError),
-            Err(_) => Ok(false),
+            Err(fault) => begins_nothing(fault),
         }
     }
 
@@ -570,5 +571,16 @@ impl Host {
         } else {
             Err(HostFault::TooManyEvents)
         }
+    }
+}
+
+// A datagram that couldn't be read begins nothing, unless that was for want of memory.
+fn begins_nothing(fault: ReadFault) -> Result<bool, AllocError>
+    ensures { IfOk result (λ begins. (begins ≡ false)
+        × ((message : Message) → ¬ Answers (Err fault) message)) }
+{
+    match fault {
+        ReadFault::NoMemory => Err(AllocError),
+        _ => Ok(false),
     }
 }

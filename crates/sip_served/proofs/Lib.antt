@@ -32,3 +32,10 @@ pub mod TickRules
 pub mod Ticks
 pub mod Unacknowledged
 pub mod ServedAnswers
+pub mod Indexes
+pub mod Numbered
+pub mod NumberedTicks
+pub mod Finds
+pub mod IndexedSteps
+pub mod IndexedTicks
+pub mod KeyTests

@@ -50,7 +50,7 @@ calm_provisionals now held calm =
     nothing_told (tick_answer held.ledger now) (sym (ledger_due now held.ledger) ∙ calm) in
     λ i. provisionals_by (nothing i) now held
 
-calm_request : (now : ℕ) (held : HeldRequest) → is_due now (request_due held) ≡ false
+pub calm_request : (now : ℕ) (held : HeldRequest) → is_due now (request_due held) ≡ false
     → request_ticked now held ≡ (held, [])
 calm_request now held calm =
     let parts = neither _ _ (sym (request_due_of now held) ∙ calm) in
@@ -68,7 +68,7 @@ negated : (y : Bool) → not y ≡ false → y ≡ true
 negated true e = refl
 negated false e = absurd cc
 
-calm_kept : (now : ℕ) (held : HeldRequest) → is_due now (request_due held) ≡ false
+pub calm_kept : (now : ℕ) (held : HeldRequest) → is_due now (request_due held) ≡ false
     → is_kept_at now held ≡ true
 calm_kept now held calm =
     let parts = neither _ _ (sym (request_due_of now held) ∙ calm) in

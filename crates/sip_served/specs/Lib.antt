@@ -14,6 +14,7 @@ pub mod Endings
 pub mod Happenings
 pub mod State
 pub mod Step
+pub mod Steps
 pub mod Story
 pub mod Telling
 pub mod Tick

@@ -1,15 +1,12 @@
 //! The ACK of a 2xx, and PRACKs (RFC 3261, section 13.3.1.4; RFC 3262, section 3).
 
-ghost use Rattle.std.specs.Prelude.{◌≡◌, false, is_none};
+ghost use Rattle.std.specs.Prelude.{◌≡◌, ◌&&◌, false, is_none};
 ghost use Rattle.std.specs.Option.{option_map_or};
 ghost use Rattle.sip_reliable.specs.Ledger.{acknowledged};
 ghost use Rattle.sip_served.specs.Acknowledgment as spec;
 ghost use Rattle.sip_served.specs.Arrival.{pracked};
-ghost use Rattle.sip_served.specs.State.{changed_at};
-ghost use Rattle.sip_served.specs.declared.held_request.SuccessEnd.TheVariants.{Acknowledged};
 
 use crate::held_request::{HeldRequest, SuccessEnd};
-use crate::requests::place_of;
 use sip_held_dialogs::request::is_invite;
 use sip_message::{Id, Message};
 use sip_reliable::Outbound;
@@ -21,8 +18,15 @@ pub(crate) fn acknowledged_invite(ack: &Message, requests: &[HeldRequest]) -> Op
 {
     requests
         .iter()
-        .find(|held| awaits_ack(held) && is_ack_of(ack, held))
+        .find(|held| takes_ack(held, ack))
         .map(|held| held.id)
+}
+
+/// Whether the ACK is for the 2xx to this INVITE, which still waits for it.
+pub(crate) fn takes_ack(held: &HeldRequest, ack: &Message) -> bool
+    ensures { result ≡ (spec.awaits_ack held.now && spec.is_ack_of ack.now held.now) }
+{
+    awaits_ack(held) && is_ack_of(ack, held)
 }
 
 fn awaits_ack(held: &HeldRequest) -> bool
@@ -48,17 +52,6 @@ fn is_ack_of(ack: &Message, held: &HeldRequest) -> bool
         && ack.cseq.number == held.request.get().cseq.number
 }
 
-/// The ACK of the 2xx to the INVITE of this id came.
-#[tactic(auto, using(std::proofs::lemmas::Option::slice_get_read))]
-pub(crate) fn acknowledge(requests: &mut Vec<HeldRequest>, invite: Id)
-    ensures { requests.new.items
-        ≡ changed_at invite (spec.success_ended Acknowledged) requests.old.items }
-{
-    if let Some(index) = place_of(requests.as_slice(), invite) {
-        end_success(&mut requests[index], SuccessEnd::Acknowledged);
-    }
-}
-
 /// The 2xx isn't sent again.
 pub(crate) fn end_success(held: &mut HeldRequest, end: SuccessEnd)
     ensures { held.new ≡ spec.success_ended end held.old }
@@ -68,17 +61,8 @@ pub(crate) fn end_success(held: &mut HeldRequest, end: SuccessEnd)
     }
 }
 
-/// The PRACK of a response to the INVITE of this id came.
-#[tactic(auto, using(std::proofs::lemmas::Option::slice_get_read))]
-pub(crate) fn prack(requests: &mut Vec<HeldRequest>, invite: Id, rseq: u32)
-    ensures { requests.new.items ≡ changed_at invite (pracked rseq) requests.old.items }
-{
-    if let Some(index) = place_of(requests.as_slice(), invite) {
-        prack_one(&mut requests[index], rseq);
-    }
-}
-
-fn prack_one(held: &mut HeldRequest, rseq: u32)
+/// The PRACK of the response to this INVITE with this RSeq came.
+pub(crate) fn prack(held: &mut HeldRequest, rseq: u32)
     ensures { held.new ≡ pracked rseq held.old }
 {
     acknowledge_number(&mut held.ledger, rseq);

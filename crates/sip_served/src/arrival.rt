@@ -1,6 +1,6 @@
 //! A request that comes up, and which case it is.
 
-ghost use Rattle.std.specs.Prelude.{◌≡◌, IfOk, find, option_map};
+ghost use Rattle.std.specs.Prelude.{◌≡◌, ◌&&◌, IfOk, find, option_map};
 ghost use Rattle.std.specs.List.{list_any};
 ghost use Rattle.std.specs.Option.{option_copied};
 ghost use Rattle.sip_served.specs.Arrival as arrival;
@@ -64,7 +64,7 @@ pub(crate) fn case_of(
         return Ok(ArrivalCase::BadExtension);
     }
     if has_to_tag(request) {
-        case_inside(requests, name, request, dialogs.get(name))
+        Ok(case_inside(requests, name, request, dialogs.get(name)))
     } else {
         Ok(case_outside(request))
     }
@@ -85,20 +85,20 @@ fn case_inside(
     name: &DialogId,
     request: &Message,
     dialog: Option<&HeldDialog>,
-) -> Result<ArrivalCase, AllocError>
-    ensures { IfOk result (λ case. case
-        ≡ arrival.case_inside requests.now name.now request.now (option_copied dialog.entry)) }
+) -> ArrivalCase
+    ensures { result
+        ≡ arrival.case_inside requests.now name.now request.now (option_copied dialog.entry) }
 {
     let Some(held) = dialog else {
-        return Ok(ArrivalCase::NoDialog);
+        return ArrivalCase::NoDialog;
     };
     if !takes(held, request.cseq.number) {
-        return Ok(ArrivalCase::OutOfOrder);
+        ArrivalCase::OutOfOrder
+    } else if is_prack(request) {
+        prack_case(requests, name, held.created_by, &request.rack)
+    } else {
+        ArrivalCase::ForUser
     }
-    if is_prack(request) {
-        return prack_case(requests, name, held.created_by, &request.rack);
-    }
-    Ok(ArrivalCase::ForUser)
 }
 
 fn prack_case(
@@ -106,16 +106,15 @@ fn prack_case(
     name: &DialogId,
     created_by: Id,
     rack: &Option<RAck>,
-) -> Result<ArrivalCase, AllocError>
-    ensures { IfOk result (λ case. case
-        ≡ arrival.prack_case requests.now name.now created_by rack.now) }
+) -> ArrivalCase
+    ensures { result ≡ arrival.prack_case requests.now name.now created_by rack.now }
 {
     let Some(rack) = rack else {
-        return Ok(ArrivalCase::AcknowledgesNothing);
+        return ArrivalCase::AcknowledgesNothing;
     };
-    match requests.named_invite(name, created_by, rack)? {
-        Some(invite) => Ok(ArrivalCase::Acknowledges(invite, rack.rseq)),
-        None => Ok(ArrivalCase::AcknowledgesNothing),
+    match requests.named_invite(name, created_by, rack) {
+        Some(invite) => ArrivalCase::Acknowledges(invite, rack.rseq),
+        None => ArrivalCase::AcknowledgesNothing,
     }
 }
 
@@ -130,8 +129,16 @@ pub(crate) fn named_invite(
 {
     requests
         .iter()
-        .find(|held| is_in_dialog(held, name, created_by) && is_named_by(held, rack))
+        .find(|held| takes_prack(held, name, created_by, rack))
         .map(|held| held.id)
+}
+
+/// Whether this is an INVITE of the dialog with a waiting response that the RAck names.
+pub(crate) fn takes_prack(held: &HeldRequest, name: &DialogId, created_by: Id, rack: &RAck) -> bool
+    ensures { result ≡ (arrival.is_in_dialog name.now created_by held.now
+        && arrival.is_named_by rack.now held.now) }
+{
+    is_in_dialog(held, name, created_by) && is_named_by(held, rack)
 }
 
 fn is_in_dialog(held: &HeldRequest, name: &DialogId, created_by: Id) -> bool

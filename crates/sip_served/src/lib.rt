@@ -4,11 +4,16 @@
 mod acknowledgment;
 mod arrival;
 mod cancel;
+mod change;
 mod held_request;
 mod held_requests;
+mod index;
+mod indexed_requests;
+mod indices;
 mod laws;
 mod outputs;
 mod provisionals;
+mod request_keys;
 mod requests;
 mod respond;
 mod served;

@@ -6,11 +6,9 @@ ghost use Rattle.sip_held_dialogs.specs.Dialogs.{is_dialog_id};
 ghost use Rattle.sip_held_dialogs.specs.Requests.{dialog_id_of};
 ghost use Rattle.sip_served.specs.RequestLife as life;
 ghost use Rattle.sip_served.specs.Respond as spec;
-ghost use Rattle.sip_served.specs.State.{changed_at};
 
 use crate::held_request::{HeldRequest, Retransmission, Success};
 use crate::provisionals::ReliableResponse;
-use crate::requests::place_of;
 use sip_dialog::{Dialog, own_contact};
 use sip_held_dialogs::dialogs::{confirm, end_early, lives};
 use sip_held_dialogs::request::{
@@ -184,39 +182,9 @@ fn option_100rel(alloc: Global) -> Result<Token, AllocError>
     Token::copy_of(alloc, b"100rel")
 }
 
-/// An answer of the user to the request of this id goes out in an event. If it makes a dialog, the
-/// request refers to it.
-#[tactic(auto, using(std::proofs::lemmas::Option::slice_get_read))]
+/// An answer of the user to this request goes out in an event. If it makes a dialog, the request
+/// refers to it.
 pub(crate) fn answer(
-    alloc: Global,
-    requests: &mut Vec<HeldRequest>,
-    id: Id,
-    event: Id,
-    status: u16,
-    reliability: Reliability,
-    response: &Message,
-    now: u64,
-) -> Result<(), AllocError>
-    requires { now ≤ 2 ^ 62 }
-    ensures { OnOk result (requests.new.items ≡ changed_at id
-        (λ held. spec.answered status reliability response.now now
-        (spec.with_dialog event status held)) requests.old.items) }
-{
-    match place_of(requests.as_slice(), id) {
-        Some(index) => answer_one(
-            alloc,
-            &mut requests[index],
-            event,
-            status,
-            reliability,
-            response,
-            now,
-        ),
-        None => Ok(()),
-    }
-}
-
-fn answer_one(
     alloc: Global,
     held: &mut HeldRequest,
     event: Id,
@@ -285,27 +253,8 @@ fn send_reliably(
         .push(ReliableResponse { number, response })
 }
 
-/// The final response of this status to the request of this id goes out.
-pub(crate) fn finish_one(
-    alloc: Global,
-    requests: &mut Vec<HeldRequest>,
-    id: Id,
-    response: &Message,
-    status: u16,
-    now: u64,
-) -> Result<(), AllocError>
-    requires { now ≤ 2 ^ 62 }
-    ensures { OnOk result (requests.new.items
-        ≡ changed_at id (spec.finished response.now status now) requests.old.items) }
-{
-    match place_of(requests.as_slice(), id) {
-        Some(index) => finish(alloc, &mut requests[index], response, status, now),
-        None => Ok(()),
-    }
-}
-
-// Notes the final response to a held request. No response follows it.
-fn finish(
+/// The final response of this status to this request goes out. No response follows it.
+pub(crate) fn finish(
     alloc: Global,
     held: &mut HeldRequest,
     response: &Message,

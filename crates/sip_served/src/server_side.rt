@@ -20,6 +20,7 @@ use crate::arrival::{Arrival, ArrivalCase, case_of, requires_unknown};
 use crate::cancel::{
     REQUEST_TERMINATED, cancel_accepted, is_unanswered_invite, request_terminated, termination_told,
 };
+use crate::change::Change;
 use crate::held_request::HeldRequest;
 use crate::held_requests::HeldRequests;
 use crate::outputs::{
@@ -213,7 +214,7 @@ impl ServerSide {
         ensures { IfOk result (λ outs. (self.new, outs.items)
             ≡ cancels.cancel_taken self.old call_id arrival.now now) }
     {
-        let Some(held) = self.requests.cancelled_request(arrival.key.get()) else {
+        let Some(held) = self.requests.cancelled_request(arrival.key.get())? else {
             return no_such_dialog(self.alloc, arrival);
         };
         if !is_unanswered_invite(held) {
@@ -236,8 +237,12 @@ impl ServerSide {
         ensures { IfOk result (λ outs. (self.new, outs.items)
             ≡ cancels.invite_terminated response.now invite now self.old) }
     {
-        self.requests
-            .finish(invite, response, REQUEST_TERMINATED, now)?;
+        let change = Change::FinalResponse {
+            response,
+            status: REQUEST_TERMINATED,
+            now,
+        };
+        self.requests.change(invite, change)?;
         end_early(self.alloc, &mut self.dialogs, invite)
     }
 
@@ -348,7 +353,7 @@ impl ServerSide {
             rseq,
             body: arrival.request.get().body.clone()?,
         }))?;
-        self.requests.prack(invite, rseq)?;
+        self.requests.change(invite, Change::Prack { rseq })?;
         Ok(outs)
     }
 
@@ -413,7 +418,7 @@ impl ServerSide {
             return Ok(Vec::new(self.alloc));
         };
         let body = ack.body.clone()?;
-        self.requests.acknowledge(invite)?;
+        self.requests.change(invite, Change::Ack)?;
         let notice = Notice::Ack {
             call_id,
             id: invite,
@@ -491,8 +496,14 @@ impl ServerSide {
             return Ok(Vec::new(self.alloc));
         };
         let ends = answer_dialogs(self.alloc, &mut self.dialogs, event, held, status, response)?;
-        self.requests
-            .answer(id, event, status, reliability, response, now)?;
+        let change = Change::Answer {
+            event,
+            response,
+            status,
+            reliability,
+            now,
+        };
+        self.requests.change(id, change)?;
         Ok(ends)
     }
 

@@ -47,7 +47,7 @@ pub(crate) fn tick_requests(
 }
 
 // First the 2xx, and then the reliable provisional responses.
-fn tick_request(
+pub(crate) fn tick_request(
     alloc: Global,
     held: &mut HeldRequest,
     now: u64,
@@ -216,7 +216,7 @@ pub(crate) fn remove_over(requests: &mut Vec<HeldRequest>, now: u64)
 }
 
 // Whether a request isn't removed yet.
-fn is_kept(held: &HeldRequest, now: u64) -> bool
+pub(crate) fn is_kept(held: &HeldRequest, now: u64) -> bool
     ensures { result ≡ spec.is_kept_at now held.now }
 {
     held.removal.is_none_or(|moment| now < moment)
@@ -231,7 +231,8 @@ pub(crate) fn next_due(requests: &[HeldRequest]) -> Option<u64>
         .fold(None, |due, held| earlier(due, request_due(held)))
 }
 
-fn request_due(held: &HeldRequest) -> Option<u64>
+/// The first moment, in ms, at which something of this request is due, if there is one.
+pub(crate) fn request_due(held: &HeldRequest) -> Option<u64>
     ensures { result ≡ spec.request_due held.now }
 {
     earlier(

@@ -1,3 +1,4 @@
+pub mod Admitted
 pub mod ReadLines
 pub mod Sendings
 pub mod Told

@@ -1,8 +1,7 @@
 //! Which datagrams get into the rounds of an agent that holds much.
 
-ghost use Rattle.std.specs.Prelude.{◌≡◌, ◌==◌, ◌||◌, IfOk, List, codes, filter, length, not};
-ghost use Rattle.std.specs.Str.{bytes_eq};
-ghost use Rattle.sip_message.specs.Party.{tag_of};
+ghost use Rattle.std.specs.Prelude.{◌≡◌, ◌++◌, ◌∷◌, [], IfOk, List, Ok, OnOk, filter, not};
+ghost use Rattle.sip_reader.specs.ReadMessage.{Gives, message_at};
 ghost use Rattle.sip_round.specs.Answers.{StandsFor, past_of};
 ghost use Rattle.sip_round.specs.Live.{live_of};
 ghost use Rattle.sip_round.specs.declared.config.Config.{Config as AConfig};
@@ -16,7 +15,7 @@ use sip_round::{Agent, Event};
 use std::alloc::{AllocError, Global};
 
 /// How much an agent holds, compared with the most that it is to hold.
-#[derive(Clone, Copy, PartialEq, Eq)]
+#[derive(Clone, Copy)]
 pub(crate) enum Load {
     /// Less.
     Low,
@@ -65,7 +64,7 @@ impl Admission {
             events.items) }
     {
         let load = load_of(self.most, agent.live().0);
-        if load == Load::Low {
+        if let Load::Low = load {
             return Ok(events);
         }
         let count = events.len();
@@ -106,11 +105,29 @@ fn admitted_at(
 {
     let mut admitted = Vec::with_capacity(alloc, events.len())?;
     for event in events {
-        if !is_shed_at(alloc, agent, load, &event)? {
-            admitted.push(event)?;
-        }
+        admit_one(alloc, agent, load, event, &mut admitted)?;
     }
     Ok(admitted)
+}
+
+// Adds an event to those that are let in, unless it is shed.
+fn admit_one(
+    alloc: Global,
+    agent: &Agent<Spread>,
+    load: Load,
+    event: Event,
+    admitted: &mut Vec<Event>,
+) -> Result<(), AllocError>
+    ensures { OnOk result ((config : AConfig) (rounds : List ARound)
+        → StandsFor shard_of agent.now config rounds
+        → admitted.new.items ≡ admitted.old.items
+        ++ filter (λ event. not (is_shed config rounds load event)) (event ∷ [])) }
+{
+    if is_shed_at(alloc, agent, load, &event)? {
+        return Ok(());
+    }
+    admitted.push(event)?;
+    Ok(())
 }
 
 fn is_shed_at(
@@ -141,12 +158,28 @@ fn is_shed_datagram(
         → StandsFor shard_of agent.now config rounds
         → shed ≡ spec.is_shed_message config rounds load (message_at bytes.now)) }
 {
-    match read(alloc, bytes) {
-        Ok(message) if is_let_in(load, &message) => Ok(false),
-        Ok(message) => agent.would_begin(&message),
+    match read_datagram(alloc, bytes) {
+        Ok(message) => is_shed_message(agent, load, &message),
         Err(ReadFault::NoMemory) => Err(AllocError),
         Err(_) => Ok(false),
     }
+}
+
+fn read_datagram(alloc: Global, bytes: &[u8]) -> Result<Message, ReadFault>
+    ensures { Gives result (message_at bytes.now) }
+{
+    read(alloc, bytes)
+}
+
+fn is_shed_message(agent: &Agent<Spread>, load: Load, message: &Message) -> Result<bool, AllocError>
+    ensures { IfOk result (λ shed. (config : AConfig) (rounds : List ARound)
+        → StandsFor shard_of agent.now config rounds
+        → shed ≡ spec.is_shed_message config rounds load (Ok message.now)) }
+{
+    if is_let_in(load, message) {
+        return Ok(false);
+    }
+    agent.would_begin(message)
 }
 
 // Whether the message is let in, whatever it begins.
