@@ -565,6 +565,17 @@ class _Text(ctypes.Structure):
         return (self.len,)
 
 
+class _HeaderLengths(ctypes.Structure):
+    _fields_ = [
+        ("is_there", ctypes.c_bool),
+        ("name_len", ctypes.c_size_t),
+        ("len", ctypes.c_size_t),
+    ]
+
+    def lengths(self) -> Tuple[int, ...]:
+        return (self.name_len, self.len)
+
+
 class _Start(ctypes.Structure):
     _fields_ = [
         ("kind", ctypes.c_uint32),
@@ -609,6 +620,7 @@ _FUNCTIONS = {
     "datagram_at": (_place, _at(_Arrival)) + _room,
     "start_line": (_place, _at(_Start)) + _room,
     "header_value": (_place,) + _text + (_size, _at(_Text)) + _room,
+    "header_line": (_place, _size, _at(_HeaderLengths)) + _room,
     "free": (),
 }
 _SEND = 1
@@ -894,6 +906,15 @@ class Agent:
             if not told.is_there:
                 return values
             values.append(_decoded(value))
+
+    def header_line(self, place: int, number: int) -> Optional[Tuple[str, str]]:
+        """Its header line with this number, from 0, if there is one: the name as it came, and the
+        value, unfolded and without white space around it. Each call reads the datagram from its
+        beginning; `message_at` reads all lines at once."""
+        told = _HeaderLengths()
+        words = (_number(place, 32), _number(number, 64))
+        name, value = self._texts("header_line", told, *words)
+        return (_decoded(name), _decoded(value)) if told.is_there else None
 
     def message_at(self, place: int, body: bytes = b"") -> Optional[Message]:
         """Its start line and all its header lines, with the body that the notice has, if it is a

@@ -928,7 +928,8 @@ static inline uint32_t sip_ua_header_value(sip_ua *agent, uint32_t place, const 
 /* The header line with this number, from 0, of that datagram, in the order in which they came.
  * `is_there` is false if there is none. Its name as it came and, directly after it, its value,
  * unfolded and without white space around it, are written to the buffer. Faults: SIP_UA_NO_ROOM, if
- * `name_len` and `len` together are more than `room`; SIP_UA_NO_MEMORY. */
+ * `name_len` and `len` together are more than `room`; SIP_UA_NO_MEMORY. Each call reads the datagram
+ * from its beginning, so bound how many lines you ask for: a peer can send thousands. */
 static inline uint32_t sip_ua_header_line(sip_ua *agent, uint32_t place, size_t number,
                                           sip_ua_header_lengths *line, uint8_t *buffer,
                                           size_t room)
