@@ -109,6 +109,17 @@ int main() {
     expect(!agent.start_line(2), "no datagram");
     expect(agent.header_values(1, "f") == std::vector<std::string>{"<sip:b@192.0.2.9>;tag=f1"},
            "the values of a header");
+    const auto line = agent.header_line(1, 2);
+    expect(line && line->first == "From" && line->second == "<sip:b@192.0.2.9>;tag=f1",
+           "a header line by its number");
+    expect(!agent.header_line(1, 7), "no header line after the last");
+    expect(!agent.would_begin(options), "a request that is held begins nothing");
+    std::string other = options;
+    other.replace(other.find("z9hG4bK1"), 8, "z9hG4bK2");
+    expect(agent.would_begin(other), "a request of another branch would begin a transaction");
+    other.replace(0, 7, "ACK");
+    other.replace(other.find("1 OPTIONS"), 9, "1 ACK");
+    expect(!agent.would_begin(other), "an ACK begins nothing");
     const auto came = agent.datagram_at(1);
     expect(came && came->bytes == options && came->from.port == 5060, "the datagram");
     expect(!agent.last_id(), "no event was given");

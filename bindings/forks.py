@@ -6,11 +6,12 @@ caller does as it has to: an ACK to each, a BYE to the second at once, and one t
 import re
 import socket
 import sys
+from typing import List, Optional
 
 TAGS = ("one", "two")
 
 
-def answer(request, status, tag=None):
+def answer(request: str, status: str, tag: Optional[str] = None) -> str:
     """A response to a request, with a tag where it has none."""
     head = request.partition("\r\n\r\n")[0].split("\r\n")[1:]
     kept = [line for line in head if re.match("(?i)(via|from|to|call-id|cseq):", line)]
@@ -21,11 +22,11 @@ def answer(request, status, tag=None):
     return "\r\n".join([f"SIP/2.0 {status}", *lines, contact, "Content-Length: 0", "", ""])
 
 
-def main():
+def main() -> int:
     udp = socket.socket(socket.AF_INET, socket.SOCK_DGRAM)
     udp.bind(("127.0.0.1", int(sys.argv[1])))
     udp.settimeout(10)
-    seen = []
+    seen: List[str] = []
     while seen.count("BYE one") == 0:
         data, source = udp.recvfrom(65535)
         request = data.decode()

@@ -11,6 +11,7 @@ import socket
 import subprocess
 import sys
 import time
+from typing import List, Union
 
 sys.path.insert(0, os.path.dirname(os.path.abspath(__file__)))
 import sip_ua
@@ -35,6 +36,7 @@ def of_an_agent(library: str) -> bool:
     with sip_ua.Agent(library, ("127.0.0.1", 5060), bytes(32)) as agent:
         agent.datagram(("127.0.0.1", 5061), LONG)
         first, request = sorted(agent.run(0), key=lambda it: not isinstance(it, sip_ua.Send))
+        assert isinstance(first, sip_ua.Send)
         agent.failed(first.index)
         told = agent.run(1)
         agent.datagram(("127.0.0.1", 5061), NEXT)
@@ -64,9 +66,9 @@ def is_answered(port: int, own: int) -> bool:
 
 
 async def of_an_endpoint(library: str, port: int) -> bool:
-    failed = []
+    failed: List[str] = []
 
-    def told(output):
+    def told(output: Union[sip_ua.Notice, sip_ua.Drop]) -> None:
         if isinstance(output, sip_ua.RequestNotice):
             endpoint.ask(sip_ua.Response(output.call_id, output.id, 200, "OK"))
         elif isinstance(output, sip_ua.FailedNotice):

@@ -17,6 +17,7 @@ import subprocess
 import sys
 import threading
 import time
+from typing import List, Sequence
 
 PHONE, BARESIP = "127.0.0.1:5175", "127.0.0.1:5176"
 CONFIG = f"""sip_listen {BARESIP}
@@ -36,23 +37,26 @@ SCRIPT = os.path.join(os.path.dirname(os.path.abspath(__file__)), "..", "example
 class Program:
     """A program whose lines are waited for."""
 
-    def __init__(self, words):
-        pipes = {"stdin": subprocess.PIPE, "stdout": subprocess.PIPE, "stderr": subprocess.STDOUT}
-        self.ran = subprocess.Popen(words, **pipes)
-        self.lines = queue.Queue()
+    def __init__(self, words: Sequence[str]):
+        pipe = subprocess.PIPE
+        self.ran = subprocess.Popen(words, stdin=pipe, stdout=pipe, stderr=subprocess.STDOUT)
+        self.lines: "queue.Queue[str]" = queue.Queue()
         threading.Thread(target=self._read, daemon=True).start()
 
-    def _read(self):
+    def _read(self) -> None:
+        assert self.ran.stdout is not None
         for line in self.ran.stdout:
             self.lines.put(line.decode(errors="replace").rstrip())
 
-    def say(self, line):
+    def say(self, line: str) -> None:
+        assert self.ran.stdin is not None
         self.ran.stdin.write(line.encode() + b"\n")
         self.ran.stdin.flush()
 
-    def wait_for(self, pattern, seconds=8.0):
+    def wait_for(self, pattern: str, seconds: float = 8.0) -> str:
         """The first line with this pattern; lines before it are passed over."""
-        end, seen = time.monotonic() + seconds, []
+        end = time.monotonic() + seconds
+        seen: List[str] = []
         while True:
             try:
                 line = self.lines.get(timeout=max(end - time.monotonic(), 0.001))
@@ -64,10 +68,10 @@ class Program:
 
 
 class Phone(Program):
-    def __init__(self, library, *words):
+    def __init__(self, library: str, *words: str):
         super().__init__([sys.executable, "-u", SCRIPT, library, *words])
 
-    def hold_and_send(self, digit):
+    def hold_and_send(self, digit: str) -> None:
         """Holds the call that is up, takes it back, and sends a tone."""
         self.say("hold")
         self.wait_for("^on hold$")
@@ -79,7 +83,7 @@ class Phone(Program):
 class Baresip(Program):
     """baresip, which answers by itself, and takes commands at a port."""
 
-    def __init__(self, folder):
+    def __init__(self, folder: str):
         with socket.socket() as free:
             free.bind(("127.0.0.1", 0))
             at = free.getsockname()
@@ -93,16 +97,16 @@ class Baresip(Program):
         self.control = socket.create_connection(at)
         threading.Thread(target=self._drain, daemon=True).start()
 
-    def _drain(self):
+    def _drain(self) -> None:
         while self.control.recv(65536):
             pass
 
-    def do(self, command, params=""):
+    def do(self, command: str, params: str = "") -> None:
         text = json.dumps({"command": command, "params": params})
         self.control.sendall(f"{len(text)}:{text},".encode())
 
 
-def talk(phone, baresip, number):
+def talk(phone: Phone, baresip: Baresip, number: int) -> None:
     """What happens in a call that is up; the two hang up in turn."""
     digit = str(number % 10)
     phone.hold_and_send(digit)
@@ -117,9 +121,8 @@ def talk(phone, baresip, number):
     phone.wait_for("^ended$")
 
 
-def with_baresip(library, calls, folder, through=BARESIP):
-    programs = [Baresip(folder), Phone(library, PHONE, "bob@127.0.0.1")]
-    baresip, phone = programs
+def with_baresip(library: str, calls: str, folder: str, through: str = BARESIP) -> int:
+    baresip, phone = Baresip(folder), Phone(library, PHONE, "bob@127.0.0.1")
     try:
         for number in range(int(calls)):
             phone.say(f"call sip:carol@{through}")
@@ -136,11 +139,11 @@ def with_baresip(library, calls, folder, through=BARESIP):
         phone.say("quit")
         return phone.ran.wait(5)
     finally:
-        for program in programs:
-            program.ran.kill()
+        baresip.ran.kill()
+        phone.ran.kill()
 
 
-def at_registrar(library, registrar):
+def at_registrar(library: str, registrar: str) -> int:
     alice = Phone(library, "127.0.0.1:5178", "alice@example.test", registrar, "wonder")
     bob = Phone(library, "127.0.0.1:5179", "bob@example.test", registrar, "builder")
     try:
@@ -160,7 +163,7 @@ def at_registrar(library, registrar):
         bob.say("answer")
         alice.wait_for("^up$")
         bob.wait_for("^up$")
-        alice.hold_and_send(5)
+        alice.hold_and_send("5")
         bob.wait_for("^held by the peer$")
         bob.wait_for("^no longer held$")
         bob.wait_for("^tone 5$")
@@ -177,5 +180,7 @@ def at_registrar(library, registrar):
 
 
 if __name__ == "__main__":
-    run = {"baresip": with_baresip, "registrar": at_registrar}[sys.argv[2]]
-    sys.exit(run(sys.argv[1], *sys.argv[3:]))
+    library, peer, *words = sys.argv[1:]
+    if peer == "baresip":
+        sys.exit(with_baresip(library, *words))
+    sys.exit(at_registrar(library, *words))

@@ -4,6 +4,7 @@ before the files each command is asked for by its type, and each output is told 
 
 import re
 import sys
+from typing import Callable, Dict, List, Optional, Tuple, Union
 
 import sip_ua
 from sip_ua import Agent, Error
@@ -40,24 +41,24 @@ def text_of(data: bytes) -> str:
     return data.decode("utf-8", "surrogateescape")
 
 
-def word(data) -> str:
+def word(data: Union[str, bytes]) -> str:
     if isinstance(data, str):
         data = data.encode("utf-8", "surrogateescape")
     return {b"": "-", b"-": "\\x2d"}.get(data) or rest(data).replace(" ", "\\s")
 
 
-def address_of(field: str):
+def address_of(field: str) -> Tuple[str, int]:
     ip, port = field.split(":")
     return ip, int(port)
 
 
-def header_of(line: str):
+def header_of(line: str) -> Tuple[str, str]:
     """The name and the value of a header line."""
     name, _, value = text_of(unspelled(line[1:])).partition(":")
     return name.strip(), value.strip(" \t")
 
 
-def command_of(line: str, headers: list):
+def command_of(line: str, headers: List[Tuple[str, str]]) -> Optional[sip_ua.Command]:
     """The command of a line by its fields, or None for what no type says: a status that isn't 101
     to 699, and an event that is no command."""
     keyword, *fields = line.split(" ", 6) if line.startswith("respond ") else line.split(" ")
@@ -73,15 +74,22 @@ def command_of(line: str, headers: list):
         return sip_ua.Cancel(call_id, id_of(fields[1]))
     body = unspelled_word(fields[-1])
     if keyword == "invite":
-        hundred = (texts[4] == "supported", texts[4] == "required")
-        return sip_ua.Invite(call_id, address_of(fields[1]), *texts[1:4], body, headers, *hundred)
+        _, request_uri, from_uri, to_uri, support, _ = texts
+        uris = (request_uri, from_uri, to_uri)
+        hundred = (support == "supported", support == "required")
+        return sip_ua.Invite(call_id, address_of(fields[1]), *uris, body, headers, *hundred)
     if keyword == "plain":
-        return sip_ua.Plain(call_id, address_of(fields[1]), *texts[1:-1], body, headers)
-    kind = {"request": sip_ua.Request, "ack": sip_ua.Ack, "prack": sip_ua.Prack}[keyword]
-    return kind(call_id, *texts[:-1], body, headers)
+        _, method, request_uri, from_uri, to_uri, _ = texts
+        uris = (request_uri, from_uri, to_uri)
+        return sip_ua.Plain(call_id, address_of(fields[1]), method, *uris, body, headers)
+    tags = (texts[0], texts[1])
+    if keyword == "request":
+        return sip_ua.Request(call_id, *tags, texts[2], body, headers)
+    kind = {"ack": sip_ua.Ack, "prack": sip_ua.Prack}[keyword]
+    return kind(call_id, *tags, body, headers)
 
 
-def id_of(field: str):
+def id_of(field: str) -> sip_ua.Id:
     return sip_ua.Id(*map(int, field.split(".")))
 
 
@@ -91,7 +99,7 @@ _REASONS = (
 ).split()
 
 
-def written(output) -> bytes:
+def written(output: sip_ua.Output) -> bytes:
     """The line of an output."""
     if isinstance(output, sip_ua.Send):
         return f"send {output.to[0]}:{output.to[1]} {rest(output.datagram)}\n".encode()
@@ -100,11 +108,12 @@ def written(output) -> bytes:
     if isinstance(output, sip_ua.Drop):
         header = f" {output.header}" if output.header else ""
         return f"drop {output.place} {_REASONS[output.reason - 1]}{header}\n".encode()
+    assert isinstance(output, sip_ua.Notice)
     form = type(output).__name__[: -len("Notice")].lower()
     fields = ["notice", word(output.call_id), form]
-    if form == "refused":
+    if isinstance(output, sip_ua.RefusedNotice):
         fields += [str(output.id.place), str(int(output.refusal))]
-    elif form != "ended":
+    elif hasattr(output, "id"):
         fields.append(str(output.id))
     for name in ("method", "status", "rseq"):
         if hasattr(output, name):
@@ -119,8 +128,10 @@ class Replay:
     """One of an event file or a session file."""
 
     def __init__(self, library: str, typed: bool):
-        self.library, self.typed, self.agent, self.moment = library, typed, None, 0
-        self.head, self.headers, self.made = {}, "", [b"sip-outputs 1\n"]
+        self.library, self.typed, self.moment = library, typed, 0
+        self.agent: Optional[Agent] = None
+        self.head: Dict[str, str] = {}
+        self.headers, self.made = "", [b"sip-outputs 1\n"]
         self.asked = 0
 
     def of(self, events: str) -> bytes:
@@ -133,9 +144,9 @@ class Replay:
             elif line.startswith(" "):
                 self.headers += line + "\n"
             else:
-                self.event(line)
+                self.event(self.agent, line)
         if self.agent is not None:
-            self.run()
+            self.run(self.agent)
             self.agent.close()
         return b"".join(self.made)
 
@@ -146,28 +157,30 @@ class Replay:
             first = int(self.head.get("first", "0"))
             self.agent = Agent(self.library, address_of(self.head["local"]), seed, first)
         else:
-            self.run()
+            self.run(self.agent)
         self.moment = moment
 
-    def run(self) -> None:
+    def run(self, agent: Agent) -> None:
         self.made.append(b"round %d\n" % self.moment)
-        run = self.agent.run if self.typed else self.agent.run_lines
-        self.made.extend(map(written, run(self.moment)))
+        if self.typed:
+            self.made.extend(map(written, agent.run(self.moment)))
+        else:
+            self.made.extend(map(written, agent.run_lines(self.moment)))
 
-    def event(self, line: str) -> None:
+    def event(self, agent: Agent, line: str) -> None:
         headers = [header_of(given) for given in self.headers.split("\n")[:-1]]
         command = command_of(line, headers) if self.typed else None
         if command is not None:
-            self.agent.ask(command)
+            agent.ask(command)
             self.asked += 1
         elif self.headers:
-            self.agent.event_lines(self.headers + line)
+            agent.event_lines(self.headers + line)
         else:
-            self.agent.event_line(line)
+            agent.event_line(line)
         self.headers = ""
 
 
-def status_of(call) -> int:
+def status_of(call: Callable[[], object]) -> int:
     try:
         call()
     except Error as error:
@@ -175,7 +188,7 @@ def status_of(call) -> int:
     return 0
 
 
-def faults(library: str) -> list:
+def faults(library: str) -> List[int]:
     """Misuse, and the status that each is told by."""
     agent = Agent(library, ("192.0.2.1", 5060), bytes(32))
     agent.run(5)
@@ -206,6 +219,7 @@ def reads(library: str) -> bool:
         asked = agent.ask(message)
         last = agent.last_id()
         sent = agent.run(0)[0]
+        assert isinstance(sent, sip_ua.Send)
         data = b"INFO sip:a@b SIP/2.0\r\nf: <sip:c@d>\r\nSubject: one\r\n two \xff\r\n\r\n"
         agent.datagram(("192.0.2.9", 5060), data)
         dropped = agent.run(1)[0]
@@ -229,11 +243,11 @@ def bad_fields(library: str) -> bool:
     with Agent(library, ("192.0.2.1", 5060), bytes(32)) as agent:
         at, uri = ("192.0.2.9", 5060), "sip:b@192.0.2.9"
 
-        def part(command) -> int:
+        def part(command: sip_ua.Command) -> int:
             try:
                 agent.ask(command)
             except Error as error:
-                return int(error.field) if error.status == sip_ua.Status.BAD_FIELD else -1
+                return error.field or -1
             return 0
 
         via, route = [("Via", "x")], [("Route", "<sip:r>")]

@@ -327,6 +327,21 @@ public:
         }
     }
 
+    /// The header line with this number, from 0, of that datagram, if there is one: its name as it
+    /// came, and its value. Each call reads the datagram from its beginning.
+    std::optional<std::pair<std::string, std::string>> header_line(std::uint32_t place,
+                                                                   std::size_t number) {
+        sip_ua_header_lengths told{};
+        const std::string text = text_of(
+            [&](std::uint8_t *room, std::size_t size) {
+                return sip_ua_header_line(&agent, place, number, &told, room, size);
+            },
+            [&] { return told.name_len + told.len; });
+        if (!told.is_there)
+            return std::nullopt;
+        return std::pair(text.substr(0, told.name_len), text.substr(told.name_len));
+    }
+
 private:
     static constexpr sip_ua none = SIP_UA_NONE;
 

@@ -20,7 +20,8 @@ returns datagrams to send, and notices:
         agent.datagram(source, data)
 
 The commands are Invite, Plain, Request, Response, Ack, Prack and Cancel. A round gives outputs: a
-Send, a Drop, or a Notice of one of eleven types. sip_ua_udp.py runs this loop on asyncio.
+Send, a Drop, or a Notice of one of eleven types. sip_ua_udp.py runs this loop on asyncio, and
+sip_ua_calls.py has calls as objects over that.
 
 Texts are str, in UTF-8 on the wire. Bytes that aren't UTF-8 pass through unchanged
 (surrogateescape). Bodies and datagrams are bytes. Moments are times in ms from any starting point,
@@ -31,15 +32,16 @@ and never go back. One thread at a time uses an agent. The library is libsip_ua.
 import ctypes
 import enum
 import ipaddress
+import re
 from dataclasses import dataclass
-from typing import ClassVar, List, NamedTuple, Optional, Sequence, Tuple, Union
+from typing import Any, ClassVar, List, NamedTuple, Optional, Sequence, Tuple, Union
 
 __all__ = (
     "Agent LARGEST_DATAGRAM Error Status Field Id "
     "Command Invite Plain Request Response Ack Prack Cancel "
     "Output Send Line Drop DropReason Notice RequestNotice ResponseNotice AckNotice PrackNotice "
     "TimeoutNotice FailedNotice NoAckNotice NoPrackNotice CancelNotice EndedNotice RefusedNotice "
-    "Refusal Stats StartLine Datagram"
+    "Refusal Stats StartLine Datagram Message"
 ).split()
 
 # The most bytes that a UDP datagram carries over IPv4.
@@ -161,7 +163,11 @@ class Command:
     call_id: str
     _name: ClassVar[str] = ""
 
-    def _words(self) -> tuple:
+    def _headers(self) -> Headers:
+        headers: Headers = getattr(self, "headers", ())
+        return headers
+
+    def _words(self) -> Tuple[object, ...]:
         raise NotImplementedError
 
 
@@ -179,7 +185,7 @@ class Invite(Command):
     requires_100rel: bool = False
     _name: ClassVar[str] = "invite"
 
-    def _words(self) -> tuple:
+    def _words(self) -> Tuple[object, ...]:
         uris = (self.request_uri, self.from_uri, self.to_uri)
         hundred = (self.supports_100rel, self.requires_100rel)
         return (self.call_id, _address(self.address), *uris, *hundred, self.body)
@@ -198,7 +204,7 @@ class Plain(Command):
     headers: Headers = ()
     _name: ClassVar[str] = "plain"
 
-    def _words(self) -> tuple:
+    def _words(self) -> Tuple[object, ...]:
         uris = (self.request_uri, self.from_uri, self.to_uri)
         return (self.call_id, _address(self.address), self.method, *uris, self.body)
 
@@ -214,7 +220,7 @@ class Request(Command):
     headers: Headers = ()
     _name: ClassVar[str] = "request"
 
-    def _words(self) -> tuple:
+    def _words(self) -> Tuple[object, ...]:
         return (self.call_id, self.local_tag, self.remote_tag, self.method, self.body)
 
 
@@ -230,7 +236,7 @@ class Response(Command):
     is_reliable: bool = False
     _name: ClassVar[str] = "respond"
 
-    def _words(self) -> tuple:
+    def _words(self) -> Tuple[object, ...]:
         status = _number(self.status, 16)
         return (self.call_id, *_id(self.id), status, self.is_reliable, self.reason, self.body)
 
@@ -245,7 +251,7 @@ class Ack(Command):
     headers: Headers = ()
     _name: ClassVar[str] = "ack"
 
-    def _words(self) -> tuple:
+    def _words(self) -> Tuple[object, ...]:
         return (self.call_id, self.local_tag, self.remote_tag, self.body)
 
 
@@ -260,7 +266,7 @@ class Prack(Command):
     headers: Headers = ()
     _name: ClassVar[str] = "prack"
 
-    def _words(self) -> tuple:
+    def _words(self) -> Tuple[object, ...]:
         return (self.call_id, self.local_tag, self.remote_tag, self.body)
 
 
@@ -272,7 +278,7 @@ class Cancel(Command):
     headers: ClassVar[Headers] = ()
     _name: ClassVar[str] = "cancel"
 
-    def _words(self) -> tuple:
+    def _words(self) -> Tuple[object, ...]:
         return (self.call_id, *_id(self.id))
 
 
@@ -441,6 +447,25 @@ class Datagram(NamedTuple):
     data: bytes
 
 
+class Message(NamedTuple):
+    """A received message: its start line, all its header lines in order, as pairs of a name and a
+    value, and its body. The names are as they came, long or compact. The values are unfolded,
+    without white space around them."""
+
+    start: StartLine
+    headers: Tuple[Tuple[str, str], ...]
+    body: bytes
+
+    def values(self, name: str) -> List[str]:
+        """The values of the header lines with this name, long or compact, in any case."""
+        wanted = _long_name(name)
+        return [value for name, value in self.headers if _long_name(name) == wanted]
+
+    def value(self, name: str) -> str:
+        """The first of them; empty if there is none."""
+        return next(iter(self.values(name)), "")
+
+
 # ---- the plain functions of the library
 
 
@@ -540,6 +565,17 @@ class _Text(ctypes.Structure):
         return (self.len,)
 
 
+class _HeaderLengths(ctypes.Structure):
+    _fields_ = [
+        ("is_there", ctypes.c_bool),
+        ("name_len", ctypes.c_size_t),
+        ("len", ctypes.c_size_t),
+    ]
+
+    def lengths(self) -> Tuple[int, ...]:
+        return (self.name_len, self.len)
+
+
 class _Start(ctypes.Structure):
     _fields_ = [
         ("kind", ctypes.c_uint32),
@@ -584,19 +620,36 @@ _FUNCTIONS = {
     "datagram_at": (_place, _at(_Arrival)) + _room,
     "start_line": (_place, _at(_Start)) + _room,
     "header_value": (_place,) + _text + (_size, _at(_Text)) + _room,
+    "header_line": (_place, _size, _at(_HeaderLengths)) + _room,
     "free": (),
 }
 _SEND = 1
 _DROP = 3
 _REQUEST = 1
 _RESPONSE = 2
+_COMPACT_NAMES = {
+    "c": "content-type",
+    "e": "content-encoding",
+    "f": "from",
+    "i": "call-id",
+    "k": "supported",
+    "l": "content-length",
+    "m": "contact",
+    "s": "subject",
+    "t": "to",
+    "v": "via",
+}
+_LINE_END_BYTES = b"\r\n"
+_HEAD_END = re.compile(rb"\r?\n\r?\n")
+_LINE_END = re.compile(r"\r?\n")
+_BLANKS = " \t"
 _HEADERS = (
     "Via From To Call-ID CSeq Max-Forwards Content-Length RSeq RAck Contact Record-Route Route "
     "Require Supported"
 ).split()
 
 
-def _functions(path: str):
+def _functions(path: str) -> ctypes.CDLL:
     library = ctypes.CDLL(path)
     for name, kinds in _FUNCTIONS.items():
         function = getattr(library, "sip_ua_raw_" + name)
@@ -608,6 +661,31 @@ def _functions(path: str):
 def _address(address: Address) -> _Address:
     ip, port = address
     return _Address((ctypes.c_uint8 * 4)(*ipaddress.IPv4Address(ip).packed), _number(port, 16))
+
+
+def _long_name(name: str) -> str:
+    """The long name of a header, in lower case."""
+    lower = name.lower()
+    return _COMPACT_NAMES.get(lower, lower)
+
+
+def _header_lines(data: bytes) -> Tuple[Tuple[str, str], ...]:
+    """The header lines of a message."""
+    lines: List[List[str]] = []
+    head = _HEAD_END.split(data.lstrip(_LINE_END_BYTES), 1)[0]
+    for line in _LINE_END.split(_decoded(head)):
+        if lines and line.startswith(tuple(_BLANKS)):
+            lines[-1].append(line)
+        else:
+            lines.append([line])
+    return tuple(map(_header, lines[1:]))
+
+
+def _header(line: List[str]) -> Tuple[str, str]:
+    """The name and the value of a header line, which has several parts if it is folded."""
+    unfolded = " ".join(filter(None, (part.strip(_BLANKS) for part in line)))
+    name, _, value = unfolded.partition(":")
+    return name.strip(_BLANKS), value.strip(_BLANKS)
 
 
 def _id(event: Id) -> Tuple[int, int]:
@@ -628,9 +706,9 @@ def _decoded(data: bytes) -> str:
     return data.decode("utf-8", "surrogateescape")
 
 
-def _passed(words: tuple) -> list:
+def _passed(words: Tuple[object, ...]) -> List[object]:
     """What is passed for texts, bodies, addresses and numbers."""
-    passed = []
+    passed: List[object] = []
     for word in words:
         if isinstance(word, str):
             word = _encoded(word)
@@ -684,13 +762,13 @@ class Agent:
         start = _Configuration(_address(local), (ctypes.c_uint8 * 32)(*seed), first)
         self._call("new", start, _number(shards, 64))
 
-    def _call(self, name: str, *words) -> None:
+    def _call(self, name: str, *words: object) -> None:
         function = getattr(self._library, "sip_ua_raw_" + name)
         status = function(ctypes.byref(self._agent), *_passed(words))
         if status != 0:
             raise Error(status)
 
-    def _texts(self, name: str, told, *words) -> List[bytes]:
+    def _texts(self, name: str, told: Any, *words: object) -> List[bytes]:
         """Fills in the next output and returns its texts. The buffer grows for them."""
         try:
             self._call(name, *words, told, self._buffer, len(self._buffer))
@@ -716,7 +794,7 @@ class Agent:
         field raises Error BAD_FIELD, and there is no command. If the agent refuses it later, such
         as for a dialog that isn't held, a RefusedNotice says so."""
         words, asked = command._words(), _Asked()
-        for name, value in command.headers:
+        for name, value in command._headers():
             try:
                 self._call("header", name, value)
             except Error as error:
@@ -726,7 +804,8 @@ class Agent:
             self._call(command._name, *words, asked)
         except Error as error:
             raise Error(error.status, asked.bad_field) from None
-        return asked.id.told()
+        event: Id = asked.id.told()
+        return event
 
     def event_line(self, line: str) -> None:
         """Adds an event as a line of an event file, without its LF."""
@@ -754,7 +833,8 @@ class Agent:
         """Runs a round: handles all events since the last one, at a moment in ms. Returns its
         outputs: Send, Drop, and the types of Notice."""
         self._call("run", _number(moment, 64))
-        outputs, told = [], _TypedOutput()
+        outputs: List[Output] = []
+        told = _TypedOutput()
         while True:
             texts = self._texts("next", told)
             if told.kind == 0:
@@ -772,7 +852,8 @@ class Agent:
     def run_lines(self, moment: int) -> List[Union[Send, Line]]:
         """The same. Notices and drops are Lines of an output file (docs/FORMATS.md)."""
         self._call("run", _number(moment, 64))
-        outputs, told = [], _LineOutput()
+        outputs: List[Union[Send, Line]] = []
+        told = _LineOutput()
         while True:
             (text,) = self._texts("next_output", told)
             if told.kind == 0:
@@ -826,6 +907,23 @@ class Agent:
                 return values
             values.append(_decoded(value))
 
+    def header_line(self, place: int, number: int) -> Optional[Tuple[str, str]]:
+        """Its header line with this number, from 0, if there is one: the name as it came, and the
+        value, unfolded and without white space around it. Each call reads the datagram from its
+        beginning; `message_at` reads all lines at once."""
+        told = _HeaderLengths()
+        words = (_number(place, 32), _number(number, 64))
+        name, value = self._texts("header_line", told, *words)
+        return (_decoded(name), _decoded(value)) if told.is_there else None
+
+    def message_at(self, place: int, body: bytes = b"") -> Optional[Message]:
+        """Its start line and all its header lines, with the body that the notice has, if it is a
+        message."""
+        start, datagram = self.start_line(place), self.datagram_at(place)
+        if start is None or datagram is None:
+            return None
+        return Message(start, _header_lines(datagram.data), body)
+
     def stats(self) -> Stats:
         """Counts what is held, and what waits."""
         told = _Stats()
@@ -839,10 +937,10 @@ class Agent:
     def __enter__(self) -> "Agent":
         return self
 
-    def __exit__(self, *_) -> None:
+    def __exit__(self, *_: object) -> None:
         if self._agent.held:
             self.close()
 
-    def __del__(self):
+    def __del__(self) -> None:
         if getattr(self, "_library", None) is not None and self._agent.held:
             self.close()

@@ -4,34 +4,50 @@
     endpoint.ask(Plain("c1", ("192.0.2.9", 5060), "OPTIONS", "sip:b@192.0.2.9", ..))
 
 `on_told(output)` is called with each Notice and each Drop, after all sends of its round. There,
-`endpoint.agent.start_line(output.place)` and `header_values(output.place, name)` read the datagram
-that caused the output. `on_told` may give commands, and close the endpoint. Use everything from the
-thread of the event loop.
+`endpoint.agent.message_at(output.place)` reads the datagram that caused the output. `on_told` may
+give commands, and close the endpoint. Use everything from the thread of the event loop.
+
+sip_ua_calls.py has calls as objects over this.
 """
 
 import asyncio
 import os
-from typing import Callable, Optional, Tuple, Union
+import re
+import socket
+from typing import Callable, Optional, Tuple, Union, cast
 
-from sip_ua import LARGEST_DATAGRAM, Agent, Command, Drop, Id, Notice, Send
+from sip_ua import LARGEST_DATAGRAM, Agent, Command, Drop, Error, Id, Notice, Send, Status
 
-__all__ = ["Endpoint", "open_endpoint"]
+__all__ = ["Endpoint", "MOST_TRANSACTIONS", "open_endpoint"]
+
+# How many transactions are held at one time: those of some 3,000 requests a second.
+MOST_TRANSACTIONS = 100000
+# A CANCEL, or a request with a tag in To.
+_OF_CALL = re.compile(
+    rb"\A\s*CANCEL |^(?:to|t)[ \t]*:[^\r\n]*;[ \t]*tag[ \t]*=", re.IGNORECASE | re.MULTILINE
+)
 
 Address = Tuple[str, int]
 OnTold = Callable[[Union[Notice, Drop]], None]
 
 
 class Endpoint(asyncio.DatagramProtocol):
-    """An agent with its socket. `open_endpoint` opens one, and `close` closes it."""
+    """An agent with its socket. `open_endpoint` opens one, and `close` closes it. `local` is what
+    Via and Contact say. `lost` counts the datagrams that had no room in a round or above
+    `most_transactions`."""
 
-    def __init__(self, on_told: OnTold):
-        self.agent: Optional[Agent] = None
+    def __init__(self, agent: Agent, local: Address, on_told: OnTold, most_transactions: int):
+        self.agent = agent
+        self.local = local
+        self.lost = 0
+        self._most_transactions = most_transactions
         self._on_told = on_told
         self._loop = asyncio.get_running_loop()
         self._start = self._loop.time()
         self._next: Optional[asyncio.Handle] = None
         self._transport: Optional[asyncio.DatagramTransport] = None
         self._has_failed = False
+        self.is_closed = False
 
     def ask(self, command: Command) -> Id:
         """Gives a command. Notices about it have the id that this returns."""
@@ -40,22 +56,43 @@ class Endpoint(asyncio.DatagramProtocol):
         return event
 
     def close(self) -> None:
-        """Frees the agent and closes the socket."""
+        """Frees the agent and closes the socket. A second close does nothing."""
+        if self.is_closed:
+            return
+        self.is_closed = True
         if self._next is not None:
             self._next.cancel()
         self.agent.close()
-        self.agent = None
-        self._transport.close()
+        if self._transport is not None:
+            self._transport.close()
 
-    def connection_made(self, transport) -> None:
-        self._transport = transport
+    def connection_made(self, transport: asyncio.BaseTransport) -> None:
+        self._transport = cast(asyncio.DatagramTransport, transport)
 
     def datagram_received(self, data: bytes, addr: Address) -> None:
-        if self.agent is not None:
+        if self.is_closed:
+            return
+        if self._is_shed(data):
+            self.lost += 1
+            return
+        try:
             self.agent.datagram(addr, data)
-            self._run_soon()
+        except Error as error:
+            if error.status != Status.TOO_MANY_EVENTS:
+                raise
+            self.lost += 1
+        self._run_soon()
 
-    def error_received(self, exc: OSError) -> None:
+    def _is_shed(self, data: bytes) -> bool:
+        """Whether a datagram would begin a transaction while too many are held. Those of calls that
+        stand are shed at twice that load."""
+        load = self.agent.stats().transactions
+        if load < self._most_transactions:
+            return False
+        is_of_call = load < 2 * self._most_transactions and _OF_CALL.search(data) is not None
+        return not is_of_call and self.agent.would_begin(data)
+
+    def error_received(self, exc: Exception) -> None:
         """A send failed: called within sendto, or later if the network refused it."""
         self._has_failed = True
 
@@ -69,24 +106,40 @@ class Endpoint(asyncio.DatagramProtocol):
         outputs = self.agent.run(int((self._loop.time() - self._start) * 1000))
         for output in outputs:
             if isinstance(output, Send) and not self._sends(output.datagram, output.to):
-                self.agent.failed(output.index)
-                self._run_soon()
+                self._fail(output)
+        for output in outputs:
+            if isinstance(output, (Notice, Drop)) and not self.is_closed:
+                self._tell(output)
+        if self._next is None and not self.is_closed:
+            self._wait()
+
+    def _tell(self, output: Union[Notice, Drop]) -> None:
+        """Tells an output. A fault of `on_told` goes to the loop's handler of exceptions, so that
+        the other outputs are told too."""
         try:
-            for output in outputs:
-                if not isinstance(output, Send) and self.agent is not None:
-                    self._on_told(output)
-        finally:
-            if self._next is None and self.agent is not None:
-                self._wait()
+            self._on_told(output)
+        except Exception as error:
+            message = "a notice wasn't handled"
+            self._loop.call_exception_handler({"message": message, "exception": error})
 
     def _sends(self, data: bytes, to: Address) -> bool:
         """Sends a datagram. One that waits in the transport can't be told as failed later, so one
         that UDP can't carry is refused here."""
-        if len(data) > LARGEST_DATAGRAM:
+        if len(data) > LARGEST_DATAGRAM or self._transport is None:
             return False
         self._has_failed = False
         self._transport.sendto(data, to)
         return not self._has_failed
+
+    def _fail(self, output: Send) -> None:
+        """Reports a send that failed. Where the next round has no room for that, its transaction
+        ends by its timers."""
+        try:
+            self.agent.failed(output.index)
+        except Error as error:
+            if error.status != Status.TOO_MANY_EVENTS:
+                raise
+        self._run_soon()
 
     def _wait(self) -> None:
         """Waits until something is due, and one ms more, so that its moment has come."""
@@ -101,13 +154,22 @@ async def open_endpoint(
     on_told: OnTold,
     local: Optional[Address] = None,
     seed: Optional[bytes] = None,
+    most_transactions: int = MOST_TRANSACTIONS,
 ) -> Endpoint:
     """Opens an endpoint whose socket has this address; port 0 takes a free one. `local` is what Via
     and Contact say, if that isn't the socket's address: behind a NAT the one at which peers reach
-    it. Without a seed it takes a random one."""
-    transport, endpoint = await asyncio.get_running_loop().create_datagram_endpoint(
-        lambda: Endpoint(on_told), local_addr=address
+    it. Without a seed it takes a random one. While `most_transactions` are held, new requests
+    are ignored, except in calls; while twice as many are, these too."""
+    udp = socket.socket(socket.AF_INET, socket.SOCK_DGRAM)
+    try:
+        udp.setblocking(False)
+        udp.bind(address)
+        own = local or udp.getsockname()
+        agent = Agent(library, own, os.urandom(32) if seed is None else seed)
+    except BaseException:
+        udp.close()
+        raise
+    _, endpoint = await asyncio.get_running_loop().create_datagram_endpoint(
+        lambda: Endpoint(agent, own, on_told, most_transactions), sock=udp
     )
-    own = local or transport.get_extra_info("sockname")[:2]
-    endpoint.agent = Agent(library, own, seed if seed is not None else os.urandom(32))
     return endpoint

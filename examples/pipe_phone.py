@@ -4,33 +4,42 @@
 
 LOCAL and REGISTRAR are an address and a port, as in 192.0.2.1:5060. With a URI, it calls that URI
 once it is registered, and hangs up after three seconds. Without one, it answers each call. It
-answers a challenge by Digest with MD5 (RFC 3261, section 22), and follows a 302."""
+answers a challenge by Digest, and follows a 302."""
 
+import os
 import re
 import subprocess
 import sys
 import threading
 from dataclasses import dataclass, replace
 from secrets import token_hex
+from typing import Dict, Optional, Sequence, Tuple
 
-from digest import credentials
+# Of the bindings it only needs Digest.
+sys.path.append(os.path.join(os.path.dirname(os.path.abspath(__file__)), "..", "bindings"))
+from sip_ua_digest import Challenge  # noqa: E402
 
 SPELLED = {"\r": r"\r", "\n": r"\n", "\t": r"\t", "\\": r"\\", " ": r"\s"}
 PLAIN = {spelled: plain for plain, spelled in SPELLED.items()}
 LONG_NAMES = {"f": "from", "m": "contact"}
-CHALLENGES = {"401": ("www-authenticate", "Authorization"),
-              "407": ("proxy-authenticate", "Proxy-Authorization")}
+CHALLENGES = {
+    "401": ("www-authenticate", "Authorization"),
+    "407": ("proxy-authenticate", "Proxy-Authorization"),
+}
 
 
-def word(text):
+def word(text: str) -> str:
     """A text of ASCII as a word of a line."""
     return "".join(SPELLED.get(one, one) for one in text) or "-"
 
 
-def text(spelled):
+def text(spelled: str) -> str:
     """The text that a word, or the rest of a line, spells."""
-    return re.sub(r"\\(?:x..|.)", lambda one: PLAIN.get(one[0]) or chr(int(one[0][2:], 16)),
-                  "" if spelled == "-" else spelled)
+    return re.sub(
+        r"\\(?:x..|.)",
+        lambda one: PLAIN.get(one[0]) or chr(int(one[0][2:], 16)),
+        "" if spelled == "-" else spelled,
+    )
 
 
 @dataclass(frozen=True)
@@ -41,24 +50,39 @@ class Request:
     address: str
     uri: str
     to: str
-    headers: tuple = ()
+    headers: Tuple[Tuple[str, str], ...] = ()
 
 
 class Phone:
-    def __init__(self, program, local, registrar, user, password, callee=None):
+    def __init__(
+        self,
+        program: str,
+        local: str,
+        registrar: str,
+        user: str,
+        password: str,
+        callee: Optional[str] = None,
+    ):
         self.local, self.registrar, self.password = local, registrar, password
         self.name, _, self.domain = user.partition("@")
-        self.sent, self.callee = {}, callee
+        self.sent: Dict[str, Request] = {}
+        self.callee = callee
         self.agent = subprocess.Popen(
             [program, "agent", "--local", local, "--headers", "--linger", "2000"],
-            stdin=subprocess.PIPE, stdout=subprocess.PIPE, text=True, encoding="latin-1", bufsize=1)
+            stdin=subprocess.PIPE,
+            stdout=subprocess.PIPE,
+            encoding="latin-1",
+            bufsize=1,
+        )
+        assert self.agent.stdin is not None and self.agent.stdout is not None
+        self.commands, self.notices = self.agent.stdin, self.agent.stdout
 
-    def command(self, line, headers=()):
+    def command(self, line: str, headers: Sequence[Tuple[str, str]] = ()) -> None:
         """A command of the agent; its headers stand before it, a line each."""
         before = "".join(f" {name}: {value}\n" for name, value in headers)
-        self.agent.stdin.write(f"{before}{line}\n")
+        self.commands.write(f"{before}{line}\n")
 
-    def ask(self, request):
+    def ask(self, request: Request) -> None:
         call_id = token_hex(8)
         self.sent[call_id] = request
         uris = f"{request.uri} sip:{self.name}@{self.domain} {request.to}"
@@ -67,29 +91,40 @@ class Phone:
             kind, method, end = "invite", "", f"supported {self.offer()}"
         self.command(f"{kind} {call_id} {request.address}{method} {uris} {end}", request.headers)
 
-    def register(self):
+    def register(self) -> None:
         contact = ("Contact", f"<sip:{self.name}@{self.local}>;expires=600")
         own = f"sip:{self.name}@{self.domain}"
         self.ask(Request("REGISTER", self.registrar, f"sip:{self.domain}", own, (contact,)))
 
-    def offer(self):
+    def offer(self) -> str:
         """An SDP without media of its own."""
         ip = self.local.partition(":")[0]
-        return word(f"v=0\r\no=- 1 1 IN IP4 {ip}\r\ns=-\r\nc=IN IP4 {ip}\r\nt=0 0\r\n"
-                    "m=audio 9 RTP/AVP 0\r\na=inactive\r\n")
+        return word(
+            f"v=0\r\no=- 1 1 IN IP4 {ip}\r\ns=-\r\nc=IN IP4 {ip}\r\nt=0 0\r\n"
+            "m=audio 9 RTP/AVP 0\r\na=inactive\r\n"
+        )
 
-    def told_response(self, headers, call_id, id_, status, local_tag, remote_tag, _body):
+    def told_response(
+        self,
+        headers: Dict[str, str],
+        call_id: str,
+        _id: str,
+        status: str,
+        local_tag: str,
+        remote_tag: str,
+        _body: str,
+    ) -> None:
         request = self.sent.get(call_id)
         if not request or headers["cseq"].split()[1] != request.method or status < "200":
             return
         print(request.method, status)
-        challenge, answer = CHALLENGES.get(status, (None, None))
+        name, answer = CHALLENGES.get(status, ("", ""))
+        challenge = Challenge.read(headers.get(name, ""))
         if challenge and answer not in dict(request.headers):
-            line = (answer, credentials(headers[challenge], self.name, self.password,
-                                        request.method, request.uri))
-            self.ask(replace(request, headers=(*request.headers, line)))
+            value = challenge.credentials(self.name, self.password, request.method, request.uri)
+            self.ask(replace(request, headers=(*request.headers, (answer, value))))
         elif status == "302":
-            uri = re.search("sip:[^>;?]*", headers["contact"])[0]
+            uri = "sip:" + re.split("[>;?]", headers["contact"].partition("sip:")[2])[0]
             self.ask(replace(request, uri=uri, address=uri.rpartition("@")[2]))
         elif request.method == "REGISTER" and status == "200" and self.callee:
             print("calling", self.callee)
@@ -98,7 +133,16 @@ class Phone:
             bye = f"request {call_id} {local_tag} {remote_tag} BYE -"
             threading.Timer(3, self.command, [bye]).start()
 
-    def told_request(self, headers, call_id, id_, method, _local_tag, _remote_tag, body):
+    def told_request(
+        self,
+        headers: Dict[str, str],
+        call_id: str,
+        id_: str,
+        method: str,
+        _local_tag: str,
+        _remote_tag: str,
+        body: str,
+    ) -> None:
         caller = headers["from"].partition(";tag=")[0]
         if method == "INVITE":
             print("call from", caller)
@@ -107,15 +151,15 @@ class Phone:
         body = self.offer() if method == "INVITE" else "-"
         self.command(f"respond {call_id} {id_} 200 plain {body} OK")
 
-    def told_ended(self, *_fields):
+    def told_ended(self, *_: object) -> None:
         print("ended")
         if self.callee:
-            self.agent.stdin.close()
+            self.commands.close()
 
-    def run(self):
+    def run(self) -> None:
         self.register()
-        headers = {}
-        for line in self.agent.stdout:
+        headers: Dict[str, str] = {}
+        for line in self.notices:
             if line.startswith(" "):
                 name, _, value = text(line[1:-1]).partition(": ")
                 headers.setdefault(LONG_NAMES.get(name.lower(), name.lower()), value)

@@ -3,57 +3,31 @@ registrar holds, and unregisters all of them.
 
     PYTHONPATH=bindings python3 examples/register.py LIBRARY LOCAL REGISTRAR NAME@DOMAIN PASSWORD
 
-LOCAL and REGISTRAR are an address and a port, as in 192.0.2.1:5060. It answers a challenge by
-Digest. Its status is 0 if the registrar answered 200 both times and holds no Contact at the end."""
+LOCAL and REGISTRAR are an address and a port, as in 192.0.2.1:5060. Its status is 0 if the
+registrar answered 200 both times and holds no Contact at the end."""
 
 import asyncio
 import sys
-from dataclasses import replace
-from secrets import token_hex
 
-from digest import credentials
-from sip_ua import Plain, RefusedNotice, ResponseNotice, TimeoutNotice, FailedNotice
-from sip_ua_udp import open_endpoint
+from sip_ua_calls import address_of, open_user_agent
+from sip_ua_registration import RegistrationFailed, register
 
-
-def address(text):
-    ip, _, port = text.rpartition(":")
-    return ip, int(port)
+EXPIRES_S = 600
 
 
-async def register(library, local, registrar, user, password):
-    name, _, domain = user.partition("@")
-    uris = (f"sip:{domain}", f"sip:{user}", f"sip:{user}")
-    answers = asyncio.Queue()
-
-    def told(output):
-        if isinstance(output, ResponseNotice) and output.status >= 200:
-            values = endpoint.agent.header_values
-            challenges = values(output.place, "WWW-Authenticate")
-            answers.put_nowait((output.status, challenges, values(output.place, "Contact")))
-        elif isinstance(output, (TimeoutNotice, FailedNotice, RefusedNotice)):
-            answers.put_nowait((0, [], []))
-
-    async def answered(*headers):
-        """The status of a REGISTER with these headers, and the Contacts of its response."""
-        request = Plain(token_hex(8), address(registrar), "REGISTER", *uris, headers=headers)
-        endpoint.ask(request)
-        status, challenges, contacts = await answers.get()
-        if status == 401 and challenges:
-            answer = credentials(challenges[0], name, password, "REGISTER", f"sip:{domain}")
-            headers = (*headers, ("Authorization", answer))
-            endpoint.ask(replace(request, call_id=token_hex(8), headers=headers))
-            status, _, contacts = await answers.get()
-        print(status, *contacts)
-        return status, contacts
-
-    endpoint = await open_endpoint(library, address(local), told)
-    status, contacts = await answered(("Contact", f"<sip:{name}@{local}>;expires=600"))
-    if status == 200:
-        status, contacts = await answered(("Contact", "*"), ("Expires", "0"))
-    endpoint.close()
-    return 0 if status == 200 and not contacts else 1
+async def main(library: str, local: str, registrar: str, user: str, password: str) -> int:
+    at = await address_of(f"sip:{registrar}")
+    async with await open_user_agent(library, await address_of(f"sip:{local}")) as agent:
+        try:
+            kept = await register(agent, f"sip:{user}", password, at, expires_s=EXPIRES_S)
+        except RegistrationFailed as failed:
+            print(failed)
+            return 1
+        print(kept.response.status, *kept.contacts)
+        response = await kept.unregister(all_bindings=True)
+        print(response.status, *kept.contacts)
+        return 0 if response.status == 200 and not kept.contacts else 1
 
 
 if __name__ == "__main__":
-    sys.exit(asyncio.run(register(*sys.argv[1:6])))
+    sys.exit(asyncio.run(main(*sys.argv[1:6])))

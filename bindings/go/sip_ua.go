@@ -173,5 +173,25 @@ func (a *Agent) HeaderValue(place uint32, name string, number uint64) (string, b
 	}
 }
 
+// HeaderLine is the header line with this number, from 0, of the datagram with a place in the last
+// round: its name as it came, and its value. Each call reads the datagram from its beginning.
+func (a *Agent) HeaderLine(place uint32, number uint64) (name, value string, is bool, err error) {
+	for {
+		var told C.sip_ua_header_lengths
+		at, size := bytesOf(a.buffer)
+		status := C.sip_ua_raw_header_line(&a.agent, C.uint32_t(place), C.size_t(number), &told,
+			at, size)
+		if status == C.SIP_UA_NO_ROOM {
+			a.buffer = make([]byte, told.name_len+told.len)
+			continue
+		}
+		if status != C.SIP_UA_OK {
+			return "", "", false, Error(status)
+		}
+		text := string(a.buffer[:told.name_len+told.len])
+		return text[:told.name_len], text[told.name_len:], bool(told.is_there), nil
+	}
+}
+
 // Close frees the agent.
 func (a *Agent) Close() error { return done(C.sip_ua_raw_free(&a.agent)) }

@@ -29,6 +29,17 @@ func TestAnOptionsIsAnswered(t *testing.T) {
 	if err != nil || !there || from != "<sip:a@192.0.2.9>;tag=f1" {
 		t.Fatal(from, there, err)
 	}
+	name, value, there, err := agent.HeaderLine(outputs[0].Place, 3)
+	if err != nil || !there || name != "Call-ID" || value != "c1" {
+		t.Fatal(name, value, there, err)
+	}
+	if begins, err := agent.WouldBegin([]byte(request)); err != nil || begins {
+		t.Fatal("a request that is held would begin", begins, err)
+	}
+	other := strings.Replace(request, "z9hG4bKa1", "z9hG4bKa2", 1)
+	if begins, err := agent.WouldBegin([]byte(other)); err != nil || !begins {
+		t.Fatal("a new request wouldn't begin", begins, err)
+	}
 	if _, err := agent.Command("respond c1 0.1 200 plain -"); err == nil {
 		t.Fatal("a bad line was taken")
 	}

@@ -20,6 +20,8 @@
 #include <unistd.h>
 
 #define PATIENCE_MS 20000
+/* How many datagrams go into one round; others wait in the socket. */
+#define MOST_AT_ONCE 512
 #define CALL_ID "call-c"
 
 #define OFFER \
@@ -61,9 +63,11 @@ static void asked(uint32_t status, const sip_ua_asked *told, const char *call)
     has_events = true;
 }
 
+/* Hands over the datagrams that came. One that a round has no room for is lost, as any datagram may
+ * be. */
 static void receive(void)
 {
-    for (;;) {
+    for (int count = 0; count < MOST_AT_ONCE; count++) {
         struct sockaddr_in from;
         socklen_t size = sizeof from;
         ssize_t len = recvfrom(udp, datagram, sizeof datagram, MSG_DONTWAIT,
@@ -72,7 +76,10 @@ static void receive(void)
             return;
         sip_ua_address source = { .port = ntohs(from.sin_port) };
         memcpy(source.ip, &from.sin_addr, 4);
-        must(sip_ua_datagram(&agent, &source, datagram, (size_t)len), "sip_ua_datagram");
+        uint32_t status = sip_ua_datagram(&agent, &source, datagram, (size_t)len);
+        if (status == SIP_UA_TOO_MANY_EVENTS)
+            return;
+        must(status, "sip_ua_datagram");
     }
 }
 

@@ -131,6 +131,9 @@ struct Script {
     came: Vec<u8>,
 }
 
+/// The longest line of a pipe, in bytes.
+const LONGEST_LINE: usize = 1_048_576;
+
 /// The tag with which an agent with seed 0 begins its first call.
 const TAG: &str = "0000000000000000000000000000000117a385155";
 
@@ -138,6 +141,14 @@ impl Script {
     fn command(&mut self, line: &str) -> io::Result<()> {
         self.commands.write_all(line.as_bytes())?;
         self.commands.write_all(b"\n")
+    }
+
+    // Writes a line that is longer than a line may be.
+    fn long_line(&mut self, alloc: Global) -> Result<(), Fail> {
+        let mut line = vec![in alloc; b'x'; LONGEST_LINE + 1]?;
+        line.push(b'\n')?;
+        self.commands.write_all(&line)?;
+        Ok(())
     }
 
     // Reads notices up to one with these words, and gives that one.
@@ -457,7 +468,9 @@ fn is_headed(alloc: Global, script: &mut Script, from: Addr, to: Addr) -> Result
     script.plain(alloc, "c1", to, "MESSAGE", "hello")?;
     script.command(" Via: none of the user's")?;
     script.plain(alloc, "c2", to, "OPTIONS", "-")?;
-    script.command(" Subject: tea\ncancel c1 0.1\n Subject: dinner")?;
+    script.command(" Subject: tea\ncancel c1 0.1")?;
+    script.long_line(alloc)?;
+    script.command(" Subject: dinner")?;
     let request = script.datagram(alloc, "MESSAGE ")?;
     script.answer(alloc, from, &request, "200 OK", "z")?;
     script.notice(alloc, " 200 ")?;
@@ -505,7 +518,8 @@ fn is_a_session<R: Threads + Sync + Abort>(
     let told = lines_after(alloc, &run.errors, "ua: line ")?;
     let expected = b"\
         6 is not a command\n6: expected a header line of a user\n7 is not a command\n\
-        8 is not a command\n9 is not a command\n10 is not a command\n";
+        8 is not a command\n9 is not a command\n10 is not a command\n\
+        10: longer than 1048576 bytes\n11 is not a command\n";
     assert!(rt; told.as_slice() == expected.as_slice());
     Ok(())
 }

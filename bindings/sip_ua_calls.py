@@ -1,0 +1,929 @@
+"""Calls as objects, over asyncio.
+
+    async with await open_user_agent("./libsip_ua.so", ("192.0.2.1", 5060)) as agent:
+        call = await agent.call("sip:bob@192.0.2.9", offer)
+        answer = await call.answered()       # raises CallFailed if the call is refused
+        async for event in call:             # what happens until the call ends
+            ..
+        call.hang_up()
+
+        async for call in agent.incoming():  # calls of peers
+            call.ring()
+            call.answer(sdp)
+
+What goes out by itself: ACKs, a BYE to each further branch of a fork that answers, the answer to
+each challenge by Digest, the 200 of a BYE. When the `async with` ends, `close` ends all calls.
+sip_ua_registration.py registers a user agent. Use everything from the thread of the event loop.
+"""
+
+import asyncio
+import ipaddress
+import random
+import re
+import socket
+from dataclasses import dataclass
+from secrets import token_hex
+from typing import (
+    AsyncIterator,
+    Callable,
+    Dict,
+    Generic,
+    List,
+    NamedTuple,
+    Optional,
+    Set,
+    Tuple,
+    TypeVar,
+    Union,
+)
+
+from sip_ua import (
+    Ack,
+    AckNotice,
+    Address,
+    Cancel,
+    CancelNotice,
+    Command,
+    Drop,
+    EndedNotice,
+    FailedNotice,
+    Headers,
+    Id,
+    Invite,
+    Message,
+    NoAckNotice,
+    NoPrackNotice,
+    Notice,
+    Plain,
+    PrackNotice,
+    RefusedNotice,
+    Request,
+    RequestNotice,
+    Response,
+    ResponseNotice,
+    TimeoutNotice,
+)
+from sip_ua_digest import CHALLENGES, Authenticator
+from sip_ua_udp import MOST_TRANSACTIONS, Endpoint, open_endpoint
+
+__all__ = (
+    "UserAgent open_user_agent Call OutgoingCall IncomingCall CallFailed FinalResponse "
+    "Event Progress Answered IncomingRequest Ended Stream address_of uri_of"
+).split()
+
+SIP_PORT = 5060
+# 64 times T1: so long can other branches of a fork answer, and a cancelled INVITE go without its
+# response.
+TRANSACTION_S = 32.0
+# How long `close` waits for the ends of calls.
+CLOSE_S = 4.0
+# How many calls a user agent takes at one time, and when it says that others may come.
+MOST_CALLS = 1000
+RETRY_AFTER_S = 5
+# The longest time until a re-INVITE may come again that came too early.
+MOST_RETRY_AFTER_S = 10
+# How many events of a call wait for its iterator; those that come then count as unread.
+MOST_UNREAD = 256
+# How often a request answers challenges.
+MOST_ANSWERS = 3
+ALLOW = ("Allow", "INVITE, ACK, CANCEL, OPTIONS, BYE, PRACK")
+
+_HOST = re.compile(r"sip:(?:[^@]*@)?([^:;?>]+)(?::(\d+))?", re.IGNORECASE)
+_QUOTED = re.compile(r'"(?:[^"\\]|\\.)*"')
+_Handler = Callable[[Notice], None]
+# A Call-ID, a local and a remote tag.
+Dialog = Tuple[str, str, str]
+_Item = TypeVar("_Item")
+
+
+class FinalResponse(NamedTuple):
+    """The final response to a request. The message is None if no response came: then the status is
+    408 after a timeout, 503 if a send failed (RFC 3261, section 8.1.3.1), and 481 if the agent
+    refused the request."""
+
+    status: int
+    reason: str
+    message: Optional[Message] = None
+
+    @property
+    def is_success(self) -> bool:
+        return 200 <= self.status < 300
+
+
+class CallFailed(Exception):
+    """A call wasn't answered, for the reason in `response`."""
+
+    def __init__(self, response: FinalResponse):
+        self.response = response
+        super().__init__(f"{response.status} {response.reason}")
+
+
+# ---- the events of a call
+
+
+@dataclass(frozen=True)
+class Progress:
+    """A provisional response above 100 to your INVITE came."""
+
+    status: int
+    reason: str
+    message: Message
+
+
+@dataclass(frozen=True)
+class Answered:
+    """The call is up. The message is the 2xx of an outgoing call, the ACK of an incoming one."""
+
+    message: Message
+
+
+@dataclass(frozen=True)
+class Ended:
+    """The call has ended. If it was never up, `response` says why; after a call that was up it is
+    None. The message is the peer's BYE or CANCEL, if there was one."""
+
+    response: Optional[FinalResponse] = None
+    message: Optional[Message] = None
+
+
+class IncomingRequest:
+    """A request of the peer: one in a call, such as INFO or a re-INVITE, or one outside of calls.
+    `respond` answers it; `is_answered` says whether it has its final response."""
+
+    def __init__(self, agent: "UserAgent", notice: RequestNotice, message: Message):
+        self.method = notice.method
+        self.message = message
+        self._agent = agent
+        self._call_id = notice.call_id
+        self._id = notice.id
+        self.is_answered = False
+        self._ack: "asyncio.Future[Optional[Message]]" = asyncio.get_running_loop().create_future()
+        if self.method == "INVITE":
+            agent.handle(self._id, self._told)
+
+    def respond(
+        self, status: int = 200, reason: str = "OK", body: bytes = b"", headers: Headers = ()
+    ) -> None:
+        """Responds to the request. After its final response, its CANCEL or `close`, this does
+        nothing."""
+        if self.is_answered or self._agent.endpoint.is_closed:
+            return
+        self._agent.ask(Response(self._call_id, self._id, status, reason, body, headers))
+        self.is_answered = status >= 200
+        if status >= 300:
+            self.end()
+
+    async def acknowledged(self) -> Optional[Message]:
+        """Waits for the ACK of your 2xx to a re-INVITE. None if it never comes."""
+        return await asyncio.shield(self._ack)
+
+    def refuse(self) -> None:
+        """Responds to what nobody reads: 200 to OPTIONS, 488 to a re-INVITE, which leaves the call
+        as it is, and 405 to others."""
+        if self.method == "OPTIONS":
+            self.respond(200, "OK", headers=[ALLOW])
+        elif self.method == "INVITE":
+            self.respond(488, "Not Acceptable Here")
+        else:
+            self.respond(405, "Method Not Allowed", headers=[ALLOW])
+
+    def _told(self, notice: Notice) -> None:
+        if isinstance(notice, AckNotice):
+            self.end(self._agent.message(notice.place, notice.body))
+        elif not isinstance(notice, PrackNotice):
+            self.is_answered = True
+            self.end()
+
+    def end(self, ack: Optional[Message] = None) -> None:
+        """No ACK will come any more."""
+        self._agent.forget(self._id)
+        if not self._ack.done():
+            self._ack.set_result(ack)
+
+
+Event = Union[Progress, Answered, IncomingRequest, Ended]
+
+
+class Stream(Generic[_Item]):
+    """What one iterator reads, the last one that began. `refuse` is called with each item that it
+    doesn't read: while nobody iterates, when MOST_UNREAD items wait, and with those that wait when
+    it ends."""
+
+    def __init__(self, refuse: Callable[[_Item], None]) -> None:
+        self._refuse = refuse
+        self._queue: "Optional[asyncio.Queue[Optional[_Item]]]" = None
+        self._is_ended = False
+
+    def put(self, item: _Item) -> None:
+        if self._queue is None or self._queue.qsize() >= MOST_UNREAD:
+            self._refuse(item)
+        else:
+            self._queue.put_nowait(item)
+
+    def end(self, last: Optional[_Item] = None) -> None:
+        """Ends the iterator, after a last item."""
+        self._is_ended = True
+        if self._queue is not None:
+            if last is not None:
+                self._queue.put_nowait(last)
+            self._queue.put_nowait(None)
+
+    async def read(self) -> AsyncIterator[_Item]:
+        if self._is_ended:
+            return
+        if self._queue is not None:
+            self._queue.put_nowait(None)
+        queue: "asyncio.Queue[Optional[_Item]]" = asyncio.Queue()
+        self._queue = queue
+        try:
+            while True:
+                item = await queue.get()
+                if item is None:
+                    return
+                yield item
+        finally:
+            if self._queue is queue:
+                self._queue = None
+            while not queue.empty():
+                unread = queue.get_nowait()
+                if unread is not None:
+                    self._refuse(unread)
+
+
+# ---- calls
+
+
+class Call:
+    """A call, incoming or outgoing. `async for` gives its events from then on, Ended last. While
+    nobody reads them, requests of the peer are refused."""
+
+    # The id of its INVITE.
+    _id: Id
+
+    def __init__(self, agent: "UserAgent", call_id: str):
+        loop = asyncio.get_running_loop()
+        self.call_id = call_id
+        self.dialogs: Set[Dialog] = set()
+        self._agent = agent
+        self._tags: Optional[Tuple[str, str]] = None
+        self._target = ""
+        self._authenticator = agent.authenticator()
+        self._answer: Optional[Message] = None
+        self._bye: Optional[Message] = None
+        # An INVITE of our own waits for its final response; the peer's last re-INVITE.
+        self._is_inviting = False
+        self._reinvite: Optional[IncomingRequest] = None
+        self._is_left = False
+        # The body and the headers of the BYE.
+        self._farewell: Tuple[bytes, Headers] = (b"", ())
+        self._owes_ack = False
+        self._is_settled: "asyncio.Future[None]" = loop.create_future()
+        self._end: "asyncio.Future[Ended]" = loop.create_future()
+        self._events: Stream[Event] = Stream(refuse_event)
+
+    @property
+    def is_up(self) -> bool:
+        """Whether it was answered, and hasn't ended."""
+        return self._answer is not None and not self._end.done()
+
+    async def answered(self) -> Message:
+        """Waits until the call is up. Returns the 2xx of an outgoing call, the ACK of an incoming
+        one. Raises CallFailed if it was refused, cancelled, or not answered in time."""
+        await asyncio.shield(self._is_settled)
+        if self._answer is None:
+            response = self._end.result().response
+            raise CallFailed(response or FinalResponse(487, "Request Terminated"))
+        return self._answer
+
+    async def ended(self) -> Ended:
+        """Waits until the call has ended: by a BYE, or since it was never up."""
+        return await asyncio.shield(self._end)
+
+    def __aiter__(self) -> AsyncIterator[Event]:
+        return self._read()
+
+    async def _read(self) -> AsyncIterator[Event]:
+        if self._end.done():
+            yield self._end.result()
+            return
+        async for event in self._events.read():
+            yield event
+
+    async def request(self, method: str, body: bytes = b"", headers: Headers = ()) -> FinalResponse:
+        """Sends a request in the call, such as INFO or a re-INVITE, and returns its final response.
+        481 and 408 end the call (RFC 3261, section 12.2.1.2)."""
+        if self._tags is None or not self.is_up:
+            return FinalResponse(481, "Call/Transaction Does Not Exist")
+        call_id, tags = self.call_id, self._tags
+
+        def request(credentials: Headers) -> Command:
+            return Request(call_id, *tags, method, body, [*headers, *credentials])
+
+        is_invite = method == "INVITE"
+        self._is_inviting = self._is_inviting or is_invite
+        exchange = self._agent.exchange(request, self._authenticator, method, self._target)
+        try:
+            response = await exchange
+        finally:
+            self._is_inviting = self._is_inviting and not is_invite
+        if response.is_success and is_invite and response.message is not None:
+            self._owes_ack = bool(response.message.body) and not body
+        if response.status in (408, 481):
+            self.hang_up()
+        return response
+
+    def acknowledge(self, answer: bytes = b"", headers: Headers = ()) -> None:
+        """Sends the ACK of a 2xx whose INVITE had no body: the 2xx has the offer, and the ACK the
+        answer. Other ACKs go out by themselves."""
+        if self._owes_ack and self._tags is not None:
+            self._owes_ack = False
+            self._agent.ask(Ack(self.call_id, *self._tags, answer, headers))
+
+    def hang_up(self, body: bytes = b"", headers: Headers = ()) -> None:
+        """Ends the call: by BYE if it is up, else by CANCEL or 603. If it is answered anyway, or
+        its ACK hasn't come yet, its BYE follows then. The body and the headers are the BYE's. A
+        call that has ended, or is about to, stays as it is."""
+        if self._is_left or self._end.done():
+            return
+        self._is_left = True
+        self._farewell = (body, headers)
+        if self._answer is not None:
+            self._say_bye()
+        else:
+            self._give_up()
+
+    def _give_up(self) -> None:
+        """Leaves a call that isn't up."""
+        raise NotImplementedError
+
+    def _say_bye(self) -> None:
+        """Ends the dialog. A 2xx that needs an ACK gets it first."""
+        if self._tags is None:
+            return
+        self.acknowledge()
+        body, headers = self._farewell
+        if self._authenticator is not None:
+            headers = [*headers, *self._authenticator.headers("BYE", self._target)]
+        asked = self._agent.ask(Request(self.call_id, *self._tags, "BYE", body, headers))
+        self._agent.handle(asked, lambda notice: self._told_of_bye(asked, notice))
+
+    def _told_of_bye(self, asked: Id, notice: Notice) -> None:
+        if not isinstance(notice, ResponseNotice) or notice.status >= 200:
+            self._agent.forget(asked)
+            self._finish(Ended())
+
+    def _begin(self, tags: Tuple[str, str], message: Message, answer: Message) -> None:
+        """The call is up, in the dialog with these tags. The message has the peer's Contact."""
+        self._tags, self._answer = tags, answer
+        self._is_inviting = False
+        self._target = uri_of(message.value("Contact"))
+        self._is_settled.set_result(None)
+        self._events.put(Answered(answer))
+
+    def _finish(self, end: Ended) -> None:
+        if self._end.done():
+            return
+        self._end.set_result(end)
+        if not self._is_settled.done():
+            self._is_settled.set_result(None)
+        if self._reinvite is not None:
+            self._reinvite.end()
+        self._events.end(end)
+        self._agent.forget(self._id)
+        self._agent.forget_call(self)
+
+    # -- what the user agent says
+
+    def abandon(self) -> None:
+        """The endpoint closes before this call has ended."""
+        self._finish(Ended(None if self.is_up else FinalResponse(408, "Request Timeout")))
+
+    def take_request(self, notice: RequestNotice, message: Message) -> None:
+        """A request of the peer in a dialog of this call."""
+        request = IncomingRequest(self._agent, notice, message)
+        is_of_branch = self._tags not in (None, (notice.local_tag, notice.remote_tag))
+        if notice.method == "BYE":
+            request.respond()
+            self._bye = self._bye if is_of_branch else message
+        elif is_of_branch:
+            request.refuse()
+        elif notice.method == "INVITE":
+            self._take_reinvite(request)
+        else:
+            self._events.put(request)
+
+    def _take_reinvite(self, request: IncomingRequest) -> None:
+        """A re-INVITE of the peer. One that crosses an INVITE of our own is refused, and one before
+        the answer to the last (RFC 3261, section 14.2)."""
+        if self._is_inviting:
+            request.respond(491, "Request Pending")
+        elif self._reinvite is not None and not self._reinvite.is_answered:
+            headers = [("Retry-After", str(random.randint(0, MOST_RETRY_AFTER_S)))]
+            request.respond(500, "Server Internal Error", headers=headers)
+        else:
+            self._reinvite = request
+            self._events.put(request)
+
+    def dialog_ended(self, tags: Tuple[str, str]) -> None:
+        """A dialog of this call has ended."""
+        if tags == self._tags:
+            self._finish(Ended(message=self._bye))
+
+
+class OutgoingCall(Call):
+    """A call that `UserAgent.call` started."""
+
+    def __init__(self, agent: "UserAgent", invite: Invite):
+        super().__init__(agent, invite.call_id)
+        self._invite = invite
+        self._statuses: List[int] = []
+        self._is_inviting = True
+        self._id = self._send()
+
+    def _send(self) -> Id:
+        """Sends the INVITE, with the credentials for the challenges that came."""
+        invite = self._invite
+        headers = [*invite.headers]
+        if self._authenticator is not None:
+            headers += self._authenticator.headers("INVITE", invite.request_uri)
+        asked = self._agent.ask(
+            Invite(
+                self.call_id,
+                invite.address,
+                invite.request_uri,
+                invite.from_uri,
+                invite.to_uri,
+                invite.body,
+                headers,
+                invite.supports_100rel,
+            )
+        )
+        self._agent.handle(asked, self._told)
+        return asked
+
+    def _give_up(self) -> None:
+        """Cancels the INVITE. Its response is waited for, but not for ever."""
+        self._agent.ask(Cancel(self.call_id, self._id))
+        asyncio.get_running_loop().call_later(TRANSACTION_S, self._miss_response)
+
+    def _miss_response(self) -> None:
+        """The cancelled INVITE got no response. A 2xx that still comes is ended by a BYE."""
+        if not self._end.done():
+            self._agent.forget_later(self._id)
+            self._finish(Ended(FinalResponse(408, "Request Timeout")))
+
+    def _fail(self, end: Ended) -> None:
+        if self._answer is None:
+            self._finish(end)
+
+    def _told(self, notice: Notice) -> None:
+        if isinstance(notice, ResponseNotice):
+            message = self._agent.message(notice.place, notice.body)
+            if message is not None:
+                self._take_response(notice, message)
+        else:
+            self._fail(Ended(self._agent.outcome(notice)))
+
+    def _take_response(self, notice: ResponseNotice, message: Message) -> None:
+        """A response to the INVITE came."""
+        tags = (notice.local_tag, notice.remote_tag)
+        if notice.status == 100:
+            return
+        if notice.status < 300:
+            self._agent.hold(self, tags)
+        reason = message.start.reason or ""
+        if notice.status < 200:
+            self._events.put(Progress(notice.status, reason, message))
+        elif notice.status < 300:
+            self._take_answer(tags, message)
+        elif not self._is_left and self._takes_challenge(notice.status, message):
+            self._agent.forget(self._id)
+            self.call_id = token_hex(8)
+            self._id = self._send()
+        else:
+            self._fail(Ended(FinalResponse(notice.status, reason, message)))
+
+    def _take_answer(self, tags: Tuple[str, str], message: Message) -> None:
+        """Takes a 2xx. One of another branch of a fork, or after a CANCEL, is ended at once."""
+        owes_ack = bool(message.body) and not self._invite.body
+        if self._tags is None and not self._end.done():
+            self._agent.forget_later(self._id)
+            self._owes_ack = owes_ack
+            if not self._is_left:
+                self._begin(tags, message, message)
+                return
+            self._tags = tags
+            self._say_bye()
+        elif self._tags != tags:
+            if owes_ack:
+                self._agent.ask(Ack(self.call_id, *tags))
+            self._agent.ask(Request(self.call_id, *tags, "BYE"))
+
+    def _takes_challenge(self, status: int, message: Message) -> bool:
+        is_again = status in self._statuses
+        self._statuses.append(status)
+        is_often = len(self._statuses) > MOST_ANSWERS
+        return not is_often and takes_challenge(self._authenticator, status, message, is_again)
+
+
+class IncomingCall(Call):
+    """A call of a peer, which `UserAgent.incoming` gave. `invite` is its INVITE."""
+
+    def __init__(self, agent: "UserAgent", notice: RequestNotice, invite: Message):
+        super().__init__(agent, notice.call_id)
+        self.invite = invite
+        self._id = notice.id
+        self._has_final = False
+        self._tags = (notice.local_tag, notice.remote_tag)
+        agent.handle(notice.id, self._told)
+        agent.hold(self, self._tags)
+
+    def ring(self) -> None:
+        """Responds 180."""
+        self.respond(180, "Ringing")
+
+    def answer(self, body: bytes = b"", headers: Headers = ()) -> None:
+        """Responds 200, with the answer to the INVITE's offer. If it has none, the body is the
+        offer, and the ACK has the answer."""
+        self.respond(200, "OK", body, headers)
+
+    def reject(
+        self,
+        status: int = 486,
+        reason: str = "Busy Here",
+        body: bytes = b"",
+        headers: Headers = (),
+    ) -> None:
+        """Refuses the call, by a status from 300 to 699."""
+        self.respond(status, reason, body, headers)
+
+    def respond(
+        self,
+        status: int,
+        reason: str,
+        body: bytes = b"",
+        headers: Headers = (),
+        is_reliable: bool = False,
+    ) -> None:
+        """Responds to the INVITE. After its final response, or its CANCEL, this does nothing."""
+        if self._has_final or self._end.done():
+            return
+        response = Response(self.call_id, self._id, status, reason, body, headers, is_reliable)
+        self._agent.ask(response)
+        self._has_final = status >= 200
+        if status >= 300:
+            self._finish(Ended(FinalResponse(status, reason)))
+
+    def _give_up(self) -> None:
+        # Once it is answered, the BYE waits for the ACK (RFC 3261, section 15).
+        if not self._has_final:
+            self.reject(603, "Decline")
+
+    def _told(self, notice: Notice) -> None:
+        if isinstance(notice, AckNotice):
+            self._take_ack(notice)
+        elif isinstance(notice, CancelNotice):
+            message = self._agent.message(notice.place)
+            self._finish(Ended(FinalResponse(487, "Request Terminated"), message))
+        elif isinstance(notice, NoAckNotice):
+            self._agent.forget(self._id)
+            self._is_left = True
+            self._say_bye()
+        elif isinstance(notice, NoPrackNotice):
+            self.reject(504, "Server Time-out")
+        elif isinstance(notice, (TimeoutNotice, FailedNotice)):
+            self._finish(Ended(self._agent.outcome(notice)))
+
+    def _take_ack(self, notice: AckNotice) -> None:
+        self._agent.forget(self._id)
+        ack = self._agent.message(notice.place, notice.body)
+        if ack is not None and self._tags is not None:
+            self._begin(self._tags, self.invite, ack)
+        if self._is_left:
+            self._say_bye()
+
+    def take_request(self, notice: RequestNotice, message: Message) -> None:
+        super().take_request(notice, message)
+        if notice.method == "BYE":
+            # It ends the early dialog too (RFC 3261, section 15.1.2).
+            self.respond(487, "Request Terminated")
+
+
+def refuse_event(event: Event) -> None:
+    """An event that nobody reads."""
+    if isinstance(event, IncomingRequest):
+        event.refuse()
+
+
+def refuse_call(call: IncomingCall) -> None:
+    """A call that nobody takes."""
+    call.reject(480, "Temporarily Unavailable")
+
+
+def takes_challenge(
+    authenticator: Optional[Authenticator], status: int, message: Optional[Message], is_again: bool
+) -> bool:
+    """Whether a response is a challenge that the authenticator can answer."""
+    if authenticator is None or message is None or status not in CHALLENGES:
+        return False
+    return authenticator.takes(status, message.values(CHALLENGES[status][0]), is_again)
+
+
+def uri_of(value: str) -> str:
+    """The URI of the value of a header such as From, To or Contact."""
+    before, bracket, rest = _QUOTED.sub("", value).partition("<")
+    return rest.partition(">")[0] if bracket else before.partition(";")[0].strip()
+
+
+async def address_of(uri: str) -> Address:
+    """The address of a URI's host, by DNS if it is a name, and its port, 5060 without one."""
+    found = _HOST.match(uri)
+    if found is None:
+        raise ValueError(f"no host in {uri!r}")
+    host, port = found[1], int(found[2] or SIP_PORT)
+    try:
+        return str(ipaddress.IPv4Address(host)), port
+    except ValueError:
+        loop = asyncio.get_running_loop()
+        kinds = {"family": socket.AF_INET, "type": socket.SOCK_DGRAM}
+        ip = (await loop.getaddrinfo(host, port, **kinds))[0][4][0]
+        return str(ip), port
+
+
+# ---- the user agent
+
+
+class UserAgent:
+    """An endpoint whose calls are objects. `open_user_agent` opens one; `close` ends its calls and
+    closes it, as does leaving its `async with`.
+
+    `uri` is the user's own, which From says. `proxy` is where all requests go, otherwise to the
+    address in their URI. The username and the password answer challenges. `on_request` is called
+    with each request outside of calls; without it, they are refused. More calls than `most_calls`
+    at one time get 503."""
+
+    endpoint: Endpoint
+    uri: str
+
+    def __init__(
+        self,
+        proxy: Optional[Address] = None,
+        username: str = "",
+        password: str = "",
+        on_request: Optional[Callable[[IncomingRequest], None]] = None,
+        most_calls: int = MOST_CALLS,
+    ):
+        self.proxy = proxy
+        self.calls: Set[Call] = set()
+        self._login = (username, password)
+        self._on_request = on_request
+        self._most_calls = most_calls
+        self._dialogs: Dict[Dialog, Call] = {}
+        self._handlers: Dict[Id, _Handler] = {}
+        # INVITEs that were answered, while other branches of a fork may answer too.
+        self._answered_invites: Dict[Id, _Handler] = {}
+        self._incoming: Stream[IncomingCall] = Stream(refuse_call)
+        self._responses: "Set[asyncio.Future[FinalResponse]]" = set()
+        self._is_closing = False
+        self._is_idle = asyncio.Event()
+
+    async def __aenter__(self) -> "UserAgent":
+        return self
+
+    async def __aexit__(self, *_: object) -> None:
+        await self.close()
+
+    async def call(
+        self,
+        uri: str,
+        offer: bytes = b"",
+        headers: Headers = (),
+        address: Optional[Address] = None,
+        from_uri: Optional[str] = None,
+        supports_100rel: bool = False,
+    ) -> OutgoingCall:
+        """Starts a call: sends an INVITE to the address, else to the proxy or the address in the
+        URI. Without an offer, the 2xx has one, and `acknowledge` answers it; then leave out
+        `supports_100rel`."""
+        to = address or self.proxy or await address_of(uri)
+        uris = (uri, from_uri or self.uri, uri)
+        invite = Invite(token_hex(8), to, *uris, offer, tuple(headers), supports_100rel)
+        call = OutgoingCall(self, invite)
+        self.calls.add(call)
+        return call
+
+    def incoming(self) -> AsyncIterator[IncomingCall]:
+        """The calls of peers, until `close`. While nobody iterates, they get 480."""
+        return self._incoming.read()
+
+    async def request(
+        self,
+        method: str,
+        uri: str,
+        body: bytes = b"",
+        headers: Headers = (),
+        address: Optional[Address] = None,
+        from_uri: Optional[str] = None,
+        to_uri: Optional[str] = None,
+        authenticator: Optional[Authenticator] = None,
+    ) -> FinalResponse:
+        """Sends a request outside of calls, such as OPTIONS, and returns its final response."""
+        to = address or self.proxy or await address_of(uri)
+        uris = (uri, from_uri or self.uri, to_uri or uri)
+
+        def plain(credentials: Headers) -> Command:
+            return Plain(token_hex(8), to, method, *uris, body, [*headers, *credentials])
+
+        return await self.exchange(plain, authenticator or self.authenticator(), method, uri)
+
+    async def close(self, patience_s: float = CLOSE_S) -> None:
+        """Ends all calls: 480 to those that nobody answered, else CANCEL or BYE. Waits for their
+        ends, at most so many seconds, and closes the endpoint."""
+        if self.endpoint.is_closed:
+            return
+        self._is_closing = True
+        self._incoming.end()
+        for call in list(self.calls):
+            if isinstance(call, IncomingCall):
+                refuse_call(call)
+            call.hang_up()
+        await asyncio.sleep(0)  # the round that sends this
+        try:
+            await asyncio.wait_for(self._idle(), patience_s)
+        except asyncio.TimeoutError:
+            pass
+        self.endpoint.close()
+        for call in list(self.calls):
+            call.abandon()
+        for response in self._responses:
+            if not response.done():
+                response.set_result(FinalResponse(408, "Request Timeout"))
+
+    async def _idle(self) -> None:
+        """Waits until no request waits for its end."""
+        while self._handlers:
+            self._is_idle.clear()
+            await self._is_idle.wait()
+
+    # -- for calls, requests and registrations
+
+    def ask(self, command: Command) -> Id:
+        return self.endpoint.ask(command)
+
+    def handle(self, event: Id, handler: _Handler) -> None:
+        """Has notices about a request go to this handler, until `forget`."""
+        self._handlers[event] = handler
+
+    def forget(self, event: Id) -> None:
+        self._handlers.pop(event, None)
+        if not self._handlers:
+            self._is_idle.set()
+
+    def forget_later(self, event: Id) -> None:
+        """Forgets an INVITE that was answered once no other branch of a fork can answer."""
+        handler = self._handlers.get(event)
+        if handler is not None:
+            self._answered_invites[event] = handler
+            loop = asyncio.get_running_loop()
+            loop.call_later(TRANSACTION_S, self._answered_invites.pop, event, None)
+        self.forget(event)
+
+    def hold(self, call: Call, tags: Tuple[str, str]) -> None:
+        """Has requests in this dialog go to the call."""
+        dialog = (call.call_id, *tags)
+        self._dialogs[dialog] = call
+        call.dialogs.add(dialog)
+
+    def forget_call(self, call: Call) -> None:
+        """Forgets a call that has ended, with its dialogs."""
+        self.calls.discard(call)
+        for dialog in call.dialogs:
+            self._dialogs.pop(dialog, None)
+        call.dialogs.clear()
+
+    def authenticator(self) -> Optional[Authenticator]:
+        return Authenticator(*self._login) if self._login[0] else None
+
+    def message(self, place: int, body: bytes = b"") -> Optional[Message]:
+        """The message that caused a notice of this round."""
+        return self.endpoint.agent.message_at(place, body)
+
+    def outcome(self, notice: Notice) -> FinalResponse:
+        """How the request of this notice has ended."""
+        if isinstance(notice, ResponseNotice):
+            message = self.message(notice.place, notice.body)
+            reason = message.start.reason if message is not None else None
+            return FinalResponse(notice.status, reason or "", message)
+        if isinstance(notice, TimeoutNotice):
+            return FinalResponse(408, "Request Timeout")
+        if isinstance(notice, RefusedNotice):
+            return FinalResponse(481, str(notice.refusal))
+        return FinalResponse(503, "Service Unavailable")
+
+    async def exchange(
+        self,
+        request: Callable[[Headers], Command],
+        authenticator: Optional[Authenticator],
+        method: str,
+        uri: str,
+    ) -> FinalResponse:
+        """Sends a request, which is made with the headers that authenticate it, and answers
+        challenges. Returns the final response."""
+        statuses: List[int] = []
+        while True:
+            headers = authenticator.headers(method, uri) if authenticator is not None else []
+            response = await self._final_response(self.ask(request(headers)))
+            is_again = response.status in statuses
+            statuses.append(response.status)
+            if len(statuses) > MOST_ANSWERS or not takes_challenge(
+                authenticator, response.status, response.message, is_again
+            ):
+                return response
+
+    async def _final_response(self, asked: Id) -> FinalResponse:
+        """Waits for the final response to a request."""
+        response: "asyncio.Future[FinalResponse]" = asyncio.get_running_loop().create_future()
+
+        def told(notice: Notice) -> None:
+            if isinstance(notice, ResponseNotice) and notice.status < 200:
+                return
+            self.forget(asked)
+            if not response.done():
+                response.set_result(self.outcome(notice))
+
+        self.handle(asked, told)
+        self._responses.add(response)
+        try:
+            return await response
+        finally:
+            self._responses.discard(response)
+
+    # -- notices
+
+    def told(self, output: Union[Notice, Drop]) -> None:
+        """Takes a notice of the endpoint."""
+        if isinstance(output, RequestNotice):
+            message = self.message(output.place, output.body)
+            if message is not None:
+                self._take_request(output, message)
+        elif isinstance(output, EndedNotice):
+            tags = (output.local_tag, output.remote_tag)
+            call = self._dialogs.pop((output.call_id, *tags), None)
+            if call is not None:
+                call.dialogs.discard((output.call_id, *tags))
+                call.dialog_ended(tags)
+        elif isinstance(output, Notice):
+            # All other notices have the id of a request or of a command.
+            event: Id = getattr(output, "id")
+            handler = self._handlers.get(event) or self._answered_invites.get(event)
+            if handler is not None:
+                handler(output)
+
+    def _take_request(self, notice: RequestNotice, message: Message) -> None:
+        call = self._dialogs.get((notice.call_id, notice.local_tag, notice.remote_tag))
+        if call is not None:
+            call.take_request(notice, message)
+        elif notice.method == "INVITE":
+            self._take_call(notice, message)
+        else:
+            request = IncomingRequest(self, notice, message)
+            if self._on_request is not None:
+                self._on_request(request)
+            else:
+                request.refuse()
+
+    def _take_call(self, notice: RequestNotice, invite: Message) -> None:
+        """A call of a peer."""
+        call = IncomingCall(self, notice, invite)
+        if self._is_closing:
+            refuse_call(call)
+        elif len(self.calls) >= self._most_calls:
+            headers = [("Retry-After", str(RETRY_AFTER_S))]
+            call.reject(503, "Service Unavailable", headers=headers)
+        else:
+            self.calls.add(call)
+            self._incoming.put(call)
+
+
+async def open_user_agent(
+    library: str,
+    address: Address,
+    uri: Optional[str] = None,
+    proxy: Optional[Address] = None,
+    username: str = "",
+    password: str = "",
+    on_request: Optional[Callable[[IncomingRequest], None]] = None,
+    most_calls: int = MOST_CALLS,
+    most_transactions: int = MOST_TRANSACTIONS,
+    local: Optional[Address] = None,
+) -> UserAgent:
+    """Opens a user agent whose socket has this address; port 0 takes a free one. `local` and
+    `most_transactions` are as for `open_endpoint`. Without a URI, its own is that of its address.
+    """
+    agent = UserAgent(proxy, username, password, on_request, most_calls)
+    agent.endpoint = await open_endpoint(
+        library, address, agent.told, local, most_transactions=most_transactions
+    )
+    ip, port = agent.endpoint.local
+    agent.uri = uri or f"sip:{ip}:{port}"
+    return agent
