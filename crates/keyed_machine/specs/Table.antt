@@ -1,5 +1,5 @@
--- A table of held keys as a contract sees it: its entries, each key once, in any order; or `None` if
--- it is broken.
+-- A table of held keys as a contract sees it: its entries, each key once, in any order; or `None`
+-- if it is broken.
 use Rattle.std.specs.Prelude.{◌≡◌, ℕ, true, false, List, [], Option, None, Some, IsSome, cond}
 use Rattle.std.specs.declared.cmp.Ordering.{Ordering}
 use Rattle.std.specs.BTreeMap.{is_at}

@@ -27,7 +27,8 @@ pub(crate) fn deal_items<M: StateMachine>(
     ensures states { OnOk result ((q : M.Key)
         → state_in M.Key.cmp states.new.entries q ≡ states_then M.Key.cmp (M.machine machine.now)
         (state_in M.Key.cmp states.old.entries) (timed_items now items.items) q) }
-    ensures armed { OnOk result (AreDues M.Key.cmp M.due (state_in M.Key.cmp states.new.entries) dues.new) }
+    ensures armed { OnOk result
+        (AreDues M.Key.cmp M.due (state_in M.Key.cmp states.new.entries) dues.new) }
     ensures told { IfOk result (λ told. groups told.items
         ≡ map by_place (told_items M.Key.cmp (M.machine machine.now)
         (state_in M.Key.cmp states.old.entries) (timed_items now items.items))) }

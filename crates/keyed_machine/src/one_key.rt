@@ -9,7 +9,7 @@ ghost use Rattle.keyed_machine.specs.Machine.{given_at, next, adds, due_of, tick
 ghost use Rattle.keyed_machine.specs.Table.{AreDues, state_in};
 
 use crate::machine::StateMachine;
-use crate::states::{hold, take, taken};
+use crate::states::{hold, take_entry, take_state};
 use seeded_hash::HashSeed;
 use sip_timers::Schedule;
 use std::alloc::{AllocError, Global};
@@ -31,11 +31,14 @@ pub(crate) fn step_key<M: StateMachine>(
     requires armed { AreDues M.Key.cmp M.due (state_in M.Key.cmp states.old.entries) dues.old }
     ensures states { OnOk result ((q : M.Key) → state_in M.Key.cmp states.new.entries q
         ≡ cond (is_at (M.Key.cmp key) q)
-        (next (M.machine machine.now) key (state_in M.Key.cmp states.old.entries key) (given_at now input))
+        (next (M.machine machine.now) key (state_in M.Key.cmp states.old.entries key)
+        (given_at now input))
         (state_in M.Key.cmp states.old.entries q)) }
-    ensures armed { OnOk result (AreDues M.Key.cmp M.due (state_in M.Key.cmp states.new.entries) dues.new) }
+    ensures armed { OnOk result
+        (AreDues M.Key.cmp M.due (state_in M.Key.cmp states.new.entries) dues.new) }
     ensures added { IfOk result (λ outputs. outputs.items
-        ≡ adds (M.machine machine.now) key (state_in M.Key.cmp states.old.entries key) (given_at now input)) }
+        ≡ adds (M.machine machine.now) key (state_in M.Key.cmp states.old.entries key)
+        (given_at now input)) }
 {
     if machine.may_begin(&input) {
         return enter_key(alloc, machine, states, dues, key, now, input);
@@ -64,11 +67,14 @@ fn enter_key<M: StateMachine>(
     requires armed { AreDues M.Key.cmp M.due (state_in M.Key.cmp states.old.entries) dues.old }
     ensures states { OnOk result ((q : M.Key) → state_in M.Key.cmp states.new.entries q
         ≡ cond (is_at (M.Key.cmp key) q)
-        (next (M.machine machine.now) key (state_in M.Key.cmp states.old.entries key) (given_at now input))
+        (next (M.machine machine.now) key (state_in M.Key.cmp states.old.entries key)
+        (given_at now input))
         (state_in M.Key.cmp states.old.entries q)) }
-    ensures armed { OnOk result (AreDues M.Key.cmp M.due (state_in M.Key.cmp states.new.entries) dues.new) }
+    ensures armed { OnOk result
+        (AreDues M.Key.cmp M.due (state_in M.Key.cmp states.new.entries) dues.new) }
     ensures added { IfOk result (λ outputs. outputs.items
-        ≡ adds (M.machine machine.now) key (state_in M.Key.cmp states.old.entries key) (given_at now input)) }
+        ≡ adds (M.machine machine.now) key (state_in M.Key.cmp states.old.entries key)
+        (given_at now input)) }
 {
     let entry = match states.entry(key)? {
         Entry::Vacant(entry) => entry,
@@ -130,7 +136,8 @@ pub(crate) fn tick_key<M: StateMachine>(
     requires { now ≤ 2 ^ 62 }
     ensures states { OnOk result ((q : M.Key) → state_in M.Key.cmp states.new.entries q
         ≡ cond (is_at (M.Key.cmp key.now) q)
-        (next (M.machine machine.now) key.now (state_in M.Key.cmp states.old.entries key.now) (tick_at now))
+        (next (M.machine machine.now) key.now (state_in M.Key.cmp states.old.entries key.now)
+        (tick_at now))
         (state_in M.Key.cmp states.old.entries q)) }
     ensures dues { OnOk result ((moments : M.Key → Option ℕ)
         → IsIndexOf M.Key.cmp moments dues.old → moments key.now ≡ None
@@ -138,9 +145,10 @@ pub(crate) fn tick_key<M: StateMachine>(
         (due_of M.due (next (M.machine machine.now) key.now
         (state_in M.Key.cmp states.old.entries key.now) (tick_at now)))) dues.new) }
     ensures added { IfOk result (λ outputs. outputs.items
-        ≡ adds (M.machine machine.now) key.now (state_in M.Key.cmp states.old.entries key.now) (tick_at now)) }
+        ≡ adds (M.machine machine.now) key.now (state_in M.Key.cmp states.old.entries key.now)
+        (tick_at now)) }
 {
-    let Some((held, state)) = take(states, key) else {
+    let Some((held, state)) = take_entry(states, key) else {
         return Ok(Vec::new(alloc));
     };
     let (after, outputs) = machine.tick(alloc, key, state, now)?;
@@ -165,9 +173,10 @@ pub(crate) fn hold_key<M: StateMachine>(
     ensures states { OnOk result ((q : M.Key)
         → state_in M.Key.cmp states.new.entries q ≡ cond (is_at (M.Key.cmp key) q) (Some state)
         (state_in M.Key.cmp states.old.entries q)) }
-    ensures armed { OnOk result (AreDues M.Key.cmp M.due (state_in M.Key.cmp states.new.entries) dues.new) }
+    ensures armed { OnOk result
+        (AreDues M.Key.cmp M.due (state_in M.Key.cmp states.new.entries) dues.new) }
 {
-    let before = taken(states, &key);
+    let before = take_state(states, &key);
     let former = due_moment(machine, before.as_ref());
     put_back(machine, states, dues, key, former, Some(state))?;
     Ok(())

@@ -35,7 +35,7 @@ pub(crate) fn hold<K: Ord + Hash + Drop, S: Drop>(
 }
 
 /// Takes out the key that is held, and its state.
-pub(crate) fn take<K: Ord + Hash, S>(
+pub(crate) fn take_entry<K: Ord + Hash, S>(
     states: &mut HashMap<K, S, HashSeed>,
     key: &K,
 ) -> Option<(K, S)>
@@ -49,7 +49,7 @@ pub(crate) fn take<K: Ord + Hash, S>(
 }
 
 /// Takes out the state that is held for a key.
-pub(crate) fn taken<K: Ord + Hash + Drop, S>(
+pub(crate) fn take_state<K: Ord + Hash + Drop, S>(
     states: &mut HashMap<K, S, HashSeed>,
     key: &K,
 ) -> Option<S>

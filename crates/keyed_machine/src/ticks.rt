@@ -26,13 +26,15 @@ pub(crate) fn tick_due<M: StateMachine>(
     requires moment { now ≤ 2 ^ 62 }
     requires armed { AreDues M.Key.cmp M.due (state_in M.Key.cmp states.old.entries) dues.old }
     ensures states { OnOk result ((q : M.Key)
-        → state_in M.Key.cmp states.new.entries q ≡ next (M.machine machine.now) q (state_in M.Key.cmp states.old.entries q)
+        → state_in M.Key.cmp states.new.entries q
+        ≡ next (M.machine machine.now) q (state_in M.Key.cmp states.old.entries q)
         (tick_at now)) }
-    ensures armed { OnOk result (AreDues M.Key.cmp M.due (state_in M.Key.cmp states.new.entries) dues.new) }
+    ensures armed { OnOk result
+        (AreDues M.Key.cmp M.due (state_in M.Key.cmp states.new.entries) dues.new) }
     ensures told { IfOk result (λ told. (keys : List M.Key)
         → Covers M.Key.cmp keys (state_in M.Key.cmp states.old.entries)
-        → groups told.items ≡ told_ticks (M.machine machine.now) (state_in M.Key.cmp states.old.entries)
-        (tick_at now) keys) }
+        → groups told.items ≡ told_ticks (M.machine machine.now)
+        (state_in M.Key.cmp states.old.entries) (tick_at now) keys) }
 {
     let due = dues.take_due(now)?;
     let mut told = Vec::new(alloc);
@@ -57,7 +59,8 @@ pub(crate) fn tick_if<M: StateMachine>(
     ensures states { OnOk result ((q : M.Key)
         → state_in M.Key.cmp states.new.entries q ≡ ticked M.Key.cmp (M.machine machine.now)
         tick_at (state_in M.Key.cmp states.old.entries) (if ticks then Some now else None) q) }
-    ensures armed { OnOk result (AreDues M.Key.cmp M.due (state_in M.Key.cmp states.new.entries) dues.new) }
+    ensures armed { OnOk result
+        (AreDues M.Key.cmp M.due (state_in M.Key.cmp states.new.entries) dues.new) }
     ensures told { IfOk result (λ told. (keys : List M.Key)
         → Covers M.Key.cmp keys (state_in M.Key.cmp states.old.entries)
         → groups told.items ≡ told_tick M.Key.cmp (M.machine machine.now)

@@ -1,5 +1,5 @@
--- What a `SeededHasher` computes: the fold of std's `FoldHasher`, with a secret word in place of its
--- constant.
+-- What a `SeededHasher` computes: the fold of std's `FoldHasher`, with a secret word in place of
+-- its constant.
 use Rattle.std.specs.Prelude.{ℕ, zero, suc, ◌+◌, ◌-◌, ◌*◌, ◌/◌, ◌%◌, ◌^◌, List, length, if◌then◌else◌, nat_le, bit_xor}
 unfoldable pub use Rattle.std.specs.Hash.FoldHasher.{folded_multiply, read_short, read_u32, read_u64}
 use Rattle.seeded_hash.specs.declared.seeded_hasher.SeededHasher.{SeededHasher}

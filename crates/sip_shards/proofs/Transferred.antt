@@ -126,7 +126,8 @@ module _ {K S : Type 0} {cmp : K → K → Ordering} (total : IsTotalOrder cmp)
         (is_at_back total key q true hit))
         ∙ sym (ap (λ b. cond b None (state_in cmp ((key, state) ∷ rest) q)) hit))
         (λ miss.
-        sym (ap (λ b. cond b (Some state) (state_in cmp rest q)) (is_at_back total key q false miss))
+        sym (ap (λ b. cond b (Some state) (state_in cmp rest q))
+        (is_at_back total key q false miss))
         ∙ sym (ap (λ b. cond b None (state_in cmp ((key, state) ∷ rest) q)) miss));
     apart = IsDistinct-tail (eq_by_cmp cmp) key (keys_of rest) apart;
   }

@@ -25,7 +25,8 @@ loop-place-preserved g c =
     (state_in cmp c.loop-place.states.entries) c.loop-place.dues (groups c.loop-place.told.items))
     c.in-Some.ensures.steps.0 c.loop-place.invariant in
     let more = items_left_more machine due old all (timed_items now rest) (timed_item now item)
-    (state_in cmp c.loop-place.states.entries) (state_in cmp c.step_key.new.states.entries) c.loop-place.dues
+    (state_in cmp c.loop-place.states.entries) (state_in cmp c.step_key.new.states.entries)
+    c.loop-place.dues
     c.step_key.new.dues
     (groups c.loop-place.told.items) c.in_ok-outputs.outputs.items left
     c.in_ok-outputs.ensures.states c.in_ok-outputs.ensures.armed c.in_ok-outputs.ensures.added in

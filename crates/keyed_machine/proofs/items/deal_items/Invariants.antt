@@ -10,5 +10,6 @@ abbrev pub invariant-loop-place : goal.invariant-loop-place
 invariant-loop-place g l =
     ItemsLeft g.M.Key.Ord.cmp (g.M.StateMachine.machine l.machine) g.M.StateMachine.due
     (state_in g.M.Key.Ord.cmp l.fn.states.entries) (timed_items l.now l.fn.items.items)
-    (timed_items l.now (into_iter_items l.place-iterator)) (state_in g.M.Key.Ord.cmp l.states.entries) l.dues
+    (timed_items l.now (into_iter_items l.place-iterator))
+    (state_in g.M.Key.Ord.cmp l.states.entries) l.dues
     (groups l.told.items)

@@ -67,10 +67,12 @@ returns-clause-told g c =
     let left = c.loop-key.key-iterator in
     let nothing_left : into_iter_items left ≡ [] =
     nil_from_length (into_iter_items left) (sym left.rest.ok.0 ∙ c.in-None.ensures.steps.0) in
-    let done : TickLeft cmp machine due input old all [] (state_in cmp c.loop-key.states.entries) c.loop-key.dues
+    let done : TickLeft cmp machine due input old all []
+    (state_in cmp c.loop-key.states.entries) c.loop-key.dues
     (groups c.loop-key.told.items) =
     subst (λ ks. TickLeft cmp machine due input old all ks
-    (state_in cmp c.loop-key.states.entries) c.loop-key.dues (groups c.loop-key.told.items)) nothing_left
+    (state_in cmp c.loop-key.states.entries) c.loop-key.dues (groups c.loop-key.told.items))
+    nothing_left
     c.loop-key.invariant in
     λ keys covers.
     sym (append-nil (groups c.loop-key.told.items)) ∙ done.said

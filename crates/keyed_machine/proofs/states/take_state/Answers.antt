@@ -1,14 +1,16 @@
--- `taken` takes one key out.
+-- `take_state` takes one key out.
 use Rattle.std.proofs.Common.{None, ◌∙◌}
 use Rattle.keyed_machine.proofs.SameKeys.{changed_by_order, found_by_order}
-use Rattle.keyed_machine.proofs.states.taken.Goals as goal
+use Rattle.keyed_machine.proofs.states.take_state.Goals as goal
 
 pub returns-clause-state : goal.returns-clause-state
 returns-clause-state g c =
     c.remove.ensures.value
-    ∙ found_by_order g.K.PartialEq.eq g.K.Ord.cmp g.met.K.Ord.matches_eq c.args.states.now.entries c.args.key.now
+    ∙ found_by_order g.K.PartialEq.eq g.K.Ord.cmp g.met.K.Ord.matches_eq
+    c.args.states.now.entries c.args.key.now
 
 pub returns-clause-states : goal.returns-clause-states
 returns-clause-states g c =
-    changed_by_order g.K.PartialEq.eq g.K.Ord.cmp g.met.K.Ord.matches_eq c.args.states.now.entries c.remove.new.self.entries
+    changed_by_order g.K.PartialEq.eq g.K.Ord.cmp g.met.K.Ord.matches_eq
+    c.args.states.now.entries c.remove.new.self.entries
     c.args.key.now None c.remove.ensures.updates.0
