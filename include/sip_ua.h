@@ -345,6 +345,13 @@ typedef struct sip_ua_text {
     size_t len;
 } sip_ua_text;
 
+/* A header line, or none. */
+typedef struct sip_ua_header_lengths {
+    bool is_there;
+    size_t name_len;
+    size_t len;
+} sip_ua_header_lengths;
+
 /* A start line. A response has `status`, a request `method_len`. `len` is the length of the
  * Request-URI or of the reason phrase. */
 typedef struct sip_ua_start {
@@ -518,6 +525,8 @@ uint32_t sip_ua_raw_start_line(sip_ua *agent, uint32_t place, sip_ua_start *star
 uint32_t sip_ua_raw_header_value(sip_ua *agent, uint32_t place, const uint8_t *name,
                                  size_t name_len, size_t number, sip_ua_text *text,
                                  uint8_t *buffer, size_t room);
+uint32_t sip_ua_raw_header_line(sip_ua *agent, uint32_t place, size_t number,
+                                sip_ua_header_lengths *line, uint8_t *buffer, size_t room);
 uint32_t sip_ua_raw_free(sip_ua *agent);
 
 /* Creates an agent, in a `sip_ua` that has none. One shard is enough. The number of shards, up to
@@ -914,6 +923,21 @@ static inline uint32_t sip_ua_header_value(sip_ua *agent, uint32_t place, const 
         return SIP_UA_NULL;
     return sip_ua_raw_header_value(agent, place, (const uint8_t *)name, name_len, number, text,
                                    sip_ua_raw_room(buffer, &otherwise), room);
+}
+
+/* The header line with this number, from 0, of that datagram, in the order in which they came.
+ * `is_there` is false if there is none. Its name as it came and, directly after it, its value,
+ * unfolded and without white space around it, are written to the buffer. Faults: SIP_UA_NO_ROOM, if
+ * `name_len` and `len` together are more than `room`; SIP_UA_NO_MEMORY. */
+static inline uint32_t sip_ua_header_line(sip_ua *agent, uint32_t place, size_t number,
+                                          sip_ua_header_lengths *line, uint8_t *buffer,
+                                          size_t room)
+{
+    uint8_t otherwise = 0;
+    if (agent == NULL || line == NULL || (buffer == NULL && room != 0))
+        return SIP_UA_NULL;
+    return sip_ua_raw_header_line(agent, place, number, line, sip_ua_raw_room(buffer, &otherwise),
+                                  room);
 }
 
 /* Frees the agent; its `sip_ua` has none then. Fault: SIP_UA_NO_AGENT, if it has none. */

@@ -5,18 +5,20 @@ use Rattle.std.specs.Option.{option_map}
 use Rattle.sip_message.specs.declared.addr.Addr.{Addr}
 use Rattle.sip_message.specs.declared.id.Id.{Id}
 use Rattle.sip_reader.specs.declared.first_line.FirstLine.{FirstLine}
+use Rattle.sip_reader.specs.declared.header_line.HeaderLine.{HeaderLine}
 use Rattle.sip_round.specs.NextDue.{IsDueAfter, IsQuietAfter}
 use Rattle.sip_round.specs.Places.{event_at}
 use Rattle.sip_round.specs.declared.config.Config.{Config}
 use Rattle.sip_round.specs.declared.output.PlacedOutput.{PlacedOutput}
 use Rattle.sip_round.specs.declared.round.Round.{Round}
 use Rattle.sip_timers.specs.Queue.{is_due}
-use Rattle.sip_host.specs.Handing.{datagram_in, head_of, put_if, put_in, start_of, start_text, text_of}
-use Rattle.sip_host.specs.Hosting.{Answer, Begins, BeginsAt, HasValuesAt, after_one, after_taking}
+use Rattle.sip_host.specs.Handing.{datagram_in, head_of, length_of_line, line_text, put_if, put_in, start_of, start_text, text_of}
+use Rattle.sip_host.specs.Hosting.{Answer, Begins, BeginsAt, HasLinesAt, HasValuesAt, after_one, after_taking}
 use Rattle.sip_host.specs.declared.host.Host.{Host}
 use Rattle.sip_host.specs.declared.host_fault.HostFault.{HostFault}
 use Rattle.sip_host.specs.declared.host_fault.HostFault.TheVariants as fault
 use Rattle.sip_host.specs.declared.holdings.Holdings.{Holdings}
+use Rattle.sip_host.specs.declared.line_length.LineLength.{LineLength}
 use Rattle.sip_host.specs.declared.next_output.NextOutput.{NextOutput}
 use Rattle.sip_host.specs.declared.start_length.StartLength.{StartLength}
 use Rattle.sip_host.specs.declared.start_length.StartLength.TheVariants as start
@@ -31,6 +33,7 @@ use Rattle.sip_c.specs.declared.values.Configuration.{Configuration}
 use Rattle.sip_c.specs.declared.values.Datagram.{Datagram}
 use Rattle.sip_c.specs.declared.values.Due.{Due}
 use Rattle.sip_c.specs.declared.values.EventId.{EventId}
+use Rattle.sip_c.specs.declared.values.HeaderLengths.{HeaderLengths}
 use Rattle.sip_c.specs.declared.values.StartLine.{StartLine}
 use Rattle.sip_c.specs.declared.values.Stats.{Stats}
 use Rattle.sip_c.specs.declared.values.TextLength.{TextLength}
@@ -125,6 +128,11 @@ datagram_of (Some came) =
 abbrev pub length_of : Option ℕ → TextLength
 length_of None = record { is_there = false; len = 0 }
 length_of (Some length) = record { is_there = true; len = length }
+
+-- the lengths of a header line; zeros if there is none
+abbrev pub header_lengths_of : Option LineLength → HeaderLengths
+header_lengths_of None = record { is_there = false; name_len = 0; len = 0 }
+header_lengths_of (Some line) = record { is_there = true; name_len = line.name; len = line.value }
 
 -- a request line is of kind 1, a status line of kind 2; zeros if there is none
 abbrev pub start_line_of : Option StartLength → StartLine
@@ -224,3 +232,11 @@ TellsValue place name index number told before after host = (values : List (List
     × (number ≡ room_answer told.len (length before))
     × (told ≡ length_of (option_map length (slice_get values index)))
     × (after ≡ put_if (slice_get values index) before)
+
+-- the header line that has this index
+abbrev pub TellsLine : ℕ → ℕ → ℕ → HeaderLengths → List ℕ → List ℕ → Host → Type 0
+TellsLine place index number told before after host = (lines : List HeaderLine)
+    × HasLinesAt host place lines
+    × (number ≡ room_answer (told.name_len + told.len) (length before))
+    × (told ≡ header_lengths_of (option_map length_of_line (slice_get lines index)))
+    × (after ≡ put_if (option_map line_text (slice_get lines index)) before)

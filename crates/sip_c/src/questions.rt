@@ -5,11 +5,11 @@ ghost use Rattle.std.specs.Prelude.{◌≡◌, ◌⊎◌, ◌+◌, ◌≤◌, If
 ghost use Rattle.sip_host.specs.Hosting.{HoldsSo, TellsIfItBegins, last_id_of};
 ghost use Rattle.sip_host.specs.declared.holdings.Holdings.{Holdings as AHoldings};
 ghost use Rattle.sip_c.specs.Status as spec;
-ghost use Rattle.sip_c.specs.Called.{TellsDatagram, TellsNothing, TellsOrNot, TellsStart, TellsValue, datagram_of, id_of, length_of, start_line_of, stats_of};
+ghost use Rattle.sip_c.specs.Called.{TellsDatagram, TellsLine, TellsNothing, TellsOrNot, TellsStart, TellsValue, datagram_of, header_lengths_of, id_of, length_of, start_line_of, stats_of};
 
 use crate::handle::Handle;
 use crate::status::{NO_AGENT, NO_MEMORY, NO_ROOM, OK, room_answer};
-use crate::values::{self, Datagram, EventId, StartLine, Stats, TextLength};
+use crate::values::{self, Datagram, EventId, HeaderLengths, StartLine, Stats, TextLength};
 use std::alloc::Global;
 
 /// The id of the event that was given last, if the next round has one.
@@ -174,5 +174,49 @@ pub extern "C" fn sip_ua_raw_header_value(
             room_answer(told.len, room)
         }
         Err(_) => NO_MEMORY,
+    }
+}
+
+/// The header line with this number, from 0, of the datagram that came in at a place of the last
+/// round.
+#[unsafe(no_mangle)]
+pub extern "C" fn sip_ua_raw_header_line(
+    alloc: Global,
+    handle: &mut Handle,
+    place: u32,
+    number: usize,
+    told: &mut HeaderLengths,
+    buffer: &mut [u8],
+) -> u32
+    ensures same { handle.new.owned.host ≡ handle.old.owned.host }
+    ensures none { handle.old.owned.host ≡ None
+        → TellsNothing result told.new (header_lengths_of None) buffer.old buffer.new }
+    ensures told { IfSome handle.old.owned.host (λ host.
+        TellsOrNot result told.new (header_lengths_of None) buffer.old buffer.new
+        (TellsLine place number result told.new buffer.old buffer.new host)) }
+{
+    *told = values::header_lengths_of(None);
+    let Some(host) = handle.take(alloc) else {
+        return NO_AGENT;
+    };
+    let room = buffer.len();
+    let answer = host.header_line(place, number, buffer);
+    handle.put(host);
+    match answer {
+        Ok(line) => {
+            *told = values::header_lengths_of(line);
+            line_answer(told, room)
+        }
+        Err(_) => NO_MEMORY,
+    }
+}
+
+// The number of the call that tells a header line, for a buffer with so much room.
+fn line_answer(told: &HeaderLengths, room: usize) -> u32
+    ensures { result ≡ spec.room_answer (told.now.name_len + told.now.len) room }
+{
+    match room.checked_sub(told.name_len) {
+        Some(left) => room_answer(told.len, left),
+        None => NO_ROOM,
     }
 }

@@ -4,7 +4,7 @@ ghost use Rattle.std.specs.Prelude.{◌≡◌};
 ghost use Rattle.sip_c.specs.Called as spec;
 
 use crate::status::number_of_field;
-use sip_host::{Holdings, HostFault, NextOutput, StartLength};
+use sip_host::{Holdings, HostFault, LineLength, NextOutput, StartLength};
 use sip_message::{Addr, Id};
 use sip_round::Config;
 use sip_user::{ProvisionalSupport, Reliability};
@@ -305,6 +305,33 @@ pub(crate) fn length_of(length: Option<usize>) -> TextLength
         Some(len) => TextLength {
             is_there: true,
             len,
+        },
+    }
+}
+
+/// A header line, if there is one: the lengths of its name and of its value, in bytes.
+#[repr(C)]
+#[derive(Clone, Copy)]
+pub struct HeaderLengths {
+    pub is_there: bool,
+    pub name_len: usize,
+    pub len: usize,
+}
+
+/// The lengths of a header line, or zeros if there is none.
+pub(crate) fn header_lengths_of(line: Option<LineLength>) -> HeaderLengths
+    ensures { result ≡ spec.header_lengths_of line }
+{
+    match line {
+        None => HeaderLengths {
+            is_there: false,
+            name_len: 0,
+            len: 0,
+        },
+        Some(line) => HeaderLengths {
+            is_there: true,
+            name_len: line.name,
+            len: line.value,
         },
     }
 }

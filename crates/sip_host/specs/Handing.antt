@@ -4,12 +4,14 @@ use Rattle.sip_message.specs.declared.addr.Addr.{Addr}
 use Rattle.sip_message.specs.declared.key.Key.{Key}
 use Rattle.sip_reader.specs.declared.first_line.FirstLine.{FirstLine}
 use Rattle.sip_reader.specs.declared.first_line.FirstLine.TheVariants as first
+use Rattle.sip_reader.specs.declared.header_line.HeaderLine.{HeaderLine}
 use Rattle.sip_round.specs.declared.output.Output.{Output}
 use Rattle.sip_round.specs.declared.output.PlacedOutput.{PlacedOutput}
 use Rattle.sip_round.specs.declared.output.Output.TheVariants.{Send, Dropped, Notice}
 use Rattle.sip_round.specs.declared.round.Event.{Event}
 use Rattle.sip_round.specs.declared.round.Event.TheVariants.{Command, Datagram, Failed}
 use Rattle.sip_files.specs.Outputs.{output_line}
+use Rattle.sip_host.specs.declared.line_length.LineLength.{LineLength}
 use Rattle.sip_host.specs.declared.next_output.NextOutput.{NextOutput}
 use Rattle.sip_host.specs.declared.start_length.StartLength.{StartLength}
 use Rattle.sip_host.specs.declared.start_length.StartLength.TheVariants as start
@@ -61,6 +63,13 @@ start_text (first.Response status reason) = reason
 abbrev pub start_of : FirstLine (List ℕ) → StartLength
 start_of (first.Request method uri) = start.Request (length method) (length uri)
 start_of (first.Response status reason) = start.Response status (length reason)
+
+-- a header line as one text: the name and, directly after it, the value
+abbrev pub line_text : HeaderLine → List ℕ
+line_text line = line.name ++ line.value
+
+abbrev pub length_of_line : HeaderLine → LineLength
+length_of_line line = record { name = length line.name; value = length line.value }
 
 -- the key of a send, if the output is one; a send may have none
 abbrev pub sent_key : Option Output → Option (Option Key)

@@ -10,9 +10,10 @@ use Rattle.sip_message.specs.declared.cut.Spread.{Spread}
 use Rattle.sip_message.specs.declared.id.Id.{Id}
 use Rattle.sip_message.specs.declared.message.Message.{Message}
 use Rattle.sip_round.specs.AgentState.{refusal_of, shard_count}
-use Rattle.sip_reader.specs.Head.{BeginsWith, HasValues}
+use Rattle.sip_reader.specs.Head.{BeginsWith, HasHeaderLines, HasValues}
 use Rattle.sip_reader.specs.Spells.{Spells}
 use Rattle.sip_reader.specs.declared.first_line.FirstLine.{FirstLine}
+use Rattle.sip_reader.specs.declared.header_line.HeaderLine.{HeaderLine}
 use Rattle.sip_round.specs.Answers.{StandsFor, answers, past_of, placed_answers}
 use Rattle.sip_round.specs.Live.{live_of}
 use Rattle.sip_round.specs.NewTransactions.{would_begin}
@@ -182,6 +183,11 @@ pub record HasValuesAt (host : Host) (place : ℕ) (name : List ℕ) (values : L
     Type 0 where
   pub of_datagram : IfSome (datagram_at host.last_events place) (HasValues name values)
   pub none : datagram_at host.last_events place ≡ None → values ≡ []
+
+-- all header lines
+pub record HasLinesAt (host : Host) (place : ℕ) (lines : List HeaderLine) : Type 0 where
+  pub of_datagram : IfSome (datagram_at host.last_events place) (HasHeaderLines lines)
+  pub none : datagram_at host.last_events place ≡ None → lines ≡ []
 
 -- ---- what a datagram would do
 

@@ -6,11 +6,12 @@ ghost use Rattle.sip_host.specs.Handing as handing;
 ghost use Rattle.sip_host.specs.declared.host_fault.HostFault.TheVariants as fault;
 
 use crate::host_fault::HostFault;
+use crate::line_length::LineLength;
 use crate::next_output::NextOutput;
 use crate::start_length::StartLength;
 use sip_files::write_output;
 use sip_message::{Addr, Token};
-use sip_reader::FirstLine;
+use sip_reader::{FirstLine, HeaderLine};
 use sip_round::{Event, Output, PlacedOutput};
 use std::alloc::{AllocError, Global};
 
@@ -90,6 +91,28 @@ pub fn put(text: &[u8], buffer: &mut [u8])
     }
     let (front, _) = buffer.split_at_mut(text.len());
     front.copy_from_slice(text);
+}
+
+/// Puts the name and the value of a header line at the beginning of the buffer, if both fit. Gives
+/// how long each is.
+pub(crate) fn put_line(
+    alloc: Global,
+    line: &HeaderLine,
+    buffer: &mut [u8],
+) -> Result<LineLength, AllocError>
+    ensures lengths { IfOk result (λ told. told ≡ handing.length_of_line line.now) }
+    ensures put { OnOk result (buffer.new ≡ handing.put_in (handing.line_text line.now)
+        buffer.old) }
+    ensures same { OnErr result (buffer.new ≡ buffer.old) }
+{
+    let (name, value) = (line.name.as_slice(), line.value.as_slice());
+    let mut text = Vec::from_slice(alloc, name)?;
+    text.extend_from_slice(value)?;
+    put(&text, buffer);
+    Ok(LineLength {
+        name: name.len(),
+        value: value.len(),
+    })
 }
 
 /// Puts the texts of a start line at the beginning of the buffer, if all of them fit. Gives how

@@ -13,12 +13,13 @@ ghost use Rattle.sip_message.specs.declared.message.Message.{Message};
 ghost use Rattle.sip_reader.specs.Head.{HasHeaderLines};
 ghost use Rattle.sip_reader.specs.Spells.{Answers};
 ghost use Rattle.sip_reader.specs.declared.first_line.FirstLine.{FirstLine as AFirstLine};
+ghost use Rattle.sip_reader.specs.declared.header_line.HeaderLine.{HeaderLine as AHeaderLine};
 ghost use Rattle.sip_user.specs.declared.command.UserCommand.{UserCommand as AUserCommand};
 ghost use Rattle.sip_files.specs.Given.{with_given};
 ghost use Rattle.sip_round.specs.declared.round.Event.TheVariants.{Command};
 ghost use Rattle.sip_host.specs.Asking.{Makes, TakesCommand, TakesHeader, ack_of, cancel_of, invite_of, plain_of, prack_of, request_of, respond_of, without_headers};
-ghost use Rattle.sip_host.specs.Handing.{datagram_in, head_of, put_if, put_in, start_of, start_text, text_of};
-ghost use Rattle.sip_host.specs.Hosting.{Begins, BeginsAt, HasValuesAt, HoldsSo, RunsRound, TakesDatagram, TakesFailure, TakesLine, TakesLines, TellsIfItBegins, after_one, after_taking, last_id_of, output_at, shard_of, with_events};
+ghost use Rattle.sip_host.specs.Handing.{datagram_in, head_of, length_of_line, line_text, put_if, put_in, start_of, start_text, text_of};
+ghost use Rattle.sip_host.specs.Hosting.{Begins, BeginsAt, HasLinesAt, HasValuesAt, HoldsSo, RunsRound, TakesDatagram, TakesFailure, TakesLine, TakesLines, TellsIfItBegins, after_one, after_taking, last_id_of, output_at, shard_of, with_events};
 ghost use Rattle.sip_host.specs.declared.field.Field.TheVariants as field;
 ghost use Rattle.sip_host.specs.declared.host_fault.HostFault.TheVariants as fault;
 
@@ -31,9 +32,10 @@ use crate::fields::{
     BodyFields, CancelFields, InviteFields, PlainFields, RequestFields, RespondFields,
 };
 use crate::given::header_of;
-use crate::handing::{failure_of, put, put_output, put_start};
+use crate::handing::{failure_of, put, put_line, put_output, put_start};
 use crate::holdings::Holdings;
 use crate::host_fault::HostFault;
+use crate::line_length::LineLength;
 use crate::next_output::NextOutput;
 use crate::start_length::StartLength;
 use sip_files::{GivenHeader, read_event_line, read_event_lines, with_given};
@@ -480,6 +482,32 @@ impl Host {
         };
         put(value.as_slice(), buffer);
         Ok(Some(value.len()))
+    }
+
+    /// The lengths of one of the header lines that [`Host::header_lines`] gives, by its number from
+    /// 0, if there is such a line. Its name and, directly after it, its value go to the beginning
+    /// of the buffer, if they fit.
+    ///
+    /// # Errors
+    ///
+    /// Memory ran out; then nothing was written.
+    pub fn header_line(
+        &self,
+        place: u32,
+        number: usize,
+        buffer: &mut [u8],
+    ) -> Result<Option<LineLength>, AllocError>
+        ensures told { IfOk result (λ told. (lines : List AHeaderLine)
+            × HasLinesAt self.now place lines
+            × (told ≡ option_map length_of_line (slice_get lines number))
+            × (buffer.new ≡ put_if (option_map line_text (slice_get lines number)) buffer.old)) }
+        ensures same { OnErr result (buffer.new ≡ buffer.old) }
+    {
+        let lines = self.header_lines(place)?;
+        let Some(line) = lines.as_slice().get(number) else {
+            return Ok(None);
+        };
+        Ok(Some(put_line(self.alloc, line, buffer)?))
     }
 
     /// Whether a datagram would begin a transaction if it came in the next round: it is a request

@@ -11,6 +11,7 @@ mod handing;
 mod holdings;
 mod host;
 mod host_fault;
+mod line_length;
 mod next_output;
 mod start_length;
 
@@ -22,5 +23,6 @@ pub use handing::put;
 pub use holdings::Holdings;
 pub use host::Host;
 pub use host_fault::HostFault;
+pub use line_length::LineLength;
 pub use next_output::NextOutput;
 pub use start_length::StartLength;

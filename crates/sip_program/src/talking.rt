@@ -56,8 +56,8 @@ fn listen_by<'a, T: Threads + Host, N: Write + Send + Drop + 'static, E: Write>(
     let plan = listen_plan(rt, alloc, words)?;
     let mut endpoint = endpoint_of_turns(rt, alloc, words.own, words.length, words.drops)?;
     endpoint.most_held = words.most_held;
-    endpoint.is_announced = true;
     let turns = words.length.turns();
+    endpoint.is_announced = turns > 0;
     let mut notices = notice_writer(rt, alloc, stream)?;
     let end = listen_at(rt, alloc, endpoint, plan, turns, &mut notices, errors);
     ended(end, notices.finish(rt), errors)
