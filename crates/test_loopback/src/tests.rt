@@ -1,7 +1,7 @@
 //! Agents that talk to each other and to scripts, on threads of their own.
 
-mod held;
 mod loopback;
 mod notices;
+mod peer;
 mod recorded;
 mod udp;
