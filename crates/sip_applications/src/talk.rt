@@ -14,8 +14,8 @@ use sip_message::{Addr, CallId, Uri, ip_text};
 use sip_round::Event;
 use sip_text::Text;
 use sip_udp::{
-    Admission, Bell, CountedSocket, Endpoint, Flags, Heard, Limit, Losses, MOST_COLLECTED, Record,
-    Turns, UaFault, User, hear, system_drops,
+    Admission, Bell, CountedSocket, Endpoint, Flags, Heard, Losses, MOST_COLLECTED, Record,
+    TimeLimit, Turns, UaFault, User, hear, system_drops,
 };
 use std::alloc::{AllocError, Global};
 use std::io::{self, BufRead, Write};
@@ -263,12 +263,12 @@ fn turns_at<R: Clock, U: User, F: Write + Drop, E: Write>(
         is_announced: _,
         tells_drops,
         seconds,
-        most_held,
+        held_limit,
         input,
     } = endpoint;
     let record = Record::new(kind, record);
-    let limit = Limit::new(seconds, input);
-    let admission = Admission::new(most_held);
+    let limit = TimeLimit::new(seconds, input);
+    let admission = Admission::new(held_limit);
     let drops = tells_drops || user.is_eager();
     let turns = Turns::new(
         rt, alloc, config, division, record, limit, admission, drops, is_counted, user, bell,

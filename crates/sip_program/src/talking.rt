@@ -55,7 +55,7 @@ fn listen_by<'a, T: Threads + Host, N: Write + Send + Drop + 'static, E: Write>(
 ) -> Result<(), Failure<'a>> {
     let plan = listen_plan(rt, alloc, words)?;
     let mut endpoint = endpoint_of_turns(rt, alloc, words.own, words.length, words.drops)?;
-    endpoint.most_held = words.most_held;
+    endpoint.held_limit = words.held_limit;
     let turns = words.length.turns();
     endpoint.is_announced = turns > 0;
     let mut notices = notice_writer(rt, alloc, stream)?;

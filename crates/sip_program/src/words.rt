@@ -133,7 +133,7 @@ pub(crate) struct ListenWords<'a> {
     pub contact: Option<&'a str>,
     pub body: Option<&'a str>,
     pub no_body: bool,
-    pub most_held: Option<u32>,
+    pub held_limit: Option<u32>,
     pub must_answer: u32,
     pub drops: bool,
 }
@@ -340,7 +340,7 @@ pub(crate) fn listen_words<'a>(matches: &ArgMatches<'a>) -> Option<ListenWords<'
         contact: listen.get_str("contact"),
         body: listen.get_str("body"),
         no_body: listen.get_flag("no-body"),
-        most_held: listen.get_one::<u32>("held"),
+        held_limit: listen.get_one::<u32>("held"),
         must_answer: listen.get_one::<u32>("must-answer").unwrap_or(0),
         drops: listen.get_flag("drops"),
     })
@@ -484,7 +484,7 @@ fn held_argument<'a>(alloc: Global) -> Arg<'a> {
         .value_parser(value_parser!(u32).range(1..))
         .help(
             "While N transactions are held, ignore requests that would begin another one; but take \
-            those in a dialog, and CANCEL, until 2 * N are held",
+            those with a To tag, and CANCEL, until 2 * N are held",
         )
 }
 

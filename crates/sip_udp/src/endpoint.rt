@@ -30,7 +30,7 @@ pub struct Endpoint<F> {
     pub seconds: Option<u32>,
     /// How many transactions are to be held at most, if there is a limit. Above it requests are
     /// shed.
-    pub most_held: Option<u32>,
+    pub held_limit: Option<u32>,
     /// The input whose end ends the turns of `listen` and `call`, if one does.
     pub input: Option<Arc<InputEnd>>,
 }
@@ -53,7 +53,7 @@ impl<F> Endpoint<F> {
             is_announced: false,
             tells_drops: false,
             seconds: None,
-            most_held: None,
+            held_limit: None,
             input: None,
         }
     }

@@ -10,11 +10,11 @@ use crate::bell::Bell;
 use crate::counts::{Counts, Losses};
 use crate::division::Division;
 use crate::fault::{UaFault, refused_round};
-use crate::limit::Limit;
 use crate::notices::{Telling, write_notices};
 use crate::outlet::Outlet;
 use crate::record::Record;
 use crate::sending::send_all;
+use crate::time_limit::TimeLimit;
 use crate::user::User;
 use sip_desk::Desk;
 use sip_message::Spread;
@@ -44,7 +44,7 @@ pub struct Turns<U, F> {
     bell: Option<Arc<Bell>>,
     division: Division,
     record: Record<F>,
-    limit: Limit,
+    limit: TimeLimit,
     admission: Admission,
     // Whether drops are told.
     drops: bool,
@@ -66,7 +66,7 @@ impl<U: User, F: Write + Drop> Turns<U, F> {
         config: Config,
         division: Division,
         mut record: Record<F>,
-        limit: Limit,
+        limit: TimeLimit,
         admission: Admission,
         drops: bool,
         is_counted: bool,

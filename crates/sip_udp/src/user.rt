@@ -1,6 +1,6 @@
 //! A user of the agent.
 
-use crate::limit::TimeLeft;
+use crate::time_limit::TimeLeft;
 use sip_round::Event;
 use sip_user::Notice;
 use std::alloc::{AllocError, Global};

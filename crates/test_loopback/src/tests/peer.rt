@@ -116,7 +116,7 @@ fn listened<R: Threads + Clock + Files + Sync>(
     alloc: Global,
     socket: UdpSocket,
     local: Addr,
-    most_held: Option<u32>,
+    held_limit: Option<u32>,
 ) -> Option<Written> {
     let mut notices = Vec::new(alloc);
     let mut errors = Vec::new(alloc);
@@ -124,7 +124,7 @@ fn listened<R: Threads + Clock + Files + Sync>(
     endpoint.config.first = FIRST;
     endpoint.is_counted = true;
     endpoint.tells_drops = true;
-    endpoint.most_held = most_held;
+    endpoint.held_limit = held_limit;
     let mut plan = ListenPlan::usual();
     plan.body = AnswerBody::Inactive;
     listen_at(rt, alloc, endpoint, plan, TURNS, &mut notices, &mut errors).ok()?;

@@ -1,7 +1,7 @@
 //! How long the turns go on.
 
 ghost use Rattle.std.specs.Prelude.{◌≡◌, ◌≢◌, ◌+◌, ◌≤◌, ◌<◌, true, false};
-ghost use Rattle.sip_udp.specs.declared.limit.TimeLeft.TheVariants as time_left;
+ghost use Rattle.sip_udp.specs.declared.time_limit.TimeLeft.TheVariants as time_left;
 
 use crate::input_end::InputEnd;
 use std::sync::Arc;
@@ -29,7 +29,7 @@ pub enum TimeLeft {
 
 /// How long the turns go on. Moments are in ms since the start.
 #[derive(Drop)]
-pub struct Limit {
+pub struct TimeLimit {
     // From this moment on there are no more turns.
     until: u64,
     // The input, as long as it may still end.
@@ -37,14 +37,14 @@ pub struct Limit {
     has_input_ended: bool,
 }
 
-impl Limit {
+impl TimeLimit {
     /// `seconds` seconds, or for ever, but only until a second after the end of the input.
-    pub fn new(seconds: Option<u32>, input: Option<Arc<InputEnd>>) -> Limit {
+    pub fn new(seconds: Option<u32>, input: Option<Arc<InputEnd>>) -> TimeLimit {
         let until = match seconds {
             Some(seconds) => u64::from(seconds).saturating_mul(1_000),
             None => u64::MAX,
         };
-        Limit {
+        TimeLimit {
             until,
             input,
             has_input_ended: false,
