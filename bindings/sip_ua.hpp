@@ -310,7 +310,8 @@ public:
         return std::nullopt;
     }
 
-    /// The values of one of its headers, by the long or the compact name, in any case.
+    /// The values of one of its headers, by the long or the compact name, in any case. Each value
+    /// takes a reading of the datagram, and a peer can send thousands.
     std::vector<std::string> header_values(std::uint32_t place, std::string_view name) {
         std::vector<std::string> values;
         for (;;) {

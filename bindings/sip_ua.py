@@ -897,7 +897,8 @@ class Agent:
 
     def header_values(self, place: int, name: str) -> List[str]:
         """The values of one of its headers, by the long or the compact name, in any case. They are
-        unfolded, without white space around them."""
+        unfolded, without white space around them. Each value takes a reading of the datagram, and a
+        peer can send thousands: for a header that may have many, use `message_at`."""
         values: List[str] = []
         while True:
             told = _Text()

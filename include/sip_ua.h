@@ -913,7 +913,8 @@ static inline uint32_t sip_ua_start_line(sip_ua *agent, uint32_t place, sip_ua_s
 /* The value of the header line with this number, from 0, among the lines of that datagram with this
  * name. `is_there` is false if there is none. The name may be long or compact, in any case. The
  * value is unfolded, without white space around it, and is written to the buffer. Faults:
- * SIP_UA_NO_ROOM, if its `len` is more than `room`; SIP_UA_NO_MEMORY. */
+ * SIP_UA_NO_ROOM, if its `len` is more than `room`; SIP_UA_NO_MEMORY. Each call reads the datagram
+ * from its beginning, so bound how many values you ask for: a peer can send thousands. */
 static inline uint32_t sip_ua_header_value(sip_ua *agent, uint32_t place, const char *name,
                                            size_t name_len, size_t number, sip_ua_text *text,
                                            uint8_t *buffer, size_t room)
