@@ -3,7 +3,7 @@
 ghost use Rattle.std.specs.Ordering.{nat_cmp};
 ghost use Rattle.keyed_machine.specs.Groups.{Sorts, groups};
 
-use crate::merge::by_label;
+use crate::label_order::by_label;
 
 /// The outputs of a phase.
 #[derive(Drop)]

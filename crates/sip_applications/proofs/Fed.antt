@@ -4,7 +4,7 @@ use Rattle.std.proofs.lemmas.List.{length-append}
 use Rattle.std.specs.Prelude.{Option, Some, None}
 use Rattle.std.specs.Io.BufRead.{take_through, drop_through, DropsThrough}
 use Rattle.sip_files.specs.declared.version.FileKind.{FileKind}
-use Rattle.sip_applications.specs.declared.pipe.PipeLine.{PipeLine}
+use Rattle.sip_applications.specs.declared.pipe_input.PipeLine.{PipeLine}
 use Rattle.sip_applications.specs.Piping.{SaysRead, SayLines, PostsFront}
 
 -- what was read from the pipe was posted, and the next line has this number

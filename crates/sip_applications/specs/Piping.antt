@@ -12,9 +12,9 @@ use Rattle.sip_files.specs.Events.{SpellsHeader}
 use Rattle.sip_files.specs.Given.{with_given}
 use Rattle.sip_files.specs.Written.{SpellsCommand}
 use Rattle.sip_udp.specs.LineEnd.{without_last}
-use Rattle.sip_applications.specs.declared.pipe.PipeLine.{PipeLine}
-use Rattle.sip_applications.specs.declared.pipe.Said.{Said}
-use Rattle.sip_applications.specs.declared.pipe.Said.TheVariants as said
+use Rattle.sip_applications.specs.declared.pipe_input.PipeLine.{PipeLine}
+use Rattle.sip_applications.specs.declared.pipe_input.Said.{Said}
+use Rattle.sip_applications.specs.declared.pipe_input.Said.TheVariants as said
 
 -- a line without its end, LF or CR LF; the last line may have none
 abbrev pub line_of : List ℕ → List ℕ

@@ -9,7 +9,7 @@ mod calling;
 mod hang_up;
 mod listen_plan;
 mod made_dialogs;
-mod pipe;
+mod pipe_input;
 mod piped;
 mod sdp;
 mod talk;
@@ -18,6 +18,6 @@ mod wrong_word;
 
 pub use call_plan::CallPlan;
 pub use listen_plan::{AnswerBody, ListenPlan};
-pub use pipe::{PipeLine, Said, feed};
+pub use pipe_input::{PipeLine, Said, feed};
 pub use talk::{agent, call, call_from, listen, listen_at};
 pub use wrong_word::WrongWord;

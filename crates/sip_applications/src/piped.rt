@@ -3,7 +3,7 @@
 ghost use Rattle.std.specs.Prelude.{◌≡◌, ◌++◌, OnOk};
 ghost use Rattle.sip_applications.specs.Piping as piping;
 
-use crate::pipe::PipeLine;
+use crate::pipe_input::PipeLine;
 use crate::waiting::Waiting;
 use sip_desk::Desk;
 use sip_round::Event;

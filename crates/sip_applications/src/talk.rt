@@ -7,7 +7,7 @@ use crate::answering::Answering;
 use crate::call_plan::CallPlan;
 use crate::calling::Calling;
 use crate::listen_plan::ListenPlan;
-use crate::pipe::{PipeLine, feed};
+use crate::pipe_input::{PipeLine, feed};
 use crate::piped::Piped;
 use sip_desk::{Desk, NoMemory, Poster, open};
 use sip_message::{Addr, CallId, Uri, ip_text};

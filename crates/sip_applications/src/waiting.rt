@@ -2,9 +2,9 @@
 
 ghost use Rattle.std.specs.Prelude.{◌≡◌, ◌++◌, Some, [], IfOk, OnOk};
 ghost use Rattle.sip_applications.specs.Piping as piping;
-ghost use Rattle.sip_applications.specs.declared.pipe.Said.TheVariants as said;
+ghost use Rattle.sip_applications.specs.declared.pipe_input.Said.TheVariants as said;
 
-use crate::pipe::{MAX_LINE, PipeLine, Said};
+use crate::pipe_input::{MAX_LINE, PipeLine, Said};
 use crate::wrong_word::WrongWord;
 use sip_files::{GivenHeader, with_given};
 use sip_round::Event;

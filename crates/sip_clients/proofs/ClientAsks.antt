@@ -55,8 +55,8 @@ use Rattle.sip_clients.specs.ReceivedResponse.{is_last, reply_case}
 use Rattle.sip_clients.specs.SendOutcome.{Outcome, acked, discharged, requested, sending_in, outcome_by}
 use Rattle.sip_clients.specs.Tick.{clients_ticked, early_ends_told, is_over}
 use Rattle.sip_clients.specs.declared.answers.SentAck.{SentAck}
-use Rattle.sip_clients.specs.declared.cancel.CancelCase.{CancelCase}
-use Rattle.sip_clients.specs.declared.cancel.CancelCase.TheVariants as ask
+use Rattle.sip_clients.specs.declared.cancel_command.CancelCase.{CancelCase}
+use Rattle.sip_clients.specs.declared.cancel_command.CancelCase.TheVariants as ask
 use Rattle.sip_clients.specs.declared.client.Cancelling.{Cancelling}
 use Rattle.sip_clients.specs.declared.client.Cancelling.TheVariants as cancel
 use Rattle.sip_clients.specs.declared.client.Client.{Client}

@@ -23,8 +23,8 @@ use Rattle.sip_held_dialogs.specs.Requests.{is_final}
 use Rattle.sip_held_dialogs.specs.Sent.{NumberedFrom, cseqs_in, number_before, requests_made, sent_in}
 use Rattle.sip_held_dialogs.proofs.Heard.{AreApart, Lives, Moves, leads_as, leads_same, moves_as, moves_led, none_came, none_either, quiet}
 use Rattle.sip_held_dialogs.proofs.Starts.{numbered_none}
-use Rattle.sip_clients.specs.declared.cancel.CancelCase.{CancelCase}
-use Rattle.sip_clients.specs.declared.cancel.CancelCase.TheVariants as asked
+use Rattle.sip_clients.specs.declared.cancel_command.CancelCase.{CancelCase}
+use Rattle.sip_clients.specs.declared.cancel_command.CancelCase.TheVariants as asked
 use Rattle.sip_clients.specs.declared.client.Client.{Client}
 use Rattle.sip_clients.specs.declared.pending.PendingKind.TheVariants as kind
 use Rattle.sip_clients.specs.declared.event.Event.{Event}

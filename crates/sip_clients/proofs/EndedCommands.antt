@@ -21,8 +21,8 @@ use Rattle.sip_user.specs.Refusal.{first_refusal}
 use Rattle.sip_held_dialogs.specs.Sent.{cseqs_in, name_of_dialog}
 use Rattle.sip_held_dialogs.proofs.Entries as entries
 use Rattle.sip_held_dialogs.proofs.Heard.{AreApart, name_laws}
-use Rattle.sip_clients.specs.declared.cancel.CancelCase.{CancelCase}
-use Rattle.sip_clients.specs.declared.cancel.CancelCase.TheVariants as ask
+use Rattle.sip_clients.specs.declared.cancel_command.CancelCase.{CancelCase}
+use Rattle.sip_clients.specs.declared.cancel_command.CancelCase.TheVariants as ask
 use Rattle.sip_clients.specs.declared.client.Cancelling.TheVariants as state
 use Rattle.sip_clients.specs.declared.client.Client.{Client}
 use Rattle.sip_clients.specs.declared.client.RequestKind.TheVariants.{OutOfDialog}

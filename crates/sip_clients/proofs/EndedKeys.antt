@@ -25,8 +25,8 @@ use Rattle.sip_held_dialogs.proofs.Each.{filtered}
 use Rattle.sip_held_dialogs.proofs.Entries as entries
 use Rattle.sip_held_dialogs.proofs.Heard.{id_laws}
 use Rattle.sip_clients.specs.declared.answers.SentAck.{SentAck}
-use Rattle.sip_clients.specs.declared.cancel.CancelCase.{CancelCase}
-use Rattle.sip_clients.specs.declared.cancel.CancelCase.TheVariants as ask
+use Rattle.sip_clients.specs.declared.cancel_command.CancelCase.{CancelCase}
+use Rattle.sip_clients.specs.declared.cancel_command.CancelCase.TheVariants as ask
 use Rattle.sip_clients.specs.declared.client.Cancelling.TheVariants as state
 use Rattle.sip_clients.specs.declared.client.Client.{Client}
 use Rattle.sip_clients.specs.declared.client.RequestKind.{RequestKind}

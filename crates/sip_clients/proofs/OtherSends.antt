@@ -38,8 +38,8 @@ use Rattle.sip_user.specs.Notices.{refused}
 use Rattle.sip_user.specs.Refusal.{first_refusal}
 use Rattle.sip_held_dialogs.specs.Requests.{is_cancel, is_final, is_success}
 use Rattle.sip_held_dialogs.proofs.Each.{all_of_each, both}
-use Rattle.sip_clients.specs.declared.cancel.CancelCase.{CancelCase}
-use Rattle.sip_clients.specs.declared.cancel.CancelCase.TheVariants as ask
+use Rattle.sip_clients.specs.declared.cancel_command.CancelCase.{CancelCase}
+use Rattle.sip_clients.specs.declared.cancel_command.CancelCase.TheVariants as ask
 use Rattle.sip_clients.specs.declared.client.Cancelling.{Cancelling}
 use Rattle.sip_clients.specs.declared.client.Cancelling.TheVariants as cancel
 use Rattle.sip_clients.specs.declared.client.Client.{Client}

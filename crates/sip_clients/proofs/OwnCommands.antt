@@ -17,8 +17,8 @@ use Rattle.sip_user.specs.declared.item.CallOut.{CallOut}
 use Rattle.sip_user.specs.declared.refusal.Refusal.TheVariants.{BadMethod}
 use Rattle.sip_held_dialogs.specs.Ids.{is_id}
 use Rattle.sip_clients.specs.declared.answers.SentAck.{SentAck}
-use Rattle.sip_clients.specs.declared.cancel.CancelCase.{CancelCase}
-use Rattle.sip_clients.specs.declared.cancel.CancelCase.TheVariants as ask
+use Rattle.sip_clients.specs.declared.cancel_command.CancelCase.{CancelCase}
+use Rattle.sip_clients.specs.declared.cancel_command.CancelCase.TheVariants as ask
 use Rattle.sip_clients.specs.declared.client.RequestKind.TheVariants.{InitialInvite, OutOfDialog}
 use Rattle.sip_clients.specs.declared.client.Cancelling.{Cancelling}
 use Rattle.sip_clients.specs.declared.client.Cancelling.TheVariants as cancel

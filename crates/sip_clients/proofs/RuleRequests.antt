@@ -47,7 +47,7 @@ use Rattle.sip_clients.specs.declared.outputs.ClientChange.{ClientChange}
 use Rattle.sip_clients.specs.declared.outputs.ClientChange.TheVariants as change
 use Rattle.sip_clients.specs.declared.send_outcome.SendOutcome.{SendOutcome}
 use Rattle.sip_clients.specs.declared.send_outcome.SendOutcome.TheVariants as outcome
-use Rattle.sip_clients.specs.declared.cancel.CancelCase.TheVariants as case
+use Rattle.sip_clients.specs.declared.cancel_command.CancelCase.TheVariants as case
 use Rattle.sip_clients.specs.declared.client.RequestKind.{RequestKind}
 use Rattle.sip_clients.specs.declared.client.RequestKind.TheVariants.{InitialInvite, ReInvite, InDialog, OutOfDialog}
 use Rattle.sip_clients.specs.Cancel.{asked, asking_case, cancel_by_user, cancelled_as, cancelled_of}

@@ -8,8 +8,8 @@ use Rattle.sip_user.specs.declared.item.CallOut.{CallOut}
 use Rattle.sip_user.specs.declared.refusal.Refusal.{Refusal}
 use Rattle.sip_user.specs.declared.refusal.Refusal.TheVariants.{AlreadyFinal, NoSuchRequest}
 use Rattle.sip_user.specs.Notices.{refused}
-use Rattle.sip_clients.specs.declared.cancel.CancelCase.{CancelCase}
-use Rattle.sip_clients.specs.declared.cancel.CancelCase.TheVariants as case
+use Rattle.sip_clients.specs.declared.cancel_command.CancelCase.{CancelCase}
+use Rattle.sip_clients.specs.declared.cancel_command.CancelCase.TheVariants as case
 use Rattle.sip_clients.specs.declared.client.RequestKind.TheVariants.{OutOfDialog}
 use Rattle.sip_clients.specs.declared.client.Cancelling.{Cancelling}
 use Rattle.sip_clients.specs.declared.client.Cancelling.TheVariants.{NotAsked, Waits, Sent}

@@ -7,7 +7,7 @@ ghost use Rattle.sip_clients.specs.Rules.Ends as ends;
 ghost use Rattle.sip_clients.specs.Rules.Requests as requests;
 ghost use Rattle.sip_clients.specs.Rules.Responses.{response_received};
 
-use crate::cancel::take_cancel;
+use crate::cancel_command::take_cancel;
 use crate::client::{RequestKind, client_for};
 use crate::commands::{ack_told, is_bad_outside, name_in, pending_for, prack_told, request_told};
 use crate::event::Event;

@@ -8,7 +8,7 @@ ghost use Rattle.sip_clients.specs.Client.{client_at, client_changed, with_clien
 ghost use Rattle.sip_clients.specs.Clients as spec;
 
 use crate::answers::SentAck;
-use crate::cancel::{note_reply, send_beside};
+use crate::cancel_command::{note_reply, send_beside};
 use crate::client::Client;
 use crate::dialogs::end_with;
 use crate::event::Event;

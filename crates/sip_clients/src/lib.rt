@@ -3,7 +3,7 @@
 #![tactic(auto)]
 
 mod answers;
-mod cancel;
+mod cancel_command;
 mod chacha;
 mod client;
 mod clients;

@@ -21,7 +21,7 @@ use Rattle.sip_reader.proofs.RoundTrip.{written_spelled}
 use Rattle.sip_reader.proofs.Spelled.{spelled_again}
 use Rattle.sip_transactions.specs.declared.input.Input.{Input}
 use Rattle.sip_transactions.specs.declared.input.Input.TheVariants.{Failed, Receive}
-use Rattle.sip_transactions.specs.Shard.{is_stray, received}
+use Rattle.sip_transactions.specs.Shard.{is_stray, keyed_input}
 use Rattle.sip_round.specs.declared.config.Config.{Config}
 use Rattle.sip_round.specs.declared.round.Event.{Event}
 use Rattle.sip_round.specs.declared.round.Event.TheVariants.{Datagram}
@@ -84,9 +84,9 @@ module _ (config : Config) (Fits : Key → Input → Type 0) (id : Id) (from : A
       → ((reply_to : Addr) → ReceiptFits (if request then stamped message from else message)
       reply_to)
       → ArrivalFits config Fits (if request
-      then arrival_for (received config.local id (stamped message from)
+      then arrival_for (keyed_input config.local id (stamped message from)
       (answer_address message from))
-      else arrival_for (received config.local id message from))
+      else arrival_for (keyed_input config.local id message from))
   by_request true message fits =
       stray_or_not (is_stray config.local (stamped message from)) (stamped message from)
       (answer_address message from) (fits (answer_address message from))

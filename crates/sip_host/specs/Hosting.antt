@@ -13,7 +13,7 @@ use Rattle.sip_round.specs.AgentState.{refusal_of, shard_count}
 use Rattle.sip_reader.specs.Head.{BeginsWith, HasHeaderLines, HasValues}
 use Rattle.sip_reader.specs.Spells.{Spells}
 use Rattle.sip_reader.specs.declared.first_line.FirstLine.{FirstLine}
-use Rattle.sip_reader.specs.declared.header_line.HeaderLine.{HeaderLine}
+use Rattle.sip_reader.specs.declared.untyped_line.HeaderLine.{HeaderLine}
 use Rattle.sip_round.specs.Answers.{StandsFor, answers, past_of, placed_answers}
 use Rattle.sip_round.specs.Live.{live_of}
 use Rattle.sip_round.specs.NewTransactions.{would_begin}

@@ -13,7 +13,7 @@ ghost use Rattle.sip_message.specs.declared.message.Message.{Message};
 ghost use Rattle.sip_reader.specs.Head.{HasHeaderLines};
 ghost use Rattle.sip_reader.specs.Spells.{Answers};
 ghost use Rattle.sip_reader.specs.declared.first_line.FirstLine.{FirstLine as AFirstLine};
-ghost use Rattle.sip_reader.specs.declared.header_line.HeaderLine.{HeaderLine as AHeaderLine};
+ghost use Rattle.sip_reader.specs.declared.untyped_line.HeaderLine.{HeaderLine as AHeaderLine};
 ghost use Rattle.sip_user.specs.declared.command.UserCommand.{UserCommand as AUserCommand};
 ghost use Rattle.sip_files.specs.Given.{with_given};
 ghost use Rattle.sip_round.specs.declared.round.Event.TheVariants.{Command};

@@ -16,7 +16,7 @@ use Rattle.sip_headers.proofs.NamedLines.{line_reads}
 use Rattle.sip_reader.specs.Head.{HasHeaderLines, HasParts, HasValues, OrNone, header_line, is_same_entry, value_under}
 use Rattle.sip_reader.proofs.Layouts.{IsFull}
 use Rattle.sip_reader.specs.Steps.ReadHead.{found_at, head_at, header_lines_at, is_known, values_at, whole_lines_at}
-use Rattle.sip_reader.specs.declared.header_line.HeaderLine.{HeaderLine}
+use Rattle.sip_reader.specs.declared.untyped_line.HeaderLine.{HeaderLine}
 use Rattle.sip_reader.proofs.Heads.{is_head, one_head, one_or_none, read_or_none, whole_onto}
 
 -- ---- one line, by its class

@@ -16,7 +16,7 @@ use Rattle.sip_headers.specs.Named.{is_same}
 use Rattle.sip_reader.specs.StartLine.{IsRequestLine, IsStatusLine}
 use Rattle.sip_reader.specs.declared.first_line.FirstLine.{FirstLine}
 use Rattle.sip_reader.specs.declared.first_line.FirstLine.TheVariants as first
-use Rattle.sip_reader.specs.declared.header_line.HeaderLine.{HeaderLine}
+use Rattle.sip_reader.specs.declared.untyped_line.HeaderLine.{HeaderLine}
 
 -- the text has this value's form; or, without a value, the form of none
 abbrev pub OrNone : {A X : Type 0} → (X → A → Type 0) → Option X → A → Type 0

@@ -25,7 +25,7 @@ ghost use Rattle.sip_reader.specs.SkippedEnds.{without_line_ends};
 ghost use Rattle.sip_reader.specs.Spells.{Spells};
 ghost use Rattle.sip_reader.specs.WrittenContent.{IsWrittenWith};
 ghost use Rattle.sip_reader.specs.declared.first_line.FirstLine.{FirstLine};
-ghost use Rattle.sip_reader.specs.declared.header_line.HeaderLine.{HeaderLine};
+ghost use Rattle.sip_reader.specs.declared.untyped_line.HeaderLine.{HeaderLine};
 
 /// A text spells at most one message.
 pub fn one_message()

@@ -3,7 +3,7 @@
 
 mod first_line;
 mod head;
-mod header_line;
+mod untyped_line;
 mod laws;
 mod layout;
 mod reader;
@@ -12,7 +12,7 @@ mod start_reader;
 
 pub use first_line::FirstLine;
 pub use head::{header_lines, header_values, start_line};
-pub use header_line::HeaderLine;
+pub use untyped_line::HeaderLine;
 pub use laws::{
     folds_are_laid, head_of_a_message, headers_of_a_content, lines_are_laid, no_fault_of_a_message,
     one_head, one_message, what_is_read, written_is_spelled,

@@ -21,6 +21,7 @@ pub mod NamesRise
 pub mod NextDue
 pub mod NotTold
 pub mod Numbered
+pub mod OneMore
 pub mod OwnItems
 pub mod OwnNotices
 pub mod OwnRequests

@@ -32,7 +32,7 @@ use Rattle.sip_transactions.specs.declared.input.Input.{Input}
 use Rattle.sip_transactions.specs.declared.input.Input.TheVariants.{Receive}
 use Rattle.sip_transactions.specs.Ids.{is_id}
 use Rattle.sip_transactions.specs.Laws.{IsServer, arrival_id, naming_id}
-use Rattle.sip_transactions.specs.Shard.{is_stray, order, received}
+use Rattle.sip_transactions.specs.Shard.{is_stray, order, keyed_input}
 use Rattle.sip_user.specs.Command.{call_of_item}
 use Rattle.sip_user.specs.declared.item.CallOut.{CallOut}
 use Rattle.sip_user.specs.declared.item.CallOut.TheVariants as call_out
@@ -85,7 +85,7 @@ unfolding key_of_message
 message_named id message to = start_named id message.start _ _ _ _
 
 for_named : (local : Addr) (id : Id) (message : Message) (to : Addr)
-    → ArrivalNamed id (arrival_for (received local id message to))
+    → ArrivalNamed id (arrival_for (keyed_input local id message to))
 for_named local id message to =
     elim (is_stray local message) as (λ b. ArrivalNamed id (arrival_for (if b then None
     else Some (key_of_message message, Receive id message to)))) [
@@ -99,8 +99,8 @@ unfolding message_arrival
 read_named local id from (Err fault) = tt
 read_named local id from (Ok message) =
     elim (is_request_message message) as (λ b. ArrivalNamed id (if b
-    then arrival_for (received local id (stamped message from) (answer_address message from))
-    else arrival_for (received local id message from))) [
+    then arrival_for (keyed_input local id (stamped message from) (answer_address message from))
+    else arrival_for (keyed_input local id message from))) [
       | true ↦ for_named local id (stamped message from) (answer_address message from)
       | false ↦ for_named local id message from
     ]

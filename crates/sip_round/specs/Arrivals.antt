@@ -13,7 +13,7 @@ use Rattle.sip_transactions.specs.declared.input.Input.{Input}
 use Rattle.sip_transactions.specs.declared.input.Input.TheVariants.{Failed}
 use Rattle.sip_transactions.specs.declared.output.DropReason.{DropReason}
 use Rattle.sip_transactions.specs.declared.output.DropReason.TheVariants.{NotOurs, Unreadable}
-use Rattle.sip_transactions.specs.Shard.{received}
+use Rattle.sip_transactions.specs.Shard.{keyed_input}
 use Rattle.sip_user.specs.declared.command.UserCommand.{UserCommand}
 use Rattle.sip_round.specs.declared.round.Event.{Event}
 use Rattle.sip_round.specs.declared.round.Event.TheVariants as event
@@ -36,8 +36,8 @@ arrival_for (Some input) = Transaction input.0 input.1
 unfoldable pub message_arrival : Addr → Id → Addr → Message → Arrival
 message_arrival local id from message =
     if is_request_message message
-    then arrival_for (received local id (stamped message from) (answer_address message from))
-    else arrival_for (received local id message from)
+    then arrival_for (keyed_input local id (stamped message from) (answer_address message from))
+    else arrival_for (keyed_input local id message from)
 
 -- a datagram is the message that it spells; if it spells none, it is dropped
 abbrev pub datagram_arrival : Addr → Id → Addr → Result Message ReadFault → Arrival

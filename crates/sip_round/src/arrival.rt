@@ -12,7 +12,7 @@ use crate::waiting::Waiting;
 use keyed_machine::Item;
 use sip_message::{Addr, Id, Message, ReadFault, SharedKey, stamp_source};
 use sip_reader::read;
-use sip_transactions::{DropReason, Input, received};
+use sip_transactions::{DropReason, Input, keyed_input};
 use std::alloc::{AllocError, Global};
 
 /// Sets out the event with this id, its datagram read and stamped. The input of a transaction is
@@ -84,7 +84,7 @@ fn set_out_message(
     } else {
         from
     };
-    match received(alloc, local, id, message, reply_to)? {
+    match keyed_input(alloc, local, id, message, reply_to)? {
         None => Ok(Waiting::Dropped(DropReason::NotOurs)),
         Some((key, input)) => set_out(id, key, input, items),
     }

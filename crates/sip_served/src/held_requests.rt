@@ -12,7 +12,7 @@ ghost use Rattle.sip_served.specs.Tick.{is_kept_at, next_due_of, request_ticked}
 
 use crate::acknowledgment::acknowledged_invite;
 use crate::arrival::{merges, named_invite};
-use crate::cancel::cancelled_request;
+use crate::incoming_cancel::cancelled_request;
 use crate::change::{Change, change_at};
 use crate::held_request::HeldRequest;
 use crate::indexed_requests::IndexedRequests;

@@ -3,7 +3,7 @@
 
 mod acknowledgment;
 mod arrival;
-mod cancel;
+mod incoming_cancel;
 mod change;
 mod held_request;
 mod held_requests;

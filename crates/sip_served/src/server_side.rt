@@ -17,7 +17,7 @@ ghost use Rattle.sip_served.specs.State.{has_id};
 ghost use Rattle.sip_served.specs.declared.held_request.HeldRequest.{HeldRequest};
 
 use crate::arrival::{Arrival, ArrivalCase, case_of, requires_unknown};
-use crate::cancel::{
+use crate::incoming_cancel::{
     REQUEST_TERMINATED, cancel_accepted, is_unanswered_invite, request_terminated, termination_told,
 };
 use crate::change::Change;

@@ -58,12 +58,12 @@ pub(crate) fn tick_request(
     ensures outs { OnOk result (outs.new.items ≡ outs.old.items
         ++ (spec.request_ticked now held.old).1) }
 {
-    tick_success(alloc, held, now, outs)?;
+    retransmit_2xx(alloc, held, now, outs)?;
     tick_provisionals(alloc, held, now, outs)
 }
 
 // What is due of the 2xx to an INVITE.
-fn tick_success(
+fn retransmit_2xx(
     alloc: Global,
     held: &mut HeldRequest,
     now: u64,
@@ -82,7 +82,7 @@ fn tick_success(
         SuccessDue::Again => {
             let response = success.get().response.get().clone()?;
             outs.push(command_for(alloc, held.id, &held.key, response)?)?;
-            repeat_success(held, now);
+            set_next_2xx(held, now);
             Ok(())
         }
         SuccessDue::GivenUp => {
@@ -107,7 +107,7 @@ fn success_answer(success: &Success, now: u64) -> SuccessDue
     }
 }
 
-fn repeat_success(held: &mut HeldRequest, now: u64)
+fn set_next_2xx(held: &mut HeldRequest, now: u64)
     requires { now ≤ 2 ^ 62 }
     ensures { held.new ≡ life.request_happened held.old (life.RepeatsSuccess now) }
 {
@@ -165,7 +165,7 @@ fn tell_provisionals(
 {
     match tick {
         Tick::Nothing => Ok(()),
-        Tick::Again(numbers) => send_again(alloc, held, numbers.as_slice(), outs),
+        Tick::Again(numbers) => retransmit_provisionals(alloc, held, numbers.as_slice(), outs),
         Tick::GivenUp => {
             outs.push(CallOut::Notice(no_prack(held)?))?;
             Ok(())
@@ -174,7 +174,7 @@ fn tell_provisionals(
 }
 
 // Sends the responses with these numbers again.
-fn send_again(
+fn retransmit_provisionals(
     alloc: Global,
     held: &HeldRequest,
     numbers: &[u32],

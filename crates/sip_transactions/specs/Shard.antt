@@ -21,8 +21,8 @@ abbrev pub is_stray : Addr → Message → Bool
 is_stray local message = not (is_request_message message) && not (is_sent_by_of message local)
 
 -- the transaction of a message (17.1.3, 17.2.3; an ACK: that of its INVITE); a stray has none
-abbrev pub received : Addr → Id → Message → Addr → Option (Key × Input)
-received local id message reply_to =
+abbrev pub keyed_input : Addr → Id → Message → Addr → Option (Key × Input)
+keyed_input local id message reply_to =
     if is_stray local message then None
     else Some (key_of_message message, Receive id message reply_to)
 

@@ -19,7 +19,7 @@ mod trigger;
 pub use input::{Command, Input};
 pub use keyed_machine::ShardFault;
 pub use machine::Transactions;
-pub use matching::{is_stray, received};
+pub use matching::{is_stray, keyed_input};
 pub use output::{DropReason, Out, Up, UpKind};
 pub use shard::Shard;
 pub use state::State;

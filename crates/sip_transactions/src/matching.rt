@@ -19,14 +19,14 @@ pub fn is_stray(local: Addr, message: &Message) -> bool
 /// The key of the transaction that a message is for, and the input that it is to it. A request is
 /// stamped with its source, and its answers go to `reply_to`. A response to another sender is for
 /// none.
-pub fn received(
+pub fn keyed_input(
     alloc: Global,
     local: Addr,
     id: Id,
     message: Message,
     reply_to: Addr,
 ) -> Result<Option<(SharedKey, Input)>, AllocError>
-    ensures { IfOk result (λ input. input ≡ spec.received local id message reply_to) }
+    ensures { IfOk result (λ input. input ≡ spec.keyed_input local id message reply_to) }
 {
     if is_stray(local, &message) {
         return Ok(None);

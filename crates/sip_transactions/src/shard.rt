@@ -12,7 +12,7 @@ ghost use Rattle.keyed_machine.specs.Machine.{tick_at};
 use crate::input::{Command, Input};
 use crate::life::Life;
 use crate::machine::Transactions;
-use crate::matching::received;
+use crate::matching::keyed_input;
 use crate::output::{DropReason, Out};
 use crate::state::State;
 use keyed_machine::{Item, KeyShard, PhaseOutputs, ShardFault, Table};
@@ -126,7 +126,7 @@ impl Shard {
             → IfOk result (λ outs. AddsInput key_cmp transaction_machine self.old.held self.new.held
             (key_of_message message) (receipt id message reply_to now) outs.items) }
     {
-        let input = received(self.alloc, self.local, id, message, reply_to);
+        let input = keyed_input(self.alloc, self.local, id, message, reply_to);
         match self.table.check(input)? {
             None => self.table.check(not_ours(self.alloc, id)),
             Some((key, input)) => self.table.handle(&Transactions, key, now, input),

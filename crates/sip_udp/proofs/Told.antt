@@ -8,7 +8,7 @@ use Rattle.sip_round.specs.declared.output.PlacedOutput.{PlacedOutput}
 use Rattle.sip_round.specs.declared.round.Event.{Event}
 use Rattle.sip_files.specs.declared.version.FileKind.{FileKind}
 use Rattle.sip_files.proofs.HeadedLines.{zip_push}
-use Rattle.sip_reader.specs.declared.header_line.HeaderLine.{HeaderLine}
+use Rattle.sip_reader.specs.declared.untyped_line.HeaderLine.{HeaderLine}
 use Rattle.sip_udp.specs.Telling.{AreHeadersOf, Tells, TellsAll, spelled_header, told_datagram, told_line}
 
 pub nothing_more : (now : Option (List ℕ)) → Appends now now []

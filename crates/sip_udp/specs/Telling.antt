@@ -3,7 +3,7 @@
 use Rattle.std.specs.Prelude.{◌≡◌, ℕ, List, [], ◌++◌, Option, Some, None, codes, decimal, if◌then◌else◌}
 use Rattle.std.specs.List.{AllZip, flat_map}
 use Rattle.sip_reader.specs.Head.{HasHeaderLines}
-use Rattle.sip_reader.specs.declared.header_line.HeaderLine.{HeaderLine}
+use Rattle.sip_reader.specs.declared.untyped_line.HeaderLine.{HeaderLine}
 use Rattle.sip_message.specs.declared.addr.Addr.{Addr}
 use Rattle.sip_message.specs.declared.id.Id.{Id}
 use Rattle.sip_transactions.specs.declared.output.DropReason.{DropReason}

@@ -14,7 +14,7 @@ use Rattle.sip_reader.specs.Head.{header_line, value_under}
 use Rattle.sip_reader.specs.ReadStart.{start_at}
 use Rattle.sip_reader.specs.SkippedEnds.{without_line_ends}
 use Rattle.sip_reader.specs.declared.first_line.FirstLine.{FirstLine}
-use Rattle.sip_reader.specs.declared.header_line.HeaderLine.{HeaderLine}
+use Rattle.sip_reader.specs.declared.untyped_line.HeaderLine.{HeaderLine}
 
 -- the lines up to the first empty one, or all that have a line end, without folds
 abbrev pub whole_lines_at : List ℕ → List (List ℕ)

@@ -2,7 +2,7 @@
 use Rattle.std.proofs.Common.{◌≡◌, ℕ, List, drop, Result, Ok, Err, IfOk, sym, ap, ◌∙◌}
 use Rattle.sip_reader.specs.Head.{HasHeaderLines}
 use Rattle.sip_reader.specs.Steps.ReadHead.{head_at, header_lines_at, lines_found}
-use Rattle.sip_reader.specs.declared.header_line.HeaderLine.{HeaderLine}
+use Rattle.sip_reader.specs.declared.untyped_line.HeaderLine.{HeaderLine}
 use Rattle.sip_reader.proofs.HeadValues.{has_header_lines}
 use Rattle.sip_reader.proofs.head.header_lines.Goals as goal
 

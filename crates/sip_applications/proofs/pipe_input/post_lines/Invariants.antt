@@ -2,7 +2,7 @@
 use Rattle.std.proofs.Common.{IfSome}
 use Rattle.sip_desk.specs.Lines.{posted}
 use Rattle.sip_applications.proofs.Fed.{FedSoFar}
-use Rattle.sip_applications.proofs.pipe.post_lines.Given as goal
+use Rattle.sip_applications.proofs.pipe_input.post_lines.Given as goal
 
 abbrev pub invariant-loop-number : goal.invariant-loop-number
 invariant-loop-number g l =

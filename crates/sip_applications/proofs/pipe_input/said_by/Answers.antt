@@ -1,7 +1,7 @@
 -- `said_by` gives what a line says, without its end.
 use Rattle.std.proofs.Common.{refl, subst}
 use Rattle.sip_applications.specs.Piping.{Says}
-use Rattle.sip_applications.proofs.pipe.said_by.Goals as goal
+use Rattle.sip_applications.proofs.pipe_input.said_by.Goals as goal
 
 pub returns : goal.returns
 returns c = (

@@ -1,9 +1,9 @@
--- The loop of `send_again`: those of these numbers among the responses seen so far are sent.
+-- The loop of `retransmit_provisionals`: of the responses seen so far, those with these numbers.
 use Rattle.std.proofs.Common.{◌≡◌, ◌++◌, map, take}
 use Rattle.sip_transactions.specs.declared.input.Command.TheVariants.{Answer}
 use Rattle.sip_user.specs.declared.item.CallOut.TheVariants.{Command}
 use Rattle.sip_served.specs.Provisionals.{of_numbers}
-use Rattle.sip_served.proofs.tick.send_again.Given as goal
+use Rattle.sip_served.proofs.tick.retransmit_provisionals.Given as goal
 
 abbrev pub invariant-loop-one : goal.invariant-loop-one
 invariant-loop-one l = l.outs.items ≡ l.initial.outs.items

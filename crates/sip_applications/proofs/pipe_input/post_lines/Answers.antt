@@ -3,7 +3,7 @@ use Rattle.std.proofs.Common.{ℕ, List, IfSome, length, sym, subst, ap, arith}
 use Rattle.sip_desk.specs.Lines.{posted}
 use Rattle.sip_applications.specs.Piping.{SaysRead, PostsFront}
 use Rattle.sip_applications.proofs.Fed.{fed_front, fed_more, fed_nothing, read_front}
-use Rattle.sip_applications.proofs.pipe.post_lines.Goals as goal
+use Rattle.sip_applications.proofs.pipe_input.post_lines.Goals as goal
 
 pub loop-number-init : goal.loop-number-init
 loop-number-init g c =

@@ -3,7 +3,7 @@ use Rattle.std.proofs.Common.{rules}
 use Rattle.std.specs.Ordering.{is_lt}
 use Rattle.std.proofs.lemmas.List.MinMax.{ranks_by}
 use Rattle.keyed_machine.proofs.Merged.{compares, merged}
-use Rattle.keyed_machine.proofs.merge.by_label.Goals as goal
+use Rattle.keyed_machine.proofs.label_order.by_label.Goals as goal
 
 pub returns-clause-in_order : goal.returns-clause-in_order
 returns-clause-in_order g c =
