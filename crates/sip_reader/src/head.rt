@@ -7,9 +7,9 @@ ghost use Rattle.sip_reader.specs.Head as head;
 ghost use Rattle.sip_reader.specs.Steps.ReadHead as reading;
 
 use crate::first_line::FirstLine;
-use crate::untyped_line::HeaderLine;
 use crate::layout::without_line_ends;
 use crate::start_reader::start_of;
+use crate::untyped_line::HeaderLine;
 use sip_grammar::{HeaderName, Token};
 use sip_headers::{LineClass, Whole, class_of, long_name, whole_line};
 use sip_text::{Series, Text, next_line, token_eq};

@@ -12,9 +12,9 @@ ghost use Rattle.sip_served.specs.Tick.{is_kept_at, next_due_of, request_ticked}
 
 use crate::acknowledgment::acknowledged_invite;
 use crate::arrival::{merges, named_invite};
-use crate::incoming_cancel::cancelled_request;
 use crate::change::{Change, change_at};
 use crate::held_request::HeldRequest;
+use crate::incoming_cancel::cancelled_request;
 use crate::indexed_requests::IndexedRequests;
 use crate::requests::held_request;
 use crate::tick::{next_due, remove_over, tick_requests};

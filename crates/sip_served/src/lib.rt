@@ -3,10 +3,10 @@
 
 mod acknowledgment;
 mod arrival;
-mod incoming_cancel;
 mod change;
 mod held_request;
 mod held_requests;
+mod incoming_cancel;
 mod index;
 mod indexed_requests;
 mod indices;

@@ -17,12 +17,12 @@ ghost use Rattle.sip_served.specs.State.{has_id};
 ghost use Rattle.sip_served.specs.declared.held_request.HeldRequest.{HeldRequest};
 
 use crate::arrival::{Arrival, ArrivalCase, case_of, requires_unknown};
-use crate::incoming_cancel::{
-    REQUEST_TERMINATED, cancel_accepted, is_unanswered_invite, request_terminated, termination_told,
-};
 use crate::change::Change;
 use crate::held_request::HeldRequest;
 use crate::held_requests::HeldRequests;
+use crate::incoming_cancel::{
+    REQUEST_TERMINATED, cancel_accepted, is_unanswered_invite, request_terminated, termination_told,
+};
 use crate::outputs::{
     bad_extension, loop_detected, no_such_dialog, notice_of_request, ok, out_of_order,
 };
