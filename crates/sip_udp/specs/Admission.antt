@@ -1,5 +1,5 @@
 -- Which datagrams an agent that holds much doesn't take.
-use Rattle.std.specs.Prelude.{ℕ, ◌*◌, nat_lt, Bool, true, false, not, ◌&&◌, ◌||◌, List, codes, length, Option, None, Some, Result, Ok, Err, ◌==◌, if◌then◌else◌}
+use Rattle.std.specs.Prelude.{ℕ, ◌+◌, ◌-◌, ◌*◌, ◌^◌, min, nat_lt, Bool, true, false, not, ◌&&◌, ◌||◌, List, codes, length, Option, None, Some, Result, Ok, Err, ◌==◌, if◌then◌else◌}
 use Rattle.std.specs.Str.{bytes_eq}
 use Rattle.sip_message.specs.Cut.{spread_shard}
 use Rattle.sip_message.specs.Party.{tag_of}
@@ -48,3 +48,8 @@ is_shed config rounds load (Datagram from bytes) =
     is_shed_message config rounds load (message_at bytes)
 is_shed config rounds load (Failed key) = false
 is_shed config rounds load (Command command) = false
+
+-- how many were shed, where some were before, and of so many events so many were let in; the count
+-- stops at the largest number of 64 bits
+abbrev pub shed_after : ℕ → ℕ → ℕ → ℕ
+shed_after shed given admitted = min (shed + (given - admitted)) (2 ^ 64 - 1)

@@ -1,6 +1,7 @@
 //! Which datagrams get into the rounds of an agent that holds much.
 
-ghost use Rattle.std.specs.Prelude.{◌≡◌, ◌++◌, ◌∷◌, [], IfOk, List, Ok, OnOk, filter, not};
+ghost use Rattle.std.specs.Prelude.{◌≡◌, ◌++◌, ◌∷◌, [], IfOk, List, Ok, OnOk, filter, length, not};
+ghost use Rattle.std.specs.Option.{option_map};
 ghost use Rattle.sip_reader.specs.ReadMessage.{Gives, message_at};
 ghost use Rattle.sip_round.specs.Answers.{StandsFor, past_of};
 ghost use Rattle.sip_round.specs.Live.{live_of};
@@ -42,7 +43,9 @@ impl Admission {
     }
 
     /// How many datagrams were shed, if there is a limit.
-    pub(crate) fn shed(self) -> Option<u64> {
+    pub(crate) fn shed(self) -> Option<u64>
+        ensures { result ≡ option_map (λ most. self.shed) self.most }
+    {
         self.most.map(|_| self.shed)
     }
 
@@ -57,11 +60,14 @@ impl Admission {
         agent: &Agent<Spread>,
         events: Vec<Event>,
     ) -> Result<Vec<Event>, AllocError>
-        ensures { IfOk result (λ admitted. (config : AConfig) (rounds : List ARound)
+        ensures same { self.new.most ≡ self.old.most }
+        ensures admitted { IfOk result (λ admitted. (config : AConfig) (rounds : List ARound)
             → StandsFor shard_of agent.now config rounds
             → admitted.items ≡ filter (λ event. not (is_shed config rounds
             (spec.load_of self.old.most (live_of config (past_of config rounds)).0) event))
             events.items) }
+        ensures count { IfOk result (λ admitted. self.new.shed
+            ≡ spec.shed_after self.old.shed (length events.items) (length admitted.items)) }
     {
         let load = load_of(self.most, agent.live().0);
         if let Load::Low = load {
