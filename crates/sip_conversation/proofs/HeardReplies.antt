@@ -267,8 +267,8 @@ module _ (configs : Side → Config) (fair : IsFair configs) (before : List Turn
           ∙ (ap (λ (m : Message). m.cseq.method) same ∙ invite) in
           record {
             alike = subst (λ (m : Message). IsAlike m was.client.request)
-                (sym (((own_reply configs fair.calls before turn was.up.call_id was.up.id status
-                local_tag remote_tag body said begun few).same
+                (sym (((own_reply configs fair.calls before turn was.up.call_id was.up.id
+                said.original status said.status_is said.request begun few).same
                 (λ cancel. no_cancel (sym cancel ∙ method)))
                 ∙ ap (come_from local_config.local) same))
                 (came_alike local_config.local was.client.request);

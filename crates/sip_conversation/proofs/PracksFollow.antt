@@ -150,8 +150,8 @@ module _ (configs : Side → Config) (fair : IsFair configs) (before : List Turn
         (tag_of response.from) (tag_of response.to) response.body reply begun in
         record {
           so = so;
-          call = λ few. (own_reply configs fair.calls before turn was.up.call_id was.up.id status
-              (tag_of response.from) (tag_of response.to) response.body reply begun few).call
+          call = λ few. (own_reply configs fair.calls before turn was.up.call_id was.up.id
+              reply.original status reply.status_is reply.request begun few).call
               ∙ of_up configs fair before turn call_id HasIt name rack.cseq was;
           cseq = λ few. ap (λ (c : CSeq). c.number)
               (reply.request.copies.cseq ∙ (own few).alike.cseq) ∙ was.number_is;

@@ -311,15 +311,13 @@ module _ (configs : Side → Config) (fair : IsFair configs) (before : List Turn
           begun.request
       own =
           let answer = found.answer in
-          own_reply configs fair.calls before turn call_id reply.up.id answer_status.0
-          (tag_of reply.response.from) (tag_of reply.response.to) reply.response.body
-          (record (so.said).response {
-            request = record {
-              request = answer.request;
-              is_request = answer.brought.2;
-              came = answer.brought.0;
-              copies = answer.copies;
-            };
+          own_reply configs fair.calls before turn call_id reply.up.id original answer_status.0
+          ((so.said).response).status_is
+          (record {
+            request = answer.request;
+            is_request = answer.brought.2;
+            came = answer.brought.0;
+            copies = answer.copies;
           })
           begun few
 

@@ -60,11 +60,11 @@ pub fn calls_hear_unchanged(one: Config, other: Config)
 /// in one life of a dialog, have consecutive RSeqs, and the user is told of each once (RFC 3262,
 /// section 4). In the turns before the one in which the user is told, the other side said a
 /// reliable provisional response with this RSeq and with the status, the tags and the body that are
-/// told. Its user gave the command to respond with that status and body. If the RSeq is above 1,
-/// this side said in those turns, in the dialog of that response, a PRACK whose RAck has RSeq 1,
-/// the response's CSeq number and INVITE (RFC 3262, section 7.2). The law doesn't say that the
-/// response was to this INVITE, or that the first of these RSeqs is 1. `provisionals_come_whole`
-/// does, of the INVITE of a call.
+/// told. Its user answered the request with that status and body, in the call of the request. If
+/// the RSeq is above 1, this side said in those turns, in the dialog of that response, a PRACK
+/// whose RAck has RSeq 1, the response's CSeq number and INVITE (RFC 3262, section 7.2). The law
+/// doesn't say that the response was to this INVITE, or that the first of these RSeqs is 1.
+/// `provisionals_come_whole` does, of the INVITE of a call.
 pub fn provisionals_told_were_said(one: Config, other: Config)
     ensures { (turns : List Turn) → Carried (of_sides one other) turns
         → CommandsKeepTypes turns
@@ -76,12 +76,15 @@ pub fn provisionals_told_were_said(one: Config, other: Config)
 }
 
 /// In such a conversation, for each response that a user is told of in a turn, the other side said
-/// one with that status, those tags in From and To, and that body, in the turns before. Its user
-/// gave the command to respond with that status and body, or the agent itself answered with 100,
-/// 200, 420, 481, 482, 487 or 500 and no body. The response copies Via, From, Call-ID and CSeq from
-/// a request that came to the other side, and that this side said before, except for the stamp; and
-/// To, if that has a tag (RFC 3261, section 8.2.6.2). A transaction with its branch and method was
-/// started under the Call-ID and the id that the user is told.
+/// one with that status, those tags in From and To, and that body, in the turns before. The
+/// response copies Via, From, Call-ID and CSeq from a request that came to the other side, and that
+/// this side said before, except for the stamp; and To, if that has a tag (RFC 3261, section
+/// 8.2.6.2). The other side's user answered that request so: he gave its call a command to respond
+/// with that status and body, which names the request by the id under which it came up. Or the
+/// agent answered it by itself, without a body: with 100, 420, 481, 482 or 500, with 200 if it is a
+/// PRACK or a CANCEL, or with 487 if it is an INVITE for which a CANCEL came. So a user is told of
+/// a 2xx to an INVITE only if the other user gave it. A transaction with the branch and the method
+/// of the response was started under the Call-ID and the id that the user is told.
 ///
 /// If the rounds of the side that is told have numbers below 2^64 and fewer than 2^64 events each,
 /// of which branches are made: the response has that Call-ID. And unless it is to a CANCEL, it
@@ -99,10 +102,9 @@ pub fn responses_told_were_said(one: Config, other: Config)
 /// acknowledges: in the same turn or before, the user was told of a response under the Call-ID of
 /// the PRACK. It is among the reliable provisional responses to one INVITE, in one life of the
 /// PRACK's dialog, that he was told of, with the RSeq that the RAck names. In the turns before, the
-/// other side said that response as a reliable provisional one with that RSeq, as its user gave the
-/// command to respond so. Its CSeq has the number that the RAck names, if the rounds of the side
-/// that says the PRACK are counted as above; and the RAck's method is INVITE (RFC 3262, sections 4
-/// and 7.2).
+/// other side said that response as a reliable provisional one with that RSeq, as its user answered
+/// the request so. Its CSeq has the number that the RAck names, if the rounds of the side that says
+/// the PRACK are counted as above; and the RAck's method is INVITE (RFC 3262, sections 4 and 7.2).
 pub fn pracks_follow_responses(one: Config, other: Config)
     ensures { (turns : List Turn) → Carried (of_sides one other) turns
         → CommandsKeepTypes turns
