@@ -127,6 +127,7 @@ acks_told_said configs fair turns carried types before after turn same call_id i
       is_request = so.is_request;
       method_is = so.method_is;
       body_is = so.body_is;
+      invite = so.invite;
       by = by_whom configs fair before
           (acks_follow configs fair before
           (carried_before configs turns before after turn same carried) early.0) (peer turn.side)

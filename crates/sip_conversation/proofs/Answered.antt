@@ -25,6 +25,8 @@ use Rattle.sip_user.specs.declared.item.CallOut.{CallOut}
 use Rattle.sip_user.specs.declared.item.CallOut.TheVariants as call_out
 use Rattle.sip_user.specs.declared.item.Item.TheVariants.{Up, User}
 use Rattle.sip_user.specs.OwnCall.{IsKindOf}
+use Rattle.sip_held_dialogs.specs.Requests.{local_tag_of}
+use Rattle.sip_served.specs.Arrival.{arrival_of as arrival_up}
 use Rattle.sip_served.specs.Rules.Arrivals.{is_same_branch}
 use Rattle.sip_served.specs.Rules.Responses.{response_sent}
 use Rattle.sip_served.specs.declared.arrival.Arrival.{Arrival}
@@ -49,7 +51,7 @@ use Rattle.sip_conversation.proofs.ToTags.{answered_to}
 use Rattle.sip_conversation.proofs.AckTexts.{no_ack}
 use Rattle.sip_conversation.proofs.Among.{all_of, each_of}
 use Rattle.sip_conversation.proofs.Bridge.{any_arrival}
-use Rattle.sip_conversation.proofs.CallSays.{AnyAck, InputGives, UserGives, all_say}
+use Rattle.sip_conversation.proofs.CallSays.{AnyAck, AnyCall, InputGives, UserGives, all_say}
 use Rattle.sip_clients.proofs.ClientAsks.{IsAsk, OutSays}
 use Rattle.sip_conversation.proofs.OneTransaction.{KindCame}
 use Rattle.sip_conversation.proofs.Origins.{TimedComes, inputs_come}
@@ -83,6 +85,8 @@ module _ (config : Config) (rounds : List Round) (Came : Message → Type 0) whe
     pub handed : IsHandedUp config rounds arrival.request up
     pub id_is : up.id ≡ arrival.id
     pub key_is : up.key ≡ arrival.key
+    pub made : List ℕ
+    pub tag_is : arrival.tag ≡ local_tag_of arrival.request made
 
   -- an answer of the user or of the agent itself to this request, which came
   pub record IsAnswerTo (request message : Message) (status : ℕ) : Type 0 where
@@ -222,15 +226,15 @@ module _ (config : Config) (rounds : List Round) (Came : Message → Type 0) whe
     command_gives now event (user.Prack prack) among = tt
     command_gives now event (user.Cancel cancel) among = tt
 
-    -- what comes up to the call
-    pub kind_came : (now : ℕ) (event : Id) (made : List ℕ) (up : AnUp) (k : UpKind)
-        → up.kind ≡ k
+    -- a request that comes up to the call
+    pub request_came : (now : ℕ) (event : Id) (made : List ℕ) (up : AnUp) (request : Message)
+        (reply_to : Addr) → up.kind ≡ kind.Request request reply_to
         → Contains (call_inputs_of config rounds call_id) (given_at now (event, Up up))
-        → KindCame Came k → IsKindOf call_id k
-        → KindBrought Brought AnyAck made up k
-    kind_came now event made up (kind.Request request reply_to) is among came its = record {
-      came = came.0;
-      is_request = came.1;
+        → Came request → is_request_message request ≡ true → request.call_id ≡ call_id
+        → Brought (arrival_up up request reply_to made)
+    request_came now event made up request reply_to is among came asks its = record {
+      came = came;
+      is_request = asks;
       call_id_is = its;
       up = up;
       handed = record {
@@ -240,8 +244,16 @@ module _ (config : Config) (rounds : List Round) (Came : Message → Type 0) whe
       };
       id_is = refl;
       key_is = refl;
+      made = made;
+      tag_is = refl;
     }
-    kind_came now event made up (kind.Ack ack) is among came its = tt
+
+    kind_came : (now : ℕ) (event : Id) (made : List ℕ) (up : AnUp) (k : UpKind) → up.kind ≡ k
+        → Contains (call_inputs_of config rounds call_id) (given_at now (event, Up up))
+        → KindCame Came k → IsKindOf call_id k → KindBrought AnyCall Brought AnyAck made up k
+    kind_came now event made up (kind.Request request reply_to) is among came its =
+        (tt, request_came now event made up request reply_to is among came.0 came.1 its)
+    kind_came now event made up (kind.Ack ack) is among came its = (tt, tt)
     kind_came now event made up (kind.Response response) is among came its = tt
     kind_came now event made up kind.Timeout is among came its = tt
     kind_came now event made up kind.Failed is among came its = tt

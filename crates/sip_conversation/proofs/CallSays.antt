@@ -27,21 +27,24 @@ use Rattle.sip_clients.specs.Name.{name_of}
 use Rattle.sip_clients.proofs.ClientAsks.{AskAll, OutSays, ack_command_says, cancel_says, clients_tick_says, command_says, invite_says, lost_says, plain_says, prack_command_says, response_says}
 use Rattle.sip_conversation.proofs.ServedReplies.{AllowsServed, KindBrought, OwnReplies, RespondGiven, StateGiven, kind_fits, respond_fits, tick_fits}
 
--- nothing is required of ACKs here
-abbrev pub AnyAck : List ℕ → Message → Type 0
-AnyAck call_id ack = Unit {0}
+-- nothing is required of Call-IDs and of ACKs here
+abbrev pub AnyCall : List ℕ → Type 0
+AnyCall call_id = Unit {0}
+
+abbrev pub AnyAck : Message → Type 0
+AnyAck ack = Unit {0}
 
 module _ (Brought : Arrival → Type 0) (Given : Arrival → Message → Type 0)
     (Says : Message → Type 0)
     (says : (arrival : Arrival) (response : Message) → Given arrival response → Says response)
     (own : OwnReplies Brought Given) where
-  allows : AllowsServed Brought AnyAck Given (OutSays Says)
+  allows : AllowsServed AnyCall Brought AnyAck Given (OutSays Says)
   allows = record {
     told = λ one other. tt;
-    request = λ call_id arrival came none other. tt;
-    prack = λ call_id arrival invite rack came is. tt;
-    ack = λ call_id ack held is. tt;
-    cancel = λ call_id invite cancel came is. tt;
+    request = λ call_id arrival its came none other. tt;
+    prack = λ call_id arrival invite rack its came is. tt;
+    ack = λ call_id ack held its is. tt;
+    cancel = λ call_id invite cancel its came is. tt;
     answer = λ invite {message} here. says invite message here;
   }
 
@@ -69,20 +72,20 @@ module _ (Brought : Arrival → Type 0) (Given : Arrival → Message → Type 0)
   abbrev pub InputGives : Calls → Option CallItem → Type 0
   InputGives calls None = Unit {0}
   InputGives calls (Some (event, Up up)) =
-      KindBrought Brought AnyAck (name_of calls.seed event 0) up up.kind
+      KindBrought AnyCall Brought AnyAck (name_of calls.seed event 0) up up.kind
   InputGives calls (Some (event, User command)) = UserGives command
 
   -- ---- one input
 
   up_says : (call : Call) (event : Event) (up : AnUp) (k : UpKind)
-      → KindBrought Brought AnyAck (made_tag event) up k
+      → KindBrought AnyCall Brought AnyAck (made_tag event) up k
       → CallIs call → CallSays (up_taken call event up k)
   up_says call event up (kind.Request request reply_to) came is =
-      let fits = kind_fits Brought AnyAck Given (OutSays Says) allows own call.served
+      let fits = kind_fits AnyCall Brought AnyAck Given (OutSays Says) allows own call.served
       (made_tag event) up (kind.Request request reply_to) event.moment came is.served in
       (record { served = fits.0; clients = is.clients }, fits.1)
   up_says call event up (kind.Ack ack) came is =
-      let fits = kind_fits Brought AnyAck Given (OutSays Says) allows own call.served
+      let fits = kind_fits AnyCall Brought AnyAck Given (OutSays Says) allows own call.served
       (made_tag event) up (kind.Ack ack) event.moment came is.served in
       (record { served = fits.0; clients = is.clients }, fits.1)
   up_says call event up (kind.Response response) came is =
@@ -117,7 +120,7 @@ module _ (Brought : Arrival → Type 0) (Given : Arrival → Message → Type 0)
       let so = command_says Says event request (side_of call) is.clients in
       (record { served = is.served; clients = so.0 }, so.1)
   user_says call event (user.Respond respond) gives is =
-      let fits = respond_fits Brought AnyAck Given (OutSays Says) allows call.served
+      let fits = respond_fits AnyCall Brought AnyAck Given (OutSays Says) allows call.served
       event.id respond event.moment gives is.served in
       (record { served = fits.0; clients = is.clients }, fits.1)
   user_says call event (user.Ack ack) gives is =
@@ -133,7 +136,7 @@ module _ (Brought : Arrival → Type 0) (Given : Arrival → Message → Type 0)
   tick_says : (call : Call) (now : ℕ) → CallIs call → CallSays (ticked call now)
   tick_says call now is =
       let first = by_server call (tick_taken call.served now) in
-      let fits = tick_fits Brought AnyAck Given (OutSays Says) allows call.served now
+      let fits = tick_fits AnyCall Brought AnyAck Given (OutSays Says) allows call.served now
       is.served in
       let so = clients_tick_says Says (side_of first.0) now is.clients in (
         record { served = fits.0; clients = so.0 },

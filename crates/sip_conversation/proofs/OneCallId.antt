@@ -52,7 +52,7 @@ use Rattle.sip_conversation.proofs.Among.{all_of, each_of}
 use Rattle.sip_conversation.proofs.Branches.{HasBranch, IsStarted}
 use Rattle.sip_conversation.proofs.Bridge.{any_arrival}
 use Rattle.sip_conversation.proofs.CallBranches.{OutIsOwn, all_own}
-use Rattle.sip_conversation.proofs.CallSays.{AnyAck, InputGives, UserGives, all_say}
+use Rattle.sip_conversation.proofs.CallSays.{AnyAck, AnyCall, InputGives, UserGives, all_say}
 use Rattle.sip_conversation.proofs.Longer.{says_longer}
 use Rattle.sip_conversation.proofs.OneStart.{calls_say, one_start, start_id, started_with}
 use Rattle.sip_conversation.proofs.Origins.{IsOrigin, counted, inputs_come, one_call}
@@ -141,9 +141,9 @@ user_gives (user.Prack prack) = tt
 user_gives (user.Cancel cancel) = tt
 
 kind_gives : (made : List ℕ) (up : AnUp) (k : UpKind)
-    → KindBrought Any AnyAck made up k
-kind_gives made up (kind.Request request reply_to) = tt
-kind_gives made up (kind.Ack ack) = tt
+    → KindBrought AnyCall Any AnyAck made up k
+kind_gives made up (kind.Request request reply_to) = (tt, tt)
+kind_gives made up (kind.Ack ack) = (tt, tt)
 kind_gives made up (kind.Response response) = tt
 kind_gives made up kind.Timeout = tt
 kind_gives made up kind.Failed = tt

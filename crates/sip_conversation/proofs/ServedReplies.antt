@@ -258,37 +258,37 @@ module _ (Brought : Arrival → Type 0) (Given : Arrival → Message → Type 0)
       (λ other.
       record { came = keeps.came; success = keeps.success; provisionals = keeps.provisionals }))
 
-module _ (Brought : Arrival → Type 0) (AckCame : List ℕ → Message → Type 0) where
-  -- what comes up, as a request or an ACK; a tag may be made for it
+module _ (Own : List ℕ → Type 0) (Brought : Arrival → Type 0) (AckCame : Message → Type 0) where
+  -- what comes up under such a Call-ID, as a request or an ACK; a tag may be made for it
   abbrev pub KindBrought : List ℕ → AnUp → UpKind → Type 0
   KindBrought made up (kind.Request request reply_to) =
-      Brought (arrival_of up request reply_to made)
-  KindBrought made up (kind.Ack ack) = AckCame up.call_id ack
+      Own up.call_id × Brought (arrival_of up request reply_to made)
+  KindBrought made up (kind.Ack ack) = Own up.call_id × AckCame ack
   KindBrought made up (kind.Response response) = Unit {0}
   KindBrought made up kind.Timeout = Unit {0}
   KindBrought made up kind.Failed = Unit {0}
 
-module _ (Brought : Arrival → Type 0) (AckCame : List ℕ → Message → Type 0)
+module _ (Own : List ℕ → Type 0) (Brought : Arrival → Type 0) (AckCame : Message → Type 0)
     (Given : Arrival → Message → Type 0) where
   -- an ACK came for the 2xx to this INVITE
-  pub record Acknowledges (call_id : List ℕ) (ack : Message) (held : HeldRequest) : Type 0 where
-    pub came : AckCame call_id ack
+  pub record Acknowledges (ack : Message) (held : HeldRequest) : Type 0 where
+    pub came : AckCame ack
     pub keeps : KeepsGiven Brought Given held
     pub awaits : awaits ack held ≡ true
 
   -- what is said of each notice that may go out, and of each answer
   pub record AllowsServed (P : CallOut → Type 0) : Type 0 where
     pub told : (one : Notice) → IsOther one → P (out.Notice one)
-    pub request : (call_id : List ℕ) (arrival : Arrival) → Brought arrival
+    pub request : (call_id : List ℕ) (arrival : Arrival) → Own call_id → Brought arrival
         → is_cancel arrival.request ≡ false → is_prack arrival.request ≡ false
         → P (out.Notice (notice.Request call_id arrival.id arrival.request.cseq.method arrival.tag
         (tag_of arrival.request.from) arrival.request.body))
     pub prack : (call_id : List ℕ) (arrival : Arrival) (invite : Id) (rack : RAck)
-        → Brought arrival → IsPrackOf arrival.request rack
+        → Own call_id → Brought arrival → IsPrackOf arrival.request rack
         → P (out.Notice (notice.Prack call_id invite rack.rseq arrival.request.body))
-    pub ack : (call_id : List ℕ) (ack : Message) (held : HeldRequest)
-        → Acknowledges call_id ack held → P (out.Notice (notice.Ack call_id held.id ack.body))
-    pub cancel : (call_id : List ℕ) (invite cancel : Arrival) → Brought invite
+    pub ack : (call_id : List ℕ) (ack : Message) (held : HeldRequest) → Own call_id
+        → Acknowledges ack held → P (out.Notice (notice.Ack call_id held.id ack.body))
+    pub cancel : (call_id : List ℕ) (invite cancel : Arrival) → Own call_id → Brought invite
         → Cancels Brought cancel invite → P (out.Notice (notice.Cancel call_id invite.id))
     pub answer : (invite : Arrival) {message : Message} → Given invite message
         → P (out.Command invite.id (order.Answer invite.key message))
@@ -339,15 +339,15 @@ module _ (Brought : Arrival → Type 0) (AckCame : List ℕ → Message → Type
           (all, (replies arrival (own.no_dialog arrival came is), tt))
 
       user_done : (state : State) (call_id : List ℕ) (name : DialogId) (arrival : Arrival)
-          → Brought arrival → is_cancel arrival.request ≡ false
+          → Own call_id → Brought arrival → is_cancel arrival.request ≡ false
           → is_prack arrival.request ≡ false → Holds state
           → Done (request_for_user state call_id name arrival)
-      user_done state call_id name arrival came none other all =
+      user_done state call_id name arrival its came none other all =
           let request = arrival.request in (
             both Held state.requests _ all
                 (record { came = came; success = tt; provisionals = tt }, tt),
             (
-              allows.request call_id arrival came none other,
+              allows.request call_id arrival its came none other,
               either (λ (after : Dialogs × List CallOut). Fit after.1)
                   (has_to_tag request && is_bye request) (ended_at name state.dialogs)
                   (state.dialogs, []) (λ ends. ended_fit name state.dialogs) (λ stays. tt),
@@ -356,12 +356,12 @@ module _ (Brought : Arrival → Type 0) (AckCame : List ℕ → Message → Type
 
       prack_done : (state : State) (call_id : List ℕ) (name : DialogId) (created_by : Id)
           (arrival : Arrival) (rack : Option RAck) → arrival.request.rack ≡ rack
-          → Brought arrival → is_prack arrival.request ≡ true
+          → Own call_id → Brought arrival → is_prack arrival.request ≡ true
           → has_to_tag arrival.request ≡ true → Holds state
           → Done (prack_received state call_id name created_by arrival rack)
-      prack_done state call_id name created_by arrival None has came is tagged all =
+      prack_done state call_id name created_by arrival None has its came is tagged all =
           no_call_done state arrival came (in_dialog_one arrival.request tagged) all
-      prack_done state call_id name created_by arrival (Some rack) has came is tagged all =
+      prack_done state call_id name created_by arrival (Some rack) has its came is tagged all =
           found_or Done (prack_for state call_id arrival rack)
           (find (is_named_by rack name created_by) state.requests) (no_such_call state arrival)
           (λ invite found. (
@@ -371,7 +371,7 @@ module _ (Brought : Arrival → Type 0) (AckCame : List ℕ → Message → Type
               replies arrival (own.accepted arrival arrival.tag came
                   (first_of_two (is_prack arrival.request) (is_cancel arrival.request) is)),
               (
-                allows.prack call_id arrival invite.id rack came
+                allows.prack call_id arrival invite.id rack its came
                     (record { is_prack = is; has_rack = has }),
                 tt,
               ),
@@ -380,10 +380,11 @@ module _ (Brought : Arrival → Type 0) (AckCame : List ℕ → Message → Type
           (λ none. no_call_done state arrival came (in_dialog_one arrival.request tagged) all)
 
       inside_done : (state : State) (call_id : List ℕ) (name : DialogId) (arrival : Arrival)
-          (held : HeldDialog) → Brought arrival → is_cancel arrival.request ≡ false
+          (held : HeldDialog) → Own call_id → Brought arrival
+          → is_cancel arrival.request ≡ false
           → has_to_tag arrival.request ≡ true → Holds state
           → Done (request_in_dialog state call_id name arrival held)
-      inside_done state call_id name arrival held came none tagged all =
+      inside_done state call_id name arrival held its came none tagged all =
           let request = arrival.request in
           let seen : State =
           record state { dialogs = dialog_changed name (after_request request) state.dialogs } in
@@ -396,9 +397,9 @@ module _ (Brought : Arrival → Type 0) (AckCame : List ℕ → Message → Type
           (if is_prack request then by_prack else by_user)
           (λ is. (all, (replies arrival (own.out_of_order arrival came tagged), tt)))
           (λ above. either Done (is_prack request) by_prack by_user
-          (λ is. prack_done seen call_id name held.created_by arrival request.rack refl came is
+          (λ is. prack_done seen call_id name held.created_by arrival request.rack refl its came is
           tagged all)
-          (λ other. user_done seen call_id name arrival came none other all))
+          (λ other. user_done seen call_id name arrival its came none other all))
 
       -- ---- a CANCEL, and an ACK
 
@@ -410,10 +411,10 @@ module _ (Brought : Arrival → Type 0) (AckCame : List ℕ → Message → Type
           (both Held (reverse requests) (held ∷ []) (all_reversed requests all.1) (all.0, tt))
 
       cancel_fits : (state : State) (call_id : List ℕ) (arrival : Arrival) (now : ℕ)
-          (held : HeldRequest) → Brought arrival → is_cancel arrival.request ≡ true
-          → is_same_branch arrival.key held.key ≡ true → Held held → Holds state
+          (held : HeldRequest) → Own call_id → Brought arrival
+          → is_cancel arrival.request ≡ true → is_same_branch arrival.key held.key ≡ true → Held held → Holds state
           → Done (cancel_for state call_id arrival now held)
-      cancel_fits state call_id arrival now held came is branch keeps all =
+      cancel_fits state call_id arrival now held its came is branch keeps all =
           let accepts = replies arrival (own.accepted arrival held.tag came
           (second_of_two (is_prack arrival.request) (is_cancel arrival.request) is)) in
           either Done (not (is_invite held.request && is_none held.removal)) _ _
@@ -434,7 +435,7 @@ module _ (Brought : Arrival → Type 0) (AckCame : List ℕ → Message → Type
                 allows.answer (arrived held)
                     (own.terminated (arrived held) arrival keeps.came cancels),
                 (
-                  allows.cancel call_id (arrived held) arrival keeps.came cancels,
+                  allows.cancel call_id (arrived held) arrival its keeps.came cancels,
                   early_fit held.id state.dialogs,
                 ),
               ),
@@ -442,28 +443,28 @@ module _ (Brought : Arrival → Type 0) (AckCame : List ℕ → Message → Type
           ))
 
       cancel_done : (state : State) (call_id : List ℕ) (arrival : Arrival) (now : ℕ)
-          → Brought arrival → is_cancel arrival.request ≡ true → Holds state
+          → Own call_id → Brought arrival → is_cancel arrival.request ≡ true → Holds state
           → Done (cancel_received state call_id arrival now)
-      cancel_done state call_id arrival now came is all =
+      cancel_done state call_id arrival now its came is all =
           let same : HeldRequest → Bool = λ held. is_same_branch arrival.key held.key in
           found_or Done (cancel_for state call_id arrival now)
           (find same (reverse state.requests)) (no_such_call state arrival)
-          (λ held one. cancel_fits state call_id arrival now held came is
+          (λ held one. cancel_fits state call_id arrival now held its came is
           (found_so same (reverse state.requests) held one).1
           (found Held same (reverse state.requests) held
           (all_reversed state.requests all) one) all)
           (λ none. no_call_done state arrival came (cancel_one arrival.request is) all)
 
-      ack_done : (state : State) (call_id : List ℕ) (ack : Message) → AckCame call_id ack
+      ack_done : (state : State) (call_id : List ℕ) (ack : Message) → Own call_id → AckCame ack
           → Holds state → Done (ack_received state call_id ack)
       unfolding ack_received
-      ack_done state call_id ack came all =
+      ack_done state call_id ack its came all =
           found_or Done (ack_for state call_id ack) (find (awaits ack) state.requests) (state, [])
           (λ invite one. (
             changed_given Brought Given invite.id after_ack (ack_keeps Brought Given)
                 state.requests all,
             (
-              allows.ack call_id ack invite record {
+              allows.ack call_id ack invite its record {
                 came = came;
                 keeps = found Held (awaits ack) state.requests invite all one;
                 awaits = (found_so (awaits ack) state.requests invite one).1;
@@ -476,10 +477,10 @@ module _ (Brought : Arrival → Type 0) (AckCame : List ℕ → Message → Type
       -- ---- any request
 
       request_done : (state : State) (call_id : List ℕ) (arrival : Arrival) (now : ℕ)
-          → Brought arrival → Holds state
+          → Own call_id → Brought arrival → Holds state
           → Done (request_received state call_id arrival now)
       unfolding request_received
-      request_done state call_id arrival now came all =
+      request_done state call_id arrival now its came all =
           let request = arrival.request in
           let name = dialog_id_of request arrival.tag in
           let outside : ServedTaken = if is_bye request || is_prack request
@@ -495,7 +496,7 @@ module _ (Brought : Arrival → Type 0) (AckCame : List ℕ → Message → Type
           let other : ServedTaken = if not (has_to_tag request)
           && list_any (is_merged request) state.requests then merged else once in
           either Done (is_cancel request) (cancel_received state call_id arrival now) other
-          (λ is. cancel_done state call_id arrival now came is all)
+          (λ is. cancel_done state call_id arrival now its came is all)
           (λ none. either Done
           (not (has_to_tag request) && list_any (is_merged request) state.requests) merged once
           (λ twice. (
@@ -513,27 +514,27 @@ module _ (Brought : Arrival → Type 0) (AckCame : List ℕ → Message → Type
           (λ fine. either Done (has_to_tag request) inside outside
           (λ tagged. found_or Done (request_in_dialog state call_id name arrival)
           (dialog_at name state.dialogs) (no_such_call state arrival)
-          (λ held one. inside_done state call_id name arrival held came none tagged all)
+          (λ held one. inside_done state call_id name arrival held its came none tagged all)
           (λ gone. no_call_done state arrival came (in_dialog_one request tagged) all))
           (λ bare. either Done (is_bye request || is_prack request) (no_such_call state arrival)
           (request_for_user state call_id name arrival)
           (λ odd. no_call_done state arrival came (bye_or_prack request odd) all)
-          (λ plain. user_done state call_id name arrival came none
+          (λ plain. user_done state call_id name arrival its came none
           (neither (is_bye request) (is_prack request) plain) all)))))
 
       kind_done : (state : State) (made : List ℕ) (up : AnUp) (k : UpKind) (now : ℕ)
-          → KindBrought Brought AckCame made up k → Holds state
+          → KindBrought Own Brought AckCame made up k → Holds state
           → Done (server_received state made up k now)
       kind_done state made up (kind.Request request reply_to) now came all =
-          request_done state up.call_id (arrival_of up request reply_to made) now came all
+          request_done state up.call_id (arrival_of up request reply_to made) now came.0 came.1 all
       kind_done state made up (kind.Ack ack) now came all =
-          ack_done state up.call_id ack came all
+          ack_done state up.call_id ack came.0 came.1 all
       kind_done state made up (kind.Response response) now came all = (all, tt)
       kind_done state made up kind.Timeout now came all = (all, tt)
       kind_done state made up kind.Failed now came all = (all, tt)
 
       pub kind_fits : (state : State) (made : List ℕ) (up : AnUp) (k : UpKind) (now : ℕ)
-          → KindBrought Brought AckCame made up k → Holds state
+          → KindBrought Own Brought AckCame made up k → Holds state
           → Done (kind_taken state made up k now)
       kind_fits state made up k now came all =
           subst Done (kind_same state made up k now) (kind_done state made up k now came all)
