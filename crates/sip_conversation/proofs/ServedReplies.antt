@@ -412,7 +412,8 @@ module _ (Own : List ℕ → Type 0) (Brought : Arrival → Type 0) (AckCame : M
 
       cancel_fits : (state : State) (call_id : List ℕ) (arrival : Arrival) (now : ℕ)
           (held : HeldRequest) → Own call_id → Brought arrival
-          → is_cancel arrival.request ≡ true → is_same_branch arrival.key held.key ≡ true → Held held → Holds state
+          → is_cancel arrival.request ≡ true → is_same_branch arrival.key held.key ≡ true
+          → Held held → Holds state
           → Done (cancel_for state call_id arrival now held)
       cancel_fits state call_id arrival now held its came is branch keeps all =
           let accepts = replies arrival (own.accepted arrival held.tag came

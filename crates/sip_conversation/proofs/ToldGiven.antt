@@ -40,9 +40,10 @@ use Rattle.sip_round.specs.Answers.{calls_of, past_of}
 use Rattle.sip_round.specs.Laws.{call_inputs_of}
 use Rattle.sip_round.proofs.CallEvents.{events_differ}
 use Rattle.sip_round.proofs.Said.{call_alone}
-use Rattle.sip_conversation.specs.ComeWhole.{IsToldOf, TellsOf}
+use Rattle.sip_conversation.specs.Answers.{IsHandedUp}
+use Rattle.sip_conversation.specs.ComeWhole.{IsNoticeFor, IsOfRequest, IsToldOf, TellsOf}
 use Rattle.sip_conversation.specs.Conversation.{Carried, Side, Turn, peer, rounds_of}
-use Rattle.sip_conversation.specs.Messages.{CallSays, CallsKeepRules, ComesUnchanged, IsGiven as WasGiven, come_from}
+use Rattle.sip_conversation.specs.Messages.{CallSays, CallsKeepRules, ComesUnchanged, ComesUp, IsGiven as WasGiven, come_from}
 use Rattle.sip_conversation.specs.Replies.{AreCounted, IsStartedFor}
 use Rattle.sip_conversation.proofs.Among.{among_first, each_of}
 use Rattle.sip_conversation.proofs.AmongInputs.{out_of_first_inputs}
@@ -136,6 +137,7 @@ module _ (configs : Side → Config) (fair : IsFair configs) (before : List Turn
       pub tells : IsToldOf (rseq, one) (rseq, response)
       pub answer : IsGiven (OfCall CameThere call_id) (calls_of there) inputs_there id rseq response
       pub named : (life.name).remote ≡ name_of there.seed answer.event 0
+      pub notice : IsNoticeFor configs before turn call_id id one
 
     -- all of one dialog are given to one request
     pub same_request : (rseq other : ℕ) (told later : CallOut) → (first : IsGivenThere rseq told)
@@ -392,6 +394,60 @@ module _ (configs : Side → Config) (fair : IsFair configs) (before : List Turn
           subst (InputFits Tells) (sym reply.comes)
           (subst (KindTells Tells reply.up.call_id reply.up.id) (sym reply.kind_is) response_tells)
 
+      -- it names the INVITE that is answered
+      abbrev Names : List ℕ → Id → ℕ → List ℕ → List ℕ → List ℕ → Type 0
+      Names of id status local_tag remote_tag body =
+          IsOfRequest configs before turn call_id found.id of id
+
+      names : (out : CallOut) → is_response out ≡ true → OutFits Names out
+          → IsNoticeFor configs before turn call_id found.id out
+      names (call_out.Notice (notice.Response of id status local_tag remote_tag body)) is fits =
+          fits
+      names (call_out.Notice (notice.Request of id name local_tag remote_tag body)) is fits =
+          absurd (false≢true is)
+      names (call_out.Notice (notice.Ack of id body)) is fits = absurd (false≢true is)
+      names (call_out.Notice (notice.Prack of id rseq body)) is fits = absurd (false≢true is)
+      names (call_out.Notice (notice.Timeout of id)) is fits = absurd (false≢true is)
+      names (call_out.Notice (notice.Failed of id)) is fits = absurd (false≢true is)
+      names (call_out.Notice (notice.NoAck of id)) is fits = absurd (false≢true is)
+      names (call_out.Notice (notice.NoPrack of id)) is fits = absurd (false≢true is)
+      names (call_out.Notice (notice.Cancel of id)) is fits = absurd (false≢true is)
+      names (call_out.Notice (notice.Ended of local_tag remote_tag)) is fits =
+          absurd (false≢true is)
+      names (call_out.Notice (notice.Refused of place why)) is fits = absurd (false≢true is)
+      names (call_out.Command id command) is fits = absurd (false≢true is)
+      names (call_out.Direct to bytes) is fits = absurd (false≢true is)
+
+      handed : IsHandedUp there rounds_there (found.answer).request (found.answer).up
+      handed =
+          let answer = found.answer in record {
+            reply_to = answer.reply_to;
+            kind_is = answer.is_request;
+            comes = subst (λ c. ComesUp there rounds_there c answer.up) (sym answer.brought.1)
+                (answer.now, answer.event, answer.came);
+          }
+
+      response_names : ResponseTells Names reply.up.call_id reply.up.id reply.response
+      response_names other is = record {
+        call_id_is = of_call;
+        invite = begun.request;
+        method_is = ap (λ (m : Message). m.cseq.method) same_invite
+            ∙ its.invites (ap is_invite_kind reply.initial);
+        key = key_of_message original;
+        to = begun.to;
+        started = begun.given;
+        up = (found.answer).up;
+        came = subst (λ (m : Message). IsHandedUp there rounds_there m (found.answer).up)
+            (own.same (λ cancel. no_cancel (sym cancel ∙ invites))) handed;
+        id_is = (found.answer).id_is;
+      }
+
+      input_names : InputFits Names (at.timed).input
+      input_names =
+          subst (InputFits Names) (sym reply.comes)
+          (subst (KindTells Names reply.up.call_id reply.up.id) (sym reply.kind_is)
+          response_names)
+
       pub is_given : IsGivenThere rseq one
       is_given = record {
         id = found.id;
@@ -404,4 +460,9 @@ module _ (configs : Side → Config) (fair : IsFair configs) (before : List Turn
         answer = subst (λ c. IsGiven (OfCall CameThere c) (calls_of there)
             (call_inputs_of there rounds_there c) found.id rseq original) call_is found.answer;
         named = its_name;
+        notice = names one at.is
+            (each_of (OutFits Names)
+            (call_step (calls_of here) state (at.timed).input (at.timed).moment).1 one
+            (step_fits Names (calls_of here) state (at.timed).input (at.timed).moment input_names)
+            at.among);
       }

@@ -119,6 +119,8 @@ pub fn pracks_follow_responses(one: Config, other: Config)
 /// response. If the rounds of the side that sends the ACK are counted as above, the response
 /// answers an INVITE with the ACK's CSeq number, and the ACK is in the dialog of the response's
 /// tags, unless that INVITE was sent in a dialog without a remote tag (RFC 3261, section 13.2.2.4).
+/// No call asks a transaction to send an ACK. So a transaction sends only the ACK that it makes for
+/// a response of 300 to 699 (section 17.1.1.3).
 pub fn acks_follow_responses(one: Config, other: Config)
     ensures { (turns : List Turn) → Carried (of_sides one other) turns
         → CommandsKeepTypes turns
@@ -144,10 +146,12 @@ pub fn the_first_is_told_first(one: Config, other: Config)
 
 /// In such a conversation, the reliable provisional responses to the INVITE of a call come whole.
 /// Those that a user is told of in one life of a dialog are consecutive ones of those that the
-/// other side's user gave to one request in the turns before. They come in the order in which he
-/// gave them, with their RSeqs, statuses, tags and bodies. If the user was told of no others in
-/// that dialog, they are the first ones given (RFC 3262, sections 3 and 4). The rounds of both
-/// sides have to be counted as above.
+/// other side's user gave to one request in the turns before. That request is the INVITE of this
+/// side that the notices name by their id, and it came up to the other side's call of their
+/// Call-ID. The responses given to it have the RSeqs 1, 2, 3 and so on. They come in the order in
+/// which he gave them, with their RSeqs, statuses, tags and bodies. If the user was told of no
+/// others in that dialog, they are the first ones given (RFC 3262, sections 3 and 4). The rounds of
+/// both sides have to be counted as above.
 pub fn provisionals_come_whole(one: Config, other: Config)
     ensures { (turns : List Turn) → Carried (of_sides one other) turns
         → CommandsKeepTypes turns
@@ -174,7 +178,10 @@ pub fn requests_told_were_asked_for(one: Config, other: Config)
 /// In such a conversation, for each ACK that a user is told of in a turn, the other side said an
 /// ACK with that body in the turns before. Either a call sent it directly, after the user of that
 /// side was told of the 2xx that it acknowledges, as in `acks_follow_responses`. Or a transaction
-/// made it for a response of 300 to 699 (RFC 3261, sections 13.2.2.4 and 17.1.1.3).
+/// made it for a response of 300 to 699 (RFC 3261, sections 13.2.2.4 and 17.1.1.3). An INVITE came
+/// up to this side under the Call-ID and the id that are told, and its user answered it with a 2xx.
+/// The ACK has the CSeq number of that INVITE, and is in the dialog of the tags of that 2xx
+/// (section 13.3.1.4).
 pub fn acks_told_were_said(one: Config, other: Config)
     ensures { (turns : List Turn) → Carried (of_sides one other) turns
         → CommandsKeepTypes turns
