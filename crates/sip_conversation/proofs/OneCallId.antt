@@ -51,7 +51,7 @@ use Rattle.sip_conversation.proofs.AckTexts.{is_ack}
 use Rattle.sip_conversation.proofs.Among.{all_of, each_of}
 use Rattle.sip_conversation.proofs.Branches.{HasBranch, IsStarted}
 use Rattle.sip_conversation.proofs.Bridge.{any_arrival}
-use Rattle.sip_conversation.proofs.CallBranches.{OutIsOwn, all_own}
+use Rattle.sip_conversation.proofs.CallBranches.{AnyCancel, OutIsOwn, all_own, any_inputs}
 use Rattle.sip_conversation.proofs.CallSays.{AnyAck, AnyCall, InputGives, UserGives, all_say}
 use Rattle.sip_conversation.proofs.Longer.{says_longer}
 use Rattle.sip_conversation.proofs.OneStart.{calls_say, one_start, start_id, started_with}
@@ -181,22 +181,26 @@ module _ (config : Config)
 
     -- a call starts a transaction with this request, which is of its own
     abbrev IsStartedBy : List ℕ → Id → Key → List ℕ → Message → Type 0
-    IsStartedBy call_id = IsStarted config.seed call_id (IsOrigin config rounds call_id)
+    IsStartedBy call_id =
+        IsStarted config.seed call_id (IsOrigin config rounds call_id) AnyCancel
 
     -- what all calls give
     abbrev given_out : List CallOut
     given_out = calls_give config config.first no_past rounds
 
     out_own : (out : CallOut) → (says : CallSays config rounds out)
-        → OutIsOwn (calls_of config) says.0 (IsOrigin config rounds says.0) out
+        → OutIsOwn (calls_of config) says.0 (IsOrigin config rounds says.0) AnyCancel out
     out_own out says =
         let call_id = says.0 in
-        let IsOwn = OutIsOwn (calls_of config) call_id (IsOrigin config rounds call_id) in
+        let IsOwn =
+        OutIsOwn (calls_of config) call_id (IsOrigin config rounds call_id) AnyCancel in
         each_of IsOwn (said_of_call config rounds call_id) out
         (subst (AllByRecursion IsOwn)
         (sym (call_alone (calls_of config) alone [] (past_of config rounds).calls call_id))
-        (all_own (calls_of config) call_id (IsOrigin config rounds call_id) None
-        (call_inputs_of config rounds call_id) (inputs_come config rounds call_id) tt tt)) says.1
+        (all_own (calls_of config) call_id (IsOrigin config rounds call_id) AnyCancel None
+        (call_inputs_of config rounds call_id) (inputs_come config rounds call_id)
+        (any_inputs (calls_of config) call_id (IsOrigin config rounds call_id)
+        (call_inputs_of config rounds call_id)) tt tt)) says.1
 
     -- ---- what a transaction is started with
 
@@ -254,7 +258,8 @@ module _ (config : Config)
     -- ---- one branch, one Call-ID
 
     abbrev IsBranch : List ℕ → List ℕ → Type 0
-    IsBranch call_id = HasBranch config.seed call_id (IsOrigin config rounds call_id)
+    IsBranch call_id =
+        HasBranch config.seed call_id (IsOrigin config rounds call_id) AnyCancel
 
     -- branches that differ in no letter's case are of one event
     one_event : (call_id other : List ℕ) (one two : List ℕ) → (has : IsBranch call_id one)

@@ -1,5 +1,5 @@
--- The other side's user asked for each request that a user is told of, and that side said each ACK
--- and each PRACK.
+-- The other side's user asked for each request and each CANCEL that a user is told of, and that
+-- side said each ACK and each PRACK.
 use Rattle.std.proofs.Common.{◌≡◌, ◌≤◌, ◌⊎◌, inl, inr, ℕ, Bool, true, false, ◌&&◌, ◌||◌, List, [], ◌∷◌, ◌++◌, length, refl, sym, ap, ◌∙◌, subst, arith}
 use Rattle.std.specs.Prelude.{◌==◌, Contains, IfSome, IsTrue, Option, None, Some, codes, is_none, if◌then◌else◌}
 use Rattle.std.specs.Option.{option_map_or}
@@ -32,6 +32,7 @@ use Rattle.sip_user.specs.declared.command.UserCommand.TheVariants as user
 use Rattle.sip_user.specs.declared.item.Item.TheVariants.{Up, User}
 use Rattle.sip_user.specs.declared.notice.Notice.{Notice}
 use Rattle.sip_user.specs.declared.notice.Notice.TheVariants as notice
+use Rattle.sip_served.specs.Rules.Arrivals.{is_same_branch}
 use Rattle.sip_served.specs.declared.arrival.Arrival.{Arrival}
 use Rattle.sip_served.specs.declared.held_request.HeldRequest.{HeldRequest}
 use Rattle.sip_served.specs.declared.held_request.Success.{Success}
@@ -47,6 +48,7 @@ use Rattle.sip_conversation.specs.Acks.{IsForInvite}
 use Rattle.sip_conversation.specs.Answers.{AnswersItself, IsAnswered, RespondsTo}
 use Rattle.sip_conversation.specs.Answers.AnswersItself.{Accepts, BadExtension, Merged, NoDialog, OutOfOrder, Proceeds, Terminates}
 use Rattle.sip_conversation.specs.Answers.IsAnswered.{ByAgent, ByUser}
+use Rattle.sip_conversation.specs.Cancels.{CancelsToldWereAskedFor, SaidCancel}
 use Rattle.sip_conversation.specs.Conversation.{Carried, Side, Turn, given_by, peer, rounds_of}
 use Rattle.sip_conversation.specs.Messages.{CallsKeepRules, IsSaid, come_from}
 use Rattle.sip_conversation.specs.Requests.{RequestsToldWereAskedFor, SaidRequest}
@@ -61,8 +63,8 @@ use Rattle.sip_conversation.proofs.OneTransaction.{KindCame}
 use Rattle.sip_conversation.proofs.PracksCame.{arrived, equal}
 use Rattle.sip_conversation.proofs.PracksSaid.{IsAlike, came_alike}
 use Rattle.sip_conversation.proofs.RepliesSaid.{IsFair}
-use Rattle.sip_conversation.proofs.RequestsAsked.{user_asked, user_pracked}
-use Rattle.sip_conversation.proofs.ServedReplies.{Acknowledges, AllowsServed, IsOther, IsPrackOf, IsSuccessTo, KindBrought}
+use Rattle.sip_conversation.proofs.RequestsAsked.{user_asked, user_cancelled, user_pracked}
+use Rattle.sip_conversation.proofs.ServedReplies.{Acknowledges, AllowsServed, Cancels, IsOther, IsPrackOf, IsSuccessTo, KindBrought}
 use Rattle.sip_conversation.proofs.ToTags.{to_tag}
 use Rattle.sip_conversation.proofs.UpMethods.{HasMethod}
 
@@ -212,6 +214,7 @@ module _ (configs : Side → Config) (fair : IsFair configs) (before : List Turn
   Told (notice.Ack call_id id body) = IsAckSaid call_id id body
   Told (notice.Prack call_id id rseq body) =
       SaidPrackOf configs before turn.side call_id rseq body
+  Told (notice.Cancel call_id id) = SaidCancel configs before turn call_id id
   Told _ = Unit {0}
 
   others : (told : Notice) → IsOther told → Told told
@@ -399,6 +402,42 @@ module _ (configs : Side → Config) (fair : IsFair configs) (before : List Turn
           };
         }
 
+    -- ---- a CANCEL
+
+    cancel_said : (invite cancel : Arrival) → Brought invite → Cancels Brought cancel invite
+        → SaidCancel configs before turn call_id invite.id
+    cancel_said invite cancel came cancels =
+        let brought = cancels.brought in
+        let comes = (brought.came).0 in
+        let same = came_same (configs other).local cancel.request comes.original comes.same
+        brought.is_request in
+        let method : comes.original.cseq.method ≡ codes "CANCEL" = same.method
+        ∙ (bytes_eq-Decides cancel.request.cseq.method (codes "CANCEL")).0 cancels.is_cancel in
+        record {
+          original = comes.original;
+          asked = user_cancelled (configs other) (rounds_of other before) (fair.calls other)
+              comes.original (said_before cancel.request comes) comes.rules same.is_request
+              method;
+          rules = comes.rules;
+          method_is = method;
+          call_id_is = same.call_id ∙ brought.call_id_is;
+          invite = invite.request;
+          is_invite = cancels.is_invite;
+          cancelled = record {
+            up = came.up;
+            came = came.handed;
+            cancel = cancel.request;
+            cancel_up = brought.up;
+            cancel_came = brought.handed;
+            is_cancel = cancels.is_cancel;
+            call_id_is = brought.call_id_is ∙ sym came.call_id_is;
+            branch_is = (λ i. is_same_branch (brought.key_is i) (came.key_is i))
+                ∙ cancels.branch_is;
+          };
+          same = comes.same;
+          id_is = came.id_is;
+        }
+
     served : AllowsServed IsCall Brought AckCame Given (OutTells Told)
     served = record {
       told = others;
@@ -411,7 +450,9 @@ module _ (configs : Side → Config) (fair : IsFair configs) (before : List Turn
           came.is_request (came.call_id_is ∙ sym its) rack is;
       ack = λ of ack held its acks.
           subst (λ c. IsAckSaid c held.id ack.body) (sym its) (ack_said ack held acks);
-      cancel = λ of invite cancel its came cancels. tt;
+      cancel = λ of invite cancel its came cancels.
+          subst (λ c. SaidCancel configs before turn c invite.id) (sym its)
+          (cancel_said invite cancel came cancels);
       answer = λ invite {message} given. tt;
     }
 
@@ -503,3 +544,9 @@ module _ (configs : Side → Config) (fair : IsFair configs) (turns : List Turn)
       (carried_to configs turns before after turn same carried)
       (keeps_to configs turns before after turn same keep) (notice.Prack call_id id rseq body)
       among
+
+  pub cancels_said : CancelsToldWereAskedFor configs turns
+  cancels_said before after turn same call_id id among =
+      notice_said configs fair before turn
+      (carried_to configs turns before after turn same carried)
+      (keeps_to configs turns before after turn same keep) (notice.Cancel call_id id) among

@@ -48,7 +48,7 @@ use Rattle.sip_conversation.specs.Replies.{AreCounted, IsStartedFor}
 use Rattle.sip_conversation.proofs.Among.{among_first, each_of}
 use Rattle.sip_conversation.proofs.AmongInputs.{out_of_first_inputs}
 use Rattle.sip_conversation.proofs.Branches.{Own}
-use Rattle.sip_conversation.proofs.CallBranches.{InputComes, held_own, HeldOwn}
+use Rattle.sip_conversation.proofs.CallBranches.{AnyCancel, HeldOwn, InputComes, any_inputs, held_own}
 use Rattle.sip_conversation.proofs.CallOuts.{InputFits, KindTells, OutFits, step_fits, ResponseTells}
 use Rattle.sip_conversation.proofs.ClientsSent.{WentOut, held_went}
 use Rattle.sip_conversation.proofs.Longer.{rounds_of-append}
@@ -239,24 +239,26 @@ module _ (configs : Side → Config) (fair : IsFair configs) (before : List Turn
             sends = early.sends;
           }
 
-      its : Own here.seed call_id (IsOrigin here rounds_here call_id) reply.client
+      its : Own here.seed call_id (IsOrigin here rounds_here call_id) AnyCancel reply.client
       its =
           let CameHere = IsOrigin here rounds_here call_id in
-          let IsOwnClient = Own here.seed call_id CameHere in
+          let IsOwnClient = Own here.seed call_id CameHere AnyCancel in
           let TimedIs : Timed CallItem → Type 0 = λ timed.
-          InputComes (calls_of here) call_id CameHere timed.input in
+          InputComes (calls_of here) call_id CameHere AnyCancel timed.input in
           let parts = all_of_parts TimedIs at.before (at.timed ∷ at.after)
           (subst (AllByRecursion TimedIs) at.are (inputs_come here rounds_here call_id)) in
-          by_state state (held_own (calls_of here) call_id CameHere None at.before parts.0 tt tt)
+          by_state state (held_own (calls_of here) call_id CameHere AnyCancel None at.before parts.0
+          (any_inputs (calls_of here) call_id CameHere at.before) tt tt)
           reply.held
         where
           by_state : (state : Option Call)
-              → HeldOwn (calls_of here) call_id (IsOrigin here rounds_here call_id) state
+              → HeldOwn (calls_of here) call_id (IsOrigin here rounds_here call_id) AnyCancel state
               → client_at reply.up.id (side_held state).clients ≡ Some reply.client
-              → Own here.seed call_id (IsOrigin here rounds_here call_id) reply.client
+              → Own here.seed call_id (IsOrigin here rounds_here call_id) AnyCancel reply.client
           by_state None own held = absurd cc
           by_state (Some call) own held =
-              let IsOwnClient = Own here.seed call_id (IsOrigin here rounds_here call_id) in
+              let IsOwnClient =
+              Own here.seed call_id (IsOrigin here rounds_here call_id) AnyCancel in
               subst (λ o. IfSome o IsOwnClient) held
               (found_one IsOwnClient (is_id reply.up.id) call.clients own)
 

@@ -4,6 +4,7 @@ ghost use Rattle.std.specs.Prelude.{List};
 ghost use Rattle.sip_message.specs.Addr.{IsAddr};
 ghost use Rattle.sip_conversation.specs.AckedResponses.{AcksFollowResponses};
 ghost use Rattle.sip_conversation.specs.Acks.{AcksToldWereSaid};
+ghost use Rattle.sip_conversation.specs.Cancels.{CancelsToldWereAskedFor};
 ghost use Rattle.sip_conversation.specs.ComeWhole.{ProvisionalsComeWhole};
 ghost use Rattle.sip_conversation.specs.Commands.{CommandsKeepTypes};
 ghost use Rattle.sip_conversation.specs.Conversation.{Carried, Turn, of_sides};
@@ -198,6 +199,19 @@ pub fn pracks_told_were_said(one: Config, other: Config)
     ensures { (turns : List Turn) → Carried (of_sides one other) turns
         → CommandsKeepTypes turns
         → PracksToldWereSaid (of_sides one other) turns }
+{
+    sides_are_fair(&one, &other);
+}
+
+/// In such a conversation, for each CANCEL that a user is told of in a turn, the other side said a
+/// CANCEL of that Call-ID in the turns before, because its user gave the command Cancel in that
+/// call: under the id of that command its call started a transaction with the CANCEL. The CANCEL
+/// came up for an INVITE that came up under the Call-ID and the id that are told: the transactions
+/// of both have one branch and one sent-by (RFC 3261, section 9.2).
+pub fn cancels_told_were_asked_for(one: Config, other: Config)
+    ensures { (turns : List Turn) → Carried (of_sides one other) turns
+        → CommandsKeepTypes turns
+        → CancelsToldWereAskedFor (of_sides one other) turns }
 {
     sides_are_fair(&one, &other);
 }
