@@ -3,13 +3,17 @@ use Rattle.std.proofs.Common.{◌≡◌, ◌⊎◌, inl, inr, ℕ, true, false, 
 use Rattle.std.specs.Prelude.{◌==◌, IfSome, Some, codes, length, not}
 use Rattle.std.specs.List.{AllByRecursion}
 use Rattle.std.proofs.lemmas.Bool.{false≢true}
+use Rattle.sip_message.specs.Message.{is_request_message}
 use Rattle.sip_message.specs.Party.{tag_of}
 use Rattle.sip_message.specs.declared.addr.Addr.{Addr}
 use Rattle.sip_message.specs.declared.id.Id.{Id}
 use Rattle.sip_message.specs.declared.message.Message.{Message}
 use Rattle.sip_message.specs.declared.party.Party.{Party}
 use Rattle.keyed_machine.proofs.Ordered.{by_bool}
-use Rattle.keyed_machine.specs.Machine.{Timed}
+use Rattle.keyed_machine.specs.Laws.{EachKeyAlone}
+use Rattle.keyed_machine.specs.Machine.{Timed, tick_at}
+use Rattle.sip_transactions.specs.declared.input.Command.{Command}
+use Rattle.sip_transactions.specs.declared.input.Command.TheVariants as order
 use Rattle.sip_held_dialogs.specs.Dialogs.{dialog_at}
 use Rattle.sip_held_dialogs.specs.Requests.{dialog_id_of_tags, has_to_tag, is_success}
 use Rattle.sip_held_dialogs.specs.declared.held_dialog.DialogId.{DialogId}
@@ -19,7 +23,8 @@ use Rattle.sip_clients.specs.Clients.{reply_name}
 use Rattle.sip_clients.specs.ReceivedResponse.{has_dialog}
 use Rattle.sip_clients.specs.declared.client.RequestKind.{RequestKind}
 use Rattle.sip_clients.specs.declared.client.RequestKind.TheVariants.{InDialog, InitialInvite, OutOfDialog, ReInvite}
-use Rattle.sip_calls.specs.Call.{CallItem}
+use Rattle.sip_calls.specs.Call.{CallItem, call_machine}
+use Rattle.sip_calls.specs.CallShard.{call_cmp}
 use Rattle.sip_calls.specs.Sides.{side_of}
 use Rattle.sip_calls.specs.OwnCall.{IsInputOf}
 use Rattle.sip_calls.specs.declared.calls.Calls.{Calls}
@@ -31,7 +36,7 @@ use Rattle.sip_round.proofs.CallEvents.{events_differ}
 use Rattle.sip_conversation.specs.AckedResponses.{AcksFollowResponses, FollowsSuccess, IsAckOfSuccess}
 use Rattle.sip_conversation.specs.Commands.{CommandsKeepTypes, EventKeepsTypes}
 use Rattle.sip_conversation.specs.Conversation.{Carried, Side, Turn, rounds_of}
-use Rattle.sip_conversation.specs.Messages.{CallSays, CallsKeepRules}
+use Rattle.sip_conversation.specs.Messages.{CallSays, CallsKeepRules, message_of}
 use Rattle.sip_conversation.specs.Replies.{AreCounted, ToldResponse}
 use Rattle.sip_conversation.proofs.AckedCalls.{Is2xx, IsAckOf, all_acked}
 use Rattle.sip_conversation.proofs.Among.{all_go, each_of}
@@ -43,8 +48,10 @@ use Rattle.sip_conversation.proofs.HeardReplies.{WasHeard, has_come, invite_answ
 use Rattle.sip_conversation.proofs.KeepsRules.{Any, KeepsInput, KeepsRulesWith}
 use Rattle.sip_conversation.proofs.SoundCalls.{IsSoundCall, any_pays, held_sound}
 use Rattle.sip_conversation.proofs.SoundClients.{IsNamedIn, client_found}
+use Rattle.sip_conversation.proofs.OneCallId.{out_replies}
 use Rattle.sip_conversation.proofs.Origins.{TimedComes, inputs_come}
 use Rattle.sip_conversation.proofs.RepliesSaid.{IsFair, response_said, told_response}
+use Rattle.sip_conversation.proofs.RequestsAsked.{out_own}
 use Rattle.sip_conversation.proofs.Rounds.{all_of_parts}
 use Rattle.sip_conversation.proofs.Unchanged.{fine_after}
 
@@ -191,16 +198,33 @@ module _ (configs : Side → Config) (fair : IsFair configs) (before : List Turn
             ack.cseq.number so.heard keeps);
       }
 
+-- what a call asks a transaction to send is no ACK
+no_ack_asked : (config : Config) (rounds : List Round)
+    → EachKeyAlone call_cmp (call_machine (calls_of config)) tick_at → (id : Id)
+    (command : Command) → CallSays config rounds (call_out.Command id command)
+    → is_request_message (message_of command) ≡ true
+    → (message_of command).cseq.method ≡ codes "ACK" → ⊥
+no_ack_asked config rounds alone id (order.Start key call_id message to) says is ack =
+    (out_own config rounds alone (call_out.Command id (order.Start key call_id message to))
+    says).own.method ack
+no_ack_asked config rounds alone id (order.Answer key message) says is ack =
+    false≢true (sym (out_replies config alone rounds
+    (call_out.Command id (order.Answer key message)) says) ∙ is)
+
 pub acks_follow : (configs : Side → Config) → IsFair configs → (turns : List Turn)
     → Carried configs turns → CommandsKeepTypes turns → AcksFollowResponses configs turns
-acks_follow configs fair turns carried types before after turn same to text says =
+acks_follow configs fair turns carried types before after turn same =
     let keep = calls_keep_rules configs fair turns carried types in
     let early = all_of_parts (TurnHolds (λ s e. EventKeepsTypes e)) before (turn ∷ after)
     (subst CommandsKeepTypes same types) in
-    sent_acked configs fair before turn
-    (carried_before configs turns before after turn same carried)
-    (keeps_before configs turns before after turn same keep)
-    (carried_to configs turns before after turn same carried)
-    (keeps_to configs turns before after turn same keep)
-    (both (TurnHolds (λ s e. EventKeepsTypes e)) before (turn ∷ []) early.0 ((early.1).0, tt)) to
-    text says
+    record {
+      direct = sent_acked configs fair before turn
+          (carried_before configs turns before after turn same carried)
+          (keeps_before configs turns before after turn same keep)
+          (carried_to configs turns before after turn same carried)
+          (keeps_to configs turns before after turn same keep)
+          (both (TurnHolds (λ s e. EventKeepsTypes e)) before (turn ∷ []) early.0
+          ((early.1).0, tt));
+      asked = no_ack_asked (configs turn.side) (rounds_of turn.side (before ++ turn ∷ []))
+          (fair.calls turn.side);
+    }

@@ -59,7 +59,8 @@ module _ (configs : Side → Config) (fair : IsFair configs) (turns : List Turn)
       (sym last.side_is)
       (subst (λ rounds. CallSays (configs s) rounds (call_out.Direct to (written ack)))
       (last_rounds s turns last) says) in
-      let so = follow last.before last.after last.turn last.turns_are to (written ack) sent in
+      let so = (follow last.before last.after last.turn last.turns_are).direct to (written ack)
+      sent in
       let same = same_text ack so.ack its.rules so.rules its.short so.text_is in
       record {
         before = last.before;
@@ -127,6 +128,7 @@ acks_told_said configs fair turns carried types before after turn same call_id i
       is_request = so.is_request;
       method_is = so.method_is;
       body_is = so.body_is;
+      invite = so.invite;
       by = by_whom configs fair before
           (acks_follow configs fair before
           (carried_before configs turns before after turn same carried) early.0) (peer turn.side)

@@ -1,14 +1,12 @@
 -- A response that an agent says is its user's answer, or its own, to a request that came.
-use Rattle.std.proofs.Common.{◌≡◌, ℕ, Bool, true, false, List, [], refl, sym, ap, ◌∙◌, subst, arith}
+use Rattle.std.proofs.Common.{◌≡◌, ℕ, true, List, [], refl, sym, ap, ◌∙◌, subst}
 use Rattle.std.specs.Prelude.{Contains, IfSome, Option, None, Some, codes}
-use Rattle.std.specs.Result.{result_ok}
 use Rattle.std.specs.List.{AllByRecursion}
 use Rattle.std.proofs.lemmas.Option.{same_Some}
 use Rattle.sip_message.specs.declared.addr.Addr.{Addr}
 use Rattle.sip_message.specs.declared.id.Id.{Id}
 use Rattle.sip_message.specs.declared.key.Key.{Key}
 use Rattle.sip_message.specs.declared.message.Message.{Message}
-use Rattle.sip_message.specs.Content.{with_content_of}
 use Rattle.sip_message.specs.Message.{is_request_message}
 use Rattle.sip_message.specs.Response.{response_of}
 use Rattle.sip_message.specs.Written.{written}
@@ -19,45 +17,49 @@ use Rattle.sip_transactions.specs.declared.input.Input.{Input}
 use Rattle.sip_transactions.specs.declared.input.Input.TheVariants as input
 use Rattle.sip_transactions.specs.declared.output.UpKind.{UpKind}
 use Rattle.sip_transactions.specs.declared.output.UpKind.TheVariants as kind
+use Rattle.sip_transactions.specs.declared.output.Up.{Up as AnUp}
 use Rattle.sip_user.specs.declared.command.Respond.{Respond}
 use Rattle.sip_user.specs.declared.command.UserCommand.{UserCommand}
 use Rattle.sip_user.specs.declared.command.UserCommand.TheVariants as user
 use Rattle.sip_user.specs.declared.item.CallOut.{CallOut}
 use Rattle.sip_user.specs.declared.item.CallOut.TheVariants as call_out
 use Rattle.sip_user.specs.declared.item.Item.TheVariants.{Up, User}
+use Rattle.sip_user.specs.OwnCall.{IsKindOf}
+use Rattle.sip_held_dialogs.specs.Requests.{local_tag_of}
+use Rattle.sip_served.specs.Arrival.{arrival_of as arrival_up}
+use Rattle.sip_served.specs.Rules.Arrivals.{is_same_branch}
+use Rattle.sip_served.specs.Rules.Responses.{response_sent}
+use Rattle.sip_served.specs.declared.arrival.Arrival.{Arrival}
 use Rattle.sip_served.specs.declared.held_request.HeldRequest.{HeldRequest}
-use Rattle.sip_served.proofs.Rseqs.{answer_start}
-use Rattle.sip_served.proofs.ServedAnswers.{KindGiven, OwnAnswers}
-use Rattle.sip_served.specs.Respond.{answer_to, if_so, is_sent_reliably, makes_or_confirms_dialog, with_routes, with_rseq}
-use Rattle.sip_reliable.specs.Ledger.{send_answer}
 use Rattle.sip_clients.specs.Clients.{status_of}
+use Rattle.sip_clients.specs.Name.{name_of}
 use Rattle.sip_calls.specs.Call.{CallItem, call_machine}
 use Rattle.sip_calls.specs.CallShard.{call_cmp}
+use Rattle.sip_calls.specs.OwnCall.{IsInputOf}
 use Rattle.sip_round.specs.declared.config.Config.{Config}
 use Rattle.sip_round.specs.declared.round.Round.{Round}
 use Rattle.sip_round.specs.Answers.{calls_of, no_past, past_of}
 use Rattle.sip_round.specs.Arrivals.{arrival_of}
 use Rattle.sip_round.specs.Laws.{call_inputs_of, inputs_of, said_of_call}
 use Rattle.sip_round.proofs.Said.{call_alone}
-use Rattle.sip_conversation.specs.Messages.{CallSays, IsGiven, IsSaid}
+use Rattle.sip_conversation.specs.Messages.{CallSays, ComesUp, IsGiven, IsSaid}
 use Rattle.sip_conversation.specs.Messages.IsSaid.{Acknowledges, Asked, Direct, Trying}
-use Rattle.sip_conversation.specs.Answers.{AnswersARequest, IsAnswered, IsResponseTo, Responds, own_statuses}
+use Rattle.sip_conversation.specs.Answers.{AnswersARequest, AnswersItself, IsAnswered, IsCancelled, IsHandedUp, IsResponseTo, Responds}
+use Rattle.sip_conversation.specs.Answers.AnswersItself.{Accepts, BadExtension, Merged, NoDialog, OutOfOrder, Proceeds, Terminates}
 use Rattle.sip_conversation.specs.Answers.IsAnswered.{ByAgent, ByUser}
 use Rattle.sip_conversation.proofs.ToTags.{answered_to}
 use Rattle.sip_conversation.proofs.AckTexts.{no_ack}
 use Rattle.sip_conversation.proofs.Among.{all_of, each_of}
 use Rattle.sip_conversation.proofs.Bridge.{any_arrival}
-use Rattle.sip_conversation.proofs.CallSays.{InputGives, UserGives, all_say}
+use Rattle.sip_conversation.proofs.CallSays.{AnyAck, AnyCall, InputGives, UserGives, all_say}
 use Rattle.sip_clients.proofs.ClientAsks.{IsAsk, OutSays}
 use Rattle.sip_conversation.proofs.OneTransaction.{KindCame}
+use Rattle.sip_conversation.proofs.Origins.{TimedComes, inputs_come}
+use Rattle.sip_conversation.proofs.PracksCame.{arrived, was_sent}
+use Rattle.sip_conversation.proofs.ServedReplies.{Cancels, KindBrought, OwnReplies}
 use Rattle.sip_conversation.proofs.Unstamped.{no_status}
 use Rattle.sip_conversation.proofs.Ups.{ItemCame, TimedCame, UpCame}
 use Rattle.sip_conversation.proofs.Rounds.{ArrivalFits, OutFits, RoundFits, TimedFits, call_says, calls_give, inputs_fit}
-
-answer_body : (local : Addr) (held : HeldRequest) (r : Respond)
-    → (answer_to local held r).body ≡ r.content.body
-unfolding with_content_of
-answer_body local held r = refl
 
 -- ---- an answer copies parts of its request
 
@@ -71,159 +73,200 @@ made_copies request status reason tag = record {
   cseq = refl;
 }
 
-answer_copies : (local : Addr) (held : HeldRequest) (r : Respond)
-    → IsResponseTo held.request (answer_to local held r)
-unfolding with_content_of
-answer_copies local held r =
-    let copies = by_case (is_sent_reliably held r.status r.reliability)
-    (makes_or_confirms_dialog held r.status) in
-    record {
-      vias = copies.vias;
-      from = copies.from;
-      to = copies.to;
-      call_id = copies.call_id;
-      cseq = copies.cseq;
-    }
-  where
-    by_case : (reliable routed : Bool) → IsResponseTo held.request
-        (if_so reliable (with_rseq (result_ok (send_answer held.ledger)))
-        (if_so routed (with_routes local held.request)
-        (response_of held.request r.status r.reason held.tag)))
-    by_case true true = record {
-      vias = refl;
-      from = refl;
-      to = answered_to held.request r.status held.tag;
-      call_id = refl;
-      cseq = refl;
-    }
-    by_case true false = record {
-      vias = refl;
-      from = refl;
-      to = answered_to held.request r.status held.tag;
-      call_id = refl;
-      cseq = refl;
-    }
-    by_case false true = record {
-      vias = refl;
-      from = refl;
-      to = answered_to held.request r.status held.tag;
-      call_id = refl;
-      cseq = refl;
-    }
-    by_case false false = record {
-      vias = refl;
-      from = refl;
-      to = answered_to held.request r.status held.tag;
-      call_id = refl;
-      cseq = refl;
-    }
-
 module _ (config : Config) (rounds : List Round) (Came : Message → Type 0) where
   -- ---- each answer
 
-  -- a request that came
-  abbrev pub CameToAnswer : Message → Type 0
-  CameToAnswer message = Came message × (is_request_message message ≡ true)
+  -- this request came up to a call
+  pub record CameTo (call_id : List ℕ) (arrival : Arrival) : Type 0 where
+    pub came : Came arrival.request
+    pub is_request : is_request_message arrival.request ≡ true
+    pub call_id_is : arrival.request.call_id ≡ call_id
+    pub up : AnUp
+    pub handed : IsHandedUp config rounds arrival.request up
+    pub id_is : up.id ≡ arrival.id
+    pub key_is : up.key ≡ arrival.key
+    pub made : List ℕ
+    pub tag_is : arrival.tag ≡ local_tag_of arrival.request made
 
-  -- an answer of the user or of the agent itself to a request that came
+  -- an answer of the user or of the agent itself to this request, which came
+  pub record IsAnswerTo (request message : Message) (status : ℕ) : Type 0 where
+    pub is_request : is_request_message request ≡ true
+    pub came : Came request
+    pub copies : IsResponseTo request message
+    pub answered : IsAnswered config rounds request status message.body
+
+  abbrev pub AnswersTo : Arrival → Message → Type 0
+  AnswersTo arrival message = (status : ℕ) → status_of message.start ≡ Some status
+      → IsAnswerTo arrival.request message status
+
+  -- such an answer to some request
   pub record IsAnswer (message : Message) (status : ℕ) : Type 0 where
-    pub answered : IsAnswered config rounds status message.body
     pub request : AnswersARequest Came message
+    pub answered : IsAnswered config rounds request.request status message.body
 
   abbrev pub Answers : Message → Type 0
   Answers message = (status : ℕ) → status_of message.start ≡ Some status
       → IsAnswer message status
 
-  own_answered : (status : ℕ) → Contains own_statuses status → (other : ℕ)
-      → Some status ≡ Some other → IsAnswered config rounds other []
-  own_answered status among other is =
-      ByAgent (subst (Contains own_statuses) (same_Some status other is) among) refl
-
-  own_says : (status : ℕ) → Contains own_statuses status → (reason : List ℕ) (request : Message)
-      (tag : List ℕ) → CameToAnswer request → Answers (response_of request status reason tag)
-  own_says status among reason request tag came other is = record {
-    answered = own_answered status among other is;
+  to_one : (request message : Message) (status : ℕ) → IsAnswerTo request message status
+      → IsAnswer message status
+  to_one request message status answer = record {
     request = record {
       request = request;
-      is_request = came.1;
-      came = came.0;
-      copies = made_copies request status reason tag;
+      is_request = answer.is_request;
+      came = answer.came;
+      copies = answer.copies;
     };
+    answered = answer.answered;
   }
 
-  own : OwnAnswers CameToAnswer Answers
-  own = record {
-    merged = λ request tag came.
-        own_says 482 (4, omega arith, refl) (codes "Loop Detected") request tag came;
-    extension = λ request tag came other is. record {
-      answered = own_answered 420 (2, omega arith, refl) other is;
-      request = record {
-        request = request;
-        is_request = came.1;
-        came = came.0;
+  any_answer : (arrival : Arrival) (message : Message) → AnswersTo arrival message
+      → Answers message
+  any_answer arrival message answers status is =
+      to_one arrival.request message status (answers status is)
+
+  itself : (request : Message) (status other : ℕ) → Some status ≡ Some other
+      → AnswersItself config rounds request status
+      → IsAnswered config rounds request other []
+  itself request status other is why =
+      ByAgent (subst (AnswersItself config rounds request) (same_Some status other is) why) refl
+
+  own_says : (status : ℕ) (reason : List ℕ) (request : Message) (tag : List ℕ) → Came request
+      → is_request_message request ≡ true → AnswersItself config rounds request status
+      → (other : ℕ) → Some status ≡ Some other
+      → IsAnswerTo request (response_of request status reason tag) other
+  own_says status reason request tag came is_request why other is = record {
+    is_request = is_request;
+    came = came;
+    copies = made_copies request status reason tag;
+    answered = itself request status other is why;
+  }
+
+  module _ (call_id : List ℕ) where
+    abbrev Brought : Arrival → Type 0
+    Brought = CameTo call_id
+
+    own_reply : (status : ℕ) (reason : List ℕ) (arrival : Arrival) (tag : List ℕ)
+        → Brought arrival → AnswersItself config rounds arrival.request status
+        → AnswersTo arrival (response_of arrival.request status reason tag)
+    own_reply status reason arrival tag came why =
+        own_says status reason arrival.request tag came.came came.is_request why
+
+    cancelled : (invite cancel : Arrival) → Brought invite
+        → Cancels Brought cancel invite
+        → IsCancelled config rounds invite.request
+    cancelled invite cancel came cancels =
+        let brought = cancels.brought in record {
+          up = came.up;
+          came = came.handed;
+          cancel = cancel.request;
+          cancel_up = brought.up;
+          cancel_came = brought.handed;
+          is_cancel = cancels.is_cancel;
+          call_id_is = brought.call_id_is ∙ sym came.call_id_is;
+          branch_is = (λ i. is_same_branch (brought.key_is i) (came.key_is i))
+              ∙ cancels.branch_is;
+        }
+
+    pub own : OwnReplies Brought AnswersTo
+    own = record {
+      merged = λ arrival came bare.
+          own_reply 482 (codes "Loop Detected") arrival arrival.tag came (Merged refl bare);
+      extension = λ arrival came unknown other is. record {
+        is_request = came.is_request;
+        came = came.came;
         copies = record {
           vias = refl;
           from = refl;
-          to = answered_to request 420 tag;
+          to = answered_to arrival.request 420 arrival.tag;
           call_id = refl;
           cseq = refl;
         };
+        answered = itself arrival.request 420 other is (BadExtension refl unknown);
       };
-    };
-    no_dialog = λ request tag came. own_says 481 (3, omega arith, refl)
-        (codes "Call/Transaction Does Not Exist") request tag came;
-    out_of_order = λ request tag came.
-        own_says 500 (6, omega arith, refl) (codes "Server Internal Error") request tag came;
-    accepted = λ request tag came.
-        own_says 200 (1, omega arith, refl) (codes "OK") request tag came;
-    terminated = λ request tag came.
-        own_says 487 (5, omega arith, refl) (codes "Request Terminated") request tag came;
-  }
+      no_dialog = λ arrival came is. own_reply 481 (codes "Call/Transaction Does Not Exist")
+          arrival arrival.tag came (NoDialog refl is);
+      out_of_order = λ arrival came tagged. own_reply 500 (codes "Server Internal Error") arrival
+          arrival.tag came (OutOfOrder refl tagged);
+      accepted = λ arrival tag came is.
+          own_reply 200 (codes "OK") arrival tag came (Accepts refl is);
+      terminated = λ invite cancel came cancels. own_reply 487 (codes "Request Terminated") invite
+          invite.tag came
+          (Terminates refl cancels.is_invite (cancelled invite cancel came cancels));
+    }
 
-  user_answers : (respond : Respond) → Responds config rounds respond → (local : Addr)
-      (held : HeldRequest) → CameToAnswer held.request → Answers (answer_to local held respond)
-  user_answers respond gave local held came status is = record {
-    answered = ByUser record {
-      respond = respond;
-      gave = gave;
-      status_is = same_Some respond.status status
-          (sym (ap status_of (answer_start local held respond)) ∙ is);
-      body_is = sym (answer_body local held respond);
-    };
-    request = record {
-      request = held.request;
-      is_request = came.1;
-      came = came.0;
-      copies = answer_copies local held respond;
-    };
-  }
+    pub user_answers : (respond : Respond) → Responds config rounds call_id respond
+        → (local : Addr) (held : HeldRequest) → Brought (arrived held) → respond.id ≡ held.id
+        → AnswersTo (arrived held) (response_sent local held respond)
+    user_answers respond gave local held came named status is = record {
+      is_request = came.is_request;
+      came = came.came;
+      copies = (was_sent local held respond).copies;
+      answered = ByUser record {
+        respond = respond;
+        gave = subst (λ of. Responds config rounds of respond) (sym came.call_id_is) gave;
+        up = came.up;
+        came = came.handed;
+        names = named ∙ sym came.id_is;
+        status_is = same_Some respond.status status
+            (sym (ap status_of (was_sent local held respond).start) ∙ is);
+        body_is = sym (was_sent local held respond).body;
+      };
+    }
 
-  command_gives : (call_id : List ℕ) (now : ℕ) (event : Id) (command : UserCommand)
-      → Contains (call_inputs_of config rounds call_id) (given_at now (event, User command))
-      → UserGives CameToAnswer Answers own command
-  command_gives call_id now event (user.Invite invite) among = tt
-  command_gives call_id now event (user.Plain plain) among = tt
-  command_gives call_id now event (user.Request request) among = tt
-  command_gives call_id now event (user.Respond respond) among =
-      user_answers respond (call_id, now, event, among)
-  command_gives call_id now event (user.Ack ack) among = tt
-  command_gives call_id now event (user.Prack prack) among = tt
-  command_gives call_id now event (user.Cancel cancel) among = tt
+    command_gives : (now : ℕ) (event : Id) (command : UserCommand)
+        → Contains (call_inputs_of config rounds call_id) (given_at now (event, User command))
+        → UserGives Brought AnswersTo Answers any_answer own command
+    command_gives now event (user.Invite invite) among = tt
+    command_gives now event (user.Plain plain) among = tt
+    command_gives now event (user.Request request) among = tt
+    command_gives now event (user.Respond respond) among =
+        user_answers respond (now, event, among)
+    command_gives now event (user.Ack ack) among = tt
+    command_gives now event (user.Prack prack) among = tt
+    command_gives now event (user.Cancel cancel) among = tt
 
-  kind_gives : (k : UpKind) → KindCame Came k → KindGiven CameToAnswer k
-  kind_gives (kind.Request request reply_to) came = came
-  kind_gives (kind.Ack ack) came = tt
-  kind_gives (kind.Response response) came = tt
-  kind_gives kind.Timeout came = tt
-  kind_gives kind.Failed came = tt
+    -- a request that comes up to the call
+    pub request_came : (now : ℕ) (event : Id) (made : List ℕ) (up : AnUp) (request : Message)
+        (reply_to : Addr) → up.kind ≡ kind.Request request reply_to
+        → Contains (call_inputs_of config rounds call_id) (given_at now (event, Up up))
+        → Came request → is_request_message request ≡ true → request.call_id ≡ call_id
+        → Brought (arrival_up up request reply_to made)
+    request_came now event made up request reply_to is among came asks its = record {
+      came = came;
+      is_request = asks;
+      call_id_is = its;
+      up = up;
+      handed = record {
+        reply_to = reply_to;
+        kind_is = is;
+        comes = subst (λ of. ComesUp config rounds of up) (sym its) (now, event, among);
+      };
+      id_is = refl;
+      key_is = refl;
+      made = made;
+      tag_is = refl;
+    }
 
-  input_gives : (call_id : List ℕ) (now : ℕ) (i : Option CallItem)
-      → Contains (call_inputs_of config rounds call_id) (record { moment = now; input = i })
-      → IfSome i (λ i. ItemCame (UpCame Came) i.1) → InputGives CameToAnswer Answers own i
-  input_gives call_id now None among came = tt
-  input_gives call_id now (Some (event, Up up)) among came = kind_gives up.kind came
-  input_gives call_id now (Some (event, User command)) among came =
-      command_gives call_id now event command among
+    kind_came : (now : ℕ) (event : Id) (made : List ℕ) (up : AnUp) (k : UpKind) → up.kind ≡ k
+        → Contains (call_inputs_of config rounds call_id) (given_at now (event, Up up))
+        → KindCame Came k → IsKindOf call_id k → KindBrought AnyCall Brought AnyAck made up k
+    kind_came now event made up (kind.Request request reply_to) is among came its =
+        (tt, request_came now event made up request reply_to is among came.0 came.1 its)
+    kind_came now event made up (kind.Ack ack) is among came its = (tt, tt)
+    kind_came now event made up (kind.Response response) is among came its = tt
+    kind_came now event made up kind.Timeout is among came its = tt
+    kind_came now event made up kind.Failed is among came its = tt
+
+    input_gives : (now : ℕ) (i : Option CallItem)
+        → Contains (call_inputs_of config rounds call_id) (record { moment = now; input = i })
+        → IfSome i (λ i. ItemCame (UpCame Came) i.1) → IsInputOf call_id i
+        → InputGives Brought AnswersTo Answers any_answer own (calls_of config) i
+    input_gives now None among came its = tt
+    input_gives now (Some (event, Up up)) among came its =
+        kind_came now event (name_of config.seed event 0) up up.kind refl among came its.1
+    input_gives now (Some (event, User command)) among came its =
+        command_gives now event command among
 
   -- each request that came to a call or a transaction is such a request
   pub record AllCame : Type 0 where
@@ -237,15 +280,20 @@ module _ (config : Config) (rounds : List Round) (Came : Message → Type 0) whe
     -- ---- what an agent says
 
     out_says : (out : CallOut) → CallSays config rounds out → OutSays Answers out
-    out_says out says =
-        let inputs = call_inputs_of config rounds says.0 in
-        each_of (OutSays Answers) (said_of_call config rounds says.0) out
+    out_says out said =
+        let call_id = said.0 in
+        let inputs = call_inputs_of config rounds call_id in
+        each_of (OutSays Answers) (said_of_call config rounds call_id) out
         (subst (AllByRecursion (OutSays Answers))
-        (sym (call_alone (calls_of config) alone [] (past_of config rounds).calls says.0))
-        (all_say CameToAnswer Answers own (calls_of config) says.0 None inputs
-        (all_of (λ timed. InputGives CameToAnswer Answers own timed.input) inputs
-        (λ timed among. input_gives says.0 timed.moment timed.input among
-        (each_of (TimedCame (UpCame Came)) inputs timed (came.calls says.0) among))) tt)) says.1
+        (sym (call_alone (calls_of config) alone [] (past_of config rounds).calls call_id))
+        (all_say (CameTo call_id) AnswersTo Answers any_answer (own call_id) (calls_of config)
+        call_id None inputs
+        (all_of (λ timed. InputGives (CameTo call_id) AnswersTo Answers any_answer (own call_id)
+        (calls_of config) timed.input) inputs
+        (λ timed among. input_gives call_id timed.moment timed.input among
+        (each_of (TimedCame (UpCame Came)) inputs timed (came.calls call_id) among)
+        (each_of (TimedComes config rounds call_id) inputs timed
+        (inputs_come config rounds call_id) among).0)) tt)) said.1
 
     -- a transaction is started with a request
     abbrev StartAsks : Key → Input → Type 0
@@ -286,8 +334,10 @@ module _ (config : Config) (rounds : List Round) (Came : Message → Type 0) whe
         absurd (no_ack response text.0 status is (text.2).request (text.2).method text.1)
     answered response (Trying key id request reply_to given asks same) status is =
         subst Answers (sym same)
-        (own_says 100 (0, omega arith, refl) (codes "Trying") request (codes "")
-        (came.transactions key id request reply_to given, asks)) status is
+        (λ other so. to_one request (response_of request 100 (codes "Trying") (codes "")) other
+        (own_says 100 (codes "Trying") request (codes "")
+        (came.transactions key id request reply_to given) asks (Proceeds refl) other so))
+        status is
     answered response (Acknowledges key id other call_id invite answer to reply_to given heard
         failure same)
         status is =

@@ -1,5 +1,5 @@
 -- Each step of a call keeps what it starts of its own call, with the branches of its own events.
-use Rattle.std.proofs.Common.{◌≡◌, ℕ, ◌+◌, Bool, true, ◌||◌, ◌&&◌, List, [], ◌∷◌, ◌++◌, refl, ◌∙◌, subst}
+use Rattle.std.proofs.Common.{◌≡◌, ℕ, ◌+◌, Bool, true, false, ◌||◌, ◌&&◌, List, [], ◌∷◌, ◌++◌, refl, sym, ap, ◌∙◌, subst}
 use Rattle.std.specs.Prelude.{Option, None, Some, IfSome, codes, ◌==◌, filter, find, is_some, not, unwrap_or, if◌then◌else◌}
 use Rattle.std.specs.List.{AllByRecursion}
 use Rattle.std.specs.Map.{lookup, remove_entry, set_value}
@@ -40,7 +40,8 @@ use Rattle.sip_clients.specs.declared.client.Cancelling.{Cancelling}
 use Rattle.sip_clients.specs.declared.client.Cancelling.TheVariants.{NotAsked, Sent, Waits}
 use Rattle.sip_clients.specs.declared.client.Client.{Client}
 use Rattle.sip_clients.specs.declared.event.Event.{Event}
-use Rattle.sip_conversation.proofs.Branches.{AreOwn, Comes, Done, Own, OutSays, Say, cancel_own, either, first_holds, found_or, next_own, no_command, outcome_own, silent_say, start_own, starts_own}
+use Rattle.sip_calls.specs.HeldDialogs.{opens_dialogs}
+use Rattle.sip_conversation.proofs.Branches.{AreOwn, Comes, Done, IsOwn, Own, OutSays, Say, WaitsFor, cancel_own, command_none, either, first_holds, found_or, next_own, no_command, outcome_own, silent_say, start_own, starts_own}
 
 -- the type of what a response is with all that comes up with it
 abbrev Domain : {A B : Type 0} → (A → B) → Type 0
@@ -54,24 +55,24 @@ confirmed_so : (side : End) (dialog : Dialog) (response : Message)
 confirmed_so Callee dialog response = refl
 confirmed_so Caller dialog response = refl
 
-module _ (seed call_id : List ℕ) (Came : Id → Type 0) where
+module _ (seed call_id : List ℕ) (Came : Id → Type 0) (Cancels : Id → Type 0) where
   abbrev OwnRequest : Client → Type 0
-  OwnRequest = Own seed call_id Came
+  OwnRequest = Own seed call_id Came Cancels
 
   abbrev OwnClients : Clients → Type 0
-  OwnClients = AreOwn seed call_id Came
+  OwnClients = AreOwn seed call_id Came Cancels
 
   abbrev Says : List CallOut → Type 0
-  Says = Say seed call_id Came
+  Says = Say seed call_id Came Cancels
 
   abbrev OutIsOwn : CallOut → Type 0
-  OutIsOwn = OutSays seed call_id Came
+  OutIsOwn = OutSays seed call_id Came Cancels
 
   abbrev ComesOf : Event → Type 0
-  ComesOf = Comes seed call_id Came
+  ComesOf = Comes seed call_id Came Cancels
 
   abbrev pub Taken : ClientTaken → Type 0
-  Taken taken = Done seed call_id Came ((taken.0).clients, taken.1)
+  Taken taken = Done seed call_id Came Cancels ((taken.0).clients, taken.1)
 
   dialog_found : (name : DialogId) (dialogs : Dialogs) → AreDialogsOf call_id dialogs
       → (held : HeldDialog) → lookup (is_dialog_id name) dialogs ≡ Some held
@@ -99,15 +100,18 @@ module _ (seed call_id : List ℕ) (Came : Id → Type 0) where
       (first_refusal ((has_command method, BadMethod) ∷ refusals_in held.dialog method) None) _
       (λ refusal refused. (own, (tt, tt)))
       (λ none.
-      let starts_so = start_own seed call_id Came (side.clients, []) _ (own, tt)
-      (next_own seed call_id Came event name method None command.content held comes its
+      let starts_so = start_own seed call_id Came Cancels (side.clients, []) _ (own, tt)
+      (next_own seed call_id Came Cancels event name method None command.content held comes its
       (no_command method
+      (first_holds (has_command method) BadMethod (refusals_in held.dialog method) none))
+      (command_none method
       (first_holds (has_command method) BadMethod (refusals_in held.dialog method) none))) in (
         starts_so.0,
         either (λ (ended : Dialogs × List CallOut). Says (sent.1 ++ ended.1))
             (bytes_eq method (codes "BYE")) (ended_at name dialogs) (dialogs, [])
             (λ bye. both OutIsOwn sent.1 (ended_at name dialogs).1 starts_so.1
-            (silent_say seed call_id Came (ended_at name dialogs).1 (ended_starts name dialogs)))
+            (silent_say seed call_id Came Cancels (ended_at name dialogs).1
+            (ended_starts name dialogs)))
             (λ other. both OutIsOwn sent.1 [] starts_so.1 tt),
       ))
 
@@ -139,9 +143,9 @@ module _ (seed call_id : List ℕ) (Came : Id → Type 0) where
       let without_it : HeldDialog = record held { pending_requests = others } in
       let content = Some command.content in
       let done = pending_outcome event command.call_id name pending content without_it held in
-      let so = outcome_own seed call_id Came event command.call_id name pending content
+      let so = outcome_own seed call_id Came Cancels event command.call_id name pending content
       without_it held comes its in
-      starts_own seed call_id Came done.prack
+      starts_own seed call_id Came Cancels done.prack
       (ack_kept pending name done.ack side.clients, done.outs)
       (ack_kept_own pending name done.ack side.clients own, so.outs) so.prack
 
@@ -175,15 +179,45 @@ module _ (seed call_id : List ℕ) (Came : Id → Type 0) where
 
   -- ---- CANCEL
 
+  -- the same request, with another state of its CANCEL
+  waiting_own : (client after : Client) → after.id ≡ client.id → after.kind ≡ client.kind
+      → after.request ≡ client.request → WaitsFor seed call_id Came Cancels after.cancel
+      → OwnRequest client → OwnRequest after
+  waiting_own client after id kind request waits its = record {
+    own = subst (λ m. IsOwn seed call_id Came Cancels after.id m) (sym request)
+        (subst (λ i. IsOwn seed call_id Came Cancels i client.request) (sym id) its.own);
+    waits = waits;
+    invites = λ is. ap (λ (m : Message). m.cseq.method) request
+        ∙ its.invites (ap is_invite_kind (sym kind) ∙ is);
+    untagged = λ opens. ap has_to_tag request
+        ∙ its.untagged (ap opens_dialogs (sym kind) ∙ opens);
+  }
+
+  -- a response changes that state so
+  waits_after : (final : Bool) (cancel : Cancelling) → WaitsFor seed call_id Came Cancels cancel
+      → WaitsFor seed call_id Came Cancels
+      (option_map_or (λ asked_by. if final then NotAsked else Sent) (waiting_cancel cancel) cancel)
+  waits_after final NotAsked waits = tt
+  waits_after true (Waits id) waits = tt
+  waits_after false (Waits id) waits = tt
+  waits_after final Sent waits = tt
+
+  waiting_asks : (cancel : Cancelling) (id : Id) → WaitsFor seed call_id Came Cancels cancel
+      → waiting_cancel cancel ≡ Some id → Cancels id
+  waiting_asks NotAsked id waits is = absurd cc
+  waiting_asks (Waits other) id waits is = let same : other ≡ id = cc in subst Cancels same waits
+  waiting_asks Sent id waits is = absurd cc
+
   cancel_held : (event : Event) (command : Cancel) (side : Side) (invite : Client)
-      → ComesOf event → OwnRequest invite → OwnClients side.clients
+      → ComesOf event → Cancels event.id → OwnRequest invite → OwnClients side.clients
       → Taken (cancel_of_request event command side invite)
-  cancel_held event command side invite comes its own =
+  cancel_held event command side invite comes asks its own =
       let with_cancel : Cancelling → Clients = λ cancel.
       set_value (is_id command.id) side.clients (record invite { cancel = cancel }) in
-      let put : (cancel : Cancelling) → OwnClients (with_cancel cancel) = λ cancel.
-      each_set OwnRequest (is_id command.id) side.clients (record invite { cancel = cancel }) its
-      own in
+      let put : (cancel : Cancelling) → WaitsFor seed call_id Came Cancels cancel
+      → OwnClients (with_cancel cancel) = λ cancel waits.
+      each_set OwnRequest (is_id command.id) side.clients (record invite { cancel = cancel })
+      (waiting_own invite (record invite { cancel = cancel }) refl refl refl waits its) own in
       let started : Clients × List CallOut =
       start (with_cancel Sent, []) (cancel_request event.id invite) in
       let waits : Clients × List CallOut = (with_cancel (Waits event.id), []) in
@@ -197,18 +231,19 @@ module _ (seed call_id : List ℕ) (Came : Id → Type 0) where
       (λ is. either Taken (is_some invite.removal)
       (refuse event command.call_id side AlreadyFinal) asked (λ final. (own, (tt, tt)))
       (λ still. either Taken (is_asked invite.cancel) (side, []) first (λ again. (own, tt))
-      (λ none. either (Done seed call_id Came) invite.provisional started waits
-      (λ came. start_own seed call_id Came (with_cancel Sent, []) (cancel_request event.id invite)
-      (put Sent, tt) (cancel_own seed call_id Came event.id invite its))
-      (λ none. (put (Waits event.id), tt)))))
+      (λ none. either (Done seed call_id Came Cancels) invite.provisional started waits
+      (λ came. start_own seed call_id Came Cancels (with_cancel Sent, [])
+      (cancel_request event.id invite)
+      (put Sent tt, tt) (cancel_own seed call_id Came Cancels event.id invite its asks))
+      (λ none. (put (Waits event.id) asks, tt)))))
 
   pub cancel_taken : (event : Event) (command : Cancel) (side : Side) → ComesOf event
-      → OwnClients side.clients → Taken (cancel_command event command side)
+      → Cancels event.id → OwnClients side.clients → Taken (cancel_command event command side)
   unfolding cancel_command
-  cancel_taken event command side comes own =
+  cancel_taken event command side comes asks own =
       found_or Taken (cancel_of_request event command side)
       (lookup (is_id command.id) side.clients) _
-      (λ invite is. cancel_held event command side invite comes
+      (λ invite is. cancel_held event command side invite comes asks
       (client_found command.id side.clients own invite is) own)
       (λ none. (own, (tt, tt)))
 
@@ -233,7 +268,8 @@ module _ (seed call_id : List ℕ) (Came : Id → Type 0) where
     each_but_one OwnRequest (is_id id) side.clients own,
     found_or (λ (ended : Dialogs × List CallOut). Says ended.1) _
         (lookup (is_id id) side.clients) (side.dialogs, [])
-        (λ client is. silent_say seed call_id Came (request_over client timed_out side.dialogs).1
+        (λ client is. silent_say seed call_id Came Cancels
+        (request_over client timed_out side.dialogs).1
         (over_silent client timed_out side.dialogs))
         (λ none. tt),
   )
@@ -250,7 +286,8 @@ module _ (seed call_id : List ℕ) (Came : Id → Type 0) where
       → ComesOf reply.event → ((ack : Option SentAck) → OwnRequest (after ack))
       → IsDialogOf call_id held → IsReplied (asks_for pending reply client after held dialogs)
   asks_own pending reply client after held dialogs comes keeps its =
-      let so = outcome_own seed call_id Came reply.event reply.call_id reply.name pending _ held _
+      let so = outcome_own seed call_id Came Cancels reply.event reply.call_id reply.name pending
+      _ held _
       comes its in
       record { request = keeps _; outs = (tt, so.outs); prack = so.prack }
 
@@ -350,7 +387,7 @@ module _ (seed call_id : List ℕ) (Came : Id → Type 0) where
         request = tt;
         outs = (
           tt,
-          silent_say seed call_id Came
+          silent_say seed call_id Came Cancels
               (request_over client ((reply.status == 481) || (reply.status == 408)) dialogs).1
               (over_silent client ((reply.status == 481) || (reply.status == 408)) dialogs),
         );
@@ -393,8 +430,10 @@ module _ (seed call_id : List ℕ) (Came : Id → Type 0) where
       let done = outcome_of reply after side.dialogs in
       let clients : Clients = option_map_or (set_value (is_id id) side.clients) done.request
       (remove_entry (is_id id) side.clients) in
-      let so = outcome_so reply after side.dialogs comes its dialogs in
-      starts_own seed call_id Came (done.prack ++ cancels) (clients, done.outs) (
+      let its_after = waiting_own client after refl refl refl
+      (waits_after final client.cancel its.waits) its in
+      let so = outcome_so reply after side.dialogs comes its_after dialogs in
+      starts_own seed call_id Came Cancels (done.prack ++ cancels) (clients, done.outs) (
         found_or OwnClients (set_value (is_id id) side.clients) done.request
             (remove_entry (is_id id) side.clients)
             (λ after is. each_set OwnRequest (is_id id) side.clients after
@@ -408,7 +447,11 @@ module _ (seed call_id : List ℕ) (Came : Id → Type 0) where
       (λ final. tt)
       (λ provisional. found_or (AllByRecursion OwnRequest)
       (λ asked_by. cancel_request asked_by client ∷ []) waiting []
-      (λ asked_by is. (cancel_own seed call_id Came asked_by client its, tt)) (λ none. tt))))
+      (λ asked_by is. (
+        cancel_own seed call_id Came Cancels asked_by client its
+            (waiting_asks client.cancel asked_by its.waits is),
+        tt,
+      )) (λ none. tt))))
 
   pub received_own : (event : Event) (id : Id) (of : List ℕ) (response : Message) (side : Side)
       → ComesOf event → AreDialogsOf call_id side.dialogs → OwnClients side.clients

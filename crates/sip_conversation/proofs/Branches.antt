@@ -46,6 +46,8 @@ use Rattle.sip_clients.specs.Client.{Clients}
 use Rattle.sip_clients.specs.Event.{branch_of}
 use Rattle.sip_clients.specs.Name.{name_of}
 use Rattle.sip_clients.specs.Rules.Requests.{PendingOutcome, cancel_request, has_command, invite_command, is_invite_kind, method_of, pending_outcome, pending_sent, pending_with, plain_command, refusals_in, request_outside, request_with_next_number, start, with_100rel}
+use Rattle.sip_clients.specs.declared.client.Cancelling.{Cancelling}
+use Rattle.sip_clients.specs.declared.client.Cancelling.TheVariants.{NotAsked, Sent, Waits}
 use Rattle.sip_clients.specs.declared.client.Client.{Client}
 use Rattle.sip_clients.specs.declared.client.RequestKind.{RequestKind}
 use Rattle.sip_clients.specs.declared.client.RequestKind.TheVariants.{InDialog, ReInvite}
@@ -97,6 +99,16 @@ no_prack same = absurd cc
 no_cancel : codes "CANCEL" ≡ codes "ACK" → ⊥
 no_cancel same = absurd cc
 
+invite_none : codes "INVITE" ≡ codes "CANCEL" → ⊥
+invite_none same = false≢true (ap (λ m. bytes_eq m (codes "CANCEL")) same)
+
+prack_none : codes "PRACK" ≡ codes "CANCEL" → ⊥
+prack_none same = false≢true (ap (λ m. bytes_eq m (codes "CANCEL")) same)
+
+-- CANCEL has a command of its own
+pub command_none : (method : List ℕ) → has_command method ≡ false → method ≡ codes "CANCEL" → ⊥
+command_none method none same = false≢true (sym none ∙ ap has_command same)
+
 -- ---- messages with the same To, top branch, Call-ID and method
 
 record IsLike (one other : Message) : Type 0 where
@@ -137,7 +149,7 @@ agent_branch : (local : Addr) (branch : List ℕ) → branch_in (agent_via local
 unfolding value_named
 agent_branch local branch = refl
 
-module _ (seed call_id : List ℕ) (Came : Id → Type 0) where
+module _ (seed call_id : List ℕ) (Came : Id → Type 0) (Cancels : Id → Type 0) where
   -- an event of the call
   pub record Comes (event : Event) : Type 0 where
     pub seed_is : event.seed ≡ seed
@@ -147,23 +159,33 @@ module _ (seed call_id : List ℕ) (Came : Id → Type 0) where
   abbrev pub HasBranch : List ℕ → Type 0
   HasBranch branch = (id : Id) × Came id × (branch ≡ codes "z9hG4bK" ++ name_of seed id 0)
 
-  -- it is of the call, with the branch of an event: that of its id, unless it is a CANCEL
+  -- it is of the call, with the branch of an event: that of its id, unless it is a CANCEL; the
+  -- event of the id of a CANCEL asked for it
   pub record IsOwn (id : Id) (message : Message) : Type 0 where
     pub call : message.call_id ≡ call_id
     pub branch : HasBranch (top_branch message)
     pub method : message.cseq.method ≡ codes "ACK" → ⊥
     pub event_is : (message.cseq.method ≡ codes "CANCEL" → ⊥) → branch.0 ≡ id
+    pub cancels : message.cseq.method ≡ codes "CANCEL" → Cancels id
 
   -- ---- what is held and said
 
+  -- the event for which a CANCEL waits asked for it
+  abbrev pub WaitsFor : Cancelling → Type 0
+  WaitsFor NotAsked = Unit {0}
+  WaitsFor (Waits id) = Cancels id
+  WaitsFor Sent = Unit {0}
+
   -- the INVITE that opens dialogs has no To tag
-  pub record IsOwnOf (id : Id) (kind : RequestKind) (request : Message) : Type 0 where
+  pub record IsOwnOf (id : Id) (kind : RequestKind) (request : Message) (cancel : Cancelling)
+      : Type 0 where
     pub own : IsOwn id request
+    pub waits : WaitsFor cancel
     pub invites : is_invite_kind kind ≡ true → request.cseq.method ≡ codes "INVITE"
     pub untagged : opens_dialogs kind ≡ true → has_to_tag request ≡ false
 
   abbrev pub Own : Client → Type 0
-  Own client = IsOwnOf client.id client.kind client.request
+  Own client = IsOwnOf client.id client.kind client.request client.cancel
 
   abbrev pub AreOwn : Clients → Type 0
   AreOwn clients = AllByRecursion (λ (entry : Id × Client). Own entry.1) clients
@@ -227,12 +249,14 @@ module _ (seed call_id : List ℕ) (Came : Id → Type 0) where
     branch = (own.branch.0, own.branch.1, like.branch ∙ own.branch.2);
     method = λ is. own.method (sym like.method ∙ is);
     event_is = λ other. own.event_is (λ is. other (like.method ∙ is));
+    cancels = λ is. own.cancels (sym like.method ∙ is);
   }
 
   outside_own : (event : Event) (of method uri from to : List ℕ) (routes : List NameAddr)
       → Comes event → of ≡ call_id → (method ≡ codes "ACK" → ⊥)
+      → (method ≡ codes "CANCEL" → ⊥)
       → IsOwn event.id (request_outside event of method uri from to routes)
-  outside_own event of method uri from to routes comes is other = record {
+  outside_own event of method uri from to routes comes is other none = record {
     call = is;
     branch = (
       event.id,
@@ -241,6 +265,7 @@ module _ (seed call_id : List ℕ) (Came : Id → Type 0) where
     );
     method = other;
     event_is = λ other. refl;
+    cancels = λ cancel. absurd (none cancel);
   }
 
   pub invite_own : (event : Event) (invite : Invite) (clients : Clients) → Comes event
@@ -248,7 +273,7 @@ module _ (seed call_id : List ℕ) (Came : Id → Type 0) where
   unfolding invite_command value_named
   invite_own event invite clients comes is own =
       let outside = outside_own event invite.call_id (codes "INVITE") invite.request_uri
-      invite.from invite.to invite.routes comes is no_invite in
+      invite.from invite.to invite.routes comes is no_invite invite_none in
       let request : Message =
       record (request_outside event invite.call_id (codes "INVITE") invite.request_uri invite.from
       invite.to invite.routes) { contacts = contact_of event.local ∷ [] } in
@@ -265,7 +290,9 @@ module _ (seed call_id : List ℕ) (Came : Id → Type 0) where
           method = λ ack. outside.method (sym support.method ∙ (sym content.method ∙ ack));
           event_is = λ other. outside.event_is
               (λ is. other (content.method ∙ (support.method ∙ is)));
+          cancels = λ is. outside.cancels (sym support.method ∙ (sym content.method ∙ is));
         };
+        waits = tt;
         invites = λ is. content.method ∙ support.method;
         untagged = λ opens. like_untagged content (like_untagged support refl);
       })
@@ -283,20 +310,26 @@ module _ (seed call_id : List ℕ) (Came : Id → Type 0) where
             (outside_own event plain.call_id plain.method plain.request_uri plain.from plain.to
             plain.routes comes is
             (no_command plain.method (first_false first second
+            (first_false (first || second) (bytes_eq plain.method (codes "BYE")) good)))
+            (command_none plain.method (first_false first second
             (first_false (first || second) (bytes_eq plain.method (codes "BYE")) good))));
+        waits = tt;
         invites = λ is. absurd (false≢true is);
         untagged = λ opens. absurd (false≢true opens);
       }))
 
-  pub cancel_own : (id : Id) (invite : Client) → Own invite → Own (cancel_request id invite)
-  cancel_own id invite its =
+  pub cancel_own : (id : Id) (invite : Client) → Own invite → Cancels id
+      → Own (cancel_request id invite)
+  cancel_own id invite its asks =
       let own = its.own in record {
         own = record {
           call = own.call;
           branch = (own.branch.0, own.branch.1, top_alone invite.request.vias ∙ own.branch.2);
           method = no_cancel;
           event_is = λ other. absurd (other refl);
+          cancels = λ is. asks;
         };
+        waits = tt;
         invites = λ is. absurd (false≢true is);
         untagged = λ opens. absurd (false≢true opens);
       }
@@ -315,9 +348,9 @@ module _ (seed call_id : List ℕ) (Came : Id → Type 0) where
 
   pub next_own : (event : Event) (name : DialogId) (method : List ℕ) (rack : Option RAck)
       (content : Content) (held : HeldDialog) → Comes event → IsDialogOf call_id held
-      → (method ≡ codes "ACK" → ⊥)
+      → (method ≡ codes "ACK" → ⊥) → (method ≡ codes "CANCEL" → ⊥)
       → Own (request_with_next_number event name method rack content held)
-  next_own event name method rack content held comes its other =
+  next_own event name method rack content held comes its other none =
       let like = like_content _ content in record {
         own = record {
           call = like.call ∙ its;
@@ -329,7 +362,9 @@ module _ (seed call_id : List ℕ) (Came : Id → Type 0) where
           );
           method = λ ack. other (sym like.method ∙ ack);
           event_is = λ other. refl;
+          cancels = λ cancel. absurd (none (sym like.method ∙ cancel));
         };
+        waits = tt;
         invites = λ is. like.method ∙ (bytes_eq-Decides method (codes "INVITE")).0
             (re_invites (bytes_eq method (codes "INVITE"))
             (record { name = name; created_by = held.created_by }) is);
@@ -350,7 +385,7 @@ module _ (seed call_id : List ℕ) (Came : Id → Type 0) where
     prack = (
       next_own event name (codes "PRACK")
           (Some record { rseq = rseq; cseq = cseq; method = codes "INVITE" }) content held comes
-          its no_prack,
+          its no_prack prack_none,
       tt,
     );
     outs = tt;

@@ -34,18 +34,22 @@ use Rattle.sip_calls.proofs.OwnCall.{each_notice_is_own}
 use Rattle.sip_conversation.proofs.Branches.{AreOwn, Comes, Own, OutSays, invite_own, plain_own, silent_say}
 use Rattle.sip_conversation.proofs.BranchSteps.{ack_own, cancel_taken, lost_own, prack_own, received_own, request_own}
 
-module _ (calls : Calls) (call_id : List ℕ) (Came : Id → Type 0) where
+-- nothing is said of commands to cancel
+abbrev pub AnyCancel : Id → Type 0
+AnyCancel id = Unit {0}
+
+module _ (calls : Calls) (call_id : List ℕ) (Came : Id → Type 0) (Cancels : Id → Type 0) where
   abbrev pub OwnClients : Call → Type 0
-  OwnClients call = AreOwn calls.seed call_id Came call.clients
+  OwnClients call = AreOwn calls.seed call_id Came Cancels call.clients
 
   abbrev pub OutIsOwn : CallOut → Type 0
-  OutIsOwn = OutSays calls.seed call_id Came
+  OutIsOwn = OutSays calls.seed call_id Came Cancels
 
   abbrev Says : List CallOut → Type 0
   Says outs = AllByRecursion OutIsOwn outs
 
   abbrev ComesOf : Event → Type 0
-  ComesOf = Comes calls.seed call_id Came
+  ComesOf = Comes calls.seed call_id Came Cancels
 
   abbrev Done : CallTaken → Type 0
   Done taken = OwnClients taken.0 × Says taken.1
@@ -54,8 +58,18 @@ module _ (calls : Calls) (call_id : List ℕ) (Came : Id → Type 0) where
   abbrev pub InputComes : Option CallItem → Type 0
   InputComes input = IsInputOf call_id input × IfSome (event_in input) Came
 
+  -- this is said of the event of each command to cancel
+  abbrev CommandCancels : Id → UserCommand → Type 0
+  CommandCancels id (user.Cancel cancel) = Cancels id
+  CommandCancels id _ = Unit {0}
+
+  abbrev pub InputCancels : Option CallItem → Type 0
+  InputCancels None = Unit {0}
+  InputCancels (Some (id, Up up)) = Unit {0}
+  InputCancels (Some (id, User command)) = CommandCancels id command
+
   says_none : (outs : List CallOut) → starts outs ≡ [] → Says outs
-  says_none outs none = silent_say calls.seed call_id Came outs none
+  says_none outs none = silent_say calls.seed call_id Came Cancels outs none
 
   comes_so : (id : Id) (now : ℕ) → Came id → ComesOf (event_of calls id now)
   comes_so id now came = record { seed_is = refl; came = came }
@@ -81,13 +95,13 @@ module _ (calls : Calls) (call_id : List ℕ) (Came : Id → Type 0) where
         ∙ kind_starts call.served (made_tag (event_of calls id now)) up (kind.Ack ack) now),
   )
   up_own call id now up (kind.Response response) came sides own =
-      received_own calls.seed call_id Came (event_of calls id now) up.id up.call_id response
+      received_own calls.seed call_id Came Cancels (event_of calls id now) up.id up.call_id response
       (side_of call) (comes_so id now came) (sides.state).dialogs own
   up_own call id now up kind.Timeout came sides own =
-      let so = lost_own calls.seed call_id Came up.id true (side_of call) own in
+      let so = lost_own calls.seed call_id Came Cancels up.id true (side_of call) own in
       (so.0, (tt, so.1))
   up_own call id now up kind.Failed came sides own =
-      let so = lost_own calls.seed call_id Came up.id false (side_of call) own in
+      let so = lost_own calls.seed call_id Came Cancels up.id false (side_of call) own in
       (so.0, (tt, so.1))
 
   -- ---- commands
@@ -96,10 +110,10 @@ module _ (calls : Calls) (call_id : List ℕ) (Came : Id → Type 0) where
       → call_of_command command ≡ call_id → OwnClients call
       → Done (item_of_call false call (event_of calls id now) (User command))
   first_own call id now (user.Invite invite) came its own =
-      invite_own calls.seed call_id Came (event_of calls id now) invite call.clients
+      invite_own calls.seed call_id Came Cancels (event_of calls id now) invite call.clients
       (comes_so id now came) its own
   first_own call id now (user.Plain plain) came its own =
-      plain_own calls.seed call_id Came (event_of calls id now) plain call.clients
+      plain_own calls.seed call_id Came Cancels (event_of calls id now) plain call.clients
       (comes_so id now came) its own
   first_own call id now (user.Request request) came its own = (own, (tt, tt))
   first_own call id now (user.Respond respond) came its own = (own, (tt, tt))
@@ -108,27 +122,27 @@ module _ (calls : Calls) (call_id : List ℕ) (Came : Id → Type 0) where
   first_own call id now (user.Cancel cancel) came its own = (own, (tt, tt))
 
   command_own : (call : Call) (id : Id) (now : ℕ) (command : UserCommand) → Came id
-      → AreSidesOf call_id call → OwnClients call
+      → CommandCancels id command → AreSidesOf call_id call → OwnClients call
       → Done (item_of_call true call (event_of calls id now) (User command))
-  command_own call id now (user.Invite invite) came sides own = (own, (tt, tt))
-  command_own call id now (user.Plain plain) came sides own = (own, (tt, tt))
-  command_own call id now (user.Request request) came sides own =
-      request_own calls.seed call_id Came (event_of calls id now) request (side_of call)
+  command_own call id now (user.Invite invite) came asks sides own = (own, (tt, tt))
+  command_own call id now (user.Plain plain) came asks sides own = (own, (tt, tt))
+  command_own call id now (user.Request request) came asks sides own =
+      request_own calls.seed call_id Came Cancels (event_of calls id now) request (side_of call)
       (comes_so id now came) (sides.state).dialogs own
-  command_own call id now (user.Respond respond) came sides own = (
+  command_own call id now (user.Respond respond) came asks sides own = (
     own,
     says_none _ (ap (λ (taken : ServedTaken). starts taken.1)
         (respond_same call.served id respond now) ∙ respond_starts call.served id respond now),
   )
-  command_own call id now (user.Ack ack) came sides own =
-      ack_own calls.seed call_id Came (event_of calls id now) ack (side_of call)
+  command_own call id now (user.Ack ack) came asks sides own =
+      ack_own calls.seed call_id Came Cancels (event_of calls id now) ack (side_of call)
       (comes_so id now came) (sides.state).dialogs own
-  command_own call id now (user.Prack prack) came sides own =
-      prack_own calls.seed call_id Came (event_of calls id now) prack (side_of call)
+  command_own call id now (user.Prack prack) came asks sides own =
+      prack_own calls.seed call_id Came Cancels (event_of calls id now) prack (side_of call)
       (comes_so id now came) (sides.state).dialogs own
-  command_own call id now (user.Cancel cancel) came sides own =
-      cancel_taken calls.seed call_id Came (event_of calls id now) cancel (side_of call)
-      (comes_so id now came) own
+  command_own call id now (user.Cancel cancel) came asks sides own =
+      cancel_taken calls.seed call_id Came Cancels (event_of calls id now) cancel (side_of call)
+      (comes_so id now came) asks own
 
   -- ---- one input
 
@@ -150,53 +164,75 @@ module _ (calls : Calls) (call_id : List ℕ) (Came : Id → Type 0) where
 
   tick_own : (call : Call) (now : ℕ) → OwnClients call → OwnClients (call_tick call now).0
   unfolding client_tick
-  tick_own call now own = each_left (Own calls.seed call_id Came) _ call.clients own
+  tick_own call now own = each_left (Own calls.seed call_id Came Cancels) _ call.clients own
 
   step_own : (state : Option Call) (input : Option CallItem) (now : ℕ) → InputComes input
-      → IsCallOf call_id state → HeldOwn state → After (call_step calls state input now)
-  step_own None None now comes of own = (tt, tt)
-  step_own (Some call) None now comes of own = (
+      → InputCancels input → IsCallOf call_id state → HeldOwn state
+      → After (call_step calls state input now)
+  step_own None None now comes asks of own = (tt, tt)
+  step_own (Some call) None now comes asks of own = (
     kept_by (holds_any (call_tick call now).0) (call_tick call now).0 (tick_own call now own),
     says_none _ (tick_silent calls (Some call) now),
   )
-  step_own None (Some (id, Up up)) now comes of own =
+  step_own None (Some (id, Up up)) now comes asks of own =
       let call = new_call calls.local in
       kept_own (item_of_call false call (event_of calls id now) (Up up))
       (up_own call id now up up.kind comes.1 (new_sides calls.local) tt)
-  step_own (Some call) (Some (id, Up up)) now comes of own =
+  step_own (Some call) (Some (id, Up up)) now comes asks of own =
       kept_own (item_of_call true call (event_of calls id now) (Up up))
       (up_own call id now up up.kind comes.1 of own)
-  step_own None (Some (id, User command)) now comes of own =
+  step_own None (Some (id, User command)) now comes asks of own =
       let call = new_call calls.local in
       kept_own (item_of_call false call (event_of calls id now) (User command))
       (first_own call id now command comes.1 comes.0 tt)
-  step_own (Some call) (Some (id, User command)) now comes of own =
+  step_own (Some call) (Some (id, User command)) now comes asks of own =
       kept_own (item_of_call true call (event_of calls id now) (User command))
-      (command_own call id now command comes.1 of own)
+      (command_own call id now command comes.1 asks of own)
 
   -- ---- all inputs
 
   pub all_own : (state : Option Call) (inputs : List (Timed CallItem))
-      → AllByRecursion (λ timed. InputComes timed.input) inputs → IsCallOf call_id state
+      → AllByRecursion (λ timed. InputComes timed.input) inputs
+      → AllByRecursion (λ timed. InputCancels timed.input) inputs → IsCallOf call_id state
       → HeldOwn state
       → AllByRecursion OutIsOwn (outputs_from (call_machine calls) call_id state inputs)
-  all_own state [] comes of own = tt
-  all_own state (timed ∷ inputs) comes of own =
+  all_own state [] comes asks of own = tt
+  all_own state (timed ∷ inputs) comes asks of own =
       let step = call_step calls state timed.input timed.moment in
-      let after = step_own state timed.input timed.moment (comes.0) of own in
+      let after = step_own state timed.input timed.moment comes.0 asks.0 of own in
       let later = each_notice_is_own calls call_id state timed.input timed.moment of
       (comes.0).0 in
       both OutIsOwn step.1 (outputs_from (call_machine calls) call_id step.0 inputs) after.1
-      (all_own step.0 inputs comes.1 later.0 after.0)
+      (all_own step.0 inputs comes.1 asks.1 later.0 after.0)
 
   -- what is held after them is of its own
   pub held_own : (state : Option Call) (inputs : List (Timed CallItem))
-      → AllByRecursion (λ timed. InputComes timed.input) inputs → IsCallOf call_id state
+      → AllByRecursion (λ timed. InputComes timed.input) inputs
+      → AllByRecursion (λ timed. InputCancels timed.input) inputs → IsCallOf call_id state
       → HeldOwn state → HeldOwn (call_from calls state inputs)
-  held_own state [] comes of own = own
-  held_own state (timed ∷ inputs) comes of own =
+  held_own state [] comes asks of own = own
+  held_own state (timed ∷ inputs) comes asks of own =
       let step = call_step calls state timed.input timed.moment in
-      let after = step_own state timed.input timed.moment (comes.0) of own in
+      let after = step_own state timed.input timed.moment comes.0 asks.0 of own in
       let later = each_notice_is_own calls call_id state timed.input timed.moment of
       (comes.0).0 in
-      held_own step.0 inputs comes.1 later.0 after.0
+      held_own step.0 inputs comes.1 asks.1 later.0 after.0
+
+any_input : (calls : Calls) (call_id : List ℕ) (Came : Id → Type 0) (input : Option CallItem)
+    → InputCancels calls call_id Came AnyCancel input
+any_input calls call_id Came None = tt
+any_input calls call_id Came (Some (id, Up up)) = tt
+any_input calls call_id Came (Some (id, User (user.Invite invite))) = tt
+any_input calls call_id Came (Some (id, User (user.Plain plain))) = tt
+any_input calls call_id Came (Some (id, User (user.Request request))) = tt
+any_input calls call_id Came (Some (id, User (user.Respond respond))) = tt
+any_input calls call_id Came (Some (id, User (user.Ack ack))) = tt
+any_input calls call_id Came (Some (id, User (user.Prack prack))) = tt
+any_input calls call_id Came (Some (id, User (user.Cancel cancel))) = tt
+
+pub any_inputs : (calls : Calls) (call_id : List ℕ) (Came : Id → Type 0)
+    (inputs : List (Timed CallItem))
+    → AllByRecursion (λ timed. InputCancels calls call_id Came AnyCancel timed.input) inputs
+any_inputs calls call_id Came [] = tt
+any_inputs calls call_id Came (timed ∷ inputs) =
+    (any_input calls call_id Came timed.input, any_inputs calls call_id Came inputs)

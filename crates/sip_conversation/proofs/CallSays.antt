@@ -1,4 +1,5 @@
--- What a call says: requests that it starts, answers of its user or its own, and texts of ACKs.
+-- What a call says: requests that it starts, answers of its user or its own to requests that came
+-- up, and texts of ACKs.
 use Rattle.std.proofs.Common.{ℕ, Bool, true, false, cond, List, [], ◌∷◌, subst, sym}
 use Rattle.std.specs.Prelude.{Option, None, Some, IfSome}
 use Rattle.std.specs.List.{AllByRecursion}
@@ -13,7 +14,7 @@ use Rattle.sip_user.specs.declared.command.UserCommand.TheVariants as user
 use Rattle.sip_user.specs.declared.item.CallOut.{CallOut}
 use Rattle.sip_user.specs.declared.item.Item.TheVariants.{Up, User}
 use Rattle.sip_served.specs.Tick.{tick_taken}
-use Rattle.sip_served.proofs.ServedAnswers.{AllowsServed, KindGiven, OwnAnswers, RespondGiven, StateGiven, kind_fits, respond_fits, server_tick}
+use Rattle.sip_served.specs.declared.arrival.Arrival.{Arrival}
 use Rattle.sip_clients.specs.Tick.{clients_ticked}
 use Rattle.sip_calls.specs.Call.{CallItem, Taken, call_machine, call_step, event_of, kept, made_tag, new_call}
 use Rattle.sip_calls.specs.Sides.{by_server, holds_any, side_of}
@@ -22,19 +23,38 @@ use Rattle.sip_calls.proofs.SameSteps.{same_step}
 use Rattle.sip_calls.specs.declared.call.Call.{Call}
 use Rattle.sip_calls.specs.declared.calls.Calls.{Calls}
 use Rattle.sip_clients.specs.declared.event.Event.{Event}
+use Rattle.sip_clients.specs.Name.{name_of}
 use Rattle.sip_clients.proofs.ClientAsks.{AskAll, OutSays, ack_command_says, cancel_says, clients_tick_says, command_says, invite_says, lost_says, plain_says, prack_command_says, response_says}
+use Rattle.sip_conversation.proofs.ServedReplies.{AllowsServed, KindBrought, OwnReplies, RespondGiven, StateGiven, kind_fits, respond_fits, tick_fits}
 
-module _ (Came Given : Message → Type 0) (own : OwnAnswers Came Given) where
-  pub allows : AllowsServed (OutSays Given) Given
-  allows = record { told = λ one other. tt; answer = λ id key {message} here. here }
+-- nothing is required of Call-IDs and of ACKs here
+abbrev pub AnyCall : List ℕ → Type 0
+AnyCall call_id = Unit {0}
+
+abbrev pub AnyAck : Message → Type 0
+AnyAck ack = Unit {0}
+
+module _ (Brought : Arrival → Type 0) (Given : Arrival → Message → Type 0)
+    (Says : Message → Type 0)
+    (says : (arrival : Arrival) (response : Message) → Given arrival response → Says response)
+    (own : OwnReplies Brought Given) where
+  allows : AllowsServed AnyCall Brought AnyAck Given (OutSays Says)
+  allows = record {
+    told = λ one other. tt;
+    request = λ call_id arrival its came none other. tt;
+    prack = λ call_id arrival invite rack its came is. tt;
+    ack = λ call_id ack held its is. tt;
+    cancel = λ call_id invite cancel its came is. tt;
+    answer = λ invite {message} here. says invite message here;
+  }
 
   -- the answers that it holds, and the requests that it sent, are such messages
   pub record CallIs (call : Call) : Type 0 where
-    pub served : StateGiven (OutSays Given) Came Given allows call.served
+    pub served : StateGiven Brought Given call.served
     pub clients : AskAll call.clients
 
   abbrev Say : List CallOut → Type 0
-  Say outs = AllByRecursion (OutSays Given) outs
+  Say outs = AllByRecursion (OutSays Says) outs
 
   abbrev CallSays : Call × List CallOut → Type 0
   CallSays taken = CallIs taken.0 × Say taken.1
@@ -44,46 +64,48 @@ module _ (Came Given : Message → Type 0) (own : OwnAnswers Came Given) where
   UserGives (user.Invite invite) = Unit {0}
   UserGives (user.Plain plain) = Unit {0}
   UserGives (user.Request request) = Unit {0}
-  UserGives (user.Respond respond) = RespondGiven (OutSays Given) Came Given allows own respond
+  UserGives (user.Respond respond) = RespondGiven Brought Given respond
   UserGives (user.Ack ack) = Unit {0}
   UserGives (user.Prack prack) = Unit {0}
   UserGives (user.Cancel cancel) = Unit {0}
 
-  abbrev pub InputGives : Option CallItem → Type 0
-  InputGives None = Unit {0}
-  InputGives (Some (event, Up up)) = KindGiven Came up.kind
-  InputGives (Some (event, User command)) = UserGives command
+  abbrev pub InputGives : Calls → Option CallItem → Type 0
+  InputGives calls None = Unit {0}
+  InputGives calls (Some (event, Up up)) =
+      KindBrought AnyCall Brought AnyAck (name_of calls.seed event 0) up up.kind
+  InputGives calls (Some (event, User command)) = UserGives command
 
   -- ---- one input
 
-  up_says : (call : Call) (event : Event) (up : AnUp) (k : UpKind) → KindGiven Came k
+  up_says : (call : Call) (event : Event) (up : AnUp) (k : UpKind)
+      → KindBrought AnyCall Brought AnyAck (made_tag event) up k
       → CallIs call → CallSays (up_taken call event up k)
   up_says call event up (kind.Request request reply_to) came is =
-      let fits = kind_fits (OutSays Given) Came Given allows own call.served (made_tag event) up
-      (kind.Request request reply_to) event.moment came is.served in
+      let fits = kind_fits AnyCall Brought AnyAck Given (OutSays Says) allows own call.served
+      (made_tag event) up (kind.Request request reply_to) event.moment came is.served in
       (record { served = fits.0; clients = is.clients }, fits.1)
   up_says call event up (kind.Ack ack) came is =
-      let fits = kind_fits (OutSays Given) Came Given allows own call.served (made_tag event) up
-      (kind.Ack ack) event.moment came is.served in
+      let fits = kind_fits AnyCall Brought AnyAck Given (OutSays Says) allows own call.served
+      (made_tag event) up (kind.Ack ack) event.moment came is.served in
       (record { served = fits.0; clients = is.clients }, fits.1)
   up_says call event up (kind.Response response) came is =
-      let says = response_says Given event up.id up.call_id response (side_of call) is.clients in
-      (record { served = is.served; clients = says.0 }, says.1)
+      let so = response_says Says event up.id up.call_id response (side_of call) is.clients in
+      (record { served = is.served; clients = so.0 }, so.1)
   up_says call event up kind.Timeout came is =
-      let says = lost_says Given up.id true (side_of call) is.clients in
-      (record { served = is.served; clients = says.0 }, (tt, says.1))
+      let so = lost_says Says up.id true (side_of call) is.clients in
+      (record { served = is.served; clients = so.0 }, (tt, so.1))
   up_says call event up kind.Failed came is =
-      let says = lost_says Given up.id false (side_of call) is.clients in
-      (record { served = is.served; clients = says.0 }, (tt, says.1))
+      let so = lost_says Says up.id false (side_of call) is.clients in
+      (record { served = is.served; clients = so.0 }, (tt, so.1))
 
   first_says : (call : Call) (event : Event) (command : UserCommand) → CallIs call
       → CallSays (first_command_taken call event command)
   first_says call event (user.Invite invite) is =
-      let says = invite_says Given event invite call.clients is.clients in
-      (record { served = is.served; clients = says.0 }, says.1)
+      let so = invite_says Says event invite call.clients is.clients in
+      (record { served = is.served; clients = so.0 }, so.1)
   first_says call event (user.Plain plain) is =
-      let says = plain_says Given event plain call.clients is.clients in
-      (record { served = is.served; clients = says.0 }, says.1)
+      let so = plain_says Says event plain call.clients is.clients in
+      (record { served = is.served; clients = so.0 }, so.1)
   first_says call event (user.Request request) is = (is, (tt, tt))
   first_says call event (user.Respond respond) is = (is, (tt, tt))
   first_says call event (user.Ack ack) is = (is, (tt, tt))
@@ -95,29 +117,30 @@ module _ (Came Given : Message → Type 0) (own : OwnAnswers Came Given) where
   user_says call event (user.Invite invite) gives is = (is, (tt, tt))
   user_says call event (user.Plain plain) gives is = (is, (tt, tt))
   user_says call event (user.Request request) gives is =
-      let says = command_says Given event request (side_of call) is.clients in
-      (record { served = is.served; clients = says.0 }, says.1)
+      let so = command_says Says event request (side_of call) is.clients in
+      (record { served = is.served; clients = so.0 }, so.1)
   user_says call event (user.Respond respond) gives is =
-      let fits = respond_fits (OutSays Given) Came Given allows own call.served event.id respond
-      event.moment gives is.served in
+      let fits = respond_fits AnyCall Brought AnyAck Given (OutSays Says) allows call.served
+      event.id respond event.moment gives is.served in
       (record { served = fits.0; clients = is.clients }, fits.1)
   user_says call event (user.Ack ack) gives is =
-      let says = ack_command_says Given event ack (side_of call) is.clients in
-      (record { served = is.served; clients = says.0 }, says.1)
+      let so = ack_command_says Says event ack (side_of call) is.clients in
+      (record { served = is.served; clients = so.0 }, so.1)
   user_says call event (user.Prack prack) gives is =
-      let says = prack_command_says Given event prack (side_of call) is.clients in
-      (record { served = is.served; clients = says.0 }, says.1)
+      let so = prack_command_says Says event prack (side_of call) is.clients in
+      (record { served = is.served; clients = so.0 }, so.1)
   user_says call event (user.Cancel cancel) gives is =
-      let says = cancel_says Given event cancel (side_of call) is.clients in
-      (record { served = is.served; clients = says.0 }, says.1)
+      let so = cancel_says Says event cancel (side_of call) is.clients in
+      (record { served = is.served; clients = so.0 }, so.1)
 
   tick_says : (call : Call) (now : ℕ) → CallIs call → CallSays (ticked call now)
   tick_says call now is =
       let first = by_server call (tick_taken call.served now) in
-      let fits = server_tick (OutSays Given) Came Given allows own call.served now is.served in
-      let says = clients_tick_says Given (side_of first.0) now is.clients in (
-        record { served = fits.0; clients = says.0 },
-        both (OutSays Given) first.1 (clients_ticked (side_of first.0) now).1 fits.1 says.1,
+      let fits = tick_fits AnyCall Brought AnyAck Given (OutSays Says) allows call.served now
+      is.served in
+      let so = clients_tick_says Says (side_of first.0) now is.clients in (
+        record { served = fits.0; clients = so.0 },
+        both (OutSays Says) first.1 (clients_ticked (side_of first.0) now).1 fits.1 so.1,
       )
 
   abbrev HeldIs : Option Call → Type 0
@@ -131,13 +154,13 @@ module _ (Came Given : Message → Type 0) (own : OwnAnswers Came Given) where
   kept_by false call is = tt
 
   kept_says : (taken : Call × List CallOut) → CallSays taken → After (kept taken)
-  kept_says taken says = (kept_by (holds_any taken.0) taken.0 says.0, says.1)
+  kept_says taken done = (kept_by (holds_any taken.0) taken.0 done.0, done.1)
 
   new_is : (calls : Calls) → CallIs (new_call calls.local)
   new_is calls = record { served = tt; clients = tt }
 
   taken_says : (calls : Calls) (state : Option Call) (input : Option CallItem) (now : ℕ)
-      → InputGives input → HeldIs state → After (step_taken calls state input now)
+      → InputGives calls input → HeldIs state → After (step_taken calls state input now)
   taken_says calls None None now gives is = (tt, tt)
   taken_says calls (Some call) None now gives is =
       kept_says (ticked call now) (tick_says call now is)
@@ -157,7 +180,7 @@ module _ (Came Given : Message → Type 0) (own : OwnAnswers Came Given) where
       (user_says call (event_of calls event now) command gives is)
 
   step_says : (calls : Calls) (state : Option Call) (input : Option CallItem) (now : ℕ)
-      → InputGives input → HeldIs state → After (call_step calls state input now)
+      → InputGives calls input → HeldIs state → After (call_step calls state input now)
   step_says calls state input now gives is =
       subst (λ (taken : Taken). After taken) (sym (same_step calls state input now))
       (taken_says calls state input now gives is)
@@ -166,11 +189,11 @@ module _ (Came Given : Message → Type 0) (own : OwnAnswers Came Given) where
 
   pub all_say : (calls : Calls) (call_id : List ℕ) (state : Option Call)
       (inputs : List (Timed CallItem))
-      → AllByRecursion (λ timed. InputGives timed.input) inputs → HeldIs state
-      → AllByRecursion (OutSays Given) (outputs_from (call_machine calls) call_id state inputs)
+      → AllByRecursion (λ timed. InputGives calls timed.input) inputs → HeldIs state
+      → AllByRecursion (OutSays Says) (outputs_from (call_machine calls) call_id state inputs)
   all_say calls call_id state [] gives is = tt
   all_say calls call_id state (timed ∷ inputs) gives is =
       let step = call_step calls state timed.input timed.moment in
       let after = step_says calls state timed.input timed.moment gives.0 is in
-      both (OutSays Given) step.1 (outputs_from (call_machine calls) call_id step.0 inputs)
+      both (OutSays Says) step.1 (outputs_from (call_machine calls) call_id step.0 inputs)
       after.1 (all_say calls call_id step.0 inputs gives.1 after.0)

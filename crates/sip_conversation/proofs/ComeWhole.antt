@@ -15,7 +15,7 @@ use Rattle.sip_round.specs.declared.config.Config.{Config}
 use Rattle.sip_round.specs.declared.round.Round.{Round}
 use Rattle.sip_round.specs.Answers.{calls_of}
 use Rattle.sip_round.specs.Laws.{ProvisionalsInLives, call_inputs_of}
-use Rattle.sip_conversation.specs.ComeWhole.{IsToldOf, NoOthersTold, ProvisionalsComeWhole, ToldWhole, given_reliably}
+use Rattle.sip_conversation.specs.ComeWhole.{AreNumberedFrom, IsNoticeFor, IsToldOf, NoOthersTold, ProvisionalsComeWhole, ToldWhole, given_reliably}
 use Rattle.sip_conversation.specs.Conversation.{Carried, Side, Turn, peer, rounds_of}
 use Rattle.sip_conversation.specs.Messages.{CallsKeepRules}
 use Rattle.sip_conversation.specs.Provisionals.{rseqs_told, told_reliably}
@@ -63,6 +63,12 @@ at_least least (y ∷ ys) follow x among =
     ⊎_elim (λ same. omega (arith, follow.0, ap (λ (z : _ × _). z.0) same))
     (λ later. omega (arith, at_least (suc least) ys follow.1 x later))
     (first_or_later y ys x among)
+
+numbered : (number : ℕ) (given : List (ℕ × Message)) → Follow number given
+    → AreNumberedFrom number given
+numbered number [] follow = tt
+numbered number (one ∷ given) follow =
+    (follow.0, numbered (suc number) given follow.1)
 
 above_one : (n : ℕ) → 1 ≤ n → (n == 1) ≡ false → 1 < n
 above_one n least isnt = grind (arith, common_steps, least, isnt)
@@ -138,6 +144,17 @@ module _ (configs : Side → Config) (fair : IsFair configs)
         so.tells,
       )) rest all
 
+  -- and all notices are of that request
+  same_notices : (first : ℕ × CallOut) → (its : GivenThere first) → (rest : List (ℕ × CallOut))
+      → AllByRecursion GivenThere rest
+      → AllByRecursion (λ (one : ℕ × CallOut).
+      IsNoticeFor configs before turn call_id its.id one.1) rest
+  same_notices first its rest all =
+      all_go (λ (one : ℕ × CallOut) so.
+      subst (λ id. IsNoticeFor configs before turn call_id id one.1)
+      (same_request configs fair before turn carried_early keep_early carried_so keep_so
+      few_here few_there call_id life one.0 first.0 one.1 first.1 so its) so.notice) rest all
+
   -- the RSeqs that are told are consecutive
   told_follows : (first : ℕ × CallOut) (rest : List (ℕ × CallOut))
       → IsConsecutive (map (λ one. one.0) (first ∷ rest)) → Follow first.0 (first ∷ rest)
@@ -154,6 +171,11 @@ module _ (configs : Side → Config) (fair : IsFair configs)
       → ToldWhole configs before turn call_id life
   by_told [] is all = record {
     request = record { round = 0; place = 0 };
+    of_request = subst (AllByRecursion (λ (one : ℕ × CallOut).
+        IsNoticeFor configs before turn call_id (record { round = 0; place = 0 }) one.1))
+        (sym is) tt;
+    numbers = numbered 1 (given record { round = 0; place = 0 })
+        (given_follow record { round = 0; place = 0 });
     told = record {
       earlier = [];
       run = [];
@@ -180,6 +202,10 @@ module _ (configs : Side → Config) (fair : IsFair configs)
       (given_follow its.id) tells in
       record {
         request = its.id;
+        of_request = subst (AllByRecursion (λ (one : ℕ × CallOut).
+            IsNoticeFor configs before turn call_id its.id one.1)) (sym is)
+            (same_notices first its (first ∷ rest) all);
+        numbers = numbered 1 (given its.id) (given_follow its.id);
         told = record {
           earlier = (so.0).earlier;
           run = (so.0).run;

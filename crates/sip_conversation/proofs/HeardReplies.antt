@@ -45,7 +45,7 @@ use Rattle.sip_conversation.specs.Replies.{AreCounted, IsStartedFor, SaidRespons
 use Rattle.sip_conversation.proofs.Among.{among_first, among_later, each_of, in_all_of, kept_among}
 use Rattle.sip_conversation.proofs.AmongInputs.{out_of_first_inputs, out_of_one_input}
 use Rattle.sip_conversation.proofs.Branches.{Own}
-use Rattle.sip_conversation.proofs.CallBranches.{HeldOwn, InputComes, held_own}
+use Rattle.sip_conversation.proofs.CallBranches.{AnyCancel, HeldOwn, InputComes, any_inputs, held_own}
 use Rattle.sip_conversation.proofs.DialogOfReply.{is_of_invite}
 use Rattle.sip_conversation.proofs.CallOuts.{InputFits, KindTells, OutFits, ResponseTells, step_fits}
 use Rattle.sip_conversation.proofs.ClientsSent.{WentOut, held_went}
@@ -169,18 +169,19 @@ module _ (config : Config) (rounds : List Round)
           }
 
       abbrev IsOwnClient : Client → Type 0
-      IsOwnClient = Own calls.seed call_id (IsOrigin config rounds call_id)
+      IsOwnClient = Own calls.seed call_id (IsOrigin config rounds call_id) AnyCancel
 
       -- it is an INVITE
       pub invites : was.client.request.cseq.method ≡ codes "INVITE"
       invites =
           let Came = IsOrigin config rounds call_id in
           let TimedIs : Timed CallItem → Type 0 = λ timed.
-          InputComes calls call_id Came timed.input in
+          InputComes calls call_id Came AnyCancel timed.input in
           let parts = all_of_parts TimedIs was.before (was.timed ∷ was.after)
           (subst (AllByRecursion TimedIs) was.are (inputs_come config rounds call_id)) in
-          let own = subst (HeldOwn calls call_id Came) was.held
-          (held_own calls call_id Came None was.before parts.0 tt tt) in
+          let own = subst (HeldOwn calls call_id Came AnyCancel) was.held
+          (held_own calls call_id Came AnyCancel None was.before parts.0
+          (any_inputs calls call_id Came was.before) tt tt) in
           let its : IsOwnClient was.client = subst (λ o. IfSome o IsOwnClient) was.client_is
           (found_one IsOwnClient (is_id was.up.id) was.call.clients own) in
           its.invites (is_of_invite was.client.kind
@@ -267,8 +268,8 @@ module _ (configs : Side → Config) (fair : IsFair configs) (before : List Turn
           ∙ (ap (λ (m : Message). m.cseq.method) same ∙ invite) in
           record {
             alike = subst (λ (m : Message). IsAlike m was.client.request)
-                (sym (((own_reply configs fair.calls before turn was.up.call_id was.up.id status
-                local_tag remote_tag body said begun few).same
+                (sym (((own_reply configs fair.calls before turn was.up.call_id was.up.id
+                said.original status said.status_is said.request begun few).same
                 (λ cancel. no_cancel (sym cancel ∙ method)))
                 ∙ ap (come_from local_config.local) same))
                 (came_alike local_config.local was.client.request);

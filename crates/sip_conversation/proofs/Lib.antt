@@ -73,3 +73,4 @@ pub mod CallsKeep
 pub mod AckedCalls
 pub mod AcksFollow
 pub mod AcksSaid
+pub mod ServedReplies

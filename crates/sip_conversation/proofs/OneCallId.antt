@@ -25,18 +25,19 @@ use Rattle.sip_transactions.specs.declared.input.Input.{Input}
 use Rattle.sip_transactions.specs.declared.input.Input.TheVariants as input
 use Rattle.sip_transactions.specs.declared.output.UpKind.{UpKind}
 use Rattle.sip_transactions.specs.declared.output.UpKind.TheVariants as kind
+use Rattle.sip_transactions.specs.declared.output.Up.{Up as AnUp}
 use Rattle.sip_user.specs.declared.command.UserCommand.{UserCommand}
 use Rattle.sip_user.specs.declared.command.UserCommand.TheVariants as user
 use Rattle.sip_user.specs.declared.item.CallOut.{CallOut}
 use Rattle.sip_user.specs.declared.item.CallOut.TheVariants as call_out
 use Rattle.sip_user.specs.declared.item.Item.TheVariants.{Up, User}
-use Rattle.sip_served.proofs.Rseqs.{answer_start}
-use Rattle.sip_served.proofs.ServedAnswers.{KindGiven, OwnAnswers}
+use Rattle.sip_served.specs.declared.arrival.Arrival.{Arrival}
 use Rattle.sip_clients.specs.Name.{hex, name_of, word_of_name}
 use Rattle.sip_clients.proofs.ClientAsks.{OutSays}
 use Rattle.sip_clients.proofs.Names.{names_differ}
 use Rattle.sip_calls.specs.Call.{CallItem, call_machine}
 use Rattle.sip_calls.specs.CallShard.{call_cmp}
+use Rattle.sip_calls.specs.declared.calls.Calls.{Calls}
 use Rattle.sip_round.specs.declared.config.Config.{Config}
 use Rattle.sip_round.specs.declared.round.Round.{Round}
 use Rattle.sip_round.specs.Answers.{calls_of, no_past, past_of}
@@ -50,12 +51,14 @@ use Rattle.sip_conversation.proofs.AckTexts.{is_ack}
 use Rattle.sip_conversation.proofs.Among.{all_of, each_of}
 use Rattle.sip_conversation.proofs.Branches.{HasBranch, IsStarted}
 use Rattle.sip_conversation.proofs.Bridge.{any_arrival}
-use Rattle.sip_conversation.proofs.CallBranches.{OutIsOwn, all_own}
-use Rattle.sip_conversation.proofs.CallSays.{InputGives, UserGives, all_say}
+use Rattle.sip_conversation.proofs.CallBranches.{AnyCancel, OutIsOwn, all_own, any_inputs}
+use Rattle.sip_conversation.proofs.CallSays.{AnyAck, AnyCall, InputGives, UserGives, all_say}
 use Rattle.sip_conversation.proofs.Longer.{says_longer}
 use Rattle.sip_conversation.proofs.OneStart.{calls_say, one_start, start_id, started_with}
 use Rattle.sip_conversation.proofs.Origins.{IsOrigin, counted, inputs_come, one_call}
+use Rattle.sip_conversation.proofs.PracksCame.{was_sent}
 use Rattle.sip_conversation.proofs.Rounds.{ArrivalFits, OutFits, RoundFits, TimedFits, call_says, calls_give, inputs_fit}
+use Rattle.sip_conversation.proofs.ServedReplies.{KindBrought, OwnReplies}
 
 -- a transaction with this key was started with this request, by this output
 pub record IsOfStart (key : Key) (request : Message) (out : CallOut) : Type 0 where
@@ -107,45 +110,57 @@ branch_low seed id =
 abbrev IsReply : Message → Type 0
 IsReply message = is_request_message message ≡ false
 
-abbrev Any : Message → Type 0
-Any message = Unit {0}
+abbrev Any : Arrival → Type 0
+Any arrival = Unit {0}
 
-own_replies : OwnAnswers Any IsReply
+abbrev IsReplyTo : Arrival → Message → Type 0
+IsReplyTo arrival response = IsReply response
+
+is_reply : (arrival : Arrival) (response : Message) → IsReplyTo arrival response
+    → IsReply response
+is_reply arrival response is = is
+
+own_replies : OwnReplies Any IsReplyTo
 own_replies = record {
-  merged = λ request tag came. refl;
-  extension = λ request tag came. refl;
-  no_dialog = λ request tag came. refl;
-  out_of_order = λ request tag came. refl;
-  accepted = λ request tag came. refl;
-  terminated = λ request tag came. refl;
+  merged = λ arrival came is. refl;
+  extension = λ arrival came is. refl;
+  no_dialog = λ arrival came is. refl;
+  out_of_order = λ arrival came is. refl;
+  accepted = λ arrival tag came is. refl;
+  terminated = λ invite cancel came cancels. refl;
 }
 
-user_gives : (command : UserCommand) → UserGives Any IsReply own_replies command
+user_gives : (command : UserCommand) → UserGives Any IsReplyTo IsReply is_reply own_replies command
 user_gives (user.Invite invite) = tt
 user_gives (user.Plain plain) = tt
 user_gives (user.Request request) = tt
-user_gives (user.Respond respond) = λ local held came.
-    ap is_request_line (answer_start local held respond)
+user_gives (user.Respond respond) = λ local held came named.
+    ap is_request_line (was_sent local held respond).start
 user_gives (user.Ack ack) = tt
 user_gives (user.Prack prack) = tt
 user_gives (user.Cancel cancel) = tt
 
-kind_gives : (k : UpKind) → KindGiven Any k
-kind_gives (kind.Request request reply_to) = tt
-kind_gives (kind.Ack ack) = tt
-kind_gives (kind.Response response) = tt
-kind_gives kind.Timeout = tt
-kind_gives kind.Failed = tt
+kind_gives : (made : List ℕ) (up : AnUp) (k : UpKind)
+    → KindBrought AnyCall Any AnyAck made up k
+kind_gives made up (kind.Request request reply_to) = (tt, tt)
+kind_gives made up (kind.Ack ack) = (tt, tt)
+kind_gives made up (kind.Response response) = tt
+kind_gives made up kind.Timeout = tt
+kind_gives made up kind.Failed = tt
 
-input_gives : (i : Option CallItem) → InputGives Any IsReply own_replies i
-input_gives None = tt
-input_gives (Some (event, Up up)) = kind_gives up.kind
-input_gives (Some (event, User command)) = user_gives command
+module _ (calls : Calls) where
+  abbrev Replies : Option CallItem → Type 0
+  Replies = InputGives Any IsReplyTo IsReply is_reply own_replies calls
 
-all_give : (inputs : List (Timed CallItem))
-    → AllByRecursion (λ timed. InputGives Any IsReply own_replies timed.input) inputs
-all_give [] = tt
-all_give (timed ∷ inputs) = (input_gives timed.input, all_give inputs)
+  input_gives : (i : Option CallItem) → Replies i
+  input_gives None = tt
+  input_gives (Some (event, Up up)) = kind_gives (name_of calls.seed event 0) up up.kind
+  input_gives (Some (event, User command)) = user_gives command
+
+  all_give : (inputs : List (Timed CallItem))
+      → AllByRecursion (λ timed. Replies timed.input) inputs
+  all_give [] = tt
+  all_give (timed ∷ inputs) = (input_gives timed.input, all_give inputs)
 
 module _ (config : Config)
     (alone : EachKeyAlone call_cmp (call_machine (calls_of config)) tick_at) where
@@ -155,8 +170,9 @@ module _ (config : Config)
       each_of (OutSays IsReply) (said_of_call config rounds says.0) out
       (subst (AllByRecursion (OutSays IsReply))
       (sym (call_alone (calls_of config) alone [] (past_of config rounds).calls says.0))
-      (all_say Any IsReply own_replies (calls_of config) says.0 None
-      (call_inputs_of config rounds says.0) (all_give (call_inputs_of config rounds says.0)) tt))
+      (all_say Any IsReplyTo IsReply is_reply own_replies (calls_of config) says.0 None
+      (call_inputs_of config rounds says.0)
+      (all_give (calls_of config) (call_inputs_of config rounds says.0)) tt))
       says.1
 
   module _ (early more : List Round) (few : AreCounted config (early ++ more)) where
@@ -165,22 +181,26 @@ module _ (config : Config)
 
     -- a call starts a transaction with this request, which is of its own
     abbrev IsStartedBy : List ℕ → Id → Key → List ℕ → Message → Type 0
-    IsStartedBy call_id = IsStarted config.seed call_id (IsOrigin config rounds call_id)
+    IsStartedBy call_id =
+        IsStarted config.seed call_id (IsOrigin config rounds call_id) AnyCancel
 
     -- what all calls give
     abbrev given_out : List CallOut
     given_out = calls_give config config.first no_past rounds
 
     out_own : (out : CallOut) → (says : CallSays config rounds out)
-        → OutIsOwn (calls_of config) says.0 (IsOrigin config rounds says.0) out
+        → OutIsOwn (calls_of config) says.0 (IsOrigin config rounds says.0) AnyCancel out
     out_own out says =
         let call_id = says.0 in
-        let IsOwn = OutIsOwn (calls_of config) call_id (IsOrigin config rounds call_id) in
+        let IsOwn =
+        OutIsOwn (calls_of config) call_id (IsOrigin config rounds call_id) AnyCancel in
         each_of IsOwn (said_of_call config rounds call_id) out
         (subst (AllByRecursion IsOwn)
         (sym (call_alone (calls_of config) alone [] (past_of config rounds).calls call_id))
-        (all_own (calls_of config) call_id (IsOrigin config rounds call_id) None
-        (call_inputs_of config rounds call_id) (inputs_come config rounds call_id) tt tt)) says.1
+        (all_own (calls_of config) call_id (IsOrigin config rounds call_id) AnyCancel None
+        (call_inputs_of config rounds call_id) (inputs_come config rounds call_id)
+        (any_inputs (calls_of config) call_id (IsOrigin config rounds call_id)
+        (call_inputs_of config rounds call_id)) tt tt)) says.1
 
     -- ---- what a transaction is started with
 
@@ -238,7 +258,8 @@ module _ (config : Config)
     -- ---- one branch, one Call-ID
 
     abbrev IsBranch : List ℕ → List ℕ → Type 0
-    IsBranch call_id = HasBranch config.seed call_id (IsOrigin config rounds call_id)
+    IsBranch call_id =
+        HasBranch config.seed call_id (IsOrigin config rounds call_id) AnyCancel
 
     -- branches that differ in no letter's case are of one event
     one_event : (call_id other : List ℕ) (one two : List ℕ) → (has : IsBranch call_id one)

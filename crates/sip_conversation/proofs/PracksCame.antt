@@ -107,6 +107,90 @@ arrived held = record {
   tag = held.tag;
 }
 
+-- ---- the answer of a user
+
+module _ (local : Addr) (held : HeldRequest) (respond : Respond) where
+  -- the response, as it is sent reliably or not, and with a route or without
+  abbrev sent_so : Bool → Bool → Message
+  sent_so reliable routed =
+      let plain = if routed then record (response_of held.request respond.status respond.reason
+      held.tag) {
+        contacts = contact_of local ∷ [];
+        record_routes = held.request.record_routes;
+      } else response_of held.request respond.status respond.reason held.tag in
+      with_content_of (if reliable
+      then record plain { require = codes "100rel" ∷ []; rseq = Some held.ledger.next }
+      else plain) respond.content
+
+  -- what it copies, its status, its body, and its RSeq
+  pub record SentSo (reliable : Bool) (response : Message) : Type 0 where
+    pub copies : IsResponseTo held.request response
+    pub start : response.start
+        ≡ (response_of held.request respond.status respond.reason held.tag).start
+    pub body : response.body ≡ respond.content.body
+    pub to : response.to ≡ answering_to held.request.to respond.status held.tag
+    pub rseq : response.rseq ≡ (if reliable then Some held.ledger.next else None)
+
+  so_sent : (reliable routed : Bool) → SentSo reliable (sent_so reliable routed)
+  unfolding with_content_of
+  so_sent true true = record {
+    copies = record {
+      vias = refl;
+      from = refl;
+      to = answered_to held.request respond.status held.tag;
+      call_id = refl;
+      cseq = refl;
+    };
+    start = refl;
+    body = refl;
+    to = refl;
+    rseq = refl;
+  }
+  so_sent true false = record {
+    copies = record {
+      vias = refl;
+      from = refl;
+      to = answered_to held.request respond.status held.tag;
+      call_id = refl;
+      cseq = refl;
+    };
+    start = refl;
+    body = refl;
+    to = refl;
+    rseq = refl;
+  }
+  so_sent false true = record {
+    copies = record {
+      vias = refl;
+      from = refl;
+      to = answered_to held.request respond.status held.tag;
+      call_id = refl;
+      cseq = refl;
+    };
+    start = refl;
+    body = refl;
+    to = refl;
+    rseq = refl;
+  }
+  so_sent false false = record {
+    copies = record {
+      vias = refl;
+      from = refl;
+      to = answered_to held.request respond.status held.tag;
+      call_id = refl;
+      cseq = refl;
+    };
+    start = refl;
+    body = refl;
+    to = refl;
+    rseq = refl;
+  }
+
+  pub was_sent : SentSo (is_sent_reliably held respond) (response_sent local held respond)
+  was_sent = so_sent (is_sent_reliably held respond) (is_dialog_response held respond.status)
+
+-- ---- what a held request keeps
+
 -- a PRACK came of the response of RSeq 1 to this INVITE, in the dialog that its tag makes
 pub record Pracked (Brought : Arrival → Type 0) (invite : Arrival) : Type 0 where
   pub prack : Arrival
@@ -250,71 +334,6 @@ module _ (Brought : Arrival → Type 0) (Gave : Id → ℕ → Message → Type 
       (list_any is_given_up ledger.waiting) none))
 
   module _ (local : Addr) (held : HeldRequest) (respond : Respond) where
-    -- the response, as it is sent reliably or not, and with a route or without
-    abbrev sent_so : Bool → Bool → Message
-    sent_so reliable routed =
-        let plain = if routed then record (response_of held.request respond.status respond.reason
-        held.tag) {
-          contacts = contact_of local ∷ [];
-          record_routes = held.request.record_routes;
-        } else response_of held.request respond.status respond.reason held.tag in
-        with_content_of (if reliable
-        then record plain { require = codes "100rel" ∷ []; rseq = Some held.ledger.next }
-        else plain) respond.content
-
-    -- what it copies, and its RSeq
-    record SentSo (reliable : Bool) (response : Message) : Type 0 where
-      pub copies : IsResponseTo held.request response
-      pub to : response.to ≡ answering_to held.request.to respond.status held.tag
-      pub rseq : response.rseq ≡ (if reliable then Some held.ledger.next else None)
-
-    so_sent : (reliable routed : Bool) → SentSo reliable (sent_so reliable routed)
-    unfolding with_content_of
-    so_sent true true = record {
-      copies = record {
-        vias = refl;
-        from = refl;
-        to = answered_to held.request respond.status held.tag;
-        call_id = refl;
-        cseq = refl;
-      };
-      to = refl;
-      rseq = refl;
-    }
-    so_sent true false = record {
-      copies = record {
-        vias = refl;
-        from = refl;
-        to = answered_to held.request respond.status held.tag;
-        call_id = refl;
-        cseq = refl;
-      };
-      to = refl;
-      rseq = refl;
-    }
-    so_sent false true = record {
-      copies = record {
-        vias = refl;
-        from = refl;
-        to = answered_to held.request respond.status held.tag;
-        call_id = refl;
-        cseq = refl;
-      };
-      to = refl;
-      rseq = refl;
-    }
-    so_sent false false = record {
-      copies = record {
-        vias = refl;
-        from = refl;
-        to = answered_to held.request respond.status held.tag;
-        call_id = refl;
-        cseq = refl;
-      };
-      to = refl;
-      rseq = refl;
-    }
-
     module _ (holds : Holds held) (sends : Sends held respond)
         (gave : (rseq : ℕ) → (response_sent local held respond).rseq ≡ Some rseq
         → Gave held.id rseq (response_sent local held respond)) where
@@ -339,8 +358,9 @@ module _ (Brought : Arrival → Type 0) (Gave : Id → ℕ → Message → Type 
           })
           (λ plain. absurd (no_rseq rseq (sym (ap number plain) ∙ (sym sent.rseq ∙ is))))
         where
-          sent : SentSo (is_sent_reliably held respond) (response_sent local held respond)
-          sent = so_sent (is_sent_reliably held respond) (is_dialog_response held respond.status)
+          sent : SentSo local held respond (is_sent_reliably held respond)
+              (response_sent local held respond)
+          sent = was_sent local held respond
 
           same_number : (one two : ℕ) → Some one ≡ Some two → one ≡ two
           same_number one two same = cc

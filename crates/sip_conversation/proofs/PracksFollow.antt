@@ -42,7 +42,7 @@ use Rattle.sip_conversation.specs.Provisionals.{SaidReliably, told_reliably}
 use Rattle.sip_conversation.specs.Replies.{AreCounted, IsStartedFor}
 use Rattle.sip_conversation.proofs.AckTexts.{is_ack}
 use Rattle.sip_conversation.proofs.Among.{each_of, none_among}
-use Rattle.sip_conversation.proofs.CallBranches.{OutIsOwn, all_own}
+use Rattle.sip_conversation.proofs.CallBranches.{AnyCancel, OutIsOwn, all_own, any_inputs}
 use Rattle.sip_conversation.proofs.Fronts.{carried_before, carried_to, keeps_before, keeps_to}
 use Rattle.sip_conversation.proofs.OneCallId.{out_replies}
 use Rattle.sip_conversation.proofs.Origins.{IsOrigin, inputs_come}
@@ -94,12 +94,13 @@ module _ (config : Config) (rounds : List Round)
         → Contains (said_of_call config rounds call_id)
         (call_out.Command id (order.Start key of prack to)) → prack.call_id ≡ call_id
     own_call id key of prack to among =
-        let IsOwn = OutIsOwn calls call_id (IsOrigin config rounds call_id) in
+        let IsOwn = OutIsOwn calls call_id (IsOrigin config rounds call_id) AnyCancel in
         (each_of IsOwn (said_of_call config rounds call_id)
         (call_out.Command id (order.Start key of prack to))
         (subst (AllByRecursion IsOwn) (sym same_so)
-        (all_own calls call_id (IsOrigin config rounds call_id) None inputs
-        (inputs_come config rounds call_id) tt tt)) among).own.call
+        (all_own calls call_id (IsOrigin config rounds call_id) AnyCancel None inputs
+        (inputs_come config rounds call_id)
+        (any_inputs calls call_id (IsOrigin config rounds call_id) inputs) tt tt)) among).own.call
 
 -- ---- a turn
 
@@ -150,8 +151,8 @@ module _ (configs : Side → Config) (fair : IsFair configs) (before : List Turn
         (tag_of response.from) (tag_of response.to) response.body reply begun in
         record {
           so = so;
-          call = λ few. (own_reply configs fair.calls before turn was.up.call_id was.up.id status
-              (tag_of response.from) (tag_of response.to) response.body reply begun few).call
+          call = λ few. (own_reply configs fair.calls before turn was.up.call_id was.up.id
+              reply.original status reply.status_is reply.request begun few).call
               ∙ of_up configs fair before turn call_id HasIt name rack.cseq was;
           cseq = λ few. ap (λ (c : CSeq). c.number)
               (reply.request.copies.cseq ∙ (own few).alike.cseq) ∙ was.number_is;

@@ -43,7 +43,7 @@ use Rattle.sip_conversation.proofs.PracksCame.{Holds, OutGiven, OutsGave, OutsGi
 
 -- ---- lists
 
-found_so : {X : Type 0} (p : X → Bool) (xs : List X) (x : X) → find p xs ≡ Some x
+pub found_so : {X : Type 0} (p : X → Bool) (xs : List X) (x : X) → find p xs ≡ Some x
     → Contains xs x × (p x ≡ true)
 found_so p [] x is = absurd cc
 found_so p (y ∷ ys) x is = by_first (p y) refl is (λ later. found_so p ys x later)

@@ -30,12 +30,12 @@ use Rattle.sip_round.specs.declared.config.Config.{Config}
 use Rattle.sip_round.specs.declared.round.Round.{Round}
 use Rattle.sip_round.specs.Answers.{calls_of}
 use Rattle.sip_round.specs.Laws.{ProvisionalsInLives, call_inputs_of}
-use Rattle.sip_conversation.specs.Answers.{IsAnswered, RespondsSo, own_statuses}
+use Rattle.sip_conversation.specs.Answers.{AnswersItself, IsAnswered, RespondsTo}
+use Rattle.sip_conversation.specs.Answers.AnswersItself.{Accepts, BadExtension, Merged, NoDialog, OutOfOrder, Proceeds, Terminates}
 use Rattle.sip_conversation.specs.Answers.IsAnswered.{ByAgent, ByUser}
 use Rattle.sip_conversation.specs.Conversation.{Carried, Side, Turn, peer, rounds_of}
 use Rattle.sip_conversation.specs.Messages.{CallsKeepRules}
 use Rattle.sip_conversation.specs.Provisionals.{IsSaidReliably, ProvisionalsToldAsSaid, SaidReliably, rseqs_told, told_from, told_with}
-use Rattle.sip_conversation.proofs.Among.{each_of}
 use Rattle.sip_conversation.proofs.CallOuts.{InputFits, KindTells, NoticeTells, OutFits, ResponseTells, step_fits}
 use Rattle.sip_conversation.proofs.Fronts.{carried_before, carried_to, keeps_before, keeps_to}
 use Rattle.sip_conversation.proofs.OneTransaction.{KindCame}
@@ -76,29 +76,26 @@ rseqs_shown calls invite life call (timed ∷ inputs) =
 -- ---- who gives them
 
 -- a status that the agent gives by itself isn't that of a reliable provisional response
-module _ (response : Message) (rseq : ℕ) where
+module _ (config : Config) (rounds : List Round) (request response : Message) (rseq : ℕ) where
   abbrev IsNone : ℕ → Type 0
   IsNone status = provisional_number (Some status) response ≡ Some rseq → ⊥
 
-  own_none : AllByRecursion IsNone own_statuses
-  own_none = (
-    λ is. absurd cc,
-    (
-      λ is. absurd cc,
-      (
-        λ is. absurd cc,
-        (λ is. absurd cc, (λ is. absurd cc, (λ is. absurd cc, (λ is. absurd cc, tt)))),
-      ),
-    ),
-  )
+  own_none : (status : ℕ) → AnswersItself config rounds request status → IsNone status
+  own_none status (Proceeds is) = subst IsNone (sym is) (λ number. absurd cc)
+  own_none status (Accepts is why) = subst IsNone (sym is) (λ number. absurd cc)
+  own_none status (BadExtension is why) = subst IsNone (sym is) (λ number. absurd cc)
+  own_none status (NoDialog is why) = subst IsNone (sym is) (λ number. absurd cc)
+  own_none status (Merged is why) = subst IsNone (sym is) (λ number. absurd cc)
+  own_none status (Terminates is invite why) =
+      subst IsNone (sym is) (λ number. absurd cc)
+  own_none status (OutOfOrder is why) = subst IsNone (sym is) (λ number. absurd cc)
 
-by_user : (config : Config) (rounds : List Round) (response : Message) (rseq status : ℕ)
-    (body : List ℕ) → provisional_number (Some status) response ≡ Some rseq
-    → IsAnswered config rounds status body → RespondsSo config rounds status body
-by_user config rounds response rseq status body number (ByUser responds) = responds
-by_user config rounds response rseq status body number (ByAgent among none) =
-    absurd (each_of (IsNone response rseq) own_statuses status (own_none response rseq) among
-    number)
+  by_user : (status : ℕ) (body : List ℕ)
+      → provisional_number (Some status) response ≡ Some rseq
+      → IsAnswered config rounds request status body
+      → RespondsTo config rounds request status body
+  by_user status body number (ByUser responds) = responds
+  by_user status body number (ByAgent why none) = absurd (own_none status why number)
 
 module _ (configs : Side → Config) (fair : IsFair configs) (before : List Turn) (turn : Turn)
     (carried : Carried configs before) (keep : CallsKeepRules configs before) where
@@ -130,7 +127,7 @@ module _ (configs : Side → Config) (fair : IsFair configs) (before : List Turn
           response = so.said;
           number = numbered;
           by_user = by_user (configs (peer turn.side)) (rounds_of (peer turn.side) before)
-              response rseq status response.body here so.said.answered;
+              so.said.request.request response rseq status response.body here so.said.answered;
           pracked = prack_said configs before turn.side (fair.calls (peer turn.side))
               (inputs_unchanged fair.transactions configs fair.addresses before carried keep
               (peer turn.side)) so.said.original so.said.said status rseq so.said.status_is

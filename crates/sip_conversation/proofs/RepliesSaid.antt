@@ -138,9 +138,9 @@ module _ (configs : Side → Config) (fair : IsFair configs) (before : List Turn
           from = ap (λ m. tag_of m.from) whole;
           to = ap (λ m. tag_of m.to) whole;
           body_is = ap (λ m. m.body) whole;
-          answered = subst (IsAnswered (configs other) (rounds_of other before) status)
-              (ap (λ m. m.body) whole) answer.answered;
           request = answer.request;
+          answered = subst (IsAnswered (configs other) (rounds_of other before)
+              answer.request.request status) (ap (λ m. m.body) whole) answer.answered;
         };
         whole = whole;
       }
@@ -165,8 +165,8 @@ module _ (configs : Side → Config) (fair : IsFair configs) (before : List Turn
   told_response call_id id response status so started =
       let begun = subst (IsStartedFor (configs turn.side)
       (rounds_of turn.side (before ++ turn ∷ [])) call_id id) (sym so.whole) started in
-      let own = own_reply configs fair.calls before turn call_id id status (tag_of response.from)
-      (tag_of response.to) response.body so.said begun in
+      let own = own_reply configs fair.calls before turn call_id id so.said.original status
+      so.said.status_is so.said.request begun in
       record {
         response = so.said;
         started = begun;

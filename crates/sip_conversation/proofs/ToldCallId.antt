@@ -1,7 +1,7 @@
 -- A response that is told has the Call-ID with which it is told, and answers the request of the id
 -- with which it is told.
 use Rattle.std.proofs.Common.{◌≡◌, ℕ, Bool, true, List, [], ◌∷◌, ◌++◌, refl, sym, ap, ◌∙◌, subst, codes}
-use Rattle.std.specs.Prelude.{if◌then◌else◌}
+use Rattle.std.specs.Prelude.{Some, if◌then◌else◌}
 use Rattle.std.specs.List.{slice_get}
 use Rattle.std.specs.Option.{option_map_or}
 use Rattle.std.proofs.lemmas.Bool.{false≢true}
@@ -23,12 +23,14 @@ use Rattle.keyed_machine.proofs.Ordered.{by_bool}
 use Rattle.sip_transactions.specs.declared.input.Input.TheVariants.{Start}
 use Rattle.sip_calls.specs.Call.{call_machine}
 use Rattle.sip_calls.specs.CallShard.{call_cmp}
+use Rattle.sip_clients.specs.Clients.{status_of}
 use Rattle.sip_round.specs.declared.config.Config.{Config}
 use Rattle.sip_round.specs.Answers.{calls_of}
+use Rattle.sip_conversation.specs.Answers.{AnswersARequest}
 use Rattle.sip_conversation.specs.Conversation.{Side, Turn, peer, rounds_of}
 use Rattle.sip_conversation.specs.Conversation as side
 use Rattle.sip_conversation.specs.Messages.{ComesUnchanged, IsGiven, IsSaid, come_from}
-use Rattle.sip_conversation.specs.Replies.{AreCounted, IsStartedFor, SaidResponse}
+use Rattle.sip_conversation.specs.Replies.{AreCounted, IsStartedFor}
 use Rattle.sip_conversation.proofs.Longer.{rounds_of-append}
 use Rattle.sip_conversation.proofs.OneCallId.{one_start_of}
 use Rattle.sip_conversation.proofs.StartedFor.{response_key}
@@ -82,21 +84,21 @@ module _ (configs : Side → Config)
     pub same : (response.cseq.method ≡ codes "CANCEL" → ⊥)
         → came ≡ come_from (configs turn.side).local request
 
-  pub own_reply : (call_id : List ℕ) (id : Id) (status : ℕ) (local_tag remote_tag body : List ℕ)
-      → (said : SaidResponse configs before turn.side status local_tag remote_tag body)
+  pub own_reply : (call_id : List ℕ) (id : Id) (response : Message) (status : ℕ)
+      → status_of response.start ≡ Some status
+      → (answers : AnswersARequest (ComesUnchanged configs before (peer turn.side)) response)
       → (started : IsStartedFor (configs turn.side) (rounds_of turn.side whole) call_id id
-      said.original)
+      response)
       → AreCounted (configs turn.side) (rounds_of turn.side whole)
-      → IsOwnReply call_id said.original said.request.request started.request
-  own_reply call_id id status local_tag remote_tag body said started few =
+      → IsOwnReply call_id response answers.request started.request
+  own_reply call_id id response status is answers started few =
       let s = turn.side in
-      let response = said.original in
-      let came = said.request.request in
-      let copies = said.request.copies in
-      let comes : ComesUnchanged configs before (peer s) came = said.request.came in
+      let came = answers.request in
+      let copies = answers.copies in
+      let comes : ComesUnchanged configs before (peer s) came = answers.came in
       let asked = comes.original in
       let same : IsSame came asked =
-      came_same (configs (peer (peer s))).local came asked comes.same said.request.is_request in
+      came_same (configs (peer (peer s))).local came asked comes.same answers.is_request in
       let spoken : IsSaid (configs s) (rounds_of s before) asked =
       subst (λ p. IsSaid (configs p) (rounds_of p before) asked) (peer_peer s) comes.said in
       let branch : top_branch response ≡ top_branch asked =
@@ -105,7 +107,7 @@ module _ (configs : Side → Config)
       let method : response.cseq.method ≡ asked.cseq.method =
       ap (λ (cseq : CSeq). cseq.method) copies.cseq ∙ same.method in
       let key : key_of_message response ≡ client_key (top_branch asked) asked.cseq.method =
-      response_key response status said.status_is ∙ (λ i. client_key (branch i) (method i)) in
+      response_key response status is ∙ (λ i. client_key (branch i) (method i)) in
       let longer = rounds_of-append s before (turn ∷ []) in
       let so = one_start_of (configs s) (alone s) (rounds_of s before) (rounds_of s (turn ∷ []))
       (subst (AreCounted (configs s)) longer few) asked spoken same.asks comes.rules.method

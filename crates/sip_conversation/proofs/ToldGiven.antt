@@ -40,14 +40,15 @@ use Rattle.sip_round.specs.Answers.{calls_of, past_of}
 use Rattle.sip_round.specs.Laws.{call_inputs_of}
 use Rattle.sip_round.proofs.CallEvents.{events_differ}
 use Rattle.sip_round.proofs.Said.{call_alone}
-use Rattle.sip_conversation.specs.ComeWhole.{IsToldOf, TellsOf}
+use Rattle.sip_conversation.specs.Answers.{IsHandedUp}
+use Rattle.sip_conversation.specs.ComeWhole.{IsNoticeFor, IsOfRequest, IsToldOf, TellsOf}
 use Rattle.sip_conversation.specs.Conversation.{Carried, Side, Turn, peer, rounds_of}
-use Rattle.sip_conversation.specs.Messages.{CallSays, CallsKeepRules, ComesUnchanged, IsGiven as WasGiven, come_from}
+use Rattle.sip_conversation.specs.Messages.{CallSays, CallsKeepRules, ComesUnchanged, ComesUp, IsGiven as WasGiven, come_from}
 use Rattle.sip_conversation.specs.Replies.{AreCounted, IsStartedFor}
 use Rattle.sip_conversation.proofs.Among.{among_first, each_of}
 use Rattle.sip_conversation.proofs.AmongInputs.{out_of_first_inputs}
 use Rattle.sip_conversation.proofs.Branches.{Own}
-use Rattle.sip_conversation.proofs.CallBranches.{InputComes, held_own, HeldOwn}
+use Rattle.sip_conversation.proofs.CallBranches.{AnyCancel, HeldOwn, InputComes, any_inputs, held_own}
 use Rattle.sip_conversation.proofs.CallOuts.{InputFits, KindTells, OutFits, step_fits, ResponseTells}
 use Rattle.sip_conversation.proofs.ClientsSent.{WentOut, held_went}
 use Rattle.sip_conversation.proofs.Longer.{rounds_of-append}
@@ -136,6 +137,7 @@ module _ (configs : Side → Config) (fair : IsFair configs) (before : List Turn
       pub tells : IsToldOf (rseq, one) (rseq, response)
       pub answer : IsGiven (OfCall CameThere call_id) (calls_of there) inputs_there id rseq response
       pub named : (life.name).remote ≡ name_of there.seed answer.event 0
+      pub notice : IsNoticeFor configs before turn call_id id one
 
     -- all of one dialog are given to one request
     pub same_request : (rseq other : ℕ) (told later : CallOut) → (first : IsGivenThere rseq told)
@@ -237,24 +239,26 @@ module _ (configs : Side → Config) (fair : IsFair configs) (before : List Turn
             sends = early.sends;
           }
 
-      its : Own here.seed call_id (IsOrigin here rounds_here call_id) reply.client
+      its : Own here.seed call_id (IsOrigin here rounds_here call_id) AnyCancel reply.client
       its =
           let CameHere = IsOrigin here rounds_here call_id in
-          let IsOwnClient = Own here.seed call_id CameHere in
+          let IsOwnClient = Own here.seed call_id CameHere AnyCancel in
           let TimedIs : Timed CallItem → Type 0 = λ timed.
-          InputComes (calls_of here) call_id CameHere timed.input in
+          InputComes (calls_of here) call_id CameHere AnyCancel timed.input in
           let parts = all_of_parts TimedIs at.before (at.timed ∷ at.after)
           (subst (AllByRecursion TimedIs) at.are (inputs_come here rounds_here call_id)) in
-          by_state state (held_own (calls_of here) call_id CameHere None at.before parts.0 tt tt)
+          by_state state (held_own (calls_of here) call_id CameHere AnyCancel None at.before parts.0
+          (any_inputs (calls_of here) call_id CameHere at.before) tt tt)
           reply.held
         where
           by_state : (state : Option Call)
-              → HeldOwn (calls_of here) call_id (IsOrigin here rounds_here call_id) state
+              → HeldOwn (calls_of here) call_id (IsOrigin here rounds_here call_id) AnyCancel state
               → client_at reply.up.id (side_held state).clients ≡ Some reply.client
-              → Own here.seed call_id (IsOrigin here rounds_here call_id) reply.client
+              → Own here.seed call_id (IsOrigin here rounds_here call_id) AnyCancel reply.client
           by_state None own held = absurd cc
           by_state (Some call) own held =
-              let IsOwnClient = Own here.seed call_id (IsOrigin here rounds_here call_id) in
+              let IsOwnClient =
+              Own here.seed call_id (IsOrigin here rounds_here call_id) AnyCancel in
               subst (λ o. IfSome o IsOwnClient) held
               (found_one IsOwnClient (is_id reply.up.id) call.clients own)
 
@@ -311,15 +315,13 @@ module _ (configs : Side → Config) (fair : IsFair configs) (before : List Turn
           begun.request
       own =
           let answer = found.answer in
-          own_reply configs fair.calls before turn call_id reply.up.id answer_status.0
-          (tag_of reply.response.from) (tag_of reply.response.to) reply.response.body
-          (record (so.said).response {
-            request = record {
-              request = answer.request;
-              is_request = answer.brought.2;
-              came = answer.brought.0;
-              copies = answer.copies;
-            };
+          own_reply configs fair.calls before turn call_id reply.up.id original answer_status.0
+          ((so.said).response).status_is
+          (record {
+            request = answer.request;
+            is_request = answer.brought.2;
+            came = answer.brought.0;
+            copies = answer.copies;
           })
           begun few
 
@@ -394,6 +396,60 @@ module _ (configs : Side → Config) (fair : IsFair configs) (before : List Turn
           subst (InputFits Tells) (sym reply.comes)
           (subst (KindTells Tells reply.up.call_id reply.up.id) (sym reply.kind_is) response_tells)
 
+      -- it names the INVITE that is answered
+      abbrev Names : List ℕ → Id → ℕ → List ℕ → List ℕ → List ℕ → Type 0
+      Names of id status local_tag remote_tag body =
+          IsOfRequest configs before turn call_id found.id of id
+
+      names : (out : CallOut) → is_response out ≡ true → OutFits Names out
+          → IsNoticeFor configs before turn call_id found.id out
+      names (call_out.Notice (notice.Response of id status local_tag remote_tag body)) is fits =
+          fits
+      names (call_out.Notice (notice.Request of id name local_tag remote_tag body)) is fits =
+          absurd (false≢true is)
+      names (call_out.Notice (notice.Ack of id body)) is fits = absurd (false≢true is)
+      names (call_out.Notice (notice.Prack of id rseq body)) is fits = absurd (false≢true is)
+      names (call_out.Notice (notice.Timeout of id)) is fits = absurd (false≢true is)
+      names (call_out.Notice (notice.Failed of id)) is fits = absurd (false≢true is)
+      names (call_out.Notice (notice.NoAck of id)) is fits = absurd (false≢true is)
+      names (call_out.Notice (notice.NoPrack of id)) is fits = absurd (false≢true is)
+      names (call_out.Notice (notice.Cancel of id)) is fits = absurd (false≢true is)
+      names (call_out.Notice (notice.Ended of local_tag remote_tag)) is fits =
+          absurd (false≢true is)
+      names (call_out.Notice (notice.Refused of place why)) is fits = absurd (false≢true is)
+      names (call_out.Command id command) is fits = absurd (false≢true is)
+      names (call_out.Direct to bytes) is fits = absurd (false≢true is)
+
+      handed : IsHandedUp there rounds_there (found.answer).request (found.answer).up
+      handed =
+          let answer = found.answer in record {
+            reply_to = answer.reply_to;
+            kind_is = answer.is_request;
+            comes = subst (λ c. ComesUp there rounds_there c answer.up) (sym answer.brought.1)
+                (answer.now, answer.event, answer.came);
+          }
+
+      response_names : ResponseTells Names reply.up.call_id reply.up.id reply.response
+      response_names other is = record {
+        call_id_is = of_call;
+        invite = begun.request;
+        method_is = ap (λ (m : Message). m.cseq.method) same_invite
+            ∙ its.invites (ap is_invite_kind reply.initial);
+        key = key_of_message original;
+        to = begun.to;
+        started = begun.given;
+        up = (found.answer).up;
+        came = subst (λ (m : Message). IsHandedUp there rounds_there m (found.answer).up)
+            (own.same (λ cancel. no_cancel (sym cancel ∙ invites))) handed;
+        id_is = (found.answer).id_is;
+      }
+
+      input_names : InputFits Names (at.timed).input
+      input_names =
+          subst (InputFits Names) (sym reply.comes)
+          (subst (KindTells Names reply.up.call_id reply.up.id) (sym reply.kind_is)
+          response_names)
+
       pub is_given : IsGivenThere rseq one
       is_given = record {
         id = found.id;
@@ -406,4 +462,9 @@ module _ (configs : Side → Config) (fair : IsFair configs) (before : List Turn
         answer = subst (λ c. IsGiven (OfCall CameThere c) (calls_of there)
             (call_inputs_of there rounds_there c) found.id rseq original) call_is found.answer;
         named = its_name;
+        notice = names one at.is
+            (each_of (OutFits Names)
+            (call_step (calls_of here) state (at.timed).input (at.timed).moment).1 one
+            (step_fits Names (calls_of here) state (at.timed).input (at.timed).moment input_names)
+            at.among);
       }

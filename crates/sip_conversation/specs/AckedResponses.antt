@@ -1,6 +1,6 @@
 -- An ACK that a call sends follows the 2xx that it acknowledges: the user was told of that (RFC
 -- 3261, section 13.2.2.4).
-use Rattle.std.specs.Prelude.{◌≡◌, ◌⊎◌, ℕ, true, false, List, [], ◌∷◌, ◌++◌, Contains, codes}
+use Rattle.std.specs.Prelude.{◌≡◌, ◌≢◌, ◌⊎◌, ℕ, true, false, List, [], ◌∷◌, ◌++◌, Contains, codes}
 use Rattle.sip_message.specs.declared.addr.Addr.{Addr}
 use Rattle.sip_message.specs.declared.id.Id.{Id}
 use Rattle.sip_message.specs.declared.message.Message.{Message}
@@ -10,12 +10,14 @@ use Rattle.sip_message.specs.Rules.{IsMessage}
 use Rattle.sip_message.specs.Written.{written}
 use Rattle.sip_held_dialogs.specs.Requests.{dialog_id_of_tags, has_to_tag, is_success}
 use Rattle.sip_held_dialogs.specs.declared.held_dialog.DialogId.{DialogId}
+use Rattle.sip_transactions.specs.declared.input.Command.{Command}
+use Rattle.sip_user.specs.declared.item.CallOut.TheVariants as call_out
 use Rattle.sip_user.specs.declared.item.CallOut.TheVariants.{Direct}
 use Rattle.sip_user.specs.declared.notice.Notice.TheVariants.{Response}
 use Rattle.sip_round.specs.declared.config.Config.{Config}
 use Rattle.sip_round.specs.declared.output.Output.TheVariants.{Notice}
 use Rattle.sip_conversation.specs.Conversation.{Side, Turn, given_by, rounds_of}
-use Rattle.sip_conversation.specs.Messages.{CallSays}
+use Rattle.sip_conversation.specs.Messages.{CallSays, message_of}
 use Rattle.sip_conversation.specs.Replies.{AreCounted, ToldResponse}
 
 -- Up to a turn's end the user of its side was told of a 2xx under this Call-ID. The other side said
@@ -51,10 +53,20 @@ pub record IsAckOfSuccess (configs : Side → Config) (before : List Turn) (turn
   pub follows : FollowsSuccess configs before turn ack.call_id
       (dialog_id_of_tags (tag_of ack.from) (tag_of ack.to)) ack.cseq.number
 
--- so is each text that a call of a turn's side sent directly up to the turn's end
+-- Up to a turn's end each text that a call of its side sent directly is that of such an ACK, and no
+-- call asked a transaction to send an ACK.
+pub record AcksFollow (configs : Side → Config) (before : List Turn) (turn : Turn) : Type 0 where
+  pub direct : (to : Addr) (text : List ℕ)
+      → CallSays (configs turn.side) (rounds_of turn.side (before ++ turn ∷ [])) (Direct to text)
+      → IsAckOfSuccess configs before turn text
+  pub asked : (id : Id) (command : Command)
+      → CallSays (configs turn.side) (rounds_of turn.side (before ++ turn ∷ []))
+      (call_out.Command id command)
+      → is_request_message (message_of command) ≡ true
+      → (message_of command).cseq.method ≢ codes "ACK"
+
+-- in every turn
 abbrev pub AcksFollowResponses : (Side → Config) → List Turn → Type 0
 AcksFollowResponses configs turns =
     (before after : List Turn) (turn : Turn) → turns ≡ before ++ turn ∷ after
-    → (to : Addr) (text : List ℕ)
-    → CallSays (configs turn.side) (rounds_of turn.side (before ++ turn ∷ [])) (Direct to text)
-    → IsAckOfSuccess configs before turn text
+    → AcksFollow configs before turn

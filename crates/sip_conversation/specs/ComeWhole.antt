@@ -1,14 +1,18 @@
 -- The reliable provisional responses to the INVITE of a call that a user is told of in one life of
 -- a dialog are consecutive ones of those that the other user gave, in order. If he is told of no
 -- others in that dialog, they are the first ones (RFC 3262, sections 3 and 4).
-use Rattle.std.specs.Prelude.{◌≡◌, ◌≢◌, ℕ, List, [], ◌∷◌, ◌++◌, Option, None, Some, filter_map, if◌then◌else◌}
-use Rattle.std.specs.List.{AllZip}
+use Rattle.std.specs.Prelude.{◌≡◌, ◌≢◌, ℕ, suc, List, [], ◌∷◌, ◌++◌, Option, None, Some, codes, filter_map, if◌then◌else◌}
+use Rattle.std.specs.List.{AllByRecursion, AllZip}
 use Rattle.std.specs.Option.{option_map}
+use Rattle.sip_message.specs.declared.addr.Addr.{Addr}
 use Rattle.sip_message.specs.declared.id.Id.{Id}
+use Rattle.sip_message.specs.declared.key.Key.{Key}
 use Rattle.sip_message.specs.declared.message.Message.{Message}
 use Rattle.sip_message.specs.Party.{tag_of}
 use Rattle.keyed_machine.specs.Machine.{Timed}
 use Rattle.sip_transactions.specs.declared.input.Command.TheVariants.{Answer}
+use Rattle.sip_transactions.specs.declared.input.Input.TheVariants.{Start}
+use Rattle.sip_transactions.specs.declared.output.Up.{Up as AnUp}
 use Rattle.sip_user.specs.declared.command.UserCommand.TheVariants.{Respond}
 use Rattle.sip_held_dialogs.specs.declared.held_dialog.DialogReference.{DialogReference}
 use Rattle.sip_user.specs.declared.item.CallOut.{CallOut}
@@ -24,7 +28,9 @@ use Rattle.sip_calls.specs.Call.{CallItem, call_step}
 use Rattle.sip_round.specs.declared.config.Config.{Config}
 use Rattle.sip_round.specs.Answers.{calls_of}
 use Rattle.sip_round.specs.Laws.{call_inputs_of}
+use Rattle.sip_conversation.specs.Answers.{IsHandedUp}
 use Rattle.sip_conversation.specs.Conversation.{Side, Turn, peer, rounds_of}
+use Rattle.sip_conversation.specs.Messages.{IsGiven, come_from}
 use Rattle.sip_conversation.specs.Provisionals.{rseqs_told, told_reliably}
 use Rattle.sip_conversation.specs.Replies.{AreCounted}
 
@@ -65,6 +71,12 @@ IsToldOf (rseq, Notice (Response call_id id status local_tag remote_tag body)) (
     (rseq ≡ number) × TellsOf status local_tag remote_tag body response
 IsToldOf _ _ = ⊥
 
+-- the RSeqs of these responses are this number and those after it
+abbrev pub AreNumberedFrom : ℕ → List (ℕ × Message) → Type 0
+AreNumberedFrom number [] = Unit {0}
+AreNumberedFrom number (given ∷ later) =
+    (given.0 ≡ number) × AreNumberedFrom (suc number) later
+
 -- the notices tell of consecutive ones of these responses, each of one, in order
 pub record TellRun (told : List (ℕ × CallOut)) (given : List (ℕ × Message)) : Type 0 where
   pub earlier : List (ℕ × Message)
@@ -87,11 +99,36 @@ module _ (configs : Side → Config) (before : List Turn) (turn : Turn) (call_id
   given_reliably request = given_from (calls_of (configs (peer turn.side))) request None
       (call_inputs_of (configs (peer turn.side)) (rounds_of (peer turn.side) before) call_id)
 
+  -- A notice under this Call-ID and this id is of the request that came up to the other side under
+  -- the id `request`: a transaction of this side was started under its id with an INVITE of this
+  -- call, and that INVITE came up there, with the stamp of its source.
+  pub record IsOfRequest (request : Id) (of : List ℕ) (id : Id) : Type 0 where
+    pub call_id_is : of ≡ call_id
+    pub invite : Message
+    pub method_is : invite.cseq.method ≡ codes "INVITE"
+    pub key : Key
+    pub to : Addr
+    pub started : IsGiven (configs turn.side) (rounds_of turn.side (before ++ turn ∷ [])) key
+        (Start id call_id invite to)
+    pub up : AnUp
+    pub came : IsHandedUp (configs (peer turn.side)) (rounds_of (peer turn.side) before)
+        (come_from (configs turn.side).local invite) up
+    pub id_is : up.id ≡ request
+
+  abbrev pub IsNoticeFor : Id → CallOut → Type 0
+  IsNoticeFor request (Notice (Response of id status local_tag remote_tag body)) =
+      IsOfRequest request of id
+  IsNoticeFor request _ = ⊥
+
   -- Those to the INVITE of the call that the user was told of in this life are consecutive ones of
-  -- those that the other user gave to one request. If he was told of no others in that dialog, they
-  -- are the first ones.
+  -- those that the other user gave to one request, which is that INVITE. Those that he gave to it
+  -- have the RSeqs 1, 2, 3 and so on. If this side's user was told of no others in that dialog, he
+  -- was told of the first ones.
   pub record ToldWhole (life : DialogReference) : Type 0 where
     pub request : Id
+    pub of_request : AllByRecursion (λ told. IsNoticeFor request told.1)
+        (told_reliably configs before turn call_id OfTheCall life)
+    pub numbers : AreNumberedFrom 1 (given_reliably request)
     pub told : TellRun (told_reliably configs before turn call_id OfTheCall life)
         (given_reliably request)
     pub front : NoOthersTold OfTheCall life → told.earlier ≡ []

@@ -1,4 +1,5 @@
 pub mod Answers
+pub mod Cancels
 pub mod ComeWhole
 pub mod Commands
 pub mod Conversation

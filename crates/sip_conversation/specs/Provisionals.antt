@@ -20,7 +20,7 @@ use Rattle.sip_round.specs.declared.config.Config.{Config}
 use Rattle.sip_round.specs.declared.round.Round.{Round}
 use Rattle.sip_round.specs.Answers.{calls_of}
 use Rattle.sip_round.specs.Laws.{call_inputs_of}
-use Rattle.sip_conversation.specs.Answers.{RespondsSo}
+use Rattle.sip_conversation.specs.Answers.{RespondsTo}
 use Rattle.sip_conversation.specs.Conversation.{Side, Turn, peer, rounds_of}
 use Rattle.sip_conversation.specs.Messages.{IsSaid}
 use Rattle.sip_conversation.specs.Replies.{SaidResponse}
@@ -56,13 +56,14 @@ pub record SaidPrack (config : Config) (rounds : List Round) (response : Message
       ≡ dialog_id_of_tags (tag_of response.from) (tag_of response.to)
 
 -- In these turns the other side said such a response as a reliable provisional one, with this RSeq
--- and a tag in To, because its user responded that way. If the RSeq is above 1, this side said the
--- PRACK of the first in these turns.
+-- and a tag in To, because its user answered the request that way. If the RSeq is above 1, this
+-- side said the PRACK of the first in these turns.
 pub record SaidReliably (configs : Side → Config) (turns : List Turn) (side : Side)
     (rseq status : ℕ) (local_tag remote_tag body : List ℕ) : Type 0 where
   pub response : SaidResponse configs turns side status local_tag remote_tag body
   pub number : provisional_number (Some status) response.original ≡ Some rseq
-  pub by_user : RespondsSo (configs (peer side)) (rounds_of (peer side) turns) status body
+  pub by_user : RespondsTo (configs (peer side)) (rounds_of (peer side) turns)
+      response.request.request status body
   pub pracked : 1 < rseq → SaidPrack (configs side) (rounds_of side turns) response.original
 
 -- it is the notice of a response, and the other side said that response

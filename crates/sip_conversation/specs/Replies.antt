@@ -19,8 +19,8 @@ use Rattle.sip_conversation.specs.Conversation.{Side, Turn, given_by, peer, roun
 use Rattle.sip_conversation.specs.Messages.{ComesUnchanged, IsGiven, IsSaid, come_from}
 
 -- In these turns the other side said a response with this status, these tags in From and To, and
--- this body. It is an answer of its user or of the agent itself, to a request that came to it. This
--- side said that request, except for the stamp.
+-- this body. It answers a request that came to it, and that this side said, except for the stamp.
+-- Its user answered that request so, or the agent did by itself.
 pub record SaidResponse (configs : Side → Config) (turns : List Turn) (side : Side) (status : ℕ)
     (local_tag remote_tag body : List ℕ) : Type 0 where
   pub original : Message
@@ -30,8 +30,9 @@ pub record SaidResponse (configs : Side → Config) (turns : List Turn) (side : 
   pub from : tag_of original.from ≡ local_tag
   pub to : tag_of original.to ≡ remote_tag
   pub body_is : original.body ≡ body
-  pub answered : IsAnswered (configs (peer side)) (rounds_of (peer side) turns) status body
   pub request : AnswersARequest (ComesUnchanged configs turns (peer side)) original
+  pub answered : IsAnswered (configs (peer side)) (rounds_of (peer side) turns) request.request
+      status body
 
 -- the rounds have numbers below 2 ^ 64, and fewer than 2 ^ 64 events each; a branch is made of 64
 -- bits of each number, so it tells these events apart

@@ -4,6 +4,7 @@ ghost use Rattle.std.specs.Prelude.{List};
 ghost use Rattle.sip_message.specs.Addr.{IsAddr};
 ghost use Rattle.sip_conversation.specs.AckedResponses.{AcksFollowResponses};
 ghost use Rattle.sip_conversation.specs.Acks.{AcksToldWereSaid};
+ghost use Rattle.sip_conversation.specs.Cancels.{CancelsToldWereAskedFor};
 ghost use Rattle.sip_conversation.specs.ComeWhole.{ProvisionalsComeWhole};
 ghost use Rattle.sip_conversation.specs.Commands.{CommandsKeepTypes};
 ghost use Rattle.sip_conversation.specs.Conversation.{Carried, Turn, of_sides};
@@ -60,11 +61,11 @@ pub fn calls_hear_unchanged(one: Config, other: Config)
 /// in one life of a dialog, have consecutive RSeqs, and the user is told of each once (RFC 3262,
 /// section 4). In the turns before the one in which the user is told, the other side said a
 /// reliable provisional response with this RSeq and with the status, the tags and the body that are
-/// told. Its user gave the command to respond with that status and body. If the RSeq is above 1,
-/// this side said in those turns, in the dialog of that response, a PRACK whose RAck has RSeq 1,
-/// the response's CSeq number and INVITE (RFC 3262, section 7.2). The law doesn't say that the
-/// response was to this INVITE, or that the first of these RSeqs is 1. `provisionals_come_whole`
-/// does, of the INVITE of a call.
+/// told. Its user answered the request with that status and body, in the call of the request. If
+/// the RSeq is above 1, this side said in those turns, in the dialog of that response, a PRACK
+/// whose RAck has RSeq 1, the response's CSeq number and INVITE (RFC 3262, section 7.2). The law
+/// doesn't say that the response was to this INVITE, or that the first of these RSeqs is 1.
+/// `provisionals_come_whole` does, of the INVITE of a call.
 pub fn provisionals_told_were_said(one: Config, other: Config)
     ensures { (turns : List Turn) → Carried (of_sides one other) turns
         → CommandsKeepTypes turns
@@ -76,12 +77,15 @@ pub fn provisionals_told_were_said(one: Config, other: Config)
 }
 
 /// In such a conversation, for each response that a user is told of in a turn, the other side said
-/// one with that status, those tags in From and To, and that body, in the turns before. Its user
-/// gave the command to respond with that status and body, or the agent itself answered with 100,
-/// 200, 420, 481, 482, 487 or 500 and no body. The response copies Via, From, Call-ID and CSeq from
-/// a request that came to the other side, and that this side said before, except for the stamp; and
-/// To, if that has a tag (RFC 3261, section 8.2.6.2). A transaction with its branch and method was
-/// started under the Call-ID and the id that the user is told.
+/// one with that status, those tags in From and To, and that body, in the turns before. The
+/// response copies Via, From, Call-ID and CSeq from a request that came to the other side, and that
+/// this side said before, except for the stamp; and To, if that has a tag (RFC 3261, section
+/// 8.2.6.2). The other side's user answered that request so: he gave its call a command to respond
+/// with that status and body, which names the request by the id under which it came up. Or the
+/// agent answered it by itself, without a body: with 100, 420, 481, 482 or 500, with 200 if it is a
+/// PRACK or a CANCEL, or with 487 if it is an INVITE for which a CANCEL came. So a user is told of
+/// a 2xx to an INVITE only if the other user gave it. A transaction with the branch and the method
+/// of the response was started under the Call-ID and the id that the user is told.
 ///
 /// If the rounds of the side that is told have numbers below 2^64 and fewer than 2^64 events each,
 /// of which branches are made: the response has that Call-ID. And unless it is to a CANCEL, it
@@ -99,10 +103,9 @@ pub fn responses_told_were_said(one: Config, other: Config)
 /// acknowledges: in the same turn or before, the user was told of a response under the Call-ID of
 /// the PRACK. It is among the reliable provisional responses to one INVITE, in one life of the
 /// PRACK's dialog, that he was told of, with the RSeq that the RAck names. In the turns before, the
-/// other side said that response as a reliable provisional one with that RSeq, as its user gave the
-/// command to respond so. Its CSeq has the number that the RAck names, if the rounds of the side
-/// that says the PRACK are counted as above; and the RAck's method is INVITE (RFC 3262, sections 4
-/// and 7.2).
+/// other side said that response as a reliable provisional one with that RSeq, as its user answered
+/// the request so. Its CSeq has the number that the RAck names, if the rounds of the side that says
+/// the PRACK are counted as above; and the RAck's method is INVITE (RFC 3262, sections 4 and 7.2).
 pub fn pracks_follow_responses(one: Config, other: Config)
     ensures { (turns : List Turn) → Carried (of_sides one other) turns
         → CommandsKeepTypes turns
@@ -117,6 +120,8 @@ pub fn pracks_follow_responses(one: Config, other: Config)
 /// response. If the rounds of the side that sends the ACK are counted as above, the response
 /// answers an INVITE with the ACK's CSeq number, and the ACK is in the dialog of the response's
 /// tags, unless that INVITE was sent in a dialog without a remote tag (RFC 3261, section 13.2.2.4).
+/// No call asks a transaction to send an ACK. So a transaction sends only the ACK that it makes for
+/// a response of 300 to 699 (section 17.1.1.3).
 pub fn acks_follow_responses(one: Config, other: Config)
     ensures { (turns : List Turn) → Carried (of_sides one other) turns
         → CommandsKeepTypes turns
@@ -142,10 +147,12 @@ pub fn the_first_is_told_first(one: Config, other: Config)
 
 /// In such a conversation, the reliable provisional responses to the INVITE of a call come whole.
 /// Those that a user is told of in one life of a dialog are consecutive ones of those that the
-/// other side's user gave to one request in the turns before. They come in the order in which he
-/// gave them, with their RSeqs, statuses, tags and bodies. If the user was told of no others in
-/// that dialog, they are the first ones given (RFC 3262, sections 3 and 4). The rounds of both
-/// sides have to be counted as above.
+/// other side's user gave to one request in the turns before. That request is the INVITE of this
+/// side that the notices name by their id, and it came up to the other side's call of their
+/// Call-ID. The responses given to it have the RSeqs 1, 2, 3 and so on. They come in the order in
+/// which he gave them, with their RSeqs, statuses, tags and bodies. If the user was told of no
+/// others in that dialog, they are the first ones given (RFC 3262, sections 3 and 4). The rounds of
+/// both sides have to be counted as above.
 pub fn provisionals_come_whole(one: Config, other: Config)
     ensures { (turns : List Turn) → Carried (of_sides one other) turns
         → CommandsKeepTypes turns
@@ -172,7 +179,10 @@ pub fn requests_told_were_asked_for(one: Config, other: Config)
 /// In such a conversation, for each ACK that a user is told of in a turn, the other side said an
 /// ACK with that body in the turns before. Either a call sent it directly, after the user of that
 /// side was told of the 2xx that it acknowledges, as in `acks_follow_responses`. Or a transaction
-/// made it for a response of 300 to 699 (RFC 3261, sections 13.2.2.4 and 17.1.1.3).
+/// made it for a response of 300 to 699 (RFC 3261, sections 13.2.2.4 and 17.1.1.3). An INVITE came
+/// up to this side under the Call-ID and the id that are told, and its user answered it with a 2xx.
+/// The ACK has the CSeq number of that INVITE, and is in the dialog of the tags of that 2xx
+/// (section 13.3.1.4).
 pub fn acks_told_were_said(one: Config, other: Config)
     ensures { (turns : List Turn) → Carried (of_sides one other) turns
         → CommandsKeepTypes turns
@@ -189,6 +199,19 @@ pub fn pracks_told_were_said(one: Config, other: Config)
     ensures { (turns : List Turn) → Carried (of_sides one other) turns
         → CommandsKeepTypes turns
         → PracksToldWereSaid (of_sides one other) turns }
+{
+    sides_are_fair(&one, &other);
+}
+
+/// In such a conversation, for each CANCEL that a user is told of in a turn, the other side said a
+/// CANCEL of that Call-ID in the turns before, because its user gave the command Cancel in that
+/// call: under the id of that command its call started a transaction with the CANCEL. The CANCEL
+/// came up for an INVITE that came up under the Call-ID and the id that are told: the transactions
+/// of both have one branch and one sent-by (RFC 3261, section 9.2).
+pub fn cancels_told_were_asked_for(one: Config, other: Config)
+    ensures { (turns : List Turn) → Carried (of_sides one other) turns
+        → CommandsKeepTypes turns
+        → CancelsToldWereAskedFor (of_sides one other) turns }
 {
     sides_are_fair(&one, &other);
 }

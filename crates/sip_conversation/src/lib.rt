@@ -6,7 +6,8 @@ mod laws;
 
 pub use laws::{
     acks_follow_responses, acks_told_were_said, calls_hear_unchanged, calls_keep_rules,
-    datagrams_are_texts_said, messages_come_unchanged, pracks_follow_responses,
-    pracks_told_were_said, provisionals_come_whole, provisionals_told_were_said,
-    requests_told_were_asked_for, responses_told_were_said, the_first_is_told_first,
+    cancels_told_were_asked_for, datagrams_are_texts_said, messages_come_unchanged,
+    pracks_follow_responses, pracks_told_were_said, provisionals_come_whole,
+    provisionals_told_were_said, requests_told_were_asked_for, responses_told_were_said,
+    the_first_is_told_first,
 };
