@@ -1,6 +1,7 @@
 // Tries the class: a call with one datagram, a moved agent, and faults.
 #include "sip_ua.hpp"
 
+#include <chrono>
 #include <iostream>
 
 static int faults = 0;
@@ -86,6 +87,24 @@ static void long_sends(sip::Agent &agent) {
     expect(is_told, "its failure is told");
 }
 
+// All values of a header that stands in as many lines as a datagram holds, and all its lines: each
+// by one reading.
+static void many_headers(sip::Agent &agent) {
+    std::string request = "OPTIONS sip:a@192.0.2.1 SIP/2.0\r\n";
+    for (int i = 0; i < 16000; i++)
+        request += "a:\r\n";
+    agent.datagram({{192, 0, 2, 9}, 5060}, request + "A: \r\n last\r\nb:x:y\r\n\r\n");
+    agent.run_lines(14);
+    const auto begin = std::chrono::steady_clock::now();
+    const auto values = agent.header_values(1, "A");
+    const auto lines = agent.header_lines(1);
+    expect(std::chrono::steady_clock::now() - begin < std::chrono::seconds(1), "in time");
+    expect(values.size() == 16001 && values[0].empty() && values.back() == "last", "all values");
+    expect(lines.size() == 16002 && lines[16000] == std::pair<std::string, std::string>("A", "last")
+               && lines.back() == std::pair<std::string, std::string>("b", "x:y"), "all lines");
+    expect(agent.header_values(1, "c").empty() && agent.header_lines(2).empty(), "none");
+}
+
 int main() {
     const sip::Configuration configuration = {{{192, 0, 2, 1}, 5060}, {}, 0};
     const sip::Address from = {{192, 0, 2, 9}, 5060};
@@ -113,6 +132,8 @@ int main() {
     expect(line && line->first == "From" && line->second == "<sip:b@192.0.2.9>;tag=f1",
            "a header line by its number");
     expect(!agent.header_line(1, 7), "no header line after the last");
+    const auto lines = agent.header_lines(1);
+    expect(lines.size() == 7 && lines[2] == *line, "all header lines");
     expect(!agent.would_begin(options), "a request that is held begins nothing");
     std::string other = options;
     other.replace(other.find("z9hG4bK1"), 8, "z9hG4bK2");
@@ -141,6 +162,7 @@ int main() {
     agent.failed(0);
     typed(agent);
     long_sends(agent);
+    many_headers(agent);
     agent.close();
     expect_status(SIP_UA_NO_AGENT, "closed twice", [&] { agent.close(); });
     expect_status(SIP_UA_BAD_CONFIGURATION, "no shard", [&] { sip::Agent none(configuration, 0); });

@@ -114,26 +114,39 @@ static void questions(void)
     sip_ua_arrival arrival;
     sip_ua_start start;
     sip_ua_text text;
+    size_t values, lines;
     expect(sip_ua_datagram_at(&agent, 1, &arrival, NULL, 0) == SIP_UA_NO_ROOM
                && sip_ua_start_line(&agent, 1, &start, NULL, 0) == SIP_UA_NO_ROOM
-               && sip_ua_header_value(&agent, 1, "v", 1, 0, &text, NULL, 0) == SIP_UA_NO_ROOM,
+               && sip_ua_header_value(&agent, 1, "v", 1, 0, &text, NULL, 0) == SIP_UA_NO_ROOM
+               && sip_ua_header_values(&agent, 1, "v", 1, &values, NULL, 0) == SIP_UA_NO_ROOM
+               && sip_ua_header_lines(&agent, 1, &lines, NULL, 0) == SIP_UA_NO_ROOM,
            "the lengths of what a datagram says");
-    size_t lens[] = { arrival.len, start.method_len + start.len, text.len };
+    size_t lens[] = { arrival.len, start.method_len + start.len, text.len, values, lines };
     for (size_t less = 0; less < 2; less++) {
         uint32_t status = less ? SIP_UA_NO_ROOM : SIP_UA_OK;
-        uint8_t *buffers[3];
-        for (int i = 0; i < 3; i++)
+        uint8_t *buffers[5];
+        for (int i = 0; i < 5; i++)
             buffers[i] = bytes(lens[i] - less);
         expect(sip_ua_datagram_at(&agent, 1, &arrival, buffers[0], lens[0] - less) == status
                    && sip_ua_start_line(&agent, 1, &start, buffers[1], lens[1] - less) == status
                    && sip_ua_header_value(&agent, 1, "v", 1, 0, &text, buffers[2], lens[2] - less)
-                       == status, "what a datagram says");
-        for (int i = 0; i < 3; i++)
+                       == status
+                   && sip_ua_header_values(&agent, 1, "v", 1, &values, buffers[3], lens[3] - less)
+                       == status
+                   && sip_ua_header_lines(&agent, 1, &lines, buffers[4], lens[4] - less) == status
+                   && values == lens[3] && lines == lens[4], "what a datagram says");
+        expect(less || (buffers[3][values - 1] == '\n' && values == text.len + 1
+                   && memcmp(buffers[4], "Via:", 4) == 0 && buffers[4][lines - 1] == '\n'),
+               "values and lines end");
+        for (int i = 0; i < 5; i++)
             free(buffers[i]);
     }
     expect(sip_ua_datagram_at(&agent, 2, &arrival, NULL, 0) == SIP_UA_OK && !arrival.is_there
                && sip_ua_start_line(&agent, 2, &start, NULL, 0) == SIP_UA_OK
-               && sip_ua_header_value(&agent, 2, "v", 1, 0, &text, NULL, 0) == SIP_UA_OK,
+               && sip_ua_header_value(&agent, 2, "v", 1, 0, &text, NULL, 0) == SIP_UA_OK
+               && sip_ua_header_values(&agent, 2, "v", 1, &values, NULL, 0) == SIP_UA_OK
+               && sip_ua_header_lines(&agent, 2, &lines, NULL, 0) == SIP_UA_OK
+               && values == 0 && lines == 0,
            "no datagram needs no room");
 }
 

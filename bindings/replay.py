@@ -4,6 +4,7 @@ before the files each command is asked for by its type, and each output is told 
 
 import re
 import sys
+import time
 from typing import Callable, Dict, List, Optional, Tuple, Union
 
 import sip_ua
@@ -234,7 +235,26 @@ def reads(library: str) -> bool:
             and agent.header_values(1, "from") == ["<sip:c@d>"]
             and agent.header_values(1, "SUBJECT") == ["one two \udcff"]
             and agent.header_values(2, "From") == []
+            and agent.header_lines(1) == [("f", "<sip:c@d>"), ("Subject", "one two \udcff")]
+            and agent.header_lines(2) == []
             and agent.start_line(0) is None
+        )
+
+
+def reads_many(library: str) -> bool:
+    """All values of a header that stands in as many lines as a datagram holds: each is read once."""
+    with Agent(library, ("192.0.2.1", 5060), bytes(32)) as agent:
+        lines = 16000 * b"a:\r\n" + b"A: \r\n last\r\nb:x:y\r\n"
+        agent.datagram(("192.0.2.9", 5060), b"INFO sip:a@b SIP/2.0\r\n" + lines + b"\r\n")
+        agent.run(0)
+        begin = time.monotonic()
+        values = agent.header_values(1, "A")
+        message = agent.message_at(1)
+        assert message is not None
+        return (
+            time.monotonic() - begin < 1
+            and values == message.values("a") == 16000 * [""] + ["last"]
+            and message.headers[-2:] == (("A", "last"), ("b", "x:y"))
         )
 
 
@@ -304,9 +324,11 @@ def main() -> int:
     print("  misuse: " + ("told" if right else f"not told: {faults(library)}"))
     read = reads(library)
     print("  headers out and in: " + ("right" if read else "wrong"))
+    many = reads_many(library)
+    print("  16,000 values of a header: " + ("right" if many else "wrong"))
     parts = bad_fields(library)
     print("  fields of commands: " + ("right" if parts else "wrong"))
-    return 0 if same == total and right and read and parts else 1
+    return 0 if same == total and right and read and many and parts else 1
 
 
 if __name__ == "__main__":

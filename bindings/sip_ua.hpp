@@ -310,22 +310,32 @@ public:
         return std::nullopt;
     }
 
-    /// The values of one of its headers, by the long or the compact name, in any case. Each value
-    /// takes a reading of the datagram, and a peer can send thousands.
+    /// The values of one of its headers, by the long or the compact name, in any case.
     std::vector<std::string> header_values(std::uint32_t place, std::string_view name) {
-        std::vector<std::string> values;
-        for (;;) {
-            sip_ua_text told{};
-            std::string value = text_of(
-                [&](std::uint8_t *room, std::size_t size) {
-                    return sip_ua_header_value(&agent, place, name.empty() ? "" : name.data(),
-                                               name.size(), values.size(), &told, room, size);
-                },
-                [&] { return told.len; });
-            if (!told.is_there)
-                return values;
-            values.push_back(std::move(value));
+        std::size_t len = 0;
+        const std::string text = text_of(
+            [&](std::uint8_t *room, std::size_t size) {
+                return sip_ua_header_values(&agent, place, name.empty() ? "" : name.data(),
+                                            name.size(), &len, room, size);
+            },
+            [&] { return len; });
+        return lines_of(text);
+    }
+
+    /// All its header lines in order: the name of each as it came, and its value.
+    std::vector<std::pair<std::string, std::string>> header_lines(std::uint32_t place) {
+        std::size_t len = 0;
+        const std::string text = text_of(
+            [&](std::uint8_t *room, std::size_t size) {
+                return sip_ua_header_lines(&agent, place, &len, room, size);
+            },
+            [&] { return len; });
+        std::vector<std::pair<std::string, std::string>> lines;
+        for (const std::string &line : lines_of(text)) {
+            const std::size_t colon = line.find(':');
+            lines.emplace_back(line.substr(0, colon), line.substr(colon + 1));
         }
+        return lines;
     }
 
     /// The header line with this number, from 0, of that datagram, if there is one: its name as it
@@ -389,6 +399,17 @@ private:
         }
         check(status);
         return std::string(reinterpret_cast<const char *>(buffer.data()), length());
+    }
+
+    // The lines of a text, each without the line feed that ends it.
+    static std::vector<std::string> lines_of(std::string_view text) {
+        std::vector<std::string> lines;
+        while (!text.empty()) {
+            const std::size_t end = text.find('\n');
+            lines.emplace_back(text.substr(0, end));
+            text.remove_prefix(end + 1);
+        }
+        return lines;
     }
 
     std::optional<Output> next_output() {

@@ -32,7 +32,6 @@ and never go back. One thread at a time uses an agent. The library is libsip_ua.
 import ctypes
 import enum
 import ipaddress
-import re
 from dataclasses import dataclass
 from typing import Any, ClassVar, List, NamedTuple, Optional, Sequence, Tuple, Union
 
@@ -558,8 +557,10 @@ class _Arrival(ctypes.Structure):
         return (self.len,)
 
 
-class _Text(ctypes.Structure):
-    _fields_ = [("is_there", ctypes.c_bool), ("len", ctypes.c_size_t)]
+class _TextLength(ctypes.Structure):
+    """A `size_t` that a call fills in."""
+
+    _fields_ = [("len", ctypes.c_size_t)]
 
     def lengths(self) -> Tuple[int, ...]:
         return (self.len,)
@@ -619,8 +620,9 @@ _FUNCTIONS = {
     "would_begin": _text + (_at(ctypes.c_bool),),
     "datagram_at": (_place, _at(_Arrival)) + _room,
     "start_line": (_place, _at(_Start)) + _room,
-    "header_value": (_place,) + _text + (_size, _at(_Text)) + _room,
     "header_line": (_place, _size, _at(_HeaderLengths)) + _room,
+    "header_values": (_place,) + _text + (_at(_TextLength),) + _room,
+    "header_lines": (_place, _at(_TextLength)) + _room,
     "free": (),
 }
 _SEND = 1
@@ -639,10 +641,6 @@ _COMPACT_NAMES = {
     "t": "to",
     "v": "via",
 }
-_LINE_END_BYTES = b"\r\n"
-_HEAD_END = re.compile(rb"\r?\n\r?\n")
-_LINE_END = re.compile(r"\r?\n")
-_BLANKS = " \t"
 _HEADERS = (
     "Via From To Call-ID CSeq Max-Forwards Content-Length RSeq RAck Contact Record-Route Route "
     "Require Supported"
@@ -669,23 +667,9 @@ def _long_name(name: str) -> str:
     return _COMPACT_NAMES.get(lower, lower)
 
 
-def _header_lines(data: bytes) -> Tuple[Tuple[str, str], ...]:
-    """The header lines of a message."""
-    lines: List[List[str]] = []
-    head = _HEAD_END.split(data.lstrip(_LINE_END_BYTES), 1)[0]
-    for line in _LINE_END.split(_decoded(head)):
-        if lines and line.startswith(tuple(_BLANKS)):
-            lines[-1].append(line)
-        else:
-            lines.append([line])
-    return tuple(map(_header, lines[1:]))
-
-
-def _header(line: List[str]) -> Tuple[str, str]:
-    """The name and the value of a header line, which has several parts if it is folded."""
-    unfolded = " ".join(filter(None, (part.strip(_BLANKS) for part in line)))
-    name, _, value = unfolded.partition(":")
-    return name.strip(_BLANKS), value.strip(_BLANKS)
+def _lines(text: bytes) -> List[str]:
+    """The lines of a text, each without the LF that ends it."""
+    return [_decoded(line) for line in text.split(b"\n")[:-1]]
 
 
 def _id(event: Id) -> Tuple[int, int]:
@@ -897,21 +881,21 @@ class Agent:
 
     def header_values(self, place: int, name: str) -> List[str]:
         """The values of one of its headers, by the long or the compact name, in any case. They are
-        unfolded, without white space around them. Each value takes a reading of the datagram, and a
-        peer can send thousands: for a header that may have many, use `message_at`."""
-        values: List[str] = []
-        while True:
-            told = _Text()
-            words = (_number(place, 32), name, len(values))
-            (value,) = self._texts("header_value", told, *words)
-            if not told.is_there:
-                return values
-            values.append(_decoded(value))
+        unfolded, without white space around them."""
+        (text,) = self._texts("header_values", _TextLength(), _number(place, 32), name)
+        return _lines(text)
+
+    def header_lines(self, place: int) -> List[Tuple[str, str]]:
+        """All its header lines in order: the name as it came, and the value, unfolded and without
+        white space around it."""
+        (text,) = self._texts("header_lines", _TextLength(), _number(place, 32))
+        parts = (line.partition(":") for line in _lines(text))
+        return [(name, value) for name, _, value in parts]
 
     def header_line(self, place: int, number: int) -> Optional[Tuple[str, str]]:
         """Its header line with this number, from 0, if there is one: the name as it came, and the
         value, unfolded and without white space around it. Each call reads the datagram from its
-        beginning; `message_at` reads all lines at once."""
+        beginning; `header_lines` reads all lines at once."""
         told = _HeaderLengths()
         words = (_number(place, 32), _number(number, 64))
         name, value = self._texts("header_line", told, *words)
@@ -920,10 +904,10 @@ class Agent:
     def message_at(self, place: int, body: bytes = b"") -> Optional[Message]:
         """Its start line and all its header lines, with the body that the notice has, if it is a
         message."""
-        start, datagram = self.start_line(place), self.datagram_at(place)
-        if start is None or datagram is None:
+        start = self.start_line(place)
+        if start is None:
             return None
-        return Message(start, _header_lines(datagram.data), body)
+        return Message(start, tuple(self.header_lines(place)), body)
 
     def stats(self) -> Stats:
         """Counts what is held, and what waits."""

@@ -527,6 +527,10 @@ uint32_t sip_ua_raw_header_value(sip_ua *agent, uint32_t place, const uint8_t *n
                                  uint8_t *buffer, size_t room);
 uint32_t sip_ua_raw_header_line(sip_ua *agent, uint32_t place, size_t number,
                                 sip_ua_header_lengths *line, uint8_t *buffer, size_t room);
+uint32_t sip_ua_raw_header_values(sip_ua *agent, uint32_t place, const uint8_t *name,
+                                  size_t name_len, size_t *len, uint8_t *buffer, size_t room);
+uint32_t sip_ua_raw_header_lines(sip_ua *agent, uint32_t place, size_t *len, uint8_t *buffer,
+                                 size_t room);
 uint32_t sip_ua_raw_free(sip_ua *agent);
 
 /* Creates an agent, in a `sip_ua` that has none. One shard is enough. The number of shards, up to
@@ -914,7 +918,7 @@ static inline uint32_t sip_ua_start_line(sip_ua *agent, uint32_t place, sip_ua_s
  * name. `is_there` is false if there is none. The name may be long or compact, in any case. The
  * value is unfolded, without white space around it, and is written to the buffer. Faults:
  * SIP_UA_NO_ROOM, if its `len` is more than `room`; SIP_UA_NO_MEMORY. Each call reads the datagram
- * from its beginning, so bound how many values you ask for: a peer can send thousands. */
+ * from its beginning, and a peer can send thousands of values: sip_ua_header_values gives all. */
 static inline uint32_t sip_ua_header_value(sip_ua *agent, uint32_t place, const char *name,
                                            size_t name_len, size_t number, sip_ua_text *text,
                                            uint8_t *buffer, size_t room)
@@ -930,7 +934,7 @@ static inline uint32_t sip_ua_header_value(sip_ua *agent, uint32_t place, const 
  * `is_there` is false if there is none. Its name as it came and, directly after it, its value,
  * unfolded and without white space around it, are written to the buffer. Faults: SIP_UA_NO_ROOM, if
  * `name_len` and `len` together are more than `room`; SIP_UA_NO_MEMORY. Each call reads the datagram
- * from its beginning, so bound how many lines you ask for: a peer can send thousands. */
+ * from its beginning, and a peer can send thousands of lines: sip_ua_header_lines gives all. */
 static inline uint32_t sip_ua_header_line(sip_ua *agent, uint32_t place, size_t number,
                                           sip_ua_header_lengths *line, uint8_t *buffer,
                                           size_t room)
@@ -940,6 +944,33 @@ static inline uint32_t sip_ua_header_line(sip_ua *agent, uint32_t place, size_t 
         return SIP_UA_NULL;
     return sip_ua_raw_header_line(agent, place, number, line, sip_ua_raw_room(buffer, &otherwise),
                                   room);
+}
+
+/* All values of a header in that datagram, in order, by one reading of it: each as
+ * sip_ua_header_value gives it, with a line feed behind it. No value has a line feed. They are
+ * written to the buffer. Faults: SIP_UA_NO_ROOM, if `len` is more than `room`; SIP_UA_NO_MEMORY. */
+static inline uint32_t sip_ua_header_values(sip_ua *agent, uint32_t place, const char *name,
+                                            size_t name_len, size_t *len, uint8_t *buffer,
+                                            size_t room)
+{
+    uint8_t otherwise = 0;
+    if (agent == NULL || name == NULL || len == NULL || (buffer == NULL && room != 0))
+        return SIP_UA_NULL;
+    return sip_ua_raw_header_values(agent, place, (const uint8_t *)name, name_len, len,
+                                    sip_ua_raw_room(buffer, &otherwise), room);
+}
+
+/* All header lines of that datagram, in order, by one reading of it: the name of each as it came, a
+ * colon, its value as sip_ua_header_line gives it, and a line feed. No name has a colon, and no
+ * value a line feed. They are written to the buffer. Faults: SIP_UA_NO_ROOM, if `len` is more than
+ * `room`; SIP_UA_NO_MEMORY. */
+static inline uint32_t sip_ua_header_lines(sip_ua *agent, uint32_t place, size_t *len,
+                                           uint8_t *buffer, size_t room)
+{
+    uint8_t otherwise = 0;
+    if (agent == NULL || len == NULL || (buffer == NULL && room != 0))
+        return SIP_UA_NULL;
+    return sip_ua_raw_header_lines(agent, place, len, sip_ua_raw_room(buffer, &otherwise), room);
 }
 
 /* Frees the agent; its `sip_ua` has none then. Fault: SIP_UA_NO_AGENT, if it has none. */

@@ -29,6 +29,10 @@ extern "C" {
 /* A status besides those of sip_ua.h: libcrypto has no memory, no random bytes, or no MD5. */
 #define SIP_UA_NO_CRYPTO 256
 
+/* How many header lines of one name are read, each by a reading of the datagram. A peer can send
+ * thousands. */
+#define SIP_UA_MOST_LINES 64
+
 /* The bytes of a cnonce: hexadecimal digits. */
 #define SIP_UA_CNONCE_LEN 32
 
@@ -305,13 +309,13 @@ static inline bool sip_ua_challenge_read(sip_ua_bytes value, sip_ua_challenge *c
 
 /* Reads the first challenge that can be answered, of a datagram of the last round: a 401 or a 407.
  * Its value is written to the buffer, into which the challenge points. Faults: SIP_UA_BAD_FIELD if
- * there is none, and those of sip_ua_header_value. */
+ * there is none in the first SIP_UA_MOST_LINES lines, and those of sip_ua_header_value. */
 static inline uint32_t sip_ua_challenge_at(sip_ua *agent, uint32_t place, uint32_t status,
                                            sip_ua_challenge *challenge, uint8_t *buffer,
                                            size_t room)
 {
     const char *name = status == 407 ? "Proxy-Authenticate" : "WWW-Authenticate";
-    for (size_t number = 0;; number++) {
+    for (size_t number = 0; number < SIP_UA_MOST_LINES; number++) {
         sip_ua_text text;
         uint32_t fault = sip_ua_header_value(agent, place, name, strlen(name), number, &text,
                                              buffer, room);
@@ -319,10 +323,11 @@ static inline uint32_t sip_ua_challenge_at(sip_ua *agent, uint32_t place, uint32
             return fault;
         sip_ua_bytes value = { buffer, text.len };
         if (!text.is_there)
-            return SIP_UA_BAD_FIELD;
+            break;
         if (sip_ua_challenge_read(value, challenge))
             return SIP_UA_OK;
     }
+    return SIP_UA_BAD_FIELD;
 }
 
 /* The name of the header that answers a challenge of this status. */

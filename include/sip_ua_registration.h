@@ -259,7 +259,7 @@ static inline uint32_t sip_ua_raw_granted(const sip_ua_registration *registratio
 {
     uint8_t value[SIP_UA_VALUE_ROOM];
     uint32_t granted = 0;
-    for (size_t number = 0;; number++) {
+    for (size_t number = 0; number < SIP_UA_MOST_LINES; number++) {
         sip_ua_text text;
         sip_ua_bytes uri, parameters;
         if (sip_ua_header_value(agent, place, "Contact", strlen("Contact"), number, &text, value,

@@ -15,6 +15,7 @@ import "C"
 
 import (
 	"net/netip"
+	"strings"
 	"unsafe"
 )
 
@@ -154,7 +155,7 @@ func (a *Agent) WouldBegin(datagram []byte) (bool, error) {
 }
 
 // HeaderValue is the value of the header line with this number, from 0, of the datagram with a
-// place in the last round.
+// place in the last round. Each call reads the datagram from its beginning.
 func (a *Agent) HeaderValue(place uint32, name string, number uint64) (string, bool, error) {
 	for {
 		var told C.sip_ua_text
@@ -190,6 +191,40 @@ func (a *Agent) HeaderLine(place uint32, number uint64) (name, value string, is 
 		}
 		text := string(a.buffer[:told.name_len+told.len])
 		return text[:told.name_len], text[told.name_len:], bool(told.is_there), nil
+	}
+}
+
+// HeaderValues are all values of a header of the datagram with a place in the last round.
+func (a *Agent) HeaderValues(place uint32, name string) ([]string, error) {
+	key, length := bytesOf([]byte(name))
+	return a.lines(func(told *C.size_t, at *C.uint8_t, size C.size_t) C.uint32_t {
+		return C.sip_ua_raw_header_values(&a.agent, C.uint32_t(place), key, length, told, at, size)
+	})
+}
+
+// HeaderLines are all header lines of the datagram with a place in the last round: a name as it
+// came, a colon and a value each.
+func (a *Agent) HeaderLines(place uint32) ([]string, error) {
+	return a.lines(func(told *C.size_t, at *C.uint8_t, size C.size_t) C.uint32_t {
+		return C.sip_ua_raw_header_lines(&a.agent, C.uint32_t(place), told, at, size)
+	})
+}
+
+// The lines that a call writes, with their length. The buffer grows for them.
+func (a *Agent) lines(call func(*C.size_t, *C.uint8_t, C.size_t) C.uint32_t) ([]string, error) {
+	for {
+		var told C.size_t
+		at, size := bytesOf(a.buffer)
+		status := call(&told, at, size)
+		if status == C.SIP_UA_NO_ROOM {
+			a.buffer = make([]byte, told)
+			continue
+		}
+		if status != C.SIP_UA_OK {
+			return nil, Error(status)
+		}
+		lines := strings.Split(string(a.buffer[:told]), "\n")
+		return lines[:len(lines)-1], nil
 	}
 }
 

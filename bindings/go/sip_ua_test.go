@@ -33,6 +33,17 @@ func TestAnOptionsIsAnswered(t *testing.T) {
 	if err != nil || !there || name != "Call-ID" || value != "c1" {
 		t.Fatal(name, value, there, err)
 	}
+	values, err := agent.HeaderValues(outputs[0].Place, "f")
+	if err != nil || len(values) != 1 || values[0] != from {
+		t.Fatal(values, err)
+	}
+	lines, err := agent.HeaderLines(outputs[0].Place)
+	if err != nil || len(lines) != 5 || lines[3] != "Call-ID:c1" {
+		t.Fatal(lines, err)
+	}
+	if lines, err := agent.HeaderLines(2); err != nil || len(lines) != 0 {
+		t.Fatal(lines, err)
+	}
 	if begins, err := agent.WouldBegin([]byte(request)); err != nil || begins {
 		t.Fatal("a request that is held would begin", begins, err)
 	}

@@ -12,7 +12,7 @@ use Rattle.sip_round.specs.declared.config.Config.{Config}
 use Rattle.sip_round.specs.declared.output.PlacedOutput.{PlacedOutput}
 use Rattle.sip_round.specs.declared.round.Round.{Round}
 use Rattle.sip_timers.specs.Queue.{is_due}
-use Rattle.sip_host.specs.Handing.{datagram_in, head_of, length_of_line, line_text, put_if, put_in, start_of, start_text, text_of}
+use Rattle.sip_host.specs.Handing.{datagram_in, head_of, length_of_line, line_text, lines_text, put_if, put_in, start_of, start_text, text_of, values_text}
 use Rattle.sip_host.specs.Hosting.{Answer, Begins, BeginsAt, HasLinesAt, HasValuesAt, after_one, after_taking}
 use Rattle.sip_host.specs.declared.host.Host.{Host}
 use Rattle.sip_host.specs.declared.host_fault.HostFault.{HostFault}
@@ -240,3 +240,19 @@ TellsLine place index number told before after host = (lines : List HeaderLine)
     × (number ≡ room_answer (told.name_len + told.len) (length before))
     × (told ≡ header_lengths_of (option_map length_of_line (slice_get lines index)))
     × (after ≡ put_if (option_map line_text (slice_get lines index)) before)
+
+-- all values of a header, as one text
+abbrev pub TellsValues : ℕ → List ℕ → ℕ → ℕ → List ℕ → List ℕ → Host → Type 0
+TellsValues place name number told before after host = (values : List (List ℕ))
+    × HasValuesAt host place name values
+    × (number ≡ room_answer told (length before))
+    × (told ≡ length (values_text values))
+    × (after ≡ put_in (values_text values) before)
+
+-- all header lines, as one text
+abbrev pub TellsLines : ℕ → ℕ → ℕ → List ℕ → List ℕ → Host → Type 0
+TellsLines place number told before after host = (lines : List HeaderLine)
+    × HasLinesAt host place lines
+    × (number ≡ room_answer told (length before))
+    × (told ≡ length (lines_text lines))
+    × (after ≡ put_in (lines_text lines) before)

@@ -5,7 +5,7 @@ ghost use Rattle.std.specs.Prelude.{◌≡◌, ◌⊎◌, ◌+◌, ◌≤◌, If
 ghost use Rattle.sip_host.specs.Hosting.{HoldsSo, TellsIfItBegins, last_id_of};
 ghost use Rattle.sip_host.specs.declared.holdings.Holdings.{Holdings as AHoldings};
 ghost use Rattle.sip_c.specs.Status as spec;
-ghost use Rattle.sip_c.specs.Called.{TellsDatagram, TellsLine, TellsNothing, TellsOrNot, TellsStart, TellsValue, datagram_of, header_lengths_of, id_of, length_of, start_line_of, stats_of};
+ghost use Rattle.sip_c.specs.Called.{TellsDatagram, TellsLine, TellsLines, TellsNothing, TellsOrNot, TellsStart, TellsValue, TellsValues, datagram_of, header_lengths_of, id_of, length_of, start_line_of, stats_of};
 
 use crate::handle::Handle;
 use crate::status::{NO_AGENT, NO_MEMORY, NO_ROOM, OK, room_answer};
@@ -218,5 +218,72 @@ fn line_answer(told: &HeaderLengths, room: usize) -> u32
     match room.checked_sub(told.name_len) {
         Some(left) => room_answer(told.len, left),
         None => NO_ROOM,
+    }
+}
+
+/// All values of a header, each with a line feed behind it, in the datagram that came in at a place
+/// of the last round.
+#[unsafe(no_mangle)]
+pub extern "C" fn sip_ua_raw_header_values(
+    alloc: Global,
+    handle: &mut Handle,
+    place: u32,
+    name: &[u8],
+    len: &mut usize,
+    buffer: &mut [u8],
+) -> u32
+    ensures same { handle.new.owned.host ≡ handle.old.owned.host }
+    ensures none { handle.old.owned.host ≡ None
+        → TellsNothing result len.new 0 buffer.old buffer.new }
+    ensures told { IfSome handle.old.owned.host (λ host.
+        TellsOrNot result len.new 0 buffer.old buffer.new
+        (TellsValues place name.now result len.new buffer.old buffer.new host)) }
+{
+    *len = 0;
+    let Some(host) = handle.take(alloc) else {
+        return NO_AGENT;
+    };
+    let room = buffer.len();
+    let answer = host.values_text(place, name, buffer);
+    handle.put(host);
+    match answer {
+        Ok(values) => {
+            *len = values;
+            room_answer(values, room)
+        }
+        Err(_) => NO_MEMORY,
+    }
+}
+
+/// All header lines, each with a line feed behind it, of the datagram that came in at a place of the
+/// last round.
+#[unsafe(no_mangle)]
+pub extern "C" fn sip_ua_raw_header_lines(
+    alloc: Global,
+    handle: &mut Handle,
+    place: u32,
+    len: &mut usize,
+    buffer: &mut [u8],
+) -> u32
+    ensures same { handle.new.owned.host ≡ handle.old.owned.host }
+    ensures none { handle.old.owned.host ≡ None
+        → TellsNothing result len.new 0 buffer.old buffer.new }
+    ensures told { IfSome handle.old.owned.host (λ host.
+        TellsOrNot result len.new 0 buffer.old buffer.new
+        (TellsLines place result len.new buffer.old buffer.new host)) }
+{
+    *len = 0;
+    let Some(host) = handle.take(alloc) else {
+        return NO_AGENT;
+    };
+    let room = buffer.len();
+    let answer = host.lines_text(place, buffer);
+    handle.put(host);
+    match answer {
+        Ok(lines) => {
+            *len = lines;
+            room_answer(lines, room)
+        }
+        Err(_) => NO_MEMORY,
     }
 }

@@ -1,5 +1,5 @@
 -- What a host is given for an output.
-use Rattle.std.specs.Prelude.{ℕ, List, [], ◌∷◌, ◌++◌, Option, None, Some, length, drop, nat_lt, if◌then◌else◌}
+use Rattle.std.specs.Prelude.{ℕ, List, [], ◌∷◌, ◌++◌, Option, None, Some, length, map, drop, nat_lt, if◌then◌else◌}
 use Rattle.sip_message.specs.declared.addr.Addr.{Addr}
 use Rattle.sip_message.specs.declared.key.Key.{Key}
 use Rattle.sip_reader.specs.declared.first_line.FirstLine.{FirstLine}
@@ -10,6 +10,7 @@ use Rattle.sip_round.specs.declared.output.PlacedOutput.{PlacedOutput}
 use Rattle.sip_round.specs.declared.output.Output.TheVariants.{Send, Dropped, Notice}
 use Rattle.sip_round.specs.declared.round.Event.{Event}
 use Rattle.sip_round.specs.declared.round.Event.TheVariants.{Command, Datagram, Failed}
+use Rattle.sip_files.specs.EventFile.{with_ends}
 use Rattle.sip_files.specs.Outputs.{output_line}
 use Rattle.sip_host.specs.declared.line_length.LineLength.{LineLength}
 use Rattle.sip_host.specs.declared.next_output.NextOutput.{NextOutput}
@@ -70,6 +71,18 @@ line_text line = line.name ++ line.value
 
 abbrev pub length_of_line : HeaderLine → LineLength
 length_of_line line = record { name = length line.name; value = length line.value }
+
+-- the values of a header as one text, each with a line end
+abbrev pub values_text : List (List ℕ) → List ℕ
+values_text values = with_ends values
+
+-- the name and the value, with a colon between them (RFC 3261, section 7.3.1)
+abbrev pub named_value : HeaderLine → List ℕ
+named_value line = line.name ++ 58 ∷ line.value
+
+-- header lines as one text, each with a line end
+abbrev pub lines_text : List HeaderLine → List ℕ
+lines_text lines = with_ends (map named_value lines)
 
 -- the key of a send, if the output is one; a send may have none
 abbrev pub sent_key : Option Output → Option (Option Key)

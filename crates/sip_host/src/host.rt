@@ -18,7 +18,7 @@ ghost use Rattle.sip_user.specs.declared.command.UserCommand.{UserCommand as AUs
 ghost use Rattle.sip_files.specs.Given.{with_given};
 ghost use Rattle.sip_round.specs.declared.round.Event.TheVariants.{Command};
 ghost use Rattle.sip_host.specs.Asking.{Makes, TakesCommand, TakesHeader, ack_of, cancel_of, invite_of, plain_of, prack_of, request_of, respond_of, without_headers};
-ghost use Rattle.sip_host.specs.Handing.{datagram_in, head_of, length_of_line, line_text, put_if, put_in, start_of, start_text, text_of};
+ghost use Rattle.sip_host.specs.Handing.{datagram_in, head_of, length_of_line, line_text, lines_text, put_if, put_in, start_of, start_text, text_of, values_text};
 ghost use Rattle.sip_host.specs.Hosting.{Begins, BeginsAt, HasLinesAt, HasValuesAt, HoldsSo, RunsRound, TakesDatagram, TakesFailure, TakesLine, TakesLines, TellsIfItBegins, after_one, after_taking, last_id_of, output_at, shard_of, with_events};
 ghost use Rattle.sip_host.specs.declared.field.Field.TheVariants as field;
 ghost use Rattle.sip_host.specs.declared.host_fault.HostFault.TheVariants as fault;
@@ -33,6 +33,7 @@ use crate::fields::{
 };
 use crate::given::header_of;
 use crate::handing::{failure_of, put, put_line, put_output, put_start};
+use crate::header_texts as texts;
 use crate::holdings::Holdings;
 use crate::host_fault::HostFault;
 use crate::line_length::LineLength;
@@ -508,6 +509,49 @@ impl Host {
             return Ok(None);
         };
         Ok(Some(put_line(self.alloc, line, buffer)?))
+    }
+
+    /// The length of all values that [`Host::header_values`] gives, as one text: each with a line
+    /// feed behind it, which no value has. It goes to the beginning of the buffer, if it fits.
+    ///
+    /// # Errors
+    ///
+    /// Memory ran out; then nothing was written.
+    pub fn values_text(
+        &self,
+        place: u32,
+        name: &[u8],
+        buffer: &mut [u8],
+    ) -> Result<usize, AllocError>
+        ensures told { IfOk result (λ told. (values : List (List ℕ))
+            × HasValuesAt self.now place name.now values
+            × (told ≡ length (values_text values))
+            × (buffer.new ≡ put_in (values_text values) buffer.old)) }
+        ensures same { OnErr result (buffer.new ≡ buffer.old) }
+    {
+        let values = self.header_values(place, name)?;
+        let text = texts::values_text(self.alloc, values.as_slice())?;
+        put(&text, buffer);
+        Ok(text.len())
+    }
+
+    /// The length of all header lines that [`Host::header_lines`] gives, as one text: the name of
+    /// each, a colon, its value and a line feed. It goes to the beginning of the buffer, if it fits.
+    ///
+    /// # Errors
+    ///
+    /// Memory ran out; then nothing was written.
+    pub fn lines_text(&self, place: u32, buffer: &mut [u8]) -> Result<usize, AllocError>
+        ensures told { IfOk result (λ told. (lines : List AHeaderLine)
+            × HasLinesAt self.now place lines
+            × (told ≡ length (lines_text lines))
+            × (buffer.new ≡ put_in (lines_text lines) buffer.old)) }
+        ensures same { OnErr result (buffer.new ≡ buffer.old) }
+    {
+        let lines = self.header_lines(place)?;
+        let text = texts::lines_text(self.alloc, lines.as_slice())?;
+        put(&text, buffer);
+        Ok(text.len())
     }
 
     /// Whether a datagram would begin a transaction if it came in the next round: it is a request

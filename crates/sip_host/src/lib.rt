@@ -8,6 +8,7 @@ mod field;
 mod fields;
 mod given;
 mod handing;
+mod header_texts;
 mod holdings;
 mod host;
 mod host_fault;
