@@ -70,11 +70,8 @@ impl Admission {
             ≡ spec.shed_after self.old.shed (length events.items) (length admitted.items)) }
     {
         let load = load_of(self.most, agent.live().0);
-        if let Load::Low = load {
-            return Ok(events);
-        }
         let count = events.len();
-        let admitted = admitted_at(alloc, agent, load, events)?;
+        let admitted = admitted_by(alloc, agent, load, events)?;
         let shed = count.saturating_sub(admitted.len()) as u64;
         self.shed = self.shed.saturating_add(shed);
         Ok(admitted)
@@ -97,7 +94,25 @@ fn load_of(most: Option<u32>, held: u128) -> Load
     }
 }
 
-// The events without the datagrams that are shed at this load.
+// The events without the datagrams that are shed at this load: all of them at a low one.
+fn admitted_by(
+    alloc: Global,
+    agent: &Agent<Spread>,
+    load: Load,
+    events: Vec<Event>,
+) -> Result<Vec<Event>, AllocError>
+    ensures { IfOk result (λ admitted. (config : AConfig) (rounds : List ARound)
+        → StandsFor shard_of agent.now config rounds
+        → admitted.items ≡ filter (λ event. not (is_shed config rounds load event))
+        events.items) }
+{
+    if let Load::Low = load {
+        return Ok(events);
+    }
+    admitted_at(alloc, agent, load, events)
+}
+
+// The events, looked at one by one, without the datagrams that are shed at this load.
 fn admitted_at(
     alloc: Global,
     agent: &Agent<Spread>,
