@@ -205,9 +205,10 @@ pub fn pracks_told_were_said(one: Config, other: Config)
 
 /// In such a conversation, for each CANCEL that a user is told of in a turn, the other side said a
 /// CANCEL of that Call-ID in the turns before, because its user gave the command Cancel in that
-/// call: under the id of that command its call started a transaction with the CANCEL. The CANCEL
-/// came up for an INVITE that came up under the Call-ID and the id that are told: the transactions
-/// of both have one branch and one sent-by (RFC 3261, section 9.2).
+/// call. It is the CANCEL of the request that was sent under the id that the command names (RFC
+/// 3261, section 9.1), and a transaction was started with it under the id of the command. It came
+/// up for an INVITE that came up under the Call-ID and the id that are told: the transactions of
+/// both have one branch and one sent-by (section 9.2).
 pub fn cancels_told_were_asked_for(one: Config, other: Config)
     ensures { (turns : List Turn) → Carried (of_sides one other) turns
         → CommandsKeepTypes turns
