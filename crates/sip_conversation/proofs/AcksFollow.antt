@@ -1,6 +1,6 @@
 -- An ACK that a call sends follows the 2xx that it acknowledges, of which the user was told.
-use Rattle.std.proofs.Common.{◌≡◌, ◌⊎◌, inl, inr, ℕ, true, false, List, [], ◌∷◌, ◌++◌, refl, sym, ap, ◌∙◌, subst}
-use Rattle.std.specs.Prelude.{◌==◌, IfSome, Some, codes, length, not}
+use Rattle.std.proofs.Common.{◌≡◌, ◌⊎◌, inl, inr, ℕ, true, false, List, [], ◌∷◌, ◌++◌, refl, sym, ap, ◌∙◌, subst, append_assoc}
+use Rattle.std.specs.Prelude.{◌==◌, IfSome, Some, codes, length, not, Contains, None}
 use Rattle.std.specs.List.{AllByRecursion}
 use Rattle.std.proofs.lemmas.Bool.{false≢true}
 use Rattle.sip_message.specs.Message.{is_request_message}
@@ -11,7 +11,7 @@ use Rattle.sip_message.specs.declared.message.Message.{Message}
 use Rattle.sip_message.specs.declared.party.Party.{Party}
 use Rattle.keyed_machine.proofs.Ordered.{by_bool}
 use Rattle.keyed_machine.specs.Laws.{EachKeyAlone}
-use Rattle.keyed_machine.specs.Machine.{Timed, tick_at}
+use Rattle.keyed_machine.specs.Machine.{Timed, tick_at, outputs_from}
 use Rattle.sip_transactions.specs.declared.input.Command.{Command}
 use Rattle.sip_transactions.specs.declared.input.Command.TheVariants as order
 use Rattle.sip_held_dialogs.specs.Dialogs.{dialog_at}
@@ -23,7 +23,7 @@ use Rattle.sip_clients.specs.Clients.{reply_name}
 use Rattle.sip_clients.specs.ReceivedResponse.{has_dialog}
 use Rattle.sip_clients.specs.declared.client.RequestKind.{RequestKind}
 use Rattle.sip_clients.specs.declared.client.RequestKind.TheVariants.{InDialog, InitialInvite, OutOfDialog, ReInvite}
-use Rattle.sip_calls.specs.Call.{CallItem, call_machine}
+use Rattle.sip_calls.specs.Call.{CallItem, call_machine, call_step}
 use Rattle.sip_calls.specs.CallShard.{call_cmp}
 use Rattle.sip_calls.specs.Sides.{side_of}
 use Rattle.sip_calls.specs.OwnCall.{IsInputOf}
@@ -33,6 +33,11 @@ use Rattle.sip_round.specs.declared.round.Round.{Round}
 use Rattle.sip_round.specs.Answers.{calls_of}
 use Rattle.sip_round.specs.Laws.{call_inputs_of, said_of_call}
 use Rattle.sip_round.proofs.CallEvents.{events_differ}
+use Rattle.sip_user.specs.declared.item.CallOut.{CallOut}
+use Rattle.sip_user.specs.declared.notice.Notice.TheVariants.{Response}
+use Rattle.sip_calls.specs.Provisionals.{EventsDiffer}
+use Rattle.sip_conversation.proofs.RackedCalls.{front_differ}
+use Rattle.sip_conversation.proofs.AmongInputs.{out_of_one_input}
 use Rattle.sip_conversation.specs.AckedResponses.{AcksFollowResponses, FollowsSuccess, IsAckOfSuccess}
 use Rattle.sip_conversation.specs.Commands.{CommandsKeepTypes, EventKeepsTypes}
 use Rattle.sip_conversation.specs.Conversation.{Carried, Side, Turn, rounds_of}
@@ -148,54 +153,107 @@ module _ (configs : Side → Config) (fair : IsFair configs) (before : List Turn
         some_same : (one other : ℕ) → Some one ≡ Some other → one ≡ other
         some_same one other same = cc
 
-    follows : FollowsSuccess configs before turn call_id name number
-    follows =
+    -- what the call gives at that input, it gives at its first inputs
+    follows : (first : List (Timed CallItem))
+        → ((out : CallOut)
+        → Contains (call_step calls (Some was.call) was.timed.input was.timed.moment).1 out
+        → Contains (outputs_from (call_machine calls) call_id None first) out)
+        → FollowsSuccess configs before turn call_id first name number
+    follows first at =
         let one = told_so configs fair before turn call_id Is2xx name number was IsTelling tells in
-        subst (λ c. FollowsSuccess configs before turn c name number) one.tells.of_is record {
+        let notice : CallOut = call_out.Notice
+        (Response one.of one.id one.status one.local_tag one.remote_tag one.body) in
+        subst (λ c. FollowsSuccess configs before turn c first name number) one.tells.of_is
+        record {
           id = one.id;
           status = one.status;
           local_tag = one.local_tag;
           remote_tag = one.remote_tag;
           body = one.body;
           told = one.given;
+          by_then = subst (λ c. Contains (outputs_from (call_machine calls) c None first) notice)
+              (sym one.tells.of_is) (at notice one.among);
           success = one.tells.success;
           said = one.tells.said;
           cseq = one.tells.cseq;
           dialog_is = one.tells.dialog_is;
         }
 
+  module _ (call_id : List ℕ) (first later : List (Timed CallItem))
+      (are : inputs call_id ≡ first ++ later) (name : DialogId) (number : ℕ)
+      (early : WasHeard Is2xx calls first name number) where
+    -- what was heard at the first inputs was heard
+    abbrev longer : WasHeard Is2xx calls (inputs call_id) name number
+    longer = record {
+      before = early.before;
+      timed = early.timed;
+      after = early.after ++ later;
+      are = are ∙ (ap (λ (xs : List (Timed CallItem)). xs ++ later) early.are
+          ∙ append_assoc early.before (early.timed ∷ early.after) later);
+      call = early.call;
+      held = early.held;
+      event = early.event;
+      up = early.up;
+      comes = early.comes;
+      response = early.response;
+      kind_is = early.kind_is;
+      client = early.client;
+      client_is = early.client_is;
+      name_is = early.name_is;
+      has = early.has;
+      number_is = early.number_is;
+      status = early.status;
+      status_is = early.status_is;
+      is = early.is;
+      told = early.told;
+    }
+
+    of_first : (out : CallOut)
+        → Contains (call_step calls (Some early.call) early.timed.input early.timed.moment).1 out
+        → Contains (outputs_from (call_machine calls) call_id None first) out
+    of_first out among =
+        subst (λ xs. Contains (outputs_from (call_machine calls) call_id None xs) out)
+        (sym early.are)
+        (out_of_one_input calls call_id early.before early.timed early.after out
+        (subst (λ state.
+        Contains (call_step calls state early.timed.input early.timed.moment).1 out)
+        (sym early.held) among))
+
   -- what a call sends as a text is such an ACK
-  sent_acked : CommandsKeepTypes (before ++ turn ∷ []) → (to : Addr) (text : List ℕ)
-      → CallSays local_config rounds_now (call_out.Direct to text)
-      → IsAckOfSuccess configs before turn text
-  sent_acked types to text says =
-      let call_id = says.0 in
+  sent_acked : CommandsKeepTypes (before ++ turn ∷ []) → (call_id : List ℕ)
+      (first later : List (Timed CallItem)) → inputs call_id ≡ first ++ later → (to : Addr)
+      (text : List ℕ)
+      → Contains (outputs_from (call_machine calls) call_id None first) (call_out.Direct to text)
+      → IsAckOfSuccess configs before turn call_id first text
+  sent_acked types call_id first later are to text among =
       let front = before ++ turn ∷ [] in
+      let Keeps : Timed CallItem → Type 0 = λ timed. KeepsInput timed.input in
+      let Its : Timed CallItem → Type 0 = λ timed. IsInputOf call_id timed.input in
       let keeps = inputs_keep_so configs fair front
       (fine_after fair.transactions configs fair.addresses [] front tt carried_so keep_so) types
       turn.side call_id in
-      let its = all_go {P = TimedComes local_config rounds_now call_id}
-      {Q = λ timed. IsInputOf call_id timed.input} (λ timed comes. comes.0) (inputs call_id)
-      (inputs_come local_config rounds_now call_id) in
-      let sent = each_of (KeepsRulesWith (IsAckOf calls call_id (inputs call_id)))
-      (said_of_call local_config rounds_now call_id) (call_out.Direct to text)
-      (subst (AllByRecursion (KeepsRulesWith (IsAckOf calls call_id (inputs call_id))))
-      (sym (same_outs local_config rounds_now (fair.calls turn.side) call_id))
-      (all_acked calls call_id (inputs call_id) call_id (fair.addresses turn.side)
-      (events_differ local_config call_id rounds_now) its keeps)) says.1 in
+      let its = all_go {P = TimedComes local_config rounds_now call_id} {Q = Its}
+      (λ timed comes. comes.0) (inputs call_id) (inputs_come local_config rounds_now call_id) in
+      let sent = each_of (KeepsRulesWith (IsAckOf calls call_id first))
+      (outputs_from (call_machine calls) call_id None first) (call_out.Direct to text)
+      (all_acked calls call_id first call_id (fair.addresses turn.side)
+      (front_differ first later
+      (subst EventsDiffer are (events_differ local_config call_id rounds_now)))
+      (all_of_parts Its first later (subst (AllByRecursion Its) are its)).0
+      (all_of_parts Keeps first later (subst (AllByRecursion Keeps) are keeps)).0) among in
       let ack = sent.0 in
       let so = sent.3 in
+      let name = dialog_id_of_tags (tag_of ack.from) (tag_of ack.to) in
       record {
         ack = ack;
         text_is = sent.1;
         rules = sent.2;
         is_request = so.is_request;
         method = so.method;
-        follows = subst (λ c. FollowsSuccess configs before turn c
-            (dialog_id_of_tags (tag_of ack.from) (tag_of ack.to)) ack.cseq.number)
-            (sym so.call_id_is)
-            (follows call_id (dialog_id_of_tags (tag_of ack.from) (tag_of ack.to))
-            ack.cseq.number so.heard keeps);
+        call_id_is = so.call_id_is;
+        follows = follows call_id name ack.cseq.number
+            (longer call_id first later are name ack.cseq.number so.heard) keeps first
+            (of_first call_id first later are name ack.cseq.number so.heard);
       }
 
 -- what a call asks a transaction to send is no ACK

@@ -1,7 +1,7 @@
 -- The other side said each ACK that a user is told of: a call sent it for a 2xx of which that
 -- side's user was told, or a transaction made it.
-use Rattle.std.proofs.Common.{◌≡◌, ◌⊎◌, inl, inr, ⊎_elim, ◌≤◌, ℕ, true, length, List, [], ◌∷◌, ◌++◌, sym, ap, ◌∙◌, subst}
-use Rattle.std.specs.Prelude.{codes}
+use Rattle.std.proofs.Common.{◌≡◌, ◌⊎◌, inl, inr, ⊎_elim, ◌≤◌, ℕ, true, length, List, [], ◌∷◌, ◌++◌, sym, ap, ◌∙◌, subst, append-nil}
+use Rattle.std.specs.Prelude.{codes, Contains}
 use Rattle.std.proofs.lemmas.Bool.{false≢true}
 use Rattle.sip_message.specs.Message.{is_request_message}
 use Rattle.sip_message.specs.Party.{tag_of}
@@ -13,7 +13,9 @@ use Rattle.sip_transactions.specs.declared.input.Command.TheVariants as order
 use Rattle.sip_held_dialogs.specs.Requests.{dialog_id_of_tags}
 use Rattle.sip_user.specs.declared.item.CallOut.TheVariants as call_out
 use Rattle.sip_round.specs.declared.config.Config.{Config}
-use Rattle.sip_round.specs.Answers.{past_of}
+use Rattle.sip_round.specs.Answers.{past_of, calls_of}
+use Rattle.sip_round.specs.Laws.{call_inputs_of}
+use Rattle.sip_round.proofs.Said.{call_alone}
 use Rattle.sip_conversation.specs.AckedResponses.{AcksFollowResponses, FollowsSuccess}
 use Rattle.sip_conversation.specs.Acks.{AcksToldWereSaid, IsMadeByTransaction, IsSentByCall}
 use Rattle.sip_conversation.specs.Commands.{CommandsKeepTypes, EventKeepsTypes}
@@ -59,8 +61,14 @@ module _ (configs : Side → Config) (fair : IsFair configs) (turns : List Turn)
       (sym last.side_is)
       (subst (λ rounds. CallSays (configs s) rounds (call_out.Direct to (written ack)))
       (last_rounds s turns last) says) in
-      let so = (follow last.before last.after last.turn last.turns_are).direct to (written ack)
-      sent in
+      let config = configs (last.turn).side in
+      let rounds = rounds_of (last.turn).side front in
+      let inputs = call_inputs_of config rounds sent.0 in
+      let so = (follow last.before last.after last.turn last.turns_are).direct sent.0 inputs []
+      (sym (append-nil inputs)) to (written ack)
+      (subst (λ outs. Contains outs (call_out.Direct to (written ack)))
+      (call_alone (calls_of config) (fair.calls (last.turn).side) []
+      (past_of config rounds).calls sent.0) sent.1) in
       let same = same_text ack so.ack its.rules so.rules its.short so.text_is in
       record {
         before = last.before;
@@ -71,8 +79,12 @@ module _ (configs : Side → Config) (fair : IsFair configs) (turns : List Turn)
         to = to;
         sent = sent;
         follows = subst (λ (m : Message). FollowsSuccess configs last.before last.turn m.call_id
+            (call_inputs_of config rounds m.call_id)
             (dialog_id_of_tags (tag_of m.from) (tag_of m.to)) m.cseq.number) (sym same)
-            so.follows;
+            (subst (λ c. FollowsSuccess configs last.before last.turn c
+            (call_inputs_of config rounds c)
+            (dialog_id_of_tags (tag_of so.ack.from) (tag_of so.ack.to)) so.ack.cseq.number)
+            (sym so.call_id_is) so.follows);
       }
 
   by_whom : (ack : Message) → IsAnAck ack → IsSaid (configs s) (rounds_of s turns) ack

@@ -15,6 +15,7 @@ use Rattle.sip_message.specs.Via.{branch_of as branch_in}
 use Rattle.sip_message.specs.declared.addr.Addr.{Addr}
 use Rattle.sip_message.specs.declared.id.Id.{Id}
 use Rattle.sip_message.specs.declared.key.Key.{Key}
+use Rattle.sip_message.specs.HopByHop.{cancel_of}
 use Rattle.sip_message.specs.declared.message.Message.{Message}
 use Rattle.sip_message.specs.declared.name_addr.NameAddr.{NameAddr}
 use Rattle.sip_message.specs.declared.party.Party.{Party}
@@ -149,7 +150,7 @@ agent_branch : (local : Addr) (branch : List ℕ) → branch_in (agent_via local
 unfolding value_named
 agent_branch local branch = refl
 
-module _ (seed call_id : List ℕ) (Came : Id → Type 0) (Cancels : Id → Type 0) where
+module _ (seed call_id : List ℕ) (Came : Id → Type 0) (Cancels : Id → Message → Type 0) where
   -- an event of the call
   pub record Comes (event : Event) : Type 0 where
     pub seed_is : event.seed ≡ seed
@@ -159,6 +160,12 @@ module _ (seed call_id : List ℕ) (Came : Id → Type 0) (Cancels : Id → Type
   abbrev pub HasBranch : List ℕ → Type 0
   HasBranch branch = (id : Id) × Came id × (branch ≡ codes "z9hG4bK" ++ name_of seed id 0)
 
+  -- it is the CANCEL of a request for which the event of this id asked
+  pub record IsCancelOf (id : Id) (message : Message) : Type 0 where
+    pub request : Message
+    pub asked : Cancels id request
+    pub is : message ≡ cancel_of request
+
   -- it is of the call, with the branch of an event: that of its id, unless it is a CANCEL; the
   -- event of the id of a CANCEL asked for it
   pub record IsOwn (id : Id) (message : Message) : Type 0 where
@@ -166,21 +173,21 @@ module _ (seed call_id : List ℕ) (Came : Id → Type 0) (Cancels : Id → Type
     pub branch : HasBranch (top_branch message)
     pub method : message.cseq.method ≡ codes "ACK" → ⊥
     pub event_is : (message.cseq.method ≡ codes "CANCEL" → ⊥) → branch.0 ≡ id
-    pub cancels : message.cseq.method ≡ codes "CANCEL" → Cancels id
+    pub cancels : message.cseq.method ≡ codes "CANCEL" → IsCancelOf id message
 
   -- ---- what is held and said
 
-  -- the event for which a CANCEL waits asked for it
-  abbrev pub WaitsFor : Cancelling → Type 0
-  WaitsFor NotAsked = Unit {0}
-  WaitsFor (Waits id) = Cancels id
-  WaitsFor Sent = Unit {0}
+  -- the event for which a CANCEL of this request waits asked for it
+  abbrev pub WaitsFor : Message → Cancelling → Type 0
+  WaitsFor request NotAsked = Unit {0}
+  WaitsFor request (Waits id) = Cancels id request
+  WaitsFor request Sent = Unit {0}
 
   -- the INVITE that opens dialogs has no To tag
   pub record IsOwnOf (id : Id) (kind : RequestKind) (request : Message) (cancel : Cancelling)
       : Type 0 where
     pub own : IsOwn id request
-    pub waits : WaitsFor cancel
+    pub waits : WaitsFor request cancel
     pub invites : is_invite_kind kind ≡ true → request.cseq.method ≡ codes "INVITE"
     pub untagged : opens_dialogs kind ≡ true → has_to_tag request ≡ false
 
@@ -243,13 +250,14 @@ module _ (seed call_id : List ℕ) (Came : Id → Type 0) (Cancels : Id → Type
   own_branch event comes =
       made_branch event ∙ ap (λ s. codes "z9hG4bK" ++ name_of s event.id 0) comes.seed_is
 
-  like_own : (id : Id) (one other : Message) → IsLike one other → IsOwn id other → IsOwn id one
-  like_own id one other like own = record {
+  like_own : (id : Id) (one other : Message) → IsLike one other → IsOwn id other
+      → (other.cseq.method ≡ codes "CANCEL" → ⊥) → IsOwn id one
+  like_own id one other like own none = record {
     call = like.call ∙ own.call;
     branch = (own.branch.0, own.branch.1, like.branch ∙ own.branch.2);
     method = λ is. own.method (sym like.method ∙ is);
     event_is = λ other. own.event_is (λ is. other (like.method ∙ is));
-    cancels = λ is. own.cancels (sym like.method ∙ is);
+    cancels = λ is. absurd (none (sym like.method ∙ is));
   }
 
   outside_own : (event : Event) (of method uri from to : List ℕ) (routes : List NameAddr)
@@ -290,7 +298,7 @@ module _ (seed call_id : List ℕ) (Came : Id → Type 0) (Cancels : Id → Type
           method = λ ack. outside.method (sym support.method ∙ (sym content.method ∙ ack));
           event_is = λ other. outside.event_is
               (λ is. other (content.method ∙ (support.method ∙ is)));
-          cancels = λ is. outside.cancels (sym support.method ∙ (sym content.method ∙ is));
+          cancels = λ is. absurd (invite_none (sym (content.method ∙ support.method) ∙ is));
         };
         waits = tt;
         invites = λ is. content.method ∙ support.method;
@@ -305,20 +313,22 @@ module _ (seed call_id : List ℕ) (Came : Id → Type 0) (Cancels : Id → Type
       let second = bytes_eq plain.method (codes "INVITE") in
       either Done (first || second || bytes_eq plain.method (codes "BYE")) _ _
       (λ bad. (own, (tt, tt)))
-      (λ good. start_own (clients, []) _ (own, tt) (record {
+      (λ good.
+      let none = command_none plain.method (first_false first second
+      (first_false (first || second) (bytes_eq plain.method (codes "BYE")) good)) in
+      start_own (clients, []) _ (own, tt) (record {
         own = like_own event.id _ _ (like_content _ plain.content)
             (outside_own event plain.call_id plain.method plain.request_uri plain.from plain.to
             plain.routes comes is
             (no_command plain.method (first_false first second
             (first_false (first || second) (bytes_eq plain.method (codes "BYE")) good)))
-            (command_none plain.method (first_false first second
-            (first_false (first || second) (bytes_eq plain.method (codes "BYE")) good))));
+            none) none;
         waits = tt;
         invites = λ is. absurd (false≢true is);
         untagged = λ opens. absurd (false≢true opens);
       }))
 
-  pub cancel_own : (id : Id) (invite : Client) → Own invite → Cancels id
+  pub cancel_own : (id : Id) (invite : Client) → Own invite → Cancels id invite.request
       → Own (cancel_request id invite)
   cancel_own id invite its asks =
       let own = its.own in record {
@@ -327,7 +337,7 @@ module _ (seed call_id : List ℕ) (Came : Id → Type 0) (Cancels : Id → Type
           branch = (own.branch.0, own.branch.1, top_alone invite.request.vias ∙ own.branch.2);
           method = no_cancel;
           event_is = λ other. absurd (other refl);
-          cancels = λ is. asks;
+          cancels = λ is. record { request = invite.request; asked = asks; is = refl };
         };
         waits = tt;
         invites = λ is. absurd (false≢true is);

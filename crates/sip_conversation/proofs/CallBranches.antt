@@ -2,8 +2,10 @@
 use Rattle.std.proofs.Common.{◌≡◌, ℕ, Bool, true, false, cond, List, [], ◌∷◌, refl, ap, ◌∙◌}
 use Rattle.std.specs.Prelude.{Option, None, Some, IfSome}
 use Rattle.std.specs.List.{AllByRecursion}
+use Rattle.std.specs.Map.{lookup}
 use Rattle.sip_message.specs.declared.addr.Addr.{Addr}
 use Rattle.sip_message.specs.declared.id.Id.{Id}
+use Rattle.sip_message.specs.declared.message.Message.{Message}
 use Rattle.keyed_machine.specs.Machine.{Timed, outputs_from}
 use Rattle.sip_transactions.specs.declared.output.UpKind.{UpKind}
 use Rattle.sip_transactions.specs.declared.output.UpKind.TheVariants as kind
@@ -13,6 +15,7 @@ use Rattle.sip_user.specs.declared.command.UserCommand.{UserCommand}
 use Rattle.sip_user.specs.declared.command.UserCommand.TheVariants as user
 use Rattle.sip_user.specs.declared.item.CallOut.{CallOut}
 use Rattle.sip_user.specs.declared.item.Item.TheVariants.{Up, User}
+use Rattle.sip_held_dialogs.specs.Ids.{is_id}
 use Rattle.sip_held_dialogs.proofs.Each.{both, each_left}
 use Rattle.sip_held_dialogs.proofs.Starts.{starts}
 use Rattle.sip_served.proofs.ArrivalRules.{kind_same}
@@ -21,6 +24,7 @@ use Rattle.sip_served.proofs.ResponseRules.{respond_same}
 use Rattle.sip_served.proofs.OwnCall.{empty_is}
 use Rattle.sip_served.specs.State.{ServedTaken}
 use Rattle.sip_clients.specs.Rules.Ends.{client_tick}
+use Rattle.sip_clients.specs.declared.client.Client.{Client}
 use Rattle.sip_clients.specs.declared.event.Event.{Event}
 use Rattle.sip_calls.specs.Call.{CallItem, CallTaken, Taken, call_machine, call_step, call_tick, event_of, item_of_call, kept, made_tag, new_call, received, side_of}
 use Rattle.sip_calls.specs.Histories.{call_from}
@@ -35,10 +39,11 @@ use Rattle.sip_conversation.proofs.Branches.{AreOwn, Comes, Own, OutSays, invite
 use Rattle.sip_conversation.proofs.BranchSteps.{ack_own, cancel_taken, lost_own, prack_own, received_own, request_own}
 
 -- nothing is said of commands to cancel
-abbrev pub AnyCancel : Id → Type 0
-AnyCancel id = Unit {0}
+abbrev pub AnyCancel : Id → Message → Type 0
+AnyCancel id request = Unit {0}
 
-module _ (calls : Calls) (call_id : List ℕ) (Came : Id → Type 0) (Cancels : Id → Type 0) where
+module _ (calls : Calls) (call_id : List ℕ) (Came : Id → Type 0)
+    (Cancels : Id → Message → Type 0) where
   abbrev pub OwnClients : Call → Type 0
   OwnClients call = AreOwn calls.seed call_id Came Cancels call.clients
 
@@ -58,15 +63,22 @@ module _ (calls : Calls) (call_id : List ℕ) (Came : Id → Type 0) (Cancels : 
   abbrev pub InputComes : Option CallItem → Type 0
   InputComes input = IsInputOf call_id input × IfSome (event_in input) Came
 
-  -- this is said of the event of each command to cancel
-  abbrev CommandCancels : Id → UserCommand → Type 0
-  CommandCancels id (user.Cancel cancel) = Cancels id
-  CommandCancels id _ = Unit {0}
+  -- this is said of each command to cancel: of its event, and of the held request that it names
+  abbrev CommandCancels : Call → Id → UserCommand → Type 0
+  CommandCancels call id (user.Cancel cancel) = (invite : Client)
+      → lookup (is_id cancel.id) call.clients ≡ Some invite → Cancels id invite.request
+  CommandCancels call id _ = Unit {0}
 
-  abbrev pub InputCancels : Option CallItem → Type 0
-  InputCancels None = Unit {0}
-  InputCancels (Some (id, Up up)) = Unit {0}
-  InputCancels (Some (id, User command)) = CommandCancels id command
+  abbrev pub InputCancels : Option Call → Option CallItem → Type 0
+  InputCancels (Some call) (Some (id, User command)) = CommandCancels call id command
+  InputCancels (Some call) (Some (id, Up up)) = Unit {0}
+  InputCancels (Some call) None = Unit {0}
+  InputCancels None input = Unit {0}
+
+  abbrev pub AllCancel : Option Call → List (Timed CallItem) → Type 0
+  AllCancel state [] = Unit {0}
+  AllCancel state (timed ∷ inputs) = InputCancels state timed.input
+      × AllCancel (call_step calls state timed.input timed.moment).0 inputs
 
   says_none : (outs : List CallOut) → starts outs ≡ [] → Says outs
   says_none outs none = silent_say calls.seed call_id Came Cancels outs none
@@ -122,7 +134,7 @@ module _ (calls : Calls) (call_id : List ℕ) (Came : Id → Type 0) (Cancels : 
   first_own call id now (user.Cancel cancel) came its own = (own, (tt, tt))
 
   command_own : (call : Call) (id : Id) (now : ℕ) (command : UserCommand) → Came id
-      → CommandCancels id command → AreSidesOf call_id call → OwnClients call
+      → CommandCancels call id command → AreSidesOf call_id call → OwnClients call
       → Done (item_of_call true call (event_of calls id now) (User command))
   command_own call id now (user.Invite invite) came asks sides own = (own, (tt, tt))
   command_own call id now (user.Plain plain) came asks sides own = (own, (tt, tt))
@@ -167,7 +179,7 @@ module _ (calls : Calls) (call_id : List ℕ) (Came : Id → Type 0) (Cancels : 
   tick_own call now own = each_left (Own calls.seed call_id Came Cancels) _ call.clients own
 
   step_own : (state : Option Call) (input : Option CallItem) (now : ℕ) → InputComes input
-      → InputCancels input → IsCallOf call_id state → HeldOwn state
+      → InputCancels state input → IsCallOf call_id state → HeldOwn state
       → After (call_step calls state input now)
   step_own None None now comes asks of own = (tt, tt)
   step_own (Some call) None now comes asks of own = (
@@ -193,7 +205,7 @@ module _ (calls : Calls) (call_id : List ℕ) (Came : Id → Type 0) (Cancels : 
 
   pub all_own : (state : Option Call) (inputs : List (Timed CallItem))
       → AllByRecursion (λ timed. InputComes timed.input) inputs
-      → AllByRecursion (λ timed. InputCancels timed.input) inputs → IsCallOf call_id state
+      → AllCancel state inputs → IsCallOf call_id state
       → HeldOwn state
       → AllByRecursion OutIsOwn (outputs_from (call_machine calls) call_id state inputs)
   all_own state [] comes asks of own = tt
@@ -208,7 +220,7 @@ module _ (calls : Calls) (call_id : List ℕ) (Came : Id → Type 0) (Cancels : 
   -- what is held after them is of its own
   pub held_own : (state : Option Call) (inputs : List (Timed CallItem))
       → AllByRecursion (λ timed. InputComes timed.input) inputs
-      → AllByRecursion (λ timed. InputCancels timed.input) inputs → IsCallOf call_id state
+      → AllCancel state inputs → IsCallOf call_id state
       → HeldOwn state → HeldOwn (call_from calls state inputs)
   held_own state [] comes asks of own = own
   held_own state (timed ∷ inputs) comes asks of own =
@@ -218,21 +230,24 @@ module _ (calls : Calls) (call_id : List ℕ) (Came : Id → Type 0) (Cancels : 
       (comes.0).0 in
       held_own step.0 inputs comes.1 asks.1 later.0 after.0
 
-any_input : (calls : Calls) (call_id : List ℕ) (Came : Id → Type 0) (input : Option CallItem)
-    → InputCancels calls call_id Came AnyCancel input
-any_input calls call_id Came None = tt
-any_input calls call_id Came (Some (id, Up up)) = tt
-any_input calls call_id Came (Some (id, User (user.Invite invite))) = tt
-any_input calls call_id Came (Some (id, User (user.Plain plain))) = tt
-any_input calls call_id Came (Some (id, User (user.Request request))) = tt
-any_input calls call_id Came (Some (id, User (user.Respond respond))) = tt
-any_input calls call_id Came (Some (id, User (user.Ack ack))) = tt
-any_input calls call_id Came (Some (id, User (user.Prack prack))) = tt
-any_input calls call_id Came (Some (id, User (user.Cancel cancel))) = tt
+module _ (calls : Calls) (call_id : List ℕ) (Came : Id → Type 0) where
+  any_input : (state : Option Call) (input : Option CallItem)
+      → InputCancels calls call_id Came AnyCancel state input
+  any_input None input = tt
+  any_input (Some call) None = tt
+  any_input (Some call) (Some (id, Up up)) = tt
+  any_input (Some call) (Some (id, User (user.Invite invite))) = tt
+  any_input (Some call) (Some (id, User (user.Plain plain))) = tt
+  any_input (Some call) (Some (id, User (user.Request request))) = tt
+  any_input (Some call) (Some (id, User (user.Respond respond))) = tt
+  any_input (Some call) (Some (id, User (user.Ack ack))) = tt
+  any_input (Some call) (Some (id, User (user.Prack prack))) = tt
+  any_input (Some call) (Some (id, User (user.Cancel cancel))) = λ invite found. tt
 
-pub any_inputs : (calls : Calls) (call_id : List ℕ) (Came : Id → Type 0)
-    (inputs : List (Timed CallItem))
-    → AllByRecursion (λ timed. InputCancels calls call_id Came AnyCancel timed.input) inputs
-any_inputs calls call_id Came [] = tt
-any_inputs calls call_id Came (timed ∷ inputs) =
-    (any_input calls call_id Came timed.input, any_inputs calls call_id Came inputs)
+  pub any_inputs : (state : Option Call) (inputs : List (Timed CallItem))
+      → AllCancel calls call_id Came AnyCancel state inputs
+  any_inputs state [] = tt
+  any_inputs state (timed ∷ inputs) = (
+    any_input state timed.input,
+    any_inputs (call_step calls state timed.input timed.moment).0 inputs,
+  )

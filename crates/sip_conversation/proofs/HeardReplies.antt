@@ -181,7 +181,7 @@ module _ (config : Config) (rounds : List Round)
           (subst (AllByRecursion TimedIs) was.are (inputs_come config rounds call_id)) in
           let own = subst (HeldOwn calls call_id Came AnyCancel) was.held
           (held_own calls call_id Came AnyCancel None was.before parts.0
-          (any_inputs calls call_id Came was.before) tt tt) in
+          (any_inputs calls call_id Came None was.before) tt tt) in
           let its : IsOwnClient was.client = subst (λ o. IfSome o IsOwnClient) was.client_is
           (found_one IsOwnClient (is_id was.up.id) was.call.clients own) in
           its.invites (is_of_invite was.client.kind

@@ -199,7 +199,7 @@ module _ (config : Config)
         (sym (call_alone (calls_of config) alone [] (past_of config rounds).calls call_id))
         (all_own (calls_of config) call_id (IsOrigin config rounds call_id) AnyCancel None
         (call_inputs_of config rounds call_id) (inputs_come config rounds call_id)
-        (any_inputs (calls_of config) call_id (IsOrigin config rounds call_id)
+        (any_inputs (calls_of config) call_id (IsOrigin config rounds call_id) None
         (call_inputs_of config rounds call_id)) tt tt)) says.1
 
     -- ---- what a transaction is started with

@@ -100,7 +100,8 @@ module _ (config : Config) (rounds : List Round)
         (subst (AllByRecursion IsOwn) (sym same_so)
         (all_own calls call_id (IsOrigin config rounds call_id) AnyCancel None inputs
         (inputs_come config rounds call_id)
-        (any_inputs calls call_id (IsOrigin config rounds call_id) inputs) tt tt)) among).own.call
+        (any_inputs calls call_id (IsOrigin config rounds call_id) None inputs) tt tt))
+        among).own.call
 
 -- ---- a turn
 

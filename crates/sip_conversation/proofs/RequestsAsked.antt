@@ -1,8 +1,11 @@
 -- A request that an agent says is an ACK, or one for which its user asked; a PRACK may also be the
 -- agent's own, without a body.
-use Rattle.std.proofs.Common.{◌≡◌, ℕ, true, false, List, [], refl, sym, ap, ◌∙◌, subst}
+use Rattle.std.proofs.Common.{◌≡◌, ℕ, true, false, List, [], ◌∷◌, ◌++◌, refl, sym, ap, ◌∙◌, subst, append_assoc}
 use Rattle.std.specs.Prelude.{Contains, None, Option, Some, codes}
 use Rattle.std.specs.List.{AllByRecursion}
+use Rattle.std.specs.Map.{lookup}
+use Rattle.std.proofs.lemmas.List.Elements.{Contains-append_right}
+use Rattle.std.proofs.lemmas.Option.{same_Some}
 use Rattle.std.proofs.lemmas.Bool.{false≢true}
 use Rattle.sip_message.specs.declared.addr.Addr.{Addr}
 use Rattle.sip_message.specs.declared.id.Id.{Id}
@@ -12,7 +15,7 @@ use Rattle.sip_message.specs.Message.{is_request_message}
 use Rattle.sip_message.specs.Rules.{IsMessage}
 use Rattle.sip_message.specs.Written.{written}
 use Rattle.keyed_machine.specs.Laws.{EachKeyAlone}
-use Rattle.keyed_machine.specs.Machine.{Timed, given_at, tick_at}
+use Rattle.keyed_machine.specs.Machine.{Timed, given_at, outputs_from, tick_at}
 use Rattle.sip_transactions.specs.declared.input.Command.TheVariants as order
 use Rattle.sip_user.specs.declared.command.Cancel.{Cancel}
 use Rattle.sip_user.specs.declared.command.UserCommand.{UserCommand}
@@ -20,9 +23,15 @@ use Rattle.sip_user.specs.declared.command.UserCommand.TheVariants as user
 use Rattle.sip_user.specs.declared.item.CallOut.{CallOut}
 use Rattle.sip_user.specs.declared.item.CallOut.TheVariants as call_out
 use Rattle.sip_user.specs.declared.item.Item.TheVariants.{Up, User}
+use Rattle.sip_held_dialogs.specs.Ids.{is_id}
+use Rattle.sip_clients.specs.Client.{client_at}
 use Rattle.sip_clients.specs.Rules.Requests.{has_command}
+use Rattle.sip_clients.specs.declared.client.Client.{Client}
 use Rattle.sip_calls.specs.Call.{CallItem, call_machine}
 use Rattle.sip_calls.specs.CallShard.{call_cmp}
+use Rattle.sip_calls.specs.Histories.{call_from}
+use Rattle.sip_calls.specs.Provisionals.{side_held}
+use Rattle.sip_calls.specs.declared.call.Call.{Call}
 use Rattle.sip_round.specs.declared.config.Config.{Config}
 use Rattle.sip_round.specs.declared.round.Round.{Round}
 use Rattle.sip_round.specs.Answers.{calls_of, past_of}
@@ -35,11 +44,15 @@ use Rattle.sip_conversation.specs.Requests.{UserAsked, request_asked_by}
 use Rattle.sip_conversation.specs.ToldPracks.{IsPracked}
 use Rattle.sip_conversation.specs.ToldPracks.IsPracked.{ByAgent, ByUser}
 use Rattle.sip_conversation.proofs.AckTexts.{is_ack}
-use Rattle.sip_conversation.proofs.Among.{all_of, each_of}
-use Rattle.sip_conversation.proofs.CallBranches.{InputCancels, OutIsOwn, all_own}
+use Rattle.sip_conversation.proofs.Among.{all_of, among_first, each_of}
+use Rattle.sip_conversation.proofs.AmongInputs.{out_of_first_inputs}
+use Rattle.sip_conversation.proofs.CallBranches.{AllCancel, InputCancels, OutIsOwn, all_own}
+use Rattle.sip_conversation.proofs.ClientsSent.{WentOut, held_went}
 use Rattle.sip_conversation.proofs.CommandAsks.{InputAsks, OutAsks, all_say}
 use Rattle.sip_conversation.proofs.OneCallId.{out_replies}
+use Rattle.sip_conversation.proofs.OneStart.{start_id, started_with}
 use Rattle.sip_conversation.proofs.Origins.{IsOrigin, inputs_come}
+use Rattle.sip_conversation.proofs.PracksOfCalls.{from_more}
 
 module _ (config : Config) (rounds : List Round)
     (alone : EachKeyAlone call_cmp (call_machine (calls_of config)) tick_at) where
@@ -102,46 +115,94 @@ module _ (config : Config) (rounds : List Round)
       (all_of (λ (timed : Timed CallItem). InputIsAsked call_id timed.input) inputs
       (λ timed among. input_asks call_id timed.moment timed.input among)))) says.1
 
-  -- in this call the user gave the command Cancel, by the event of this id
-  pub record GaveCancel (call_id : List ℕ) (event : Id) : Type 0 where
+  -- In this call the user gave the command Cancel, by the event of this id. It names a request by
+  -- the id under which that went out.
+  pub record GaveCancel (call_id : List ℕ) (event : Id) (request : Message) : Type 0 where
     pub now : ℕ
     pub command : Cancel
     pub gave : Contains (call_inputs_of config rounds call_id)
         (given_at now (event, User (user.Cancel command)))
+    pub went : WentOut (outputs_from (call_machine (calls_of config)) call_id None
+        (call_inputs_of config rounds call_id)) command.id request
 
   abbrev pub OwnOut : List ℕ → CallOut → Type 0
   OwnOut call_id =
       OutIsOwn (calls_of config) call_id (IsOrigin config rounds call_id) (GaveCancel call_id)
 
-  abbrev InputGave : List ℕ → Option CallItem → Type 0
-  InputGave call_id =
-      InputCancels (calls_of config) call_id (IsOrigin config rounds call_id) (GaveCancel call_id)
+  module _ (call_id : List ℕ) where
+    abbrev inputs : List (Timed CallItem)
+    inputs = call_inputs_of config rounds call_id
 
-  input_gave : (call_id : List ℕ) (now : ℕ) (i : Option CallItem)
-      → Contains (call_inputs_of config rounds call_id) (record { moment = now; input = i })
-      → InputGave call_id i
-  input_gave call_id now None among = tt
-  input_gave call_id now (Some (event, Up up)) among = tt
-  input_gave call_id now (Some (event, User (user.Invite invite))) among = tt
-  input_gave call_id now (Some (event, User (user.Plain plain))) among = tt
-  input_gave call_id now (Some (event, User (user.Request request))) among = tt
-  input_gave call_id now (Some (event, User (user.Respond respond))) among = tt
-  input_gave call_id now (Some (event, User (user.Ack ack))) among = tt
-  input_gave call_id now (Some (event, User (user.Prack prack))) among = tt
-  input_gave call_id now (Some (event, User (user.Cancel cancel))) among =
-      record { now = now; command = cancel; gave = among }
+    abbrev Gave : Option Call → Option CallItem → Type 0
+    Gave = InputCancels (calls_of config) call_id (IsOrigin config rounds call_id)
+        (GaveCancel call_id)
+
+    -- a command for a held request names the id under which that went out
+    cancel_gave : (front rest : List (Timed CallItem)) (call : Call) (now : ℕ) (event : Id)
+        (command : Cancel)
+        → inputs ≡ front ++ given_at now (event, User (user.Cancel command)) ∷ rest
+        → call_from (calls_of config) None front ≡ Some call → (invite : Client)
+        → lookup (is_id command.id) call.clients ≡ Some invite
+        → GaveCancel call_id event invite.request
+    cancel_gave front rest call now event command are held invite found =
+        let timed : Timed CallItem = given_at now (event, User (user.Cancel command)) in
+        let calls = calls_of config in
+        let early = held_went calls call_id front command.id invite
+        (ap (λ o. client_at command.id (side_held o).clients) held ∙ found) in
+        record {
+          now = now;
+          command = command;
+          gave = subst (λ xs. Contains xs timed) (sym are)
+              (Contains-append_right front (timed ∷ rest) timed (among_first timed rest));
+          went = record {
+            one = early.one;
+            among = subst (λ xs. Contains (outputs_from (call_machine calls) call_id None xs)
+                early.one) (sym are)
+                (out_of_first_inputs calls call_id front (timed ∷ rest) early.one early.among);
+            starts = early.starts;
+            sends = early.sends;
+          };
+        }
+
+    input_gave : (front rest : List (Timed CallItem)) (state : Option Call)
+        → call_from (calls_of config) None front ≡ state → (now : ℕ) (i : Option CallItem)
+        → inputs ≡ front ++ record { moment = now; input = i } ∷ rest → Gave state i
+    input_gave front rest None held now i are = tt
+    input_gave front rest (Some call) held now None are = tt
+    input_gave front rest (Some call) held now (Some (event, Up up)) are = tt
+    input_gave front rest (Some call) held now (Some (event, User (user.Invite invite))) are = tt
+    input_gave front rest (Some call) held now (Some (event, User (user.Plain plain))) are = tt
+    input_gave front rest (Some call) held now (Some (event, User (user.Request request))) are =
+        tt
+    input_gave front rest (Some call) held now (Some (event, User (user.Respond respond))) are =
+        tt
+    input_gave front rest (Some call) held now (Some (event, User (user.Ack ack))) are = tt
+    input_gave front rest (Some call) held now (Some (event, User (user.Prack prack))) are = tt
+    input_gave front rest (Some call) held now (Some (event, User (user.Cancel cancel))) are =
+        cancel_gave front rest call now event cancel are held
+
+    all_gave : (front rest : List (Timed CallItem)) → inputs ≡ front ++ rest
+        → AllCancel (calls_of config) call_id (IsOrigin config rounds call_id)
+        (GaveCancel call_id) (call_from (calls_of config) None front) rest
+    all_gave front [] are = tt
+    all_gave front (timed ∷ rest) are = (
+      input_gave front rest (call_from (calls_of config) None front) refl timed.moment
+          timed.input are,
+      subst (λ s. AllCancel (calls_of config) call_id (IsOrigin config rounds call_id)
+          (GaveCancel call_id) s rest) (from_more (calls_of config) None front timed)
+          (all_gave (front ++ timed ∷ []) rest
+          (are ∙ sym (append_assoc front (timed ∷ []) rest))),
+    )
 
   pub out_own : (out : CallOut) → (says : CallSays config rounds out) → OwnOut says.0 out
   out_own out says =
       let call_id = says.0 in
-      let inputs = call_inputs_of config rounds call_id in
       each_of (OwnOut call_id) (said_of_call config rounds call_id) out
       (subst (AllByRecursion (OwnOut call_id))
       (sym (call_alone (calls_of config) alone [] (past_of config rounds).calls call_id))
       (all_own (calls_of config) call_id (IsOrigin config rounds call_id) (GaveCancel call_id)
-      None inputs (inputs_come config rounds call_id)
-      (all_of (λ (timed : Timed CallItem). InputGave call_id timed.input) inputs
-      (λ timed among. input_gave call_id timed.moment timed.input among)) tt tt)) says.1
+      None (inputs call_id) (inputs_come config rounds call_id)
+      (all_gave call_id [] (inputs call_id) refl) tt tt)) says.1
 
   -- ---- each way to say a request
 
@@ -226,12 +287,36 @@ module _ (config : Config) (rounds : List Round)
 
   -- ---- a CANCEL
 
+  -- an output that starts a transaction under this id with this request
+  record IsStart (id : Id) (request : Message) (one : CallOut) : Type 0 where
+    pub key : Key
+    pub of : List ℕ
+    pub to : Addr
+    pub is : one ≡ call_out.Command id (order.Start key of request to)
+
+  start_of : (one : CallOut) (id : Id) (request : Message) → start_id one ≡ Some id
+      → ((otherwise : Message) → started_with otherwise one ≡ request) → IsStart id request one
+  start_of (call_out.Notice notice) id request starts sends = absurd cc
+  start_of (call_out.Direct to bytes) id request starts sends = absurd cc
+  start_of (call_out.Command other (order.Answer key message)) id request starts sends =
+      absurd cc
+  start_of (call_out.Command other (order.Start key of message to)) id request starts sends =
+      let ids : other ≡ id = same_Some other id starts in record {
+        key = key;
+        of = of;
+        to = to;
+        is = (λ i. call_out.Command (ids i) (order.Start key of (sends request i) to));
+      }
+
   started_cancelled : (id : Id) (key : Key) (of : List ℕ) (request : Message) (to : Addr)
       → CallSays config rounds (call_out.Command id (order.Start key of request to))
       → request.cseq.method ≡ codes "CANCEL" → UserCancelled config rounds request
   started_cancelled id key of request to says is =
       let own = out_own (call_out.Command id (order.Start key of request to)) says in
-      let gave = own.own.cancels is in
+      let cancels = own.own.cancels is in
+      let gave = cancels.asked in
+      let sent = start_of gave.went.one gave.command.id cancels.request gave.went.starts
+      gave.went.sends in
       record {
         event = id;
         now = gave.now;
@@ -243,6 +328,18 @@ module _ (config : Config) (rounds : List Round)
         to = to;
         starts = subst (λ call_id. CallSays config rounds
             (call_out.Command id (order.Start key call_id request to))) own.of_is says;
+        invite = cancels.request;
+        invite_key = sent.key;
+        invite_call = sent.of;
+        invite_to = sent.to;
+        sent = (
+          says.0,
+          subst (Contains (said_of_call config rounds says.0)) sent.is
+              (subst (λ outs. Contains outs gave.went.one)
+              (sym (call_alone (calls_of config) alone [] (past_of config rounds).calls says.0))
+              gave.went.among),
+        );
+        cancels = cancels.is;
       }
 
   no_cancel : codes "CANCEL" ≡ codes "ACK" → ⊥

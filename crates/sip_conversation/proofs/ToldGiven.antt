@@ -248,7 +248,7 @@ module _ (configs : Side → Config) (fair : IsFair configs) (before : List Turn
           let parts = all_of_parts TimedIs at.before (at.timed ∷ at.after)
           (subst (AllByRecursion TimedIs) at.are (inputs_come here rounds_here call_id)) in
           by_state state (held_own (calls_of here) call_id CameHere AnyCancel None at.before parts.0
-          (any_inputs (calls_of here) call_id CameHere at.before) tt tt)
+          (any_inputs (calls_of here) call_id CameHere None at.before) tt tt)
           reply.held
         where
           by_state : (state : Option Call)

@@ -16,6 +16,7 @@ use Rattle.sip_transactions.specs.declared.output.Up.{Up}
 use Rattle.sip_held_dialogs.specs.Requests.{dialog_id_of_tags, is_invite, is_success}
 use Rattle.sip_user.specs.declared.item.CallOut.TheVariants.{Direct}
 use Rattle.sip_user.specs.declared.notice.Notice.TheVariants.{Ack}
+use Rattle.sip_round.specs.Laws.{call_inputs_of}
 use Rattle.sip_round.specs.declared.config.Config.{Config}
 use Rattle.sip_round.specs.declared.output.Output.TheVariants.{Notice}
 use Rattle.sip_round.specs.declared.round.Round.{Round}
@@ -37,6 +38,7 @@ pub record IsSentByCall (configs : Side → Config) (turns : List Turn) (side : 
   pub sent : CallSays (configs turn.side) (rounds_of turn.side (before ++ turn ∷ []))
       (Direct to (written ack))
   pub follows : FollowsSuccess configs before turn ack.call_id
+      (call_inputs_of (configs turn.side) (rounds_of turn.side (before ++ turn ∷ [])) ack.call_id)
       (dialog_id_of_tags (tag_of ack.from) (tag_of ack.to)) ack.cseq.number
 
 -- In these rounds a transaction made the ACK for a request that it was to start and a response of

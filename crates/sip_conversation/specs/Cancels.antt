@@ -5,6 +5,7 @@ use Rattle.sip_message.specs.declared.addr.Addr.{Addr}
 use Rattle.sip_message.specs.declared.id.Id.{Id}
 use Rattle.sip_message.specs.declared.key.Key.{Key}
 use Rattle.sip_message.specs.declared.message.Message.{Message}
+use Rattle.sip_message.specs.HopByHop.{cancel_of}
 use Rattle.sip_message.specs.Rules.{IsMessage}
 use Rattle.keyed_machine.specs.Machine.{given_at}
 use Rattle.sip_transactions.specs.declared.input.Command.TheVariants.{Start}
@@ -22,8 +23,9 @@ use Rattle.sip_conversation.specs.Answers.{IsCancelled}
 use Rattle.sip_conversation.specs.Conversation.{Side, Turn, given_by, peer, rounds_of}
 use Rattle.sip_conversation.specs.Messages.{CallSays, come_from}
 
--- In these rounds the user asked for this CANCEL: an event was his command Cancel in its call.
--- Under the id of that event a transaction was to start with the CANCEL.
+-- In these rounds the user asked for this CANCEL: an event was his command Cancel in its call. It
+-- names a request by the id under which that was sent. Under the id of the event a transaction was
+-- to start with the CANCEL, which is that of this request (RFC 3261, section 9.1).
 pub record UserCancelled (config : Config) (rounds : List Round) (cancel : Message) : Type 0 where
   pub event : Id
   pub now : ℕ
@@ -33,6 +35,13 @@ pub record UserCancelled (config : Config) (rounds : List Round) (cancel : Messa
   pub key : Key
   pub to : Addr
   pub starts : CallSays config rounds (Command event (Start key cancel.call_id cancel to))
+  pub invite : Message
+  pub invite_key : Key
+  pub invite_call : List ℕ
+  pub invite_to : Addr
+  pub sent : CallSays config rounds
+      (Command command.id (Start invite_key invite_call invite invite_to))
+  pub cancels : cancel ≡ cancel_of invite
 
 -- In the turns before, the other side said a CANCEL of this Call-ID, because its user asked for it.
 -- It came up to this side for an INVITE that came up under this Call-ID and this id up to the

@@ -114,14 +114,14 @@ pub fn pracks_follow_responses(one: Config, other: Config)
     sides_are_fair(&one, &other);
 }
 
-/// In such a conversation, each text that a call sends directly is that of an ACK, which keeps the
-/// rules of messages and follows the 2xx that it acknowledges: in the same turn or before, the user
-/// was told of a 2xx under the Call-ID of the ACK. In the turns before, the other side said that
-/// response. If the rounds of the side that sends the ACK are counted as above, the response
-/// answers an INVITE with the ACK's CSeq number, and the ACK is in the dialog of the response's
-/// tags, unless that INVITE was sent in a dialog without a remote tag (RFC 3261, section 13.2.2.4).
-/// No call asks a transaction to send an ACK. So a transaction sends only the ACK that it makes for
-/// a response of 300 to 699 (section 17.1.1.3).
+/// In such a conversation, each text that a call sends directly is that of an ACK of its Call-ID,
+/// which keeps the rules of messages and follows the 2xx that it acknowledges: at the input of the
+/// call at which the ACK goes out, or at one before it, the call told its user of a 2xx. In the
+/// turns before, the other side said that response. If the rounds of the side that sends the ACK
+/// are counted as above, the response answers an INVITE with the ACK's CSeq number, and the ACK is
+/// in the dialog of the response's tags, unless that INVITE was sent in a dialog without a remote
+/// tag (RFC 3261, section 13.2.2.4). No call asks a transaction to send an ACK. So a transaction
+/// sends only the ACK that it makes for a response of 300 to 699 (section 17.1.1.3).
 pub fn acks_follow_responses(one: Config, other: Config)
     ensures { (turns : List Turn) → Carried (of_sides one other) turns
         → CommandsKeepTypes turns
@@ -205,9 +205,10 @@ pub fn pracks_told_were_said(one: Config, other: Config)
 
 /// In such a conversation, for each CANCEL that a user is told of in a turn, the other side said a
 /// CANCEL of that Call-ID in the turns before, because its user gave the command Cancel in that
-/// call: under the id of that command its call started a transaction with the CANCEL. The CANCEL
-/// came up for an INVITE that came up under the Call-ID and the id that are told: the transactions
-/// of both have one branch and one sent-by (RFC 3261, section 9.2).
+/// call. It is the CANCEL of the request that was sent under the id that the command names (RFC
+/// 3261, section 9.1), and a transaction was started with it under the id of the command. It came
+/// up for an INVITE that came up under the Call-ID and the id that are told: the transactions of
+/// both have one branch and one sent-by (section 9.2).
 pub fn cancels_told_were_asked_for(one: Config, other: Config)
     ensures { (turns : List Turn) → Carried (of_sides one other) turns
         → CommandsKeepTypes turns
