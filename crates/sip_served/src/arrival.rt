@@ -1,16 +1,16 @@
 //! A request that comes up, and which case it is.
 
-ghost use Rattle.std.specs.Prelude.{◌≡◌, ◌&&◌, IfOk, find, option_map};
+ghost use Rattle.std.specs.Prelude.{◌≡◌, true, ◌&&◌, IfOk, find, option_map};
 ghost use Rattle.std.specs.List.{list_any};
 ghost use Rattle.std.specs.Option.{option_copied};
 ghost use Rattle.sip_served.specs.Arrival as arrival;
-ghost use Rattle.sip_held_dialogs.specs.Requests.{is_unknown_option};
+ghost use Rattle.sip_held_dialogs.specs.Requests.{has_to_tag, is_unknown_option};
 
 use crate::held_request::HeldRequest;
 use crate::held_requests::HeldRequests;
 use sip_held_dialogs::dialogs::takes;
-use sip_held_dialogs::request::{has_to_tag, is_bye, is_invite, is_prack, is_unknown_option};
-use sip_held_dialogs::{DialogId, Dialogs, HeldDialog};
+use sip_held_dialogs::request::{is_invite, is_prack, is_unknown_option};
+use sip_held_dialogs::{DialogId, Dialogs};
 use sip_message::{Addr, Id, Message, RAck, SharedKey, Token};
 use sip_text::{Boxed, token_eq};
 use std::alloc::AllocError;
@@ -47,49 +47,20 @@ pub(crate) enum ArrivalCase {
     ForUser,
 }
 
-/// The first case that fits.
-pub(crate) fn case_of(
+/// The case of a request inside of a dialog: the first that fits.
+pub(crate) fn case_inside(
     requests: &HeldRequests,
     dialogs: &Dialogs,
     name: &DialogId,
     request: &Message,
-) -> Result<ArrivalCase, AllocError>
-    ensures { IfOk result (λ case. case
-        ≡ arrival.case_of requests.now dialogs.now.entries name.now request.now) }
-{
-    if !has_to_tag(request) && requests.merges(request)? {
-        return Ok(ArrivalCase::Merged);
-    }
-    if requires_unknown(request) {
-        return Ok(ArrivalCase::BadExtension);
-    }
-    if has_to_tag(request) {
-        Ok(case_inside(requests, name, request, dialogs.get(name)))
-    } else {
-        Ok(case_outside(request))
-    }
-}
-
-fn case_outside(request: &Message) -> ArrivalCase
-    ensures { result ≡ arrival.case_outside request.now }
-{
-    if is_bye(request) || is_prack(request) {
-        ArrivalCase::NoDialog
-    } else {
-        ArrivalCase::ForUser
-    }
-}
-
-fn case_inside(
-    requests: &HeldRequests,
-    name: &DialogId,
-    request: &Message,
-    dialog: Option<&HeldDialog>,
 ) -> ArrivalCase
-    ensures { result
-        ≡ arrival.case_inside requests.now name.now request.now (option_copied dialog.entry) }
+    requires { has_to_tag request.now ≡ true }
+    ensures { result ≡ arrival.case_of requests.now dialogs.now.entries name.now request.now }
 {
-    let Some(held) = dialog else {
+    if requires_unknown(request) {
+        return ArrivalCase::BadExtension;
+    }
+    let Some(held) = dialogs.get(name) else {
         return ArrivalCase::NoDialog;
     };
     if !takes(held, request.cseq.number) {

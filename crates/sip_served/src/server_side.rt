@@ -1,6 +1,6 @@
 //! The server side of one Call-ID: what it holds, and how each item changes it.
 
-ghost use Rattle.std.specs.Prelude.{◌≡◌, ◌≤◌, ◌^◌, [], ◌∷◌, ◌++◌, IfOk, OnOk, false, find};
+ghost use Rattle.std.specs.Prelude.{◌≡◌, ◌≤◌, ◌^◌, [], ◌∷◌, ◌++◌, IfOk, OnOk, true, false, find};
 ghost use Rattle.sip_held_dialogs.specs.Requests.{has_to_tag};
 ghost use Rattle.sip_user.specs.declared.item.CallOut.TheVariants as call_out;
 ghost use Rattle.sip_served.specs.Acknowledgment.{ack_taken};
@@ -16,7 +16,7 @@ ghost use Rattle.std.specs.Option.{option_map_or};
 ghost use Rattle.sip_served.specs.State.{has_id};
 ghost use Rattle.sip_served.specs.declared.held_request.HeldRequest.{HeldRequest};
 
-use crate::arrival::{Arrival, ArrivalCase, case_of, requires_unknown};
+use crate::arrival::{Arrival, ArrivalCase, case_inside, requires_unknown};
 use crate::change::Change;
 use crate::held_request::HeldRequest;
 use crate::held_requests::HeldRequests;
@@ -183,20 +183,6 @@ impl ServerSide {
         ensures { IfOk result (λ outs. (self.new, outs.items)
             ≡ rules.request_received self.old call_id arrival now) }
     {
-        self.take_arrival(call_id, arrival, now)
-    }
-
-    // A CANCEL, or another request.
-    fn take_arrival(
-        &mut self,
-        call_id: CallId,
-        arrival: Arrival,
-        now: u64,
-    ) -> Result<Vec<CallOut>, AllocError>
-        requires { now ≤ 2 ^ 62 }
-        ensures { IfOk result (λ outs. (self.new, outs.items)
-            ≡ step.arrival_taken self.old call_id arrival now) }
-    {
         if is_cancel(arrival.request.get()) {
             self.cancel(call_id, &arrival, now)
         } else {
@@ -288,11 +274,13 @@ impl ServerSide {
 
     // A request inside of a dialog.
     fn take_inside(&mut self, call_id: CallId, arrival: Arrival) -> Result<Vec<CallOut>, AllocError>
+        requires { has_to_tag arrival.request ≡ true }
         ensures { IfOk result (λ outs. (self.new, outs.items)
             ≡ arrived.request_taken self.old call_id arrival) }
     {
-        let name = dialog_id_of(self.alloc, arrival.request.get(), &arrival.tag)?;
-        let case = case_of(&self.requests, &self.dialogs, &name, arrival.request.get())?;
+        let request = arrival.request.get();
+        let name = dialog_id_of(self.alloc, request, &arrival.tag)?;
+        let case = case_inside(&self.requests, &self.dialogs, &name, request);
         self.by_case(case, call_id, name, arrival)
     }
 
