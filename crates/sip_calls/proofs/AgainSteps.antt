@@ -8,7 +8,7 @@ use Rattle.sip_transactions.specs.declared.output.UpKind.{UpKind}
 use Rattle.sip_transactions.specs.declared.output.UpKind.TheVariants as kind
 use Rattle.sip_transactions.specs.declared.output.Up.{Up as AnUp}
 use Rattle.sip_user.specs.declared.command.UserCommand.{UserCommand}
-use Rattle.sip_user.specs.declared.command.UserCommand.TheVariants.{Invite, Plain as PlainCommand, Request, Respond, Ack, Prack, Cancel}
+use Rattle.sip_user.specs.declared.command.UserCommand.TheVariants.{Invite, Plain as PlainCommand, Request, Respond, Ack, Prack, Cancel, AbandonRequest, AbandonDialog}
 use Rattle.sip_held_dialogs.specs.declared.held_dialog.DialogReference.{DialogReference}
 use Rattle.sip_user.specs.declared.item.CallOut.{CallOut}
 use Rattle.sip_user.specs.declared.item.Item.TheVariants.{Up, User}
@@ -18,6 +18,7 @@ use Rattle.sip_held_dialogs.specs.Ids.{is_id}
 use Rattle.sip_held_dialogs.proofs.Entries.{none_apart}
 use Rattle.sip_clients.specs.Client.{Clients, Side, client_at}
 use Rattle.sip_clients.specs.Provisionals.{InTheDialog, reported_in}
+use Rattle.sip_clients.proofs.Abandons as abandons
 use Rattle.sip_clients.proofs.AgainInvite.{AgainResult, AreApart, Keeps, ear_of, keeps_ack, keeps_cancel, keeps_invite, keeps_lost, keeps_plain, keeps_prack, keeps_request, keeps_same, keeps_tick, silent_result}
 use Rattle.sip_clients.proofs.AgainSides.{response_again}
 use Rattle.sip_clients.proofs.Hearing.{heard_in_order}
@@ -106,6 +107,8 @@ module _ (life : DialogReference) (invite : Id) where
   first_command_step call calls id now (Ack ack) apart = nothing id call _ apart
   first_command_step call calls id now (Prack prack) apart = nothing id call _ apart
   first_command_step call calls id now (Cancel cancel) apart = nothing id call _ apart
+  first_command_step call calls id now (AbandonRequest abandon) apart = nothing id call _ apart
+  first_command_step call calls id now (AbandonDialog abandon) apart = nothing id call _ apart
 
   command_step : (call : Call) (calls : Calls) (id : Id) (now : ℕ) (command : UserCommand)
       → AreApart call.clients
@@ -129,6 +132,14 @@ module _ (life : DialogReference) (invite : Id) where
   command_step call calls id now (Cancel cancel) apart =
       keeps_of id call (command_taken call (event_of calls id now) (Cancel cancel))
       (keeps_cancel life invite (Some id) (event_of calls id now) cancel (side_of call) apart)
+  command_step call calls id now (AbandonRequest abandon) apart =
+      keeps_of id call (command_taken call (event_of calls id now) (AbandonRequest abandon))
+      (abandons.request_keeps life invite (Some id) (event_of calls id now) abandon
+      (side_of call) apart)
+  command_step call calls id now (AbandonDialog abandon) apart =
+      keeps_of id call (command_taken call (event_of calls id now) (AbandonDialog abandon))
+      (abandons.dialog_keeps life invite (Some id) (event_of calls id now) abandon
+      (side_of call) apart)
 
   tick_step : (call : Call) (now : ℕ) → AreApart call.clients
       → Step None None call.clients (ticked call now)

@@ -7,7 +7,7 @@ use Rattle.sip_transactions.specs.declared.output.UpKind.{UpKind}
 use Rattle.sip_transactions.specs.declared.output.UpKind.TheVariants as kind
 use Rattle.sip_transactions.specs.declared.output.Up.{Up as AnUp}
 use Rattle.sip_user.specs.declared.command.UserCommand.{UserCommand}
-use Rattle.sip_user.specs.declared.command.UserCommand.TheVariants.{Invite, Plain as PlainCommand, Request, Respond, Ack, Prack, Cancel}
+use Rattle.sip_user.specs.declared.command.UserCommand.TheVariants.{Invite, Plain as PlainCommand, Request, Respond, Ack, Prack, Cancel, AbandonRequest, AbandonDialog}
 use Rattle.sip_user.specs.declared.item.CallOut.{CallOut}
 use Rattle.sip_user.specs.declared.item.CallOut.TheVariants.{Notice}
 use Rattle.sip_user.specs.declared.item.Item.TheVariants.{Up, User}
@@ -22,6 +22,7 @@ use Rattle.sip_clients.specs.Tick.{clients_left, over_notices}
 pub use Rattle.sip_clients.proofs.StartBounds.{AllClients, Fits, IsClient, how_many, ids_of, waiting}
 pub use Rattle.sip_clients.proofs.FirstInvite.{id_exact}
 pub use Rattle.sip_clients.proofs.Tally.{count_option, weight}
+use Rattle.sip_clients.proofs.Abandons as abandons
 use Rattle.sip_clients.proofs.CommandStarts.{ack_fits, cancel_fits, invite_fits, plain_fits, prack_fits, request_fits}
 use Rattle.sip_clients.proofs.ReplyStarts.{response_fits}
 use Rattle.sip_clients.proofs.WithoutStarts.{lost_fits, quiet_then, stays_quiet, tick_fits, tick_none}
@@ -85,6 +86,8 @@ first_command_starts call calls id now (Respond respond) = refused_starts call i
 first_command_starts call calls id now (Ack ack) = refused_starts call id _ refl
 first_command_starts call calls id now (Prack prack) = refused_starts call id _ refl
 first_command_starts call calls id now (Cancel cancel) = refused_starts call id _ refl
+first_command_starts call calls id now (AbandonRequest abandon) = refused_starts call id _ refl
+first_command_starts call calls id now (AbandonDialog abandon) = refused_starts call id _ refl
 
 command_starts : (call : Call) (calls : Calls) (id : Id) (now : ℕ) (command : UserCommand)
     → Starts (Some id) call (command_taken call (event_of calls id now) command)
@@ -101,6 +104,10 @@ command_starts call calls id now (Prack prack) =
     prack_fits (event_of calls id now) prack (side_of call)
 command_starts call calls id now (Cancel cancel) =
     cancel_fits (event_of calls id now) cancel (side_of call)
+command_starts call calls id now (AbandonRequest abandon) =
+    abandons.request_fits (event_of calls id now) abandon (side_of call)
+command_starts call calls id now (AbandonDialog abandon) =
+    abandons.dialog_fits (event_of calls id now) abandon (side_of call)
 
 pub tick_silent_of : (call : Call) (now : ℕ) → starts (ticked call now).1 ≡ []
 tick_silent_of call now =

@@ -8,7 +8,7 @@ use Rattle.sip_transactions.specs.declared.output.UpKind.{UpKind}
 use Rattle.sip_transactions.specs.declared.output.UpKind.TheVariants as kind
 use Rattle.sip_transactions.specs.declared.output.Up.{Up as AnUp}
 use Rattle.sip_user.specs.declared.command.UserCommand.{UserCommand}
-use Rattle.sip_user.specs.declared.command.UserCommand.TheVariants.{Invite, Plain as PlainCommand, Request, Respond, Ack, Prack, Cancel}
+use Rattle.sip_user.specs.declared.command.UserCommand.TheVariants.{Invite, Plain as PlainCommand, Request, Respond, Ack, Prack, Cancel, AbandonRequest, AbandonDialog}
 use Rattle.sip_held_dialogs.specs.declared.held_dialog.DialogId.{DialogId}
 use Rattle.sip_user.specs.declared.item.CallOut.{CallOut}
 use Rattle.sip_user.specs.declared.item.Item.TheVariants.{Up, User}
@@ -21,11 +21,13 @@ use Rattle.sip_clients.specs.Client.{Clients, Side, ClientTaken}
 use Rattle.sip_clients.specs.ClientLife.{ClientHappening, Outgoing, SendsAckAgain, SendsCancel}
 use Rattle.sip_clients.specs.ClientRules.{AllLive, AllWait, EachFits, Fits, HoldsRules, IsCancelOf, KeepsWaiting}
 use Rattle.sip_clients.specs.ClientStory.{ClientStory, answers_of}
-use Rattle.sip_clients.specs.ClientTelling.{ClientStories, AreTold, HoldsStories, ack_told, cancel_told, in_dialog_told, invite_told, lost_told, plain_told, response_told, ticked_told}
+use Rattle.sip_clients.specs.ClientTelling.{ClientStories, AreTold, abandon_told, HoldsStories, ack_told, cancel_told, in_dialog_told, invite_told, lost_told, plain_told, response_told, ticked_told}
 use Rattle.sip_clients.specs.Clients.{ack_by_user, invite_taken, plain_taken, prack_by_user, request_by_user, request_lost, response_taken}
 use Rattle.sip_clients.specs.Commands.{name_in}
 use Rattle.sip_clients.specs.OwnCall.{on_side}
 use Rattle.sip_clients.specs.Tick.{clients_ticked}
+use Rattle.sip_clients.proofs.Abandons as abandons
+use Rattle.sip_clients.specs.Abandon.{dialog_abandoned, request_abandoned}
 use Rattle.sip_clients.proofs.CommandStories.{ack_holds, ack_rules, cancel_holds, cancel_rules, invite_holds, invite_rules, lost_holds, lost_rules, plain_holds, plain_rules, prack_holds, prack_rules, request_holds, request_rules, tick_holds, tick_rules}
 use Rattle.sip_clients.proofs.ReplyStories.{response_holds, response_rules}
 use Rattle.sip_clients.proofs.StoryFits.{fits_at}
@@ -109,6 +111,15 @@ command_so call event (Cancel cancel) stories so =
     (λ side outs stories. cancel_told event cancel outs stories)
     (cancel_holds event cancel) (cancel_rules event cancel) (cancel_waits event cancel)
     (side_of call) stories so
+command_so call event (AbandonRequest abandon) stories so =
+    goes_on (request_abandoned event abandon)
+    (λ side outs stories. abandon_told abandon outs stories)
+    (abandons.request_holds event abandon) (abandons.request_rules event abandon)
+    (abandons.request_waits event abandon) (side_of call) stories so
+command_so call event (AbandonDialog abandon) stories so =
+    goes_on (dialog_abandoned event abandon) (λ side outs stories. stories)
+    (abandons.dialog_holds event abandon) (abandons.dialog_rules event abandon)
+    (abandons.dialog_waits event abandon) (side_of call) stories so
 
 -- if nothing is held
 first_so : (calls : Calls) (event : Event) (command : UserCommand) (stories : ClientStories)
@@ -130,6 +141,8 @@ first_so calls event (Respond respond) stories so = so
 first_so calls event (Ack ack) stories so = so
 first_so calls event (Prack prack) stories so = so
 first_so calls event (Cancel cancel) stories so = so
+first_so calls event (AbandonRequest abandon) stories so = so
+first_so calls event (AbandonDialog abandon) stories so = so
 
 kept_so : (taken : CallTaken) (stories : ClientStories) → AreSo (taken.0).clients stories
     → AreSo (side_held (kept taken).0).clients stories

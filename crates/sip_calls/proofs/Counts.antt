@@ -13,7 +13,7 @@ use Rattle.sip_dialog.specs.Opening.{contact_uri}
 use Rattle.sip_transactions.specs.declared.output.UpKind.{UpKind}
 use Rattle.sip_transactions.specs.declared.output.UpKind.TheVariants as kind
 use Rattle.sip_user.specs.declared.command.UserCommand.{UserCommand}
-use Rattle.sip_user.specs.declared.command.UserCommand.TheVariants.{Invite, Plain, Request, Respond, Ack, Prack, Cancel}
+use Rattle.sip_user.specs.declared.command.UserCommand.TheVariants.{Invite, Plain, Request, Respond, Ack, Prack, Cancel, AbandonRequest, AbandonDialog}
 use Rattle.sip_held_dialogs.specs.declared.held_dialog.DialogId.{DialogId}
 use Rattle.sip_held_dialogs.specs.declared.held_dialog.HeldDialog.{HeldDialog}
 use Rattle.sip_user.specs.declared.item.CallOut.{CallOut}
@@ -149,6 +149,8 @@ command_none call (Respond respond) outs name held =
 command_none call (Ack ack) outs name held = refl
 command_none call (Prack prack) outs name held = refl
 command_none call (Cancel cancel) outs name held = refl
+command_none call (AbandonRequest abandon) outs name held = refl
+command_none call (AbandonDialog abandon) outs name held = refl
 
 item_none : (call : Call) (item : Item) (outs : List CallOut) (name : DialogId)
     (held : HeldDialog) → how_many (brought_by call item outs name held) ≡ 0

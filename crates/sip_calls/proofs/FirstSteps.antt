@@ -8,7 +8,7 @@ use Rattle.sip_transactions.specs.declared.output.UpKind.{UpKind}
 use Rattle.sip_transactions.specs.declared.output.UpKind.TheVariants as kind
 use Rattle.sip_transactions.specs.declared.output.Up.{Up as AnUp}
 use Rattle.sip_user.specs.declared.command.UserCommand.{UserCommand}
-use Rattle.sip_user.specs.declared.command.UserCommand.TheVariants.{Invite, Plain as PlainCommand, Request, Respond, Ack, Prack, Cancel}
+use Rattle.sip_user.specs.declared.command.UserCommand.TheVariants.{Invite, Plain as PlainCommand, Request, Respond, Ack, Prack, Cancel, AbandonRequest, AbandonDialog}
 use Rattle.sip_held_dialogs.specs.declared.held_dialog.DialogReference.{DialogReference}
 use Rattle.sip_user.specs.declared.item.CallOut.{CallOut}
 use Rattle.sip_user.specs.declared.item.Item.TheVariants.{Up, User}
@@ -22,6 +22,7 @@ use Rattle.sip_held_dialogs.proofs.Heard.{AreApart, Leads, Lives, leads_filtered
 use Rattle.sip_clients.specs.Client.{Side, client_at}
 use Rattle.sip_clients.specs.Provisionals.{OfTheCall, reported_in}
 use Rattle.sip_clients.specs.Tick.{ends_early_at}
+use Rattle.sip_clients.proofs.Abandons as abandons
 use Rattle.sip_clients.proofs.FirstSides.{ResultOf, ack_leads, ear, lost_leads, prack_leads, request_leads, requested_in, response_step, silent, silent_moves}
 use Rattle.sip_clients.proofs.Hearing.{heard_in_order}
 use Rattle.sip_calls.specs.declared.call.Call.{Call}
@@ -92,6 +93,8 @@ module _ (life : DialogReference) where
   first_command_step call calls id now (Ack ack) apart = no_leads id call _ apart
   first_command_step call calls id now (Prack prack) apart = no_leads id call _ apart
   first_command_step call calls id now (Cancel cancel) apart = no_leads id call _ apart
+  first_command_step call calls id now (AbandonRequest abandon) apart = no_leads id call _ apart
+  first_command_step call calls id now (AbandonDialog abandon) apart = no_leads id call _ apart
 
   command_step : (call : Call) (calls : Calls) (id : Id) (now : ℕ) (command : UserCommand)
       → AreApart (dialogs_of call)
@@ -113,6 +116,12 @@ module _ (life : DialogReference) where
       leads_of id call (command_taken call (event_of calls id now) (Prack prack)) _
       (prack_leads (event_of calls id now) prack (side_of call) apart)
   command_step call calls id now (Cancel cancel) apart = no_leads id call _ apart
+  command_step call calls id now (AbandonRequest abandon) apart =
+      leads_of id call (command_taken call (event_of calls id now) (AbandonRequest abandon)) quiet
+      (abandons.request_leads (event_of calls id now) abandon (side_of call) apart)
+  command_step call calls id now (AbandonDialog abandon) apart =
+      leads_of id call (command_taken call (event_of calls id now) (AbandonDialog abandon)) quiet
+      (abandons.dialog_leads (event_of calls id now) abandon (side_of call) apart)
 
   tick_step : (call : Call) (now : ℕ) → AreApart (dialogs_of call)
       → Step None None (dialogs_of call) (ticked call now)

@@ -11,7 +11,7 @@ use Rattle.sip_transactions.specs.declared.output.UpKind.{UpKind}
 use Rattle.sip_transactions.specs.declared.output.UpKind.TheVariants as kind
 use Rattle.sip_transactions.specs.declared.output.Up.{Up as AnUp}
 use Rattle.sip_user.specs.declared.command.UserCommand.{UserCommand}
-use Rattle.sip_user.specs.declared.command.UserCommand.TheVariants.{Invite, Plain as PlainCommand, Request, Respond, Ack, Prack, Cancel}
+use Rattle.sip_user.specs.declared.command.UserCommand.TheVariants.{Invite, Plain as PlainCommand, Request, Respond, Ack, Prack, Cancel, AbandonRequest, AbandonDialog}
 use Rattle.sip_user.specs.declared.item.Item.TheVariants.{Up, User}
 use Rattle.sip_served.specs.declared.held_request.HeldRequest.{HeldRequest}
 use Rattle.sip_served.specs.Arrival.{arrival_of}
@@ -133,6 +133,8 @@ module _ (calls : Calls) (call : Call) (coming : List Id) where
   command_rises id now (Ack ack) rise = rise
   command_rises id now (Prack prack) rise = rise
   command_rises id now (Cancel cancel) rise = rise
+  command_rises id now (AbandonRequest abandon) rise = rise
+  command_rises id now (AbandonDialog abandon) rise = rise
 
 -- ---- all of it
 

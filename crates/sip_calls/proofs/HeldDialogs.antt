@@ -9,7 +9,7 @@ use Rattle.sip_transactions.specs.declared.output.UpKind.{UpKind}
 use Rattle.sip_transactions.specs.declared.output.UpKind.TheVariants as kind
 use Rattle.sip_transactions.specs.declared.output.Up.{Up as AnUp}
 use Rattle.sip_user.specs.declared.command.UserCommand.{UserCommand}
-use Rattle.sip_user.specs.declared.command.UserCommand.TheVariants.{Invite, Plain as PlainCommand, Request, Respond, Ack, Prack, Cancel}
+use Rattle.sip_user.specs.declared.command.UserCommand.TheVariants.{Invite, Plain as PlainCommand, Request, Respond, Ack, Prack, Cancel, AbandonRequest, AbandonDialog}
 use Rattle.sip_held_dialogs.specs.declared.held_dialog.DialogId.{DialogId}
 use Rattle.sip_held_dialogs.specs.declared.held_dialog.HeldDialog.{HeldDialog}
 use Rattle.sip_user.specs.declared.item.CallOut.{CallOut}
@@ -27,6 +27,7 @@ use Rattle.sip_served.proofs.Endings.{ack_goes as server_ack, request_goes as se
 use Rattle.sip_clients.specs.Client.{Side, client_at}
 use Rattle.sip_clients.specs.Clients.{request_lost}
 use Rattle.sip_clients.specs.Tick.{clients_ticked, ends_early_at}
+use Rattle.sip_clients.proofs.Abandons as abandons
 use Rattle.sip_clients.proofs.DialogSends.{AreNamed}
 use Rattle.sip_clients.proofs.EndedCommands.{ack_goes, cancel_goes, invite_silent, plain_silent, prack_goes, request_goes}
 use Rattle.sip_clients.proofs.EndedKeys.{AreSound, ack_sound, cancel_sound, invite_sound, lost_sound, plain_sound, prack_sound, request_sound, response_sound, sound_tick}
@@ -103,6 +104,10 @@ command_step call calls id now (Prack prack) apart named =
     prack_goes (event_of calls id now) prack (side_of call)
 command_step call calls id now (Cancel cancel) apart named =
     cancel_goes (event_of calls id now) cancel (side_of call)
+command_step call calls id now (AbandonRequest abandon) apart named =
+    abandons.request_goes (event_of calls id now) abandon (side_of call) apart named
+command_step call calls id now (AbandonDialog abandon) apart named =
+    abandons.dialog_goes (event_of calls id now) abandon (side_of call) apart named
 
 command_sound : (call : Call) (calls : Calls) (id : Id) (now : ℕ) (command : UserCommand)
     → AreSound call.clients
@@ -118,6 +123,10 @@ command_sound call calls id now (Prack prack) sound =
     prack_sound (event_of calls id now) prack (side_of call) sound
 command_sound call calls id now (Cancel cancel) sound =
     cancel_sound (event_of calls id now) cancel (side_of call) sound
+command_sound call calls id now (AbandonRequest abandon) sound =
+    abandons.request_sound (event_of calls id now) abandon (side_of call) sound
+command_sound call calls id now (AbandonDialog abandon) sound =
+    abandons.dialog_sound (event_of calls id now) abandon (side_of call) sound
 
 -- ---- a call under which nothing is held
 
@@ -131,6 +140,8 @@ first_silent calls id now (Respond respond) = refl
 first_silent calls id now (Ack ack) = refl
 first_silent calls id now (Prack prack) = refl
 first_silent calls id now (Cancel cancel) = refl
+first_silent calls id now (AbandonRequest abandon) = refl
+first_silent calls id now (AbandonDialog abandon) = refl
 
 first_step : (calls : Calls) (id : Id) (now : ℕ) (command : UserCommand)
     → let taken = first_command_taken (new_call calls.local) (event_of calls id now) command in
@@ -153,6 +164,8 @@ first_sound calls id now (Respond respond) sound = sound
 first_sound calls id now (Ack ack) sound = sound
 first_sound calls id now (Prack prack) sound = sound
 first_sound calls id now (Cancel cancel) sound = sound
+first_sound calls id now (AbandonRequest abandon) sound = sound
+first_sound calls id now (AbandonDialog abandon) sound = sound
 
 no_opening : (local : Calls) (id : Id) (k : UpKind) (name : DialogId)
     → opened_by_kind (new_call local.local) id k name ≡ false

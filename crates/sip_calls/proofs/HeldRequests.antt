@@ -6,7 +6,7 @@ use Rattle.std.proofs.lemmas.Map.Keys.{IsDistinct-push, IsDistinct-tail}
 use Rattle.keyed_machine.proofs.Ordered.{by_bool}
 use Rattle.sip_message.specs.declared.id.Id.{Id}
 use Rattle.sip_user.specs.declared.command.UserCommand.{UserCommand}
-use Rattle.sip_user.specs.declared.command.UserCommand.TheVariants.{Invite, Plain as PlainCommand, Request, Respond, Ack, Prack, Cancel}
+use Rattle.sip_user.specs.declared.command.UserCommand.TheVariants.{Invite, Plain as PlainCommand, Request, Respond, Ack, Prack, Cancel, AbandonRequest, AbandonDialog}
 use Rattle.sip_held_dialogs.specs.Ids.{is_id}
 use Rattle.sip_held_dialogs.proofs.Heard.{id_laws}
 use Rattle.sip_served.specs.declared.held_request.HeldRequest.{HeldRequest}
@@ -117,6 +117,8 @@ first_command calls id now (Respond respond) = refl
 first_command calls id now (Ack ack) = refl
 first_command calls id now (Prack prack) = refl
 first_command calls id now (Cancel cancel) = refl
+first_command calls id now (AbandonRequest abandon) = refl
+first_command calls id now (AbandonDialog abandon) = refl
 
 pub rest_differ : (o : Option Id) (ids : List Id) → IsDistinct is_id (cons_option o ids)
     → IsDistinct is_id ids

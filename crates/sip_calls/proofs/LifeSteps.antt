@@ -8,7 +8,7 @@ use Rattle.sip_transactions.specs.declared.output.UpKind.{UpKind}
 use Rattle.sip_transactions.specs.declared.output.UpKind.TheVariants as kind
 use Rattle.sip_transactions.specs.declared.output.Up.{Up as AnUp}
 use Rattle.sip_user.specs.declared.command.UserCommand.{UserCommand}
-use Rattle.sip_user.specs.declared.command.UserCommand.TheVariants.{Invite, Plain as PlainCommand, Request, Respond, Ack, Prack, Cancel}
+use Rattle.sip_user.specs.declared.command.UserCommand.TheVariants.{Invite, Plain as PlainCommand, Request, Respond, Ack, Prack, Cancel, AbandonRequest, AbandonDialog}
 use Rattle.sip_held_dialogs.specs.declared.held_dialog.DialogId.{DialogId}
 use Rattle.sip_held_dialogs.specs.declared.held_dialog.HeldDialog.{HeldDialog}
 use Rattle.sip_user.specs.declared.item.CallOut.{CallOut}
@@ -25,6 +25,7 @@ use Rattle.sip_served.proofs.DialogSteps.{ack_leads as server_ack, request_leads
 use Rattle.sip_served.proofs.NoStarts.{kind_starts, respond_starts}
 use Rattle.sip_clients.specs.Client.{Side, client_at}
 use Rattle.sip_clients.specs.Tick.{ends_early_at}
+use Rattle.sip_clients.proofs.Abandons as abandons
 use Rattle.sip_clients.proofs.ClientLives.{ack_lives, cancel_lives, lost_lives, prack_lives, request_lives, response_lives}
 use Rattle.sip_clients.proofs.DialogSends.{AreNamed, AreNumbered, Sends, by_outs, sends_none, silent_outs}
 use Rattle.sip_calls.specs.declared.call.Call.{Call}
@@ -162,6 +163,12 @@ command_step call calls id now (Prack prack) apart named =
 command_step call calls id now (Cancel cancel) apart named =
     command_sends id call (command_taken call (event_of calls id now) (Cancel cancel))
     (cancel_lives (event_of calls id now) (side_of call) apart named cancel)
+command_step call calls id now (AbandonRequest abandon) apart named =
+    command_sends id call (command_taken call (event_of calls id now) (AbandonRequest abandon))
+    (abandons.request_lives (event_of calls id now) abandon (side_of call) apart)
+command_step call calls id now (AbandonDialog abandon) apart named =
+    command_sends id call (command_taken call (event_of calls id now) (AbandonDialog abandon))
+    (abandons.dialog_lives (event_of calls id now) abandon (side_of call) apart)
 
 tick_step : (call : Call) (now : ℕ) → AreApart (dialogs_of call)
     → MovesTo None None (by_outs (ticked call now).1) (ticked call now).1 (dialogs_of call)
@@ -214,6 +221,8 @@ first_none calls id now (Respond respond) = refl
 first_none calls id now (Ack ack) = refl
 first_none calls id now (Prack prack) = refl
 first_none calls id now (Cancel cancel) = refl
+first_none calls id now (AbandonRequest abandon) = refl
+first_none calls id now (AbandonDialog abandon) = refl
 
 first_command : (calls : Calls) (id : Id) (now : ℕ) (command : UserCommand)
     → MovesTo (Some id) None

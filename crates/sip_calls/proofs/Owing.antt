@@ -8,7 +8,7 @@ use Rattle.sip_transactions.specs.declared.output.UpKind.{UpKind}
 use Rattle.sip_transactions.specs.declared.output.UpKind.TheVariants as kind
 use Rattle.sip_transactions.specs.declared.output.Up.{Up as AnUp}
 use Rattle.sip_user.specs.declared.command.UserCommand.{UserCommand}
-use Rattle.sip_user.specs.declared.command.UserCommand.TheVariants.{Invite, Plain as PlainCommand, Request, Respond, Ack, Prack, Cancel}
+use Rattle.sip_user.specs.declared.command.UserCommand.TheVariants.{Invite, Plain as PlainCommand, Request, Respond, Ack, Prack, Cancel, AbandonRequest, AbandonDialog}
 use Rattle.sip_held_dialogs.specs.declared.pending_request.PendingRequest.{PendingRequest}
 use Rattle.sip_held_dialogs.specs.declared.held_dialog.DialogId.{DialogId}
 use Rattle.sip_held_dialogs.specs.declared.held_dialog.HeldDialog.{HeldDialog}
@@ -21,6 +21,7 @@ use Rattle.sip_held_dialogs.proofs.Owing.{OweSame, Owes, filtered_same, owes_as,
 use Rattle.sip_served.proofs.Owing.{ack_same, request_same, respond_owes}
 use Rattle.sip_clients.specs.Client.{Side, client_at}
 use Rattle.sip_clients.specs.Tick.{ends_early_at}
+use Rattle.sip_clients.proofs.Abandons as abandons
 use Rattle.sip_clients.proofs.DialogSends.{AreNamed}
 use Rattle.sip_clients.proofs.CommandDebts.{ack_pays, prack_pays_off, request_owes}
 use Rattle.sip_clients.proofs.DialogDebts.{lost_owes}
@@ -96,6 +97,14 @@ command_owes call calls id now (Prack prack) apart named name =
     inl (prack_pays_off (event_of calls id now) prack (side_of call) named name)
 command_owes call calls id now (Cancel cancel) apart named name =
     same_to (Some id) (dialogs_of call) (dialogs_of call) (same_owed (dialogs_of call)) name
+command_owes call calls id now (AbandonRequest abandon) apart named name =
+    let taken = command_taken call (event_of calls id now) (AbandonRequest abandon) in
+    same_to (Some id) (dialogs_of call) (dialogs_of taken.0)
+    (abandons.request_owes (event_of calls id now) abandon (side_of call) apart) name
+command_owes call calls id now (AbandonDialog abandon) apart named name =
+    let taken = command_taken call (event_of calls id now) (AbandonDialog abandon) in
+    same_to (Some id) (dialogs_of call) (dialogs_of taken.0)
+    (abandons.dialog_owes (event_of calls id now) abandon (side_of call) apart) name
 
 -- if nothing was held, nothing is told of a response
 none_owed : (local : Calls) (id : Id) (k : UpKind) (name : DialogId) (outs : List CallOut)

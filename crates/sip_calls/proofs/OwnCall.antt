@@ -10,7 +10,7 @@ use Rattle.sip_transactions.specs.declared.output.UpKind.{UpKind}
 use Rattle.sip_transactions.specs.declared.output.UpKind.TheVariants as kind
 use Rattle.sip_transactions.specs.declared.output.Up.{Up as AnUp}
 use Rattle.sip_user.specs.declared.command.UserCommand.{UserCommand}
-use Rattle.sip_user.specs.declared.command.UserCommand.TheVariants.{Invite, Plain, Request, Respond, Ack, Prack, Cancel}
+use Rattle.sip_user.specs.declared.command.UserCommand.TheVariants.{Invite, Plain, Request, Respond, Ack, Prack, Cancel, AbandonRequest, AbandonDialog}
 use Rattle.sip_user.specs.declared.item.CallOut.TheVariants.{Notice}
 use Rattle.sip_user.specs.declared.item.Item.TheVariants.{Up, User}
 use Rattle.sip_user.specs.declared.notice.Notice.{Notice as ANotice}
@@ -27,6 +27,8 @@ use Rattle.sip_clients.specs.Clients.{ack_by_user, invite_taken, request_lost, p
 use Rattle.sip_clients.specs.OwnCall.{AreNoticesOf, IsSideOf, KeepsTo, on_side}
 use Rattle.sip_clients.specs.Tick as clients
 use Rattle.sip_clients.specs.declared.event.Event.{Event}
+use Rattle.sip_clients.proofs.Abandons as abandons
+use Rattle.sip_clients.specs.Abandon.{dialog_abandoned, request_abandoned}
 use Rattle.sip_clients.proofs.OwnCommands.{ack_own, cancel_own, dialog_request_own, invite_own, plain_own, prack_own}
 use Rattle.sip_clients.proofs.OwnReplies.{lost_own, response_own, tick_own}
 use Rattle.sip_calls.specs.declared.call.Call.{Call}
@@ -129,6 +131,8 @@ module _ (call_id : List ℕ) where
   first_command_own call event (Ack ack) its own = (own, (its, tt))
   first_command_own call event (Prack prack) its own = (own, (its, tt))
   first_command_own call event (Cancel cancel) its own = (own, (its, tt))
+  first_command_own call event (AbandonRequest abandon) its own = (own, (its, tt))
+  first_command_own call event (AbandonDialog abandon) its own = (own, (its, tt))
 
   command_own : (call : Call) (event : Event) (command : UserCommand)
       → call_of_command command ≡ call_id → AreSidesOf call_id call
@@ -153,6 +157,14 @@ module _ (call_id : List ℕ) where
       let step = cancel_by_user event cancel in
       clients_own call step own
       (keeps_same step cancel.call_id call_id its (cancel_own event cancel))
+  command_own call event (AbandonRequest abandon) its own =
+      let step = request_abandoned event abandon in
+      clients_own call step own
+      (keeps_same step abandon.call_id call_id its (abandons.request_own event abandon))
+  command_own call event (AbandonDialog abandon) its own =
+      let step = dialog_abandoned event abandon in
+      clients_own call step own
+      (keeps_same step abandon.call_id call_id its (abandons.dialog_own event abandon))
 
   ticked_own : (call : Call) (now : ℕ) → AreSidesOf call_id call → IsDoneOf (ticked call now)
   ticked_own call now own =

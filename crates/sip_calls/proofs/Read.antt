@@ -11,7 +11,7 @@ use Rattle.sip_transactions.specs.declared.output.UpKind.{UpKind}
 use Rattle.sip_transactions.specs.declared.output.UpKind.TheVariants as kind
 use Rattle.sip_transactions.specs.declared.output.Up.{Up as AnUp}
 use Rattle.sip_user.specs.declared.command.UserCommand.{UserCommand}
-use Rattle.sip_user.specs.declared.command.UserCommand.TheVariants.{Invite, Plain as PlainCommand, Request, Respond, Ack, Prack, Cancel}
+use Rattle.sip_user.specs.declared.command.UserCommand.TheVariants.{Invite, Plain as PlainCommand, Request, Respond, Ack, Prack, Cancel, AbandonRequest, AbandonDialog}
 use Rattle.sip_user.specs.declared.item.CallOut.{CallOut}
 use Rattle.sip_user.specs.declared.item.Item.TheVariants.{Up, User}
 use Rattle.sip_held_dialogs.specs.declared.held_dialog.HeldDialog.{HeldDialog}
@@ -213,6 +213,10 @@ module _ {X : Type 0} (none : X) (read : HeldRequest → X) (by : Id → X → C
         untouched ids (command_taken call (event_of calls id now) (Prack prack)).0 sound refl
     command_step id now (Cancel cancel) ids sound =
         untouched ids (command_taken call (event_of calls id now) (Cancel cancel)).0 sound refl
+    command_step id now (AbandonRequest abandon) ids sound =
+        untouched ids (command_taken call (event_of calls id now) (AbandonRequest abandon)).0 sound refl
+    command_step id now (AbandonDialog abandon) ids sound =
+        untouched ids (command_taken call (event_of calls id now) (AbandonDialog abandon)).0 sound refl
 
     tick_step : (now : ℕ) (ids : List Id) → Sound (requests_of call) ids
         → Step (λ invite. fold (at_tick (by invite)) (was invite) (ticked call now).1) ids

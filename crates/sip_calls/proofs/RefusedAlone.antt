@@ -15,10 +15,12 @@ use Rattle.sip_served.specs.State.{State, has_id}
 use Rattle.sip_user.specs.declared.command.Plain.{Plain as APlain}
 use Rattle.sip_user.specs.declared.command.Respond.{Respond as ARespond}
 use Rattle.sip_user.specs.declared.command.UserCommand.{UserCommand}
-use Rattle.sip_user.specs.declared.command.UserCommand.TheVariants.{Invite, Plain, Request, Respond, Ack, Prack, Cancel}
+use Rattle.sip_user.specs.declared.command.UserCommand.TheVariants.{Invite, Plain, Request, Respond, Ack, Prack, Cancel, AbandonRequest, AbandonDialog}
 use Rattle.sip_served.specs.declared.held_request.HeldRequest.{HeldRequest}
 use Rattle.sip_user.specs.declared.refusal.Refusal.{Refusal}
 use Rattle.sip_user.specs.declared.refusal.Refusal.TheVariants.{BadMethod, CallInUse, NoSuchCall, NoSuchRequest}
+use Rattle.sip_clients.proofs.Abandons as abandons
+use Rattle.sip_clients.specs.Abandon.{dialog_abandoned, request_abandoned}
 use Rattle.sip_clients.specs.Client.{ClientTaken}
 use Rattle.sip_clients.specs.Cancel.{cancel_by_user}
 use Rattle.sip_clients.specs.Clients.{ack_by_user, prack_by_user, request_by_user}
@@ -93,6 +95,10 @@ first_alone call event (Ack ack) = told_alone call ack.call_id event.id NoSuchCa
 first_alone call event (Prack prack) = told_alone call prack.call_id event.id NoSuchCall
 first_alone call event (Cancel cancel) =
     told_alone call cancel.call_id event.id NoSuchCall
+first_alone call event (AbandonRequest abandon) =
+    told_alone call abandon.call_id event.id NoSuchCall
+first_alone call event (AbandonDialog abandon) =
+    told_alone call abandon.call_id event.id NoSuchCall
 
 later_alone : (call : Call) (event : Event) (command : UserCommand)
     → IsRefusedAlone call (call_of_command command) event.id (command_taken call event command)
@@ -114,6 +120,14 @@ later_alone call event (Prack prack) =
 later_alone call event (Cancel cancel) =
     by_clients_alone call cancel.call_id event.id
     (cancel_by_user event cancel (side_of call)) (cancel_alone event (side_of call) cancel)
+later_alone call event (AbandonRequest abandon) =
+    by_clients_alone call abandon.call_id event.id
+    (request_abandoned event abandon (side_of call))
+    (abandons.request_alone event (side_of call) abandon)
+later_alone call event (AbandonDialog abandon) =
+    by_clients_alone call abandon.call_id event.id
+    (dialog_abandoned event abandon (side_of call))
+    (abandons.dialog_alone event (side_of call) abandon)
 
 refused_taken : (calls : Calls) (call : Option Call) (id : Id) (command : UserCommand) (now : ℕ)
     → IsRefusedAlone (option_and_then kept_call call) (call_of_command command) id

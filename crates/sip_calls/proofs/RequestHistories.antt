@@ -11,7 +11,7 @@ use Rattle.sip_transactions.specs.declared.output.UpKind.{UpKind}
 use Rattle.sip_transactions.specs.declared.output.UpKind.TheVariants as kind
 use Rattle.sip_transactions.specs.declared.output.Up.{Up as AnUp}
 use Rattle.sip_user.specs.declared.command.UserCommand.{UserCommand}
-use Rattle.sip_user.specs.declared.command.UserCommand.TheVariants.{Invite, Plain as PlainCommand, Request, Respond, Ack, Prack, Cancel}
+use Rattle.sip_user.specs.declared.command.UserCommand.TheVariants.{Invite, Plain as PlainCommand, Request, Respond, Ack, Prack, Cancel, AbandonRequest, AbandonDialog}
 use Rattle.sip_user.specs.declared.item.Item.TheVariants.{Up, User}
 use Rattle.sip_served.specs.declared.held_request.HeldRequest.{HeldRequest}
 use Rattle.sip_served.specs.Run.{event_taken}
@@ -53,6 +53,8 @@ command_served call calls id now (Respond respond) = refl
 command_served call calls id now (Ack ack) = refl
 command_served call calls id now (Prack prack) = refl
 command_served call calls id now (Cancel cancel) = refl
+command_served call calls id now (AbandonRequest abandon) = refl
+command_served call calls id now (AbandonDialog abandon) = refl
 
 -- if nothing is held nothing is answered
 none_answered : (local : Addr) (id : Id) (command : UserCommand) (now : ℕ)
@@ -64,6 +66,8 @@ none_answered local id (Respond respond) now = refl
 none_answered local id (Ack ack) now = refl
 none_answered local id (Prack prack) now = refl
 none_answered local id (Cancel cancel) now = refl
+none_answered local id (AbandonRequest abandon) now = refl
+none_answered local id (AbandonDialog abandon) now = refl
 
 served_so_taken : (calls : Calls) (state : Option Call) (input : Option CallItem) (now : ℕ)
     → requests_held (step_taken calls state input now).0

@@ -7,7 +7,7 @@ use Rattle.sip_transactions.specs.declared.output.UpKind.{UpKind}
 use Rattle.sip_transactions.specs.declared.output.UpKind.TheVariants as kind
 use Rattle.sip_transactions.specs.declared.output.Up.{Up as AnUp}
 use Rattle.sip_user.specs.declared.command.UserCommand.{UserCommand}
-use Rattle.sip_user.specs.declared.command.UserCommand.TheVariants.{Invite, Plain, Request, Respond, Ack, Prack, Cancel}
+use Rattle.sip_user.specs.declared.command.UserCommand.TheVariants.{Invite, Plain, Request, Respond, Ack, Prack, Cancel, AbandonRequest, AbandonDialog}
 use Rattle.sip_user.specs.declared.item.CallOut.{CallOut}
 use Rattle.sip_user.specs.declared.item.Item.{Item}
 use Rattle.sip_user.specs.declared.item.Item.TheVariants.{Up, User}
@@ -20,6 +20,7 @@ use Rattle.sip_served.proofs.Shows.{told_often}
 use Rattle.sip_clients.specs.Tick as clients
 use Rattle.sip_clients.specs.declared.event.Event.{Event}
 use Rattle.sip_held_dialogs.proofs.ToldRequests.{reported as asked_in}
+use Rattle.sip_clients.proofs.Abandons as abandons
 use Rattle.sip_clients.proofs.NoRequests.{ack_command_asks, cancel_asks, invite_asks, lost_asks, plain_asks, prack_command_asks, request_asks, response_asks, tick_asks}
 use Rattle.sip_calls.specs.declared.call.Call.{Call}
 use Rattle.sip_calls.specs.declared.calls.Calls.{Calls}
@@ -91,6 +92,10 @@ module _ (id : Id) where
       few_of_none (first_command_taken call event (Prack prack)).1 false refl
   first_command_few call event (Cancel cancel) =
       few_of_none (first_command_taken call event (Cancel cancel)).1 false refl
+  first_command_few call event (AbandonRequest abandon) =
+      few_of_none (first_command_taken call event (AbandonRequest abandon)).1 false refl
+  first_command_few call event (AbandonDialog abandon) =
+      few_of_none (first_command_taken call event (AbandonDialog abandon)).1 false refl
 
   command_few : (call : Call) (event : Event) (command : UserCommand)
       → Few (command_taken call event command).1 false
@@ -112,6 +117,12 @@ module _ (id : Id) where
   command_few call event (Cancel cancel) =
       few_of_none (command_taken call event (Cancel cancel)).1
       false (cancel_asks event cancel (side_of call))
+  command_few call event (AbandonRequest abandon) =
+      few_of_none (command_taken call event (AbandonRequest abandon)).1
+      false (abandons.request_asks event abandon (side_of call))
+  command_few call event (AbandonDialog abandon) =
+      few_of_none (command_taken call event (AbandonDialog abandon)).1
+      false (abandons.dialog_asks event abandon (side_of call))
 
   ticked_few : (call : Call) (now : ℕ) → Few (ticked call now).1 false
   ticked_few call now =

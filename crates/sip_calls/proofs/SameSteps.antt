@@ -5,7 +5,7 @@ use Rattle.sip_transactions.specs.declared.output.UpKind.{UpKind}
 use Rattle.sip_transactions.specs.declared.output.UpKind.TheVariants as kind
 use Rattle.sip_transactions.specs.declared.output.Up.{Up as AnUp}
 use Rattle.sip_user.specs.declared.command.UserCommand.{UserCommand}
-use Rattle.sip_user.specs.declared.command.UserCommand.TheVariants.{Invite, Plain, Request, Respond, Ack, Prack, Cancel}
+use Rattle.sip_user.specs.declared.command.UserCommand.TheVariants.{Invite, Plain, Request, Respond, Ack, Prack, Cancel, AbandonRequest, AbandonDialog}
 use Rattle.sip_user.specs.declared.item.Item.TheVariants.{Up, User}
 use Rattle.sip_user.specs.declared.item.CallOut.TheVariants.{Notice}
 use Rattle.sip_user.specs.declared.notice.Notice.{Notice as ANotice}
@@ -14,6 +14,7 @@ use Rattle.sip_served.proofs.ArrivalRules.{kind_same}
 use Rattle.sip_served.proofs.ResponseRules.{respond_same}
 use Rattle.sip_clients.specs.Client.{ClientTaken}
 use Rattle.sip_clients.specs.declared.event.Event.{Event}
+use Rattle.sip_clients.proofs.Abandons as abandons
 use Rattle.sip_clients.proofs.RuleEnds.{lost_same}
 use Rattle.sip_clients.proofs.RuleRequests.{ack_same, cancel_same, invite_same, plain_same, prack_same, request_same}
 use Rattle.sip_clients.proofs.RuleResponses.{response_same}
@@ -54,6 +55,8 @@ same_first call event (Respond respond) = refl
 same_first call event (Ack ack) = refl
 same_first call event (Prack prack) = refl
 same_first call event (Cancel cancel) = refl
+same_first call event (AbandonRequest abandon) = refl
+same_first call event (AbandonDialog abandon) = refl
 
 same_later : (call : Call) (event : Event) (command : UserCommand)
     → item_of_call true call event (User command) ≡ command_taken call event command
@@ -68,6 +71,10 @@ same_later call event (Prack prack) =
     ap (by_clients call) (prack_same event prack (side_of call))
 same_later call event (Cancel cancel) =
     ap (by_clients call) (cancel_same event cancel (side_of call))
+same_later call event (AbandonRequest abandon) =
+    ap (by_clients call) (abandons.request_same event abandon (side_of call))
+same_later call event (AbandonDialog abandon) =
+    ap (by_clients call) (abandons.dialog_same event abandon (side_of call))
 
 pub same_step : (calls : Calls) (state : Option Call) (input : Option CallItem) (now : ℕ)
     → call_step calls state input now ≡ step_taken calls state input now

@@ -12,7 +12,7 @@ use Rattle.sip_transactions.specs.declared.output.Up.{Up as AnUp}
 use Rattle.sip_user.specs.Command.{call_of_command}
 use Rattle.sip_user.specs.Notices.{refused}
 use Rattle.sip_user.specs.declared.command.UserCommand.{UserCommand}
-use Rattle.sip_user.specs.declared.command.UserCommand.TheVariants.{Invite, Plain, Request, Respond, Ack, Prack, Cancel}
+use Rattle.sip_user.specs.declared.command.UserCommand.TheVariants.{Invite, Plain, Request, Respond, Ack, Prack, Cancel, AbandonRequest, AbandonDialog}
 use Rattle.sip_user.specs.declared.item.Item.{Item}
 use Rattle.sip_user.specs.declared.item.Item.TheVariants.{Up, User}
 use Rattle.sip_user.specs.declared.item.CallOut.{CallOut}
@@ -27,6 +27,7 @@ use Rattle.sip_served.specs.Rules.Responses.{respond_command}
 use Rattle.sip_served.specs.Rules.Ticks as served
 use Rattle.sip_clients.specs.Client.{Clients}
 use Rattle.sip_clients.specs.Name.{name_of}
+use Rattle.sip_clients.specs.Rules.Abandon.{abandon_dialog_command, abandon_request_command}
 use Rattle.sip_clients.specs.Rules.Ends as clients
 use Rattle.sip_clients.specs.Rules.Ends.{request_is_lost}
 use Rattle.sip_clients.specs.Rules.Requests.{ack_command, cancel_command, invite_command, plain_command, prack_command, request_command}
@@ -105,6 +106,10 @@ used_command call event (Ack ack) = by_clients call (ack_command event ack (side
 used_command call event (Prack prack) = by_clients call (prack_command event prack (side_of call))
 used_command call event (Cancel cancel) =
     by_clients call (cancel_command event cancel (side_of call))
+used_command call event (AbandonRequest abandon) =
+    by_clients call (abandon_request_command event abandon (side_of call))
+used_command call event (AbandonDialog abandon) =
+    by_clients call (abandon_dialog_command event abandon (side_of call))
 
 -- ---- the machine
 

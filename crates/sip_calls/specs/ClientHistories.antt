@@ -8,7 +8,7 @@ use Rattle.sip_transactions.specs.declared.output.UpKind.{UpKind}
 use Rattle.sip_transactions.specs.declared.output.UpKind.TheVariants as kind
 use Rattle.sip_transactions.specs.declared.output.Up.{Up as AnUp}
 use Rattle.sip_user.specs.declared.command.UserCommand.{UserCommand}
-use Rattle.sip_user.specs.declared.command.UserCommand.TheVariants.{Invite, Plain, Request, Respond, Ack, Prack, Cancel}
+use Rattle.sip_user.specs.declared.command.UserCommand.TheVariants.{Invite, Plain, Request, Respond, Ack, Prack, Cancel, AbandonRequest, AbandonDialog}
 use Rattle.sip_held_dialogs.specs.declared.held_dialog.DialogId.{DialogId}
 use Rattle.sip_user.specs.declared.item.CallOut.{CallOut}
 use Rattle.sip_user.specs.declared.item.Item.{Item}
@@ -18,7 +18,7 @@ use Rattle.sip_clients.specs.Client.{Side}
 use Rattle.sip_clients.specs.ClientLife.{ClientHappening, Outgoing, SendsAckAgain, SendsCancel}
 use Rattle.sip_clients.specs.ClientRules.{AllWait, IsCancelOf}
 use Rattle.sip_clients.specs.ClientStory.{ClientStory, answers_of}
-use Rattle.sip_clients.specs.ClientTelling.{ClientStories, AreTold, ack_told, cancel_told, in_dialog_told, invite_told, lost_told, plain_told, response_told, ticked_told}
+use Rattle.sip_clients.specs.ClientTelling.{ClientStories, AreTold, abandon_told, ack_told, cancel_told, in_dialog_told, invite_told, lost_told, plain_told, response_told, ticked_told}
 use Rattle.sip_clients.specs.Commands.{name_in}
 use Rattle.sip_clients.specs.declared.answers.SentAck.{SentAck}
 use Rattle.sip_clients.specs.declared.event.Event.{Event}
@@ -51,6 +51,9 @@ told_by_command side event (Ack ack) outs stories = ack_told ack side outs stori
 told_by_command side event (Prack prack) outs stories =
     in_dialog_told event (name_in prack.local_tag prack.remote_tag) side outs stories
 told_by_command side event (Cancel cancel) outs stories = cancel_told event cancel outs stories
+told_by_command side event (AbandonRequest abandon) outs stories =
+    abandon_told abandon outs stories
+told_by_command side event (AbandonDialog abandon) outs stories = stories
 
 -- the same for an item
 abbrev pub told_by_item : Side → Event → Item → List CallOut → ClientStories → ClientStories

@@ -11,7 +11,7 @@ use Rattle.sip_message.specs.declared.message.Message.{Message}
 use Rattle.sip_transactions.specs.declared.output.UpKind.{UpKind}
 use Rattle.sip_transactions.specs.declared.output.UpKind.TheVariants as kind
 use Rattle.sip_user.specs.declared.command.UserCommand.{UserCommand}
-use Rattle.sip_user.specs.declared.command.UserCommand.TheVariants.{Request, Respond}
+use Rattle.sip_user.specs.declared.command.UserCommand.TheVariants.{AbandonDialog, AbandonRequest, Request, Respond}
 use Rattle.sip_held_dialogs.specs.declared.held_dialog.DialogId.{DialogId}
 use Rattle.sip_held_dialogs.specs.declared.held_dialog.HeldDialog.{HeldDialog}
 use Rattle.sip_user.specs.declared.item.CallOut.{CallOut}
@@ -29,6 +29,7 @@ use Rattle.sip_clients.specs.declared.client.RequestKind.{RequestKind}
 use Rattle.sip_clients.specs.declared.client.RequestKind.TheVariants.{InitialInvite, ReInvite, InDialog, OutOfDialog}
 use Rattle.sip_clients.specs.Client.{Clients, client_at}
 use Rattle.sip_clients.specs.Clients.{reply_name, status_of}
+use Rattle.sip_clients.specs.Commands.{name_in}
 use Rattle.sip_clients.specs.Happenings.{is_first_success}
 use Rattle.sip_clients.specs.Replied.{ends_dialog}
 use Rattle.sip_clients.specs.ReceivedResponse.{is_last}
@@ -141,12 +142,16 @@ ended_by_kind call id key (kind.Response response) name held =
 ended_by_kind call id key kind.Timeout name held = ended_by_loss id true call.clients name held
 ended_by_kind call id key kind.Failed name held = ended_by_loss id false call.clients name held
 
--- a command of the user ends the dialog: a BYE that goes out (RFC 3261, section 15.1.1), or an
--- answer
+-- a command of the user ends the dialog: a BYE that goes out (RFC 3261, section 15.1.1), an answer,
+-- or one that gives up the dialog or the INVITE that made it
 abbrev pub ended_by_command : Call → UserCommand → List CallOut → DialogId → HeldDialog → Bool
 ended_by_command call (Request request) outs name held = gives_bye name outs
 ended_by_command call (Respond respond) outs name held =
     ended_by_answer call.served respond outs held
+ended_by_command call (AbandonRequest abandon) outs name held =
+    ended_by_loss abandon.id false call.clients name held
+ended_by_command call (AbandonDialog abandon) outs name held =
+    is_dialog_id (name_in abandon.local_tag abandon.remote_tag) name
 ended_by_command call _ outs name held = false
 
 abbrev pub ended_by_item : Call → Item → List CallOut → DialogId → HeldDialog → Bool

@@ -3,6 +3,7 @@
 ghost use Rattle.std.specs.Prelude.{◌≡◌, ◌≤◌, ◌^◌, IfOk};
 ghost use Rattle.sip_timers.specs.Earlier as timers;
 ghost use Rattle.sip_served.specs.Rules.Ticks.{server_due};
+ghost use Rattle.sip_clients.specs.Rules.Abandon.{abandon_dialog_command, abandon_request_command};
 ghost use Rattle.sip_clients.specs.Rules.Ends.{request_is_lost, client_due, client_tick};
 ghost use Rattle.sip_clients.specs.Rules.Requests as requests;
 ghost use Rattle.sip_clients.specs.Rules.Responses.{response_received};
@@ -13,7 +14,7 @@ use sip_clients::{Clients, Event};
 use sip_message::{CallId, Id, Message};
 use sip_served::ServerSide;
 use sip_timers::earlier;
-use sip_user::{CallOut, Cancel, DialogBody, DialogRequest};
+use sip_user::{AbandonDialog, AbandonRequest, CallOut, Cancel, DialogBody, DialogRequest};
 use std::alloc::{AllocError, Global};
 
 /// All that is held under one Call-ID: the server requests and the dialogs, and the client
@@ -139,6 +140,34 @@ impl Call {
             (spec.side_of self.old))) }
     {
         self.clients.cancel(event, command)
+    }
+
+    /// The user gives a client request up.
+    pub(crate) fn abandon_request(
+        &mut self,
+        event: Event,
+        command: &AbandonRequest,
+    ) -> Result<Vec<CallOut>, AllocError>
+        ensures { IfOk result (λ outs. (self.new, outs.items)
+            ≡ spec.by_clients self.old (abandon_request_command event command.now
+            (spec.side_of self.old))) }
+    {
+        self.clients
+            .abandon_request(self.served.dialogs(), event, command)
+    }
+
+    /// The user gives a dialog up.
+    pub(crate) fn abandon_dialog(
+        &mut self,
+        event: Event,
+        command: &AbandonDialog,
+    ) -> Result<Vec<CallOut>, AllocError>
+        ensures { IfOk result (λ outs. (self.new, outs.items)
+            ≡ spec.by_clients self.old (abandon_dialog_command event command.now
+            (spec.side_of self.old))) }
+    {
+        self.clients
+            .abandon_dialog(self.served.dialogs(), event, command)
     }
 }
 

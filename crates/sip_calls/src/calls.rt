@@ -293,5 +293,7 @@ fn take_command(
         UserCommand::Ack(ack) => call.ack(event, &ack),
         UserCommand::Prack(prack) => call.prack(event, &prack),
         UserCommand::Cancel(cancel) => call.cancel(event, &cancel),
+        UserCommand::AbandonRequest(abandon) => call.abandon_request(event, &abandon),
+        UserCommand::AbandonDialog(abandon) => call.abandon_dialog(event, &abandon),
     }
 }

@@ -128,7 +128,7 @@ pub fn a_client_request_holds_its_history()
 /// comes up and is accepted (section 15.1), and by a 481, a 408 or a timeout of a request in it
 /// (section 12.2.1.2). While it is early it also ends by a final response of 300 to 699 to its
 /// INVITE, by a CANCEL or the loss of that INVITE, and 64*T1 after the first 2xx to it (sections
-/// 9.2, 12.3 and 13.2.2.4).
+/// 9.2, 12.3 and 13.2.2.4). It also ends if the user gives it up, or while it is early its INVITE.
 pub fn a_dialog_is_held_until_it_ends()
     ensures { HeldUntilItEnds }
 {}

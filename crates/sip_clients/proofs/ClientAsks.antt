@@ -24,6 +24,8 @@ use Rattle.sip_held_dialogs.specs.Dialogs.{Dialogs, dialog_at, early_ended, ende
 use Rattle.sip_held_dialogs.specs.Ids.{is_id}
 use Rattle.sip_user.specs.Notices.{refused}
 use Rattle.sip_held_dialogs.specs.Requests.{is_final}
+use Rattle.sip_user.specs.declared.command.AbandonDialog.{AbandonDialog}
+use Rattle.sip_user.specs.declared.command.AbandonRequest.{AbandonRequest}
 use Rattle.sip_user.specs.declared.command.Cancel.{Cancel as CancelCommand}
 use Rattle.sip_user.specs.declared.command.DialogBody.{DialogBody}
 use Rattle.sip_user.specs.declared.command.DialogRequest.{DialogRequest}
@@ -38,13 +40,14 @@ use Rattle.sip_held_dialogs.specs.declared.held_dialog.HeldDialog.{HeldDialog}
 use Rattle.sip_user.specs.declared.item.CallOut.{CallOut}
 use Rattle.sip_user.specs.declared.item.CallOut.TheVariants as out
 use Rattle.sip_user.specs.declared.refusal.Refusal.{Refusal}
-use Rattle.sip_user.specs.declared.refusal.Refusal.TheVariants.{BadMethod, NoSuchDialog, NoSuchRequest}
+use Rattle.sip_user.specs.declared.refusal.Refusal.TheVariants.{BadMethod, NoSuchDialog}
 use Rattle.sip_held_dialogs.proofs.Each.{all_of_each, both, each_but_one, each_changed, each_inserted, each_left, each_set, found_one}
-use Rattle.sip_clients.specs.Answers.{AnswerList, ack_of}
+use Rattle.sip_clients.specs.Answers.{ack_of}
+use Rattle.sip_clients.specs.Abandon.{dialog_abandoned, dialog_abandoned_of, request_abandoned, request_abandoned_of}
 use Rattle.sip_clients.specs.Cancel.{after_response, asked, cancel_by_user, cancel_case, cancel_client, cancelled_as, cancelled_of, freed_by, sent_beside}
 use Rattle.sip_clients.specs.Client.{Clients, ClientTaken, Side, client_at, client_changed, client_for}
 use Rattle.sip_clients.specs.Clients.{ack_by_user, ack_kept, ack_paid, acked_with, found_taken, invite_taken, lost_of, paid_or_refused, plain_taken, prack_by_user, prack_paid, reply_name, reply_of, reply_settled, request_by_user, request_lost, response_taken, settled, started, status_of}
-use Rattle.sip_clients.specs.Commands.{ack_asked, bye_ended, pending_for, debt_or_refusal, is_bad_outside, name_in, oldest_pending, request_in_held, requested_at}
+use Rattle.sip_clients.specs.Commands.{bye_ended, pending_for, debt_or_refusal, is_bad_outside, name_in, oldest_pending, request_in_held, requested_at}
 use Rattle.sip_clients.specs.Pending.{is_of, kept_pending, sent_pending}
 use Rattle.sip_clients.specs.Dialogs.{accepted, dialog_for_provisional, ended_with, own_ended, paid_at, served_at}
 use Rattle.sip_clients.specs.Event.{branch_of}
@@ -229,6 +232,7 @@ module _ (Given : Message → Type 0) where
   abbrev pub CommandSays : Command → Type 0
   CommandSays (order.Start key call_id message to) = IsAsk message
   CommandSays (order.Answer key message) = Given message
+  CommandSays (order.Abandon key) = Unit {0}
 
   abbrev pub OutSays : CallOut → Type 0
   OutSays (out.Notice notice) = Unit {0}
@@ -685,3 +689,29 @@ module _ (Given : Message → Type 0) where
   cancel_says event command side all =
       cancel_found (client_at command.id side.clients) event command side.clients
       (client_asks command.id side.clients all) all
+
+  -- ---- giving up
+
+  abandoned_found : (found : Option Client) (event : Event) (command : AbandonRequest) (side : Side)
+      → AskAll side.clients → Taken (request_abandoned_of found event command side)
+  abandoned_found None event command side all = (all, (tt, tt))
+  abandoned_found (Some client) event command side all =
+      let so = lost_says command.id false side all in (so.0, (tt, so.1))
+
+  pub abandon_request_says : (event : Event) (command : AbandonRequest) (side : Side)
+      → AskAll side.clients → Taken (request_abandoned event command side)
+  abandon_request_says event command side all =
+      abandoned_found (client_at command.id side.clients) event command side all
+
+  abandoned_dialog : (found : Option HeldDialog) (event : Event) (command : AbandonDialog)
+      (name : DialogId) (side : Side) → AskAll side.clients
+      → Taken (dialog_abandoned_of found event command name side)
+  abandoned_dialog None event command name side all = (all, (tt, tt))
+  abandoned_dialog (Some held) event command name side all =
+      (all, end_says_of (dialog_at name side.dialogs))
+
+  pub abandon_dialog_says : (event : Event) (command : AbandonDialog) (side : Side)
+      → AskAll side.clients → Taken (dialog_abandoned event command side)
+  abandon_dialog_says event command side all =
+      let name = name_in command.local_tag command.remote_tag in
+      abandoned_dialog (dialog_at name side.dialogs) event command name side all

@@ -8,6 +8,8 @@ use Rattle.std.specs.Option.{option_map, option_map_or}
 use Rattle.std.specs.Str.{bytes_eq}
 use Rattle.sip_message.specs.declared.id.Id.{Id}
 use Rattle.sip_message.specs.declared.message.Message.{Message}
+use Rattle.sip_user.specs.declared.command.AbandonDialog.{AbandonDialog}
+use Rattle.sip_user.specs.declared.command.AbandonRequest.{AbandonRequest}
 use Rattle.sip_user.specs.declared.command.Cancel.{Cancel as CancelCommand}
 use Rattle.sip_user.specs.declared.command.DialogBody.{DialogBody}
 use Rattle.sip_user.specs.declared.command.DialogRequest.{DialogRequest}
@@ -18,10 +20,9 @@ use Rattle.sip_held_dialogs.specs.declared.held_dialog.DialogId.{DialogId}
 use Rattle.sip_held_dialogs.specs.declared.held_dialog.HeldDialog.{HeldDialog}
 use Rattle.sip_user.specs.declared.item.CallOut.{CallOut}
 use Rattle.sip_user.specs.declared.item.CallOut.TheVariants as out
-use Rattle.sip_user.specs.declared.notice.Notice.{Notice}
 use Rattle.sip_user.specs.declared.notice.Notice.TheVariants as notice
 use Rattle.sip_user.specs.declared.refusal.Refusal.{Refusal}
-use Rattle.sip_user.specs.declared.refusal.Refusal.TheVariants.{BadMethod, NoSuchRequest}
+use Rattle.sip_user.specs.declared.refusal.Refusal.TheVariants.{BadMethod, NoSuchDialog, NoSuchRequest}
 use Rattle.sip_held_dialogs.specs.Dialogs.{Dialogs, dialog_at, early_ended, ended_at, ended_notice, is_early_of, lives}
 use Rattle.sip_held_dialogs.specs.Ids.{is_id}
 use Rattle.sip_user.specs.Notices.{refused}
@@ -44,6 +45,7 @@ use Rattle.sip_clients.specs.declared.reply.ReplyCase.TheVariants as reply
 use Rattle.sip_clients.specs.declared.send_outcome.SendOutcome.{SendOutcome}
 use Rattle.sip_clients.specs.declared.send_outcome.SendOutcome.TheVariants.{Sent, Waits, Refused}
 use Rattle.sip_clients.specs.Answers.{ack_of}
+use Rattle.sip_clients.specs.Abandon.{dialog_abandoned, dialog_abandoned_of, end_command, request_abandoned, request_abandoned_of}
 use Rattle.sip_clients.specs.Cancel.{after_response, asked, cancel_by_user, cancel_case, cancel_client, cancelled_as, cancelled_of, freed_by, sent_beside}
 use Rattle.sip_clients.specs.Client.{Clients, Side, client_at, client_changed, client_for}
 use Rattle.sip_clients.specs.Clients.{ack_by_user, ack_paid, found_taken, invite_taken, lost_of, plain_taken, prack_by_user, prack_paid, reply_name, reply_of, reply_settled, request_by_user, request_lost, response_taken, settled, started, status_of}
@@ -328,3 +330,35 @@ module _ (P : CallOut → Type 0) (allows : Allows P) where
       → All (cancel_by_user event command side).1
   cancel_told event command side =
       cancel_found (client_at command.id side.clients) event command side.clients
+
+  -- ---- giving up, if P is true of the end of a transaction
+
+  abandoned_found : (found : Option Client) (event : Event) (command : AbandonRequest) (side : Side)
+      → ((client : Client) → P (end_command command.id client))
+      → All (request_abandoned_of found event command side).1
+  abandoned_found None event command side ends =
+      (allows.refusal command.call_id event.id.place NoSuchRequest, tt)
+  abandoned_found (Some client) event command side ends =
+      (ends client, lost_told command.id false side)
+
+  pub abandon_request_told : (event : Event) (command : AbandonRequest) (side : Side)
+      → ((client : Client) → P (end_command command.id client))
+      → All (request_abandoned event command side).1
+  abandon_request_told event command side ends =
+      abandoned_found (client_at command.id side.clients) event command side ends
+
+  abandoned_dialog : (found : Option HeldDialog) (event : Event) (command : AbandonDialog)
+      (name : DialogId) (side : Side) → All (dialog_abandoned_of found event command name side).1
+  abandoned_dialog None event command name side =
+      (allows.refusal command.call_id event.id.place NoSuchDialog, tt)
+  abandoned_dialog (Some held) event command name side = ended_by (dialog_at name side.dialogs)
+    where
+      ended_by : (o : Option HeldDialog) → All (option_map_or (λ held. ended_notice held ∷ []) o [])
+      ended_by None = tt
+      ended_by (Some held) = (allows.ended held, tt)
+
+  pub abandon_dialog_told : (event : Event) (command : AbandonDialog) (side : Side)
+      → All (dialog_abandoned event command side).1
+  abandon_dialog_told event command side =
+      let name = name_in command.local_tag command.remote_tag in
+      abandoned_dialog (dialog_at name side.dialogs) event command name side

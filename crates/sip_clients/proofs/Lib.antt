@@ -49,3 +49,4 @@ pub mod CommandStories
 pub mod RuleEnds
 pub mod RuleRequests
 pub mod RuleResponses
+pub mod Abandons

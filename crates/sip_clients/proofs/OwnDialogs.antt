@@ -1,5 +1,5 @@
 -- A held dialog keeps its own Call-ID; the requests that are sent in it and its end have it too.
-use Rattle.std.proofs.Common.{◌≡◌, ℕ, ◌+◌, Bool, true, false, cond, List, [], ◌∷◌, refl, sym, ap, subst, ◌∙◌}
+use Rattle.std.proofs.Common.{◌≡◌, ℕ, ◌+◌, Bool, true, false, cond, List, [], refl, sym, ap, subst, ◌∙◌}
 use Rattle.std.specs.Prelude.{Option, None, Some, IfSome, codes}
 use Rattle.std.specs.Str.{bytes_eq}
 use Rattle.sip_message.specs.Content.{Content, with_content_of}

@@ -25,6 +25,7 @@ abbrev pub request_of_order : Id → Order → Option Outgoing
 request_of_order id (order.Start key call_id request to) =
     Some record { id = id; request = request; to = to }
 request_of_order id (order.Answer key response) = None
+request_of_order id (order.Abandon key) = None
 
 -- the request in an output
 abbrev pub request_in : CallOut → Option Outgoing

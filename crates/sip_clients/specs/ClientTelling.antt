@@ -7,6 +7,7 @@ use Rattle.std.specs.Option.{option_map_or}
 use Rattle.indexmap.specs.IndexMap.{insert_entry}
 use Rattle.sip_message.specs.declared.id.Id.{Id}
 use Rattle.sip_message.specs.declared.message.Message.{Message}
+use Rattle.sip_user.specs.declared.command.AbandonRequest.{AbandonRequest}
 use Rattle.sip_user.specs.declared.command.Cancel.{Cancel}
 use Rattle.sip_user.specs.declared.command.DialogBody.{DialogBody}
 use Rattle.sip_held_dialogs.specs.declared.pending_request.PendingRequest.{PendingRequest}
@@ -163,6 +164,11 @@ cancel_told event command outs stories =
     if list_any is_refusal outs then stories
     else begin_stories (λ request. OutOfDialog) outs
     (happens_to command.id (AsksCancel event.id ∷ map SendsCancel (cancels_out outs)) stories)
+
+-- the command AbandonRequest, if it isn't refused: the request is over
+abbrev pub abandon_told : AbandonRequest → List CallOut → ClientStories → ClientStories
+abandon_told command outs stories =
+    if list_any is_refusal outs then stories else lost_told command.id stories
 
 -- ---- a tick
 

@@ -1,3 +1,4 @@
+pub mod Abandon
 pub mod Answers
 pub mod Cancel
 pub mod Client

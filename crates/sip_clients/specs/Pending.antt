@@ -1,6 +1,6 @@
 -- What is owed in a dialog: the ACKs of 2xx responses and the PRACKs of reliable provisional ones,
 -- the oldest first (RFC 3261, section 13.2.2.4; RFC 3262, section 4).
-use Rattle.std.specs.Prelude.{ℕ, Bool, true, false, not, ◌&&◌, ◌==◌, List, [], ◌∷◌, ◌++◌, Option, Some, filter}
+use Rattle.std.specs.Prelude.{Bool, true, false, not, ◌&&◌, ◌==◌, [], ◌∷◌, ◌++◌, Option, Some, filter}
 use Rattle.sip_message.specs.Content.{Content}
 use Rattle.sip_held_dialogs.specs.declared.pending_request.PendingRequest.{PendingRequest}
 use Rattle.sip_held_dialogs.specs.declared.pending_request.PendingRequest.TheVariants.{Ack, Prack}

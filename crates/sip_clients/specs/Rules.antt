@@ -1,3 +1,4 @@
+pub mod Abandon
 pub mod Requests
 pub mod Ends
 pub mod Responses

@@ -3,10 +3,12 @@
 ghost use Rattle.std.specs.Prelude.{◌≡◌, ◌≤◌, ◌==◌, ◌^◌, [], IfOk, OnErr, OnOk, length};
 ghost use Rattle.sip_held_dialogs.specs.Dialogs.{Dialogs};
 ghost use Rattle.sip_clients.specs.Clients as spec;
+ghost use Rattle.sip_clients.specs.Rules.Abandon.{abandon_dialog_command, abandon_request_command};
 ghost use Rattle.sip_clients.specs.Rules.Ends as ends;
 ghost use Rattle.sip_clients.specs.Rules.Requests as requests;
 ghost use Rattle.sip_clients.specs.Rules.Responses.{response_received};
 
+use crate::abandon::{abandon_dialog, abandon_request};
 use crate::cancel_command::take_cancel;
 use crate::client::{RequestKind, client_for};
 use crate::commands::{ack_told, is_bad_outside, name_in, pending_for, prack_told, request_told};
@@ -20,7 +22,10 @@ use indexmap::IndexMap;
 use sip_held_dialogs::{DialogId, Dialogs, PendingRequest};
 use sip_message::{CallId, Id, Message};
 use sip_user::outputs::refused;
-use sip_user::{CallOut, Cancel, DialogBody, DialogRequest, Invite, Plain, Refusal};
+use sip_user::{
+    AbandonDialog, AbandonRequest, CallOut, Cancel, DialogBody, DialogRequest, Invite, Plain,
+    Refusal,
+};
 use std::alloc::{AllocError, Global};
 use std::marker::Model;
 use std::mem;
@@ -254,6 +259,47 @@ impl Clients {
     {
         let mut requests = self.take();
         let outs = take_prack(self.alloc, &mut requests, dialogs, event, command)?;
+        self.requests = requests;
+        Ok(outs)
+    }
+
+    // ---- giving up
+
+    /// The user gives a request up: it is no longer held, and its transaction ends. The early
+    /// dialogs that it made end.
+    pub fn abandon_request(
+        &mut self,
+        dialogs: &mut Dialogs,
+        event: Event,
+        command: &AbandonRequest,
+    ) -> Result<Vec<CallOut>, AllocError>
+        ensures taken { IfOk result (λ outs.
+            (record { dialogs = dialogs.new.entries; clients = self.new }, outs.items)
+            ≡ abandon_request_command event command.now
+            record { dialogs = dialogs.old.entries; clients = self.old }) }
+        ensures err { OnErr result (self.new ≡ []) }
+    {
+        let mut requests = self.take();
+        let outs = abandon_request(self.alloc, &mut requests, dialogs, event, command)?;
+        self.requests = requests;
+        Ok(outs)
+    }
+
+    /// The user gives a dialog up: it ends, and nothing is sent.
+    pub fn abandon_dialog(
+        &mut self,
+        dialogs: &mut Dialogs,
+        event: Event,
+        command: &AbandonDialog,
+    ) -> Result<Vec<CallOut>, AllocError>
+        ensures taken { IfOk result (λ outs.
+            (record { dialogs = dialogs.new.entries; clients = self.new }, outs.items)
+            ≡ abandon_dialog_command event command.now
+            record { dialogs = dialogs.old.entries; clients = self.old }) }
+        ensures err { OnErr result (self.new ≡ []) }
+    {
+        let requests = self.take();
+        let outs = abandon_dialog(self.alloc, dialogs, event, command)?;
         self.requests = requests;
         Ok(outs)
     }

@@ -8,6 +8,8 @@ ghost use Rattle.sip_message.specs.declared.rack.RAck.{RAck};
 ghost use Rattle.sip_message.specs.TopVia.{top_via};
 ghost use Rattle.sip_timers.specs.Queue.{is_due};
 ghost use Rattle.sip_dialog.specs.Request.{agent_via};
+ghost use Rattle.sip_user.specs.declared.command.AbandonDialog.{AbandonDialog};
+ghost use Rattle.sip_user.specs.declared.command.AbandonRequest.{AbandonRequest};
 ghost use Rattle.sip_user.specs.declared.command.Cancel.{Cancel};
 ghost use Rattle.sip_user.specs.declared.command.DialogBody.{DialogBody};
 ghost use Rattle.sip_user.specs.declared.command.DialogRequest.{DialogRequest};
@@ -16,10 +18,11 @@ ghost use Rattle.sip_user.specs.declared.command.Plain.{Plain};
 ghost use Rattle.sip_held_dialogs.specs.declared.held_dialog.HeldDialog.{HeldDialog};
 ghost use Rattle.sip_clients.specs.declared.client.Client.{Client};
 ghost use Rattle.sip_clients.specs.declared.event.Event.{Event};
+ghost use Rattle.sip_clients.specs.Abandon.{dialog_abandoned, request_abandoned};
 ghost use Rattle.sip_clients.specs.Cancel.{cancel_by_user, cancel_client};
 ghost use Rattle.sip_clients.specs.Client.{Side, nothing_done};
 ghost use Rattle.sip_clients.specs.ClientRules.{HoldsRules, KeepsWaiting, SendsByStatus, SendsNoAck, SendsNoCancel};
-ghost use Rattle.sip_clients.specs.ClientTelling.{HoldsStories, ack_told, cancel_told, in_dialog_told, invite_told, lost_told, plain_told, response_told, ticked_told};
+ghost use Rattle.sip_clients.specs.ClientTelling.{HoldsStories, abandon_told, ack_told, cancel_told, in_dialog_told, invite_told, lost_told, plain_told, response_told, ticked_told};
 ghost use Rattle.sip_clients.specs.Clients.{ack_by_user, invite_taken, request_lost, plain_taken, prack_by_user, request_by_user, response_taken};
 ghost use Rattle.sip_clients.specs.Commands.{name_in};
 ghost use Rattle.sip_clients.specs.Event.{branch_of};
@@ -75,6 +78,10 @@ pub fn each_notice_is_of_its_call()
         → KeepsTo command.call_id (prack_by_user event command) }
     ensures cancel { (event : Event) (command : Cancel)
         → KeepsTo command.call_id (cancel_by_user event command) }
+    ensures abandon_request { (event : Event) (command : AbandonRequest)
+        → KeepsTo command.call_id (request_abandoned event command) }
+    ensures abandon_dialog { (event : Event) (command : AbandonDialog)
+        → KeepsTo command.call_id (dialog_abandoned event command) }
     ensures tick { (call_id : List ℕ) (now : ℕ) → KeepsTo call_id
         (λ side. clients_ticked side now) }
 {}
@@ -106,6 +113,11 @@ pub fn each_client_request_is_told()
     ensures cancel { (event : Event) (command : Cancel)
         → HoldsStories (cancel_by_user event command)
         (λ side outs stories. cancel_told event command outs stories) }
+    ensures abandon_request { (event : Event) (command : AbandonRequest)
+        → HoldsStories (request_abandoned event command)
+        (λ side outs stories. abandon_told command outs stories) }
+    ensures abandon_dialog { (event : Event) (command : AbandonDialog)
+        → HoldsStories (dialog_abandoned event command) (λ side outs stories. stories) }
     ensures tick { (now : ℕ) → HoldsStories (λ side. clients_ticked side now)
         (λ side outs stories. ticked_told now stories) }
 {}
@@ -139,6 +151,11 @@ pub fn each_client_request_keeps_the_rules()
     ensures cancel { (event : Event) (command : Cancel)
         → HoldsRules (cancel_by_user event command)
         (λ side outs stories. cancel_told event command outs stories) }
+    ensures abandon_request { (event : Event) (command : AbandonRequest)
+        → HoldsRules (request_abandoned event command)
+        (λ side outs stories. abandon_told command outs stories) }
+    ensures abandon_dialog { (event : Event) (command : AbandonDialog)
+        → HoldsRules (dialog_abandoned event command) (λ side outs stories. stories) }
     ensures tick { (now : ℕ) → HoldsRules (λ side. clients_ticked side now)
         (λ side outs stories. ticked_told now stories) }
 {}
@@ -166,6 +183,12 @@ pub fn no_other_step_sends_a_cancel_or_an_ack()
         × SendsNoAck (prack_by_user event command) }
     ensures cancel { (event : Event) (command : Cancel)
         → SendsNoAck (cancel_by_user event command) }
+    ensures abandon_request { (event : Event) (command : AbandonRequest)
+        → SendsNoCancel (request_abandoned event command)
+        × SendsNoAck (request_abandoned event command) }
+    ensures abandon_dialog { (event : Event) (command : AbandonDialog)
+        → SendsNoCancel (dialog_abandoned event command)
+        × SendsNoAck (dialog_abandoned event command) }
     ensures tick { (now : ℕ) → SendsNoCancel (λ side. clients_ticked side now)
         × SendsNoAck (λ side. clients_ticked side now) }
 {}
@@ -189,6 +212,10 @@ pub fn a_cancel_waits_for_a_provisional()
         → KeepsWaiting (prack_by_user event command) }
     ensures cancel { (event : Event) (command : Cancel)
         → KeepsWaiting (cancel_by_user event command) }
+    ensures abandon_request { (event : Event) (command : AbandonRequest)
+        → KeepsWaiting (request_abandoned event command) }
+    ensures abandon_dialog { (event : Event) (command : AbandonDialog)
+        → KeepsWaiting (dialog_abandoned event command) }
     ensures tick { (now : ℕ)
         → KeepsWaiting (λ side. clients_ticked side now) }
 {}

@@ -2,6 +2,7 @@
 //! dialogs that the responses make, and the names that the agent makes.
 #![tactic(auto)]
 
+mod abandon;
 mod answers;
 mod cancel_command;
 mod chacha;

@@ -3,15 +3,19 @@
 ghost use Rattle.std.specs.Prelude.{◌≡◌, ℕ, Bool, List};
 ghost use Rattle.sip_message.specs.declared.id.Id.{Id};
 ghost use Rattle.sip_message.specs.declared.message.Message.{Message};
+ghost use Rattle.sip_user.specs.declared.command.AbandonDialog.{AbandonDialog};
+ghost use Rattle.sip_user.specs.declared.command.AbandonRequest.{AbandonRequest};
 ghost use Rattle.sip_user.specs.declared.command.Cancel.{Cancel};
 ghost use Rattle.sip_user.specs.declared.command.DialogBody.{DialogBody};
 ghost use Rattle.sip_user.specs.declared.command.DialogRequest.{DialogRequest};
 ghost use Rattle.sip_user.specs.declared.command.Invite.{Invite};
 ghost use Rattle.sip_user.specs.declared.command.Plain.{Plain};
 ghost use Rattle.sip_clients.specs.declared.event.Event.{Event};
+ghost use Rattle.sip_clients.specs.Abandon.{dialog_abandoned, request_abandoned};
 ghost use Rattle.sip_clients.specs.Cancel.{cancel_by_user};
 ghost use Rattle.sip_clients.specs.Client.{Clients, Side};
 ghost use Rattle.sip_clients.specs.Clients.{ack_by_user, invite_taken, plain_taken, prack_by_user, request_by_user, request_lost, response_taken};
+ghost use Rattle.sip_clients.specs.Rules.Abandon.{abandon_dialog_command, abandon_request_command};
 ghost use Rattle.sip_clients.specs.Rules.Ends.{request_is_lost, client_due, client_tick};
 ghost use Rattle.sip_clients.specs.Rules.Requests.{ack_command, cancel_command, invite_command, plain_command, prack_command, request_command};
 ghost use Rattle.sip_clients.specs.Rules.Responses.{response_received};
@@ -46,4 +50,8 @@ pub fn commands_are_by_the_rules()
         → prack_command event command side ≡ prack_by_user event command side }
     ensures cancel { (event : Event) (command : Cancel) (side : Side)
         → cancel_command event command side ≡ cancel_by_user event command side }
+    ensures abandon_request { (event : Event) (command : AbandonRequest) (side : Side)
+        → abandon_request_command event command side ≡ request_abandoned event command side }
+    ensures abandon_dialog { (event : Event) (command : AbandonDialog) (side : Side)
+        → abandon_dialog_command event command side ≡ dialog_abandoned event command side }
 {}

@@ -1,8 +1,10 @@
 -- The lines of the user's commands: what is read is spelled that way, and that spelling is read.
-use Rattle.std.proofs.Common.{◌≡◌, ℕ, true, IsTrue, cond, List, ◌∷◌, ◌++◌, Option, Some, None, refl, sym, ap, subst, ◌∙◌, append_assoc, inl, inr, codes, decimal}
-use Rattle.std.specs.Option.{option_map}
+use Rattle.std.proofs.Common.{◌≡◌, ℕ, true, IsTrue, cond, List, [], ◌∷◌, ◌++◌, Option, Some, None, refl, sym, ap, subst, ◌∙◌, append_assoc, inl, inr, codes, decimal, arith}
+use Rattle.std.specs.Prelude.{unwrap_or}
+use Rattle.std.specs.Option.{option_map, option_or}
 use Rattle.std.specs.Str.{bytes_eq}
-use Rattle.sip_text.proofs.Cuts.{Reads}
+use Rattle.sip_text.proofs.Cuts.{Reads, cut_again, has_no, uncut}
+use Rattle.sip_text.specs.Cut.{cut_at}
 use Rattle.sip_text.proofs.Options.{chosen, same_some}
 use Rattle.sip_message.specs.Addr.{addr_text}
 use Rattle.sip_user.specs.declared.command.DialogBody.{DialogBody}
@@ -10,6 +12,8 @@ use Rattle.sip_user.specs.declared.command.DialogRequest.{DialogRequest}
 use Rattle.sip_user.specs.declared.command.Invite.{Invite}
 use Rattle.sip_user.specs.declared.command.Plain.{Plain}
 use Rattle.sip_user.specs.declared.command.Respond.{Respond}
+use Rattle.sip_user.specs.declared.command.AbandonDialog.{AbandonDialog}
+use Rattle.sip_user.specs.declared.command.AbandonRequest.{AbandonRequest}
 use Rattle.sip_user.specs.declared.command.Cancel.{Cancel}
 use Rattle.sip_user.specs.declared.command.UserCommand.{UserCommand}
 use Rattle.sip_user.specs.declared.command.UserCommand.TheVariants as command
@@ -17,11 +21,12 @@ use Rattle.sip_files.specs.declared.version.Version.{Version}
 use Rattle.sip_files.specs.declared.version.Version.TheVariants.{One, Two, SessionOne}
 use Rattle.sip_files.specs.Word.{spelled_word, spelled_rest}
 use Rattle.sip_files.specs.Field.{id_text, plain_field, number_field, id_field, address_field, word_field, rest_field}
-use Rattle.sip_files.specs.Events.{IsInvite, IsPlain, IsRequest, IsDialogBody, IsRespond, IsCancel, IsCommandLine, has_cancel, reliability_text, support_text, command_text}
-use Rattle.sip_files.specs.Steps.ReadLine.{invite_read, invite_at, plain_read, plain_at, request_read, request_at, body_of, body_at, respond_of, respond_at, cancel_of, cancel_at, cancel_in, command_at}
+use Rattle.sip_files.specs.Events.{IsAbandonDialog, IsAbandonRequest, IsInvite, IsPlain, IsRequest, IsDialogBody, IsRespond, IsCancel, IsCommandLine, has_abandon, has_cancel, reliability_text, support_text, command_text}
+use Rattle.sip_files.specs.Steps.ReadLine.{abandon_at, abandon_dialog_at, abandon_dialog_of, abandon_in, abandon_request_at, abandon_request_of, invite_read, invite_at, plain_read, plain_at, request_read, request_at, body_of, body_at, respond_of, respond_at, cancel_of, cancel_at, cancel_in, command_at}
 use Rattle.sip_files.proofs.Cuts.{both_front, ended_reads, made_reads}
-use Rattle.sip_files.proofs.NumberLaws.{id_reads}
-use Rattle.sip_files.proofs.FieldLaws.{word_reads, reason_reads, same_text, tag_text, call_id_front, word_front, method_front, address_front, support_front, id_front, status_front, reliability_front, uris_text, uris_front, dialog_text, dialog_front}
+use Rattle.sip_files.proofs.NumberLaws.{id_no, id_reads}
+use Rattle.sip_files.proofs.Shown.{word_no}
+use Rattle.sip_files.proofs.FieldLaws.{word_reads, reason_reads, same_text, tag_text, call_id_front, word_front, method_front, address_front, support_front, id_front, tag_front, tag_reads, status_front, reliability_front, uris_text, uris_front, dialog_text, dialog_front}
 
 pub mapped : {A B : Type 0} (f : A → B) (o : Option A) (y : B) → option_map f o ≡ Some y
     → (x : A) × (o ≡ Some x) × (f x ≡ y)
@@ -198,9 +203,135 @@ cancel_reads_in One = record { took = λ fields c e. absurd cc; again = λ c fit
 cancel_reads_in Two = cancel_where Two refl
 cancel_reads_in SessionOne = cancel_where SessionOne refl
 
+-- ---- giving up
+
+abbrev request_fields_of : AbandonRequest → List ℕ
+request_fields_of c = spelled_word c.call_id ++ 32 ∷ id_text c.id
+
+abandon_request_reads : Reads IsAbandonRequest request_fields_of abandon_request_at
+unfolding abandon_request_at
+abandon_request_reads =
+    made_reads abandon_request_of (λ c. (c.call_id, c.id)) (λ read. refl) (λ c f. refl)
+    (λ read f. record { call_id = f.0; id = f.1 }) (λ c f. (f.call_id, f.id))
+    (ended_reads call_id_front id_reads)
+
+abbrev dialog_fields_of : AbandonDialog → List ℕ
+dialog_fields_of c =
+    (spelled_word c.call_id ++ 32 ∷ spelled_word (tag_text c.local_tag))
+    ++ 32 ∷ spelled_word (tag_text c.remote_tag)
+
+abandon_dialog_reads : Reads IsAbandonDialog dialog_fields_of abandon_dialog_at
+unfolding abandon_dialog_at
+abandon_dialog_reads =
+    made_reads abandon_dialog_of (λ c. ((c.call_id, c.local_tag), c.remote_tag)) (λ read. refl)
+    (λ c f. refl)
+    (λ read f. record { call_id = (f.0).0; local_tag = (f.0).1; remote_tag = f.1 })
+    (λ c f. ((f.call_id, f.local_tag), f.remote_tag))
+    (ended_reads (both_front call_id_front tag_front) tag_reads)
+
 -- the space behind the keyword stands before the first field
 onward : (k x y : List ℕ) → k ++ 32 ∷ (x ++ 32 ∷ y) ≡ (k ++ 32 ∷ x) ++ 32 ∷ y
 onward k x y = sym (append_assoc k (32 ∷ x) (32 ∷ y))
+
+-- the fields of a dialog aren't those of a request: an id has no space
+no_two_fields : (word id other left right : List ℕ) → has_no 32 word ≡ true
+    → has_no 32 other ≡ true → has_no 32 id ≡ true → has_no 32 left ≡ true
+    → (word ++ 32 ∷ left) ++ 32 ∷ right ≡ other ++ 32 ∷ id → ⊥
+no_two_fields word id other left right none others id_none left_none e =
+    let cut : ◌≡◌ {A = Option (List ℕ × List ℕ)} (Some (word, left ++ 32 ∷ right))
+    (Some (other, id)) =
+    sym (cut_again 32 word (left ++ 32 ∷ right) none)
+    ∙ ap (cut_at 32) (onward word left right ∙ e) ∙ cut_again 32 other id others in
+    let is : left ++ 32 ∷ right ≡ id =
+    ap (λ (o : Option (List ℕ × List ℕ)). (unwrap_or o (word, id)).1) cut in
+    never (left, right)
+    (sym (cut_again 32 left right left_none) ∙ ap (cut_at 32) is ∙ uncut 32 id id_none)
+  where
+    never : (p : List ℕ × List ℕ) → Some p ≡ None → ⊥
+    never p e = absurd cc
+
+no_request : (c : AbandonDialog) (o : Option AbandonRequest)
+    → abandon_request_at (dialog_fields_of c) ≡ o → o ≡ None
+no_request c None e = refl
+no_request c (Some request) e =
+    let read = abandon_request_reads.took (dialog_fields_of c) request e in
+    absurd (no_two_fields (spelled_word c.call_id) (id_text request.id)
+    (spelled_word request.call_id) (spelled_word (tag_text c.local_tag))
+    (spelled_word (tag_text c.remote_tag)) (word_no 32 c.call_id (omega arith) refl)
+    (word_no 32 request.call_id (omega arith) refl) (id_no 32 request.id refl refl read.0.id)
+    (word_no 32 (tag_text c.local_tag) (omega arith) refl) read.1)
+
+abbrev pub abandon_fields : UserCommand → List ℕ
+abandon_fields (command.AbandonRequest c) = request_fields_of c
+abandon_fields (command.AbandonDialog c) = dialog_fields_of c
+abandon_fields c = []
+
+abbrev IsAbandon : UserCommand → Type 0
+IsAbandon (command.AbandonRequest c) = IsAbandonRequest c
+IsAbandon (command.AbandonDialog c) = IsAbandonDialog c
+IsAbandon c = ⊥
+
+abandon_took : (fields : List ℕ) (request : Option AbandonRequest) (dialog : Option AbandonDialog)
+    (c : UserCommand)
+    → abandon_request_at fields ≡ request → abandon_dialog_at fields ≡ dialog
+    → option_or (option_map command.AbandonRequest request)
+    (option_map command.AbandonDialog dialog) ≡ Some c
+    → IsAbandon c × (fields ≡ abandon_fields c)
+abandon_took fields (Some request) dialog c is other e =
+    let P : UserCommand → Type 0 = λ y. IsAbandon y × (fields ≡ abandon_fields y) in
+    subst P (same_some (command.AbandonRequest request) c e)
+    (abandon_request_reads.took fields request is)
+abandon_took fields None (Some dialog) c none is e =
+    let P : UserCommand → Type 0 = λ y. IsAbandon y × (fields ≡ abandon_fields y) in
+    subst P (same_some (command.AbandonDialog dialog) c e)
+    (abandon_dialog_reads.took fields dialog is)
+abandon_took fields None None c none other e = absurd cc
+
+abandon_again : (c : UserCommand) → IsAbandon c → abandon_at (abandon_fields c) ≡ Some c
+unfolding abandon_at
+abandon_again (command.AbandonRequest c) fits =
+    ap (λ o. option_or (option_map command.AbandonRequest o)
+    (option_map command.AbandonDialog (abandon_dialog_at (request_fields_of c))))
+    (abandon_request_reads.again c fits)
+abandon_again (command.AbandonDialog c) fits =
+    ap (λ o. option_or (option_map command.AbandonRequest o)
+    (option_map command.AbandonDialog (abandon_dialog_at (dialog_fields_of c))))
+    (no_request c (abandon_request_at (dialog_fields_of c)) refl)
+    ∙ ap (option_map command.AbandonDialog) (abandon_dialog_reads.again c fits)
+abandon_again (command.Invite c) fits = absurd fits
+abandon_again (command.Plain c) fits = absurd fits
+abandon_again (command.Request c) fits = absurd fits
+abandon_again (command.Respond c) fits = absurd fits
+abandon_again (command.Ack c) fits = absurd fits
+abandon_again (command.Prack c) fits = absurd fits
+abandon_again (command.Cancel c) fits = absurd fits
+
+abbrev IsAbandonIn : Version → UserCommand → Type 0
+IsAbandonIn version c = IsTrue (has_abandon version) × IsAbandon c
+
+pub abandon_reads_in : (version : Version)
+    → Reads (IsAbandonIn version) abandon_fields (abandon_in version)
+unfolding abandon_at
+abandon_reads_in One = record { took = λ fields c e. absurd cc; again = λ c fits. absurd cc }
+abandon_reads_in Two = record { took = λ fields c e. absurd cc; again = λ c fits. absurd cc }
+abandon_reads_in SessionOne = record {
+  took = λ fields c e. let t = abandon_took fields (abandon_request_at fields)
+      (abandon_dialog_at fields) c refl refl e in ((refl, t.0), t.1);
+  again = λ c fits. abandon_again c fits.1;
+}
+
+-- what is given up, in a file of this version
+abandon_line : (version : Version) (c : UserCommand) → IsAbandonIn version c
+    → IsCommandLine version c
+abandon_line version (command.AbandonRequest c) fits = fits
+abandon_line version (command.AbandonDialog c) fits = fits
+abandon_line version (command.Invite c) fits = absurd fits.1
+abandon_line version (command.Plain c) fits = absurd fits.1
+abandon_line version (command.Request c) fits = absurd fits.1
+abandon_line version (command.Respond c) fits = absurd fits.1
+abandon_line version (command.Ack c) fits = absurd fits.1
+abandon_line version (command.Prack c) fits = absurd fits.1
+abandon_line version (command.Cancel c) fits = absurd fits.1
 
 pub two_fields : (k a b : List ℕ) → k ++ 32 ∷ (a ++ 32 ∷ b) ≡ (k ++ 32 ∷ a) ++ 32 ∷ b
 two_fields = onward
@@ -283,6 +414,22 @@ pub cancel_text : (c : Cancel) → command_text (command.Cancel c) ≡ codes "ca
 unfolding word_field id_field
 cancel_text c = sym (two_fields (codes "cancel") (spelled_word c.call_id) (id_text c.id))
 
+pub abandon_text : (c : UserCommand) → IsAbandon c
+    → command_text c ≡ codes "abandon" ++ 32 ∷ abandon_fields c
+unfolding word_field id_field
+abandon_text (command.AbandonRequest c) fits =
+    sym (two_fields (codes "abandon") (spelled_word c.call_id) (id_text c.id))
+abandon_text (command.AbandonDialog c) fits =
+    sym (three_fields (codes "abandon") (spelled_word c.call_id)
+    (spelled_word (tag_text c.local_tag)) (spelled_word (tag_text c.remote_tag)))
+abandon_text (command.Invite c) fits = absurd fits
+abandon_text (command.Plain c) fits = absurd fits
+abandon_text (command.Request c) fits = absurd fits
+abandon_text (command.Respond c) fits = absurd fits
+abandon_text (command.Ack c) fits = absurd fits
+abandon_text (command.Prack c) fits = absurd fits
+abandon_text (command.Cancel c) fits = absurd fits
+
 -- the command of a keyword is read, or there is another keyword
 module _ (version : Version) (keyword fields : List ℕ) (c : UserCommand) where
   abbrev IsSaid : Type 0
@@ -308,6 +455,19 @@ module _ (version : Version) (keyword fields : List ℕ) (c : UserCommand) where
         | inr a ↦ next a.1
       ]
 
+  last : cond (bytes_eq keyword (codes "abandon")) (abandon_in version fields) None ≡ Some c
+      → IsSaid
+  last e =
+      elim (chosen (bytes_eq keyword (codes "abandon")) (abandon_in version fields) None (Some c) e) [
+        | inl a ↦ (let t = (abandon_reads_in version).took fields c a.1 in (
+          abandon_line version c t.0,
+          ap (λ (w : List ℕ). w ++ 32 ∷ fields) (same_text keyword (codes "abandon") a.0)
+              ∙ ap (λ (w : List ℕ). codes "abandon" ++ 32 ∷ w) t.1
+              ∙ sym (abandon_text c t.0.1),
+        ))
+        | inr a ↦ absurd (let none : ◌≡◌ {A = Option UserCommand} None (Some c) = a.1 in cc)
+      ]
+
   pub command_took : command_at version keyword fields ≡ Some c → IsSaid
   command_took e =
       by_keyword (codes "invite") command.Invite IsInvite invite_fields invite_at _ invite_reads
@@ -323,5 +483,4 @@ module _ (version : Version) (keyword fields : List ℕ) (c : UserCommand) where
       by_keyword (codes "prack") command.Prack IsDialogBody body_fields body_at _ body_reads
       (λ x f. f) prack_text e (λ e.
       by_keyword (codes "cancel") command.Cancel (IsCancelIn version) cancel_fields
-      (cancel_in version) _ (cancel_reads_in version) (λ x f. f) cancel_text e (λ e.
-      absurd (let none : ◌≡◌ {A = Option UserCommand} None (Some c) = e in cc))))))))
+      (cancel_in version) _ (cancel_reads_in version) (λ x f. f) cancel_text e last))))))

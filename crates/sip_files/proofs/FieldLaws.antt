@@ -219,9 +219,11 @@ uri_front : ReadsFront IsUri spelled_word (field_at 32 uri_at)
 uri_front = field_front IsUri spelled_word uri_at uri_reads
     (λ text fits. word_no 32 text (omega arith) refl)
 
-tag_front : ReadsFront IsTag (λ tag. spelled_word (tag_text tag)) (field_at 32 tag_at)
-tag_front = field_front IsTag (λ tag. spelled_word (tag_text tag)) tag_at
-    (record { took = tag_took; again = tag_again })
+pub tag_reads : Reads IsTag (λ tag. spelled_word (tag_text tag)) tag_at
+tag_reads = record { took = tag_took; again = tag_again }
+
+pub tag_front : ReadsFront IsTag (λ tag. spelled_word (tag_text tag)) (field_at 32 tag_at)
+tag_front = field_front IsTag (λ tag. spelled_word (tag_text tag)) tag_at tag_reads
     (λ tag fits. word_no 32 (tag_text tag) (omega arith) refl)
 
 pub method_reads : Reads IsMethod (λ text. text) method_at

@@ -25,7 +25,7 @@ use Rattle.sip_files.specs.declared.fields.Uris.{Uris}
 use Rattle.sip_files.specs.Word.{hex_pair, spelled_word, spelled_rest}
 use Rattle.sip_files.specs.Field.{plain_field, number_field, address_field, rest_field}
 use Rattle.sip_files.specs.Events.{IsMethod, IsCommandLine, reliability_text, support_text, command_text, SpellsClient, SpellsServer, SpellsHeaderIn, SpellsLine}
-use Rattle.sip_files.proofs.CommandLines.{invite_fields, plain_fields, request_fields, body_fields, respond_fields, cancel_fields, invite_text, plain_text, request_text, respond_text, ack_text, prack_text, cancel_text}
+use Rattle.sip_files.proofs.CommandLines.{invite_fields, plain_fields, request_fields, body_fields, respond_fields, cancel_fields, invite_text, plain_text, request_text, respond_text, ack_text, prack_text, cancel_text, abandon_fields, abandon_text}
 use Rattle.sip_files.proofs.FailedLines.{client_fields, client_text, server_fields, server_text}
 use Rattle.sip_files.proofs.Shown.{word_no, rest_no, pairs_no}
 use Rattle.sip_files.proofs.NumberLaws.{address_no, id_no}
@@ -115,6 +115,15 @@ command_no version (command.Prack c) fits =
 command_no version (command.Cancel c) fits =
     line_none _ (codes "cancel") (cancel_fields c) (cancel_text c) refl
     (behind (no_word c.call_id) (record { none = id_no 10 c.id refl refl fits.1.id }))
+command_no version (command.AbandonRequest c) fits =
+    line_none _ (codes "abandon") (abandon_fields (command.AbandonRequest c))
+    (abandon_text (command.AbandonRequest c) fits.1) refl
+    (behind (no_word c.call_id) (record { none = id_no 10 c.id refl refl fits.1.id }))
+command_no version (command.AbandonDialog c) fits =
+    line_none _ (codes "abandon") (abandon_fields (command.AbandonDialog c))
+    (abandon_text (command.AbandonDialog c) fits.1) refl
+    (no_dialog (record
+    { call_id = c.call_id; local_tag = c.local_tag; remote_tag = c.remote_tag }))
 
 no_number : (number : ℕ) → number ≤ 65535 → NoEnd (decimal number)
 no_number number fits = record { none = number_has_no 10 number refl (omega (arith, fits)) }

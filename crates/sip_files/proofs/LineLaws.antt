@@ -29,7 +29,7 @@ use Rattle.sip_files.specs.Events.{IsCommandLine, command_text, SpellsClient, Sp
 use Rattle.sip_files.specs.Given.{given_at}
 use Rattle.sip_files.specs.Steps.Reading.{rest_at, address_at, seed_at}
 use Rattle.sip_files.specs.Steps.ReadLine.{command_at, datagram_at, client_key_of, client_at, server_of, server_at, failed_at, event_at, header_at, header_in, keyword_line, parts_line, line_at}
-use Rattle.sip_files.proofs.CommandLines.{mapped, invite_reads, plain_reads, request_reads, body_reads, respond_reads, cancel_reads_in, invite_text, plain_text, request_text, respond_text, ack_text, prack_text, cancel_text, command_took}
+use Rattle.sip_files.proofs.CommandLines.{abandon_reads_in, abandon_text, ack_text, body_reads, cancel_reads_in, cancel_text, command_took, invite_reads, invite_text, mapped, plain_reads, plain_text, prack_text, request_reads, request_text, respond_reads, respond_text}
 use Rattle.sip_files.proofs.FailedLines.{client_fields, client_words, client_text, server_fields, server_words, server_text, failed_took}
 use Rattle.sip_files.proofs.WordLaws.{rest_took, rest_again}
 use Rattle.sip_files.proofs.NumberLaws.{address_reads, seed_reads, address_no}
@@ -205,6 +205,14 @@ command_again version (command.Prack c) fits =
 command_again version (command.Cancel c) fits =
     ap (line_at version) (cancel_text c)
     ∙ ap (as_line command.Cancel) ((cancel_reads_in version).again c fits)
+command_again version (command.AbandonRequest c) fits =
+    ap (line_at version) (abandon_text (command.AbandonRequest c) fits.1)
+    ∙ ap (λ o. option_map line.Event (option_map Command o))
+    ((abandon_reads_in version).again (command.AbandonRequest c) fits)
+command_again version (command.AbandonDialog c) fits =
+    ap (line_at version) (abandon_text (command.AbandonDialog c) fits.1)
+    ∙ ap (λ o. option_map line.Event (option_map Command o))
+    ((abandon_reads_in version).again (command.AbandonDialog c) fits)
 
 -- what an equal text says is read from it
 read_from : (version : Version) (text other : List ℕ) (item : EventLine) → text ≡ other
@@ -280,6 +288,8 @@ command_in_session version (command.Respond c) fits = fits
 command_in_session version (command.Ack c) fits = fits
 command_in_session version (command.Prack c) fits = fits
 command_in_session version (command.Cancel c) fits = (refl, fits.1)
+command_in_session version (command.AbandonRequest c) fits = (refl, fits.1)
+command_in_session version (command.AbandonDialog c) fits = (refl, fits.1)
 
 header_in_session : (version : Version) (text : List ℕ) (header : GivenHeader)
     → SpellsHeaderIn version text header → SpellsHeaderIn SessionOne text header

@@ -1,6 +1,7 @@
--- Lines without header lines are the lines of a session exactly if they are those of an event file.
+-- Lines without header lines and `abandon` are the lines of a session exactly if they are those of an
+-- event file.
 use Rattle.std.proofs.Common.{◌≡◌, ℕ, true, false, not, IsTrue, List, [], ◌∷◌, codes, refl, sym, ap, subst, ◌∙◌}
-use Rattle.std.specs.Prelude.{◌↔◌, nat_eq}
+use Rattle.std.specs.Prelude.{Bool, ◌&&◌, ◌↔◌, nat_eq}
 use Rattle.std.specs.List.{AllByRecursion, starts_with}
 use Rattle.sip_user.specs.declared.command.UserCommand.{UserCommand}
 use Rattle.sip_user.specs.declared.command.UserCommand.TheVariants as command
@@ -11,8 +12,8 @@ use Rattle.sip_files.specs.declared.version.Version.{Version}
 use Rattle.sip_files.specs.declared.version.Version.TheVariants.{One, Two, SessionOne}
 use Rattle.sip_files.specs.declared.event_line.EventLine.{EventLine}
 use Rattle.sip_files.specs.declared.event_line.EventLine.TheVariants as line
-use Rattle.sip_files.specs.Field.{rest_field}
-use Rattle.sip_files.specs.Events.{IsCommandLine, SpellsLine}
+use Rattle.sip_files.specs.Field.{rest_field, word_field}
+use Rattle.sip_files.specs.Events.{IsCommandLine, SpellsLine, command_text}
 use Rattle.sip_files.specs.declared.version.FileKind.TheVariants as file_kind
 use Rattle.sip_files.specs.EventFile.{is_of_kind, SpellsEvents, SpellsIn, SpellsSession, file_text, with_ends}
 use Rattle.sip_files.proofs.FileLines.{SayAll, AllOne, same_lines, first_line}
@@ -29,19 +30,29 @@ pub event_file_session : (config : Config) (rounds : List Round) (text : List �
     → SpellsEvents config rounds text → SpellsSession config rounds text
 event_file_session config rounds text s = (s.0, of_kind s.0 s.1, s.2)
 
--- ---- without header lines
+-- ---- without header lines and `abandon`
+
+abbrev is_for_events : List ℕ → Bool
+is_for_events text = not (starts_with nat_eq text (codes " "))
+    && not (starts_with nat_eq text (codes "abandon "))
 
 abbrev NoHeader : List ℕ → Type 0
-NoHeader text = IsTrue (not (starts_with nat_eq text (codes " ")))
+NoHeader text = IsTrue (is_for_events text)
 
-command_in_two : (c : UserCommand) → IsCommandLine SessionOne c → IsCommandLine Two c
-command_in_two (command.Invite c) fits = fits
-command_in_two (command.Plain c) fits = fits
-command_in_two (command.Request c) fits = fits
-command_in_two (command.Respond c) fits = fits
-command_in_two (command.Ack c) fits = fits
-command_in_two (command.Prack c) fits = fits
-command_in_two (command.Cancel c) fits = (refl, fits.1)
+command_in_two : (text : List ℕ) (c : UserCommand) → NoHeader text → text ≡ command_text c
+    → IsCommandLine SessionOne c → IsCommandLine Two c
+unfolding word_field
+command_in_two text (command.Invite c) plain is fits = fits
+command_in_two text (command.Plain c) plain is fits = fits
+command_in_two text (command.Request c) plain is fits = fits
+command_in_two text (command.Respond c) plain is fits = fits
+command_in_two text (command.Ack c) plain is fits = fits
+command_in_two text (command.Prack c) plain is fits = fits
+command_in_two text (command.Cancel c) plain is fits = (refl, fits.1)
+command_in_two text (command.AbandonRequest c) plain is fits =
+    let wrong : false ≡ true = sym (ap is_for_events is) ∙ plain in absurd cc
+command_in_two text (command.AbandonDialog c) plain is fits =
+    let wrong : false ≡ true = sym (ap is_for_events is) ∙ plain in absurd cc
 
 in_two : (text : List ℕ) (item : EventLine) → NoHeader text → SpellsLine SessionOne text item
     → SpellsLine Two text item
@@ -52,11 +63,9 @@ in_two text (line.First number) plain s = s
 in_two text (line.Round moment) plain s = s
 in_two text (line.Event (Datagram from bytes)) plain s = s
 in_two text (line.Event (Failed key)) plain s = s
-in_two text (line.Event (Command c)) plain s = (command_in_two c s.0, s.1)
+in_two text (line.Event (Command c)) plain s = (command_in_two text c plain s.1 s.0, s.1)
 in_two text (line.Header header) plain s =
-    let header_line : false ≡ true = sym (ap (λ (t : List ℕ).
-    not (starts_with nat_eq t (codes " "))) s.spelled) ∙ plain in
-    absurd cc
+    let header_line : false ≡ true = sym (ap is_for_events s.spelled) ∙ plain in absurd cc
 
 all_in_two : (lines : List (List ℕ)) (said : List EventLine) → AllByRecursion NoHeader lines
     → SayAll SessionOne lines said → SayAll Two lines said

@@ -13,6 +13,7 @@ use Rattle.sip_round.specs.declared.round.Event.TheVariants.{Datagram, Failed, C
 use Rattle.sip_round.specs.declared.round.Round.{Round}
 use Rattle.sip_files.specs.declared.version.Version.{Version}
 use Rattle.sip_files.specs.declared.version.Version.TheVariants.{Two, SessionOne}
+use Rattle.sip_files.specs.declared.version.FileKind.{FileKind}
 use Rattle.sip_files.specs.declared.version.FileKind.TheVariants as file_kind
 use Rattle.sip_files.specs.declared.event_line.EventLine.{EventLine}
 use Rattle.sip_files.specs.declared.event_line.EventLine.TheVariants as line
@@ -20,7 +21,7 @@ use Rattle.sip_files.specs.declared.given_header.GivenHeader.{GivenHeader}
 use Rattle.sip_files.specs.Events.{SpellsEvent, SpellsHeader, SpellsLine}
 use Rattle.sip_files.specs.EventFile.{Head, HeadedLine, SaysHeaded, headed_lines, SpellsEvents, file_lines, head_lines, round_lines, with_ends, version_line}
 use Rattle.sip_files.specs.Steps.ReadLine.{line_at}
-use Rattle.sip_files.specs.Written.{IsConfig, IsEvent, IsKey, IsRound, SpellsCommand, SpellsEventLine, user_command_of, ended_text, event_lines, event_of_line, events_text, failed_text, head_in, header_of_line, line_text, round_in, round_text}
+use Rattle.sip_files.specs.Written.{IsConfig, IsEvent, IsKey, IsRound, SpellsCommand, SpellsEventLine, user_command_of, written_version, ended_text, event_lines, event_of_line, events_text, failed_text, head_in, header_of_line, line_text, round_in, round_text}
 use Rattle.sip_files.proofs.LineLaws.{line_took, line_again}
 
 -- ---- the lines are spelled
@@ -261,16 +262,47 @@ says_nothing_in_session text e given s =
     e ∙ line_again SessionOne text (line.Header given) s in
     absurd cc
 
-pub is_command : (text : List ℕ) (event : Event) → SpellsEventLine text event
-    → IfSome (user_command_of event) (SpellsCommand text)
-is_command text (Datagram from bytes) s = tt
-is_command text (Failed key) s = tt
-is_command text (Command command) s = s
+-- the same for a command
 
-pub is_no_command : (text : List ℕ) (event : Event) → SpellsEventLine text event
-    → IfNone (user_command_of event) ((given : UserCommand) → ¬ SpellsCommand text given)
-is_no_command text (Datagram from bytes) s = λ given t.
-    let no = one_event text (Datagram from bytes) (Command given) s t in absurd cc
-is_no_command text (Failed key) s = λ given t.
-    let no = one_event text (Failed key) (Command given) s t in absurd cc
-is_no_command text (Command command) s = tt
+command_in_line : (kind : FileKind) (text : List ℕ) (item : EventLine)
+    → SpellsLine (written_version kind) text item
+    → IfSome (user_command_of item) (SpellsCommand kind text)
+command_in_line kind text (line.Local address) s = tt
+command_in_line kind text (line.Seed seed) s = tt
+command_in_line kind text (line.First number) s = tt
+command_in_line kind text (line.Round moment) s = tt
+command_in_line kind text (line.Event (Datagram from bytes)) s = tt
+command_in_line kind text (line.Event (Failed key)) s = tt
+command_in_line kind text (line.Event (Command command)) s = s
+command_in_line kind text (line.Header header) s = tt
+
+pub says_command : (kind : FileKind) (text : List ℕ) (item : EventLine)
+    → Some item ≡ line_at (written_version kind) text
+    → IfSome (user_command_of item) (SpellsCommand kind text)
+says_command kind text item e =
+    command_in_line kind text item (line_took (written_version kind) text item (sym e))
+
+no_command_said : (kind : FileKind) (text : List ℕ) (item : EventLine) (found : Option UserCommand)
+    → Some item ≡ line_at (written_version kind) text → user_command_of item ≡ found
+    → IfNone found ((given : UserCommand) → ¬ SpellsCommand kind text given)
+no_command_said kind text item (Some command) e f = tt
+no_command_said kind text item None e f =
+    λ given s.
+    let other : Some item ≡ Some (line.Event (Command given)) =
+    e ∙ line_again (written_version kind) text (line.Event (Command given)) s in
+    let same : item ≡ line.Event (Command given) = cc in
+    let no : Some given ≡ None = sym (ap user_command_of same) ∙ f in
+    absurd cc
+
+pub says_no_command : (kind : FileKind) (text : List ℕ) (item : EventLine)
+    → Some item ≡ line_at (written_version kind) text
+    → IfNone (user_command_of item) ((given : UserCommand) → ¬ SpellsCommand kind text given)
+says_no_command kind text item e = no_command_said kind text item (user_command_of item) e refl
+
+pub no_command_in : (kind : FileKind) (text : List ℕ)
+    → None ≡ line_at (written_version kind) text
+    → (given : UserCommand) → ¬ SpellsCommand kind text given
+no_command_in kind text e given s =
+    let no : None ≡ Some (line.Event (Command given)) =
+    e ∙ line_again (written_version kind) text (line.Event (Command given)) s in
+    absurd cc

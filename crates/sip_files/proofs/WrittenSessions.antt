@@ -33,6 +33,8 @@ given_of (command.Respond c) = headers_with [] c.content
 given_of (command.Ack c) = headers_with [] c.content
 given_of (command.Prack c) = headers_with [] c.content
 given_of (command.Cancel c) = []
+given_of (command.AbandonRequest c) = []
+given_of (command.AbandonDialog c) = []
 
 -- without headers, a command stays as its line says it
 bare_with_none : (c : UserCommand) (other : UserCommand)
@@ -44,6 +46,8 @@ bare_with_none (command.Respond c) other e = same_some (bare (command.Respond c)
 bare_with_none (command.Ack c) other e = same_some (bare (command.Ack c)) other e
 bare_with_none (command.Prack c) other e = same_some (bare (command.Prack c)) other e
 bare_with_none (command.Cancel c) other e = absurd cc
+bare_with_none (command.AbandonRequest c) other e = absurd cc
+bare_with_none (command.AbandonDialog c) other e = absurd cc
 
 headed_by : (headers : List GivenHeader) (c : UserCommand)
     → contacts_fit (gathered headers) (bare c) ≡ true
@@ -85,6 +89,8 @@ command_made (command.Prack c) fit =
     given_again (headers_with [] c.content) _ (command.Prack c) (gathered_again [] c.content) fit
     refl
 command_made (command.Cancel c) fit = refl
+command_made (command.AbandonRequest c) fit = refl
+command_made (command.AbandonDialog c) fit = refl
 
 command_headers_spelled : (c : UserCommand) → AreHeaders (headers_of c)
     → Spelled SessionOne (map line.Header (given_of c))
@@ -95,6 +101,8 @@ command_headers_spelled (command.Respond c) fits = headers_spelled [] c.content 
 command_headers_spelled (command.Ack c) fits = headers_spelled [] c.content fits
 command_headers_spelled (command.Prack c) fits = headers_spelled [] c.content fits
 command_headers_spelled (command.Cancel c) fits = tt
+command_headers_spelled (command.AbandonRequest c) fits = tt
+command_headers_spelled (command.AbandonDialog c) fits = tt
 
 command_headers_written : (c : UserCommand)
     → text_of (map line.Header (given_of c)) ≡ command_headers c
@@ -105,6 +113,8 @@ command_headers_written (command.Respond c) = headers_written [] c.content
 command_headers_written (command.Ack c) = headers_written [] c.content
 command_headers_written (command.Prack c) = headers_written [] c.content
 command_headers_written (command.Cancel c) = refl
+command_headers_written (command.AbandonRequest c) = refl
+command_headers_written (command.AbandonDialog c) = refl
 
 -- the line of a command says nothing about its headers
 bare_text : (c : UserCommand)
@@ -116,6 +126,8 @@ bare_text (command.Respond c) = refl
 bare_text (command.Ack c) = refl
 bare_text (command.Prack c) = refl
 bare_text (command.Cancel c) = refl
+bare_text (command.AbandonRequest c) = refl
+bare_text (command.AbandonDialog c) = refl
 
 -- ---- events
 

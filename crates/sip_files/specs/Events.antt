@@ -20,6 +20,8 @@ use Rattle.sip_user.specs.declared.command.DialogRequest.{DialogRequest}
 use Rattle.sip_user.specs.declared.command.Invite.{Invite}
 use Rattle.sip_user.specs.declared.command.Plain.{Plain}
 use Rattle.sip_user.specs.declared.command.Respond.{Respond}
+use Rattle.sip_user.specs.declared.command.AbandonDialog.{AbandonDialog}
+use Rattle.sip_user.specs.declared.command.AbandonRequest.{AbandonRequest}
 use Rattle.sip_user.specs.declared.command.Cancel.{Cancel}
 use Rattle.sip_user.specs.declared.command.UserCommand.{UserCommand}
 use Rattle.sip_user.specs.declared.command.UserCommand.TheVariants as command
@@ -107,11 +109,26 @@ pub record IsCancel (cancel : Cancel) : Type 0 where
   pub call_id : IsCallIdWord cancel.call_id
   pub id : IsId cancel.id
 
+pub record IsAbandonRequest (abandon : AbandonRequest) : Type 0 where
+  pub call_id : IsCallIdWord abandon.call_id
+  pub id : IsId abandon.id
+
+pub record IsAbandonDialog (abandon : AbandonDialog) : Type 0 where
+  pub call_id : IsCallIdWord abandon.call_id
+  pub local_tag : IsTag abandon.local_tag
+  pub remote_tag : IsTag abandon.remote_tag
+
 -- only version 1 doesn't have the line `cancel`
 abbrev pub has_cancel : Version → Bool
 has_cancel One = false
 has_cancel Two = true
 has_cancel SessionOne = true
+
+-- only a session has the line `abandon`
+abbrev pub has_abandon : Version → Bool
+has_abandon One = false
+has_abandon Two = false
+has_abandon SessionOne = true
 
 -- the commands that a file of the version may have
 abbrev pub IsCommandLine : Version → UserCommand → Type 0
@@ -122,6 +139,10 @@ IsCommandLine version (command.Respond respond) = IsRespond respond
 IsCommandLine version (command.Ack body) = IsDialogBody body
 IsCommandLine version (command.Prack body) = IsDialogBody body
 IsCommandLine version (command.Cancel cancel) = IsTrue (has_cancel version) × IsCancel cancel
+IsCommandLine version (command.AbandonRequest abandon) =
+    IsTrue (has_abandon version) × IsAbandonRequest abandon
+IsCommandLine version (command.AbandonDialog abandon) =
+    IsTrue (has_abandon version) × IsAbandonDialog abandon
 
 -- ---- the lines
 
@@ -161,6 +182,10 @@ command_text (command.Prack c) =
     codes "prack" ++ word_field c.call_id ++ tag_field c.local_tag ++ tag_field c.remote_tag
     ++ word_field c.content.body
 command_text (command.Cancel c) = codes "cancel" ++ word_field c.call_id ++ id_field c.id
+command_text (command.AbandonRequest c) =
+    codes "abandon" ++ word_field c.call_id ++ id_field c.id
+command_text (command.AbandonDialog c) =
+    codes "abandon" ++ word_field c.call_id ++ tag_field c.local_tag ++ tag_field c.remote_tag
 
 -- The line of a failed send spells the branch and the host of its key in any case of letters; in
 -- the key they are in lower case.

@@ -158,7 +158,8 @@ abbrev pub body_with : GivenHeaders → DialogBody → Option DialogBody
 body_with headers c =
     unrouted headers.routes (record c { content = content_with headers c.content.body })
 
--- a `cancel` has no content: a CANCEL takes no header of the user (RFC 3261, section 9.1)
+-- a `cancel` has no content: a CANCEL takes no header of the user (RFC 3261, section 9.1); nor has an
+-- `abandon`, which sends nothing
 abbrev pub command_with : GivenHeaders → UserCommand → Option UserCommand
 command_with headers (command.Invite c) = Some (command.Invite (invite_with headers c))
 command_with headers (command.Plain c) = Some (command.Plain (plain_with headers c))
@@ -167,6 +168,8 @@ command_with headers (command.Respond c) = option_map command.Respond (respond_w
 command_with headers (command.Ack c) = option_map command.Ack (body_with headers c)
 command_with headers (command.Prack c) = option_map command.Prack (body_with headers c)
 command_with headers (command.Cancel c) = None
+command_with headers (command.AbandonRequest c) = None
+command_with headers (command.AbandonDialog c) = None
 
 -- the command with the headers that were given before it
 abbrev pub with_given : List GivenHeader → UserCommand → Option UserCommand

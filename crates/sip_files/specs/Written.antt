@@ -115,6 +115,8 @@ command_headers (command.Respond c) = content_lines [] c.content
 command_headers (command.Ack c) = content_lines [] c.content
 command_headers (command.Prack c) = content_lines [] c.content
 command_headers (command.Cancel c) = []
+command_headers (command.AbandonRequest c) = []
+command_headers (command.AbandonDialog c) = []
 
 abbrev pub event_headers : Event → List ℕ
 event_headers (Datagram from bytes) = []
@@ -234,6 +236,8 @@ headers_of (command.Respond c) = by_header [] c.content
 headers_of (command.Ack c) = by_header [] c.content
 headers_of (command.Prack c) = by_header [] c.content
 headers_of (command.Cancel c) = gathered []
+headers_of (command.AbandonRequest c) = gathered []
+headers_of (command.AbandonDialog c) = gathered []
 
 -- the headers of a command can be written, and may stand before it
 abbrev pub HaveHeaders : UserCommand → Type 0
@@ -250,6 +254,8 @@ bare (command.Respond c) = command.Respond (record c { content = content_of_body
 bare (command.Ack c) = command.Ack (record c { content = content_of_body c.content.body })
 bare (command.Prack c) = command.Prack (record c { content = content_of_body c.content.body })
 bare (command.Cancel c) = command.Cancel c
+bare (command.AbandonRequest c) = command.AbandonRequest c
+bare (command.AbandonDialog c) = command.AbandonDialog c
 
 -- its line can be written, and so can the headers before it
 abbrev pub IsSessionCommand : UserCommand → Type 0
@@ -278,15 +284,16 @@ header_of_line (line.Round moment) = None
 header_of_line (line.Event event) = None
 header_of_line (line.Header header) = Some header
 
-abbrev pub user_command_of : Event → Option UserCommand
-user_command_of (Datagram from bytes) = None
-user_command_of (Failed key) = None
-user_command_of (Command command) = Some command
+-- the command that a line says
+abbrev pub user_command_of : EventLine → Option UserCommand
+user_command_of (line.Event (Command command)) = Some command
+user_command_of item = None
 
--- the text is the line of this event
+-- the text is the line of this event, and an event file may have it
 abbrev pub SpellsEventLine : List ℕ → Event → Type 0
 SpellsEventLine text event = SpellsLine Two text (line.Event event)
 
--- the text is the line of this command
-abbrev pub SpellsCommand : List ℕ → UserCommand → Type 0
-SpellsCommand text command = SpellsEventLine text (Command command)
+-- the text is the line of this command, and a file of the kind may have it
+abbrev pub SpellsCommand : FileKind → List ℕ → UserCommand → Type 0
+SpellsCommand kind text command =
+    SpellsLine (written_version kind) text (line.Event (Command command))

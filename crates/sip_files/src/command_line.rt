@@ -4,15 +4,18 @@ ghost use Rattle.std.specs.Prelude.{◌≡◌, IfOk};
 ghost use Rattle.sip_files.specs.Steps.ReadLine as reading;
 
 use crate::fields::{
-    address_of_call, call_id_field, dialog_fields, id_field, method_field, read_reason,
-    reliability_field, status_field, support_field, uri_fields, word_field,
+    address_of_call, call_id_field, dialog_fields, id_field, method_field, read_reason, read_tag,
+    reliability_field, status_field, support_field, tag_field, uri_fields, word_field,
 };
 use crate::numbers::read_id;
 use crate::version::Version;
 use crate::words::read_word;
 use sip_message::Content;
 use sip_text::Series;
-use sip_user::{Cancel, DialogBody, DialogRequest, Invite, Plain, Respond, UserCommand};
+use sip_user::{
+    AbandonDialog, AbandonRequest, Cancel, DialogBody, DialogRequest, Invite, Plain, Respond,
+    UserCommand,
+};
 use std::alloc::{AllocError, Global};
 
 /// What the line of a command says, by its first word, if a file of this version may have it.
@@ -45,6 +48,9 @@ pub(crate) fn read_command(
     }
     if keyword == b"cancel".as_slice() {
         return Ok(cancel_in(alloc, version, fields)?.map(UserCommand::Cancel));
+    }
+    if keyword == b"abandon".as_slice() {
+        return abandon_in(alloc, version, fields);
     }
     Ok(None)
 }
@@ -209,4 +215,64 @@ fn read_cancel(alloc: Global, fields: &[u8]) -> Result<Option<Cancel>, AllocErro
         return Ok(None);
     };
     Ok(Some(Cancel { call_id, id }))
+}
+
+// Only a session has the line.
+fn abandon_in(
+    alloc: Global,
+    version: Version,
+    fields: &[u8],
+) -> Result<Option<UserCommand>, AllocError>
+    ensures { IfOk result (λ abandon. abandon ≡ reading.abandon_in version fields.now) }
+{
+    match version {
+        Version::One | Version::Two => Ok(None),
+        Version::SessionOne => read_abandon(alloc, fields),
+    }
+}
+
+// A request has one field after the Call-ID, a dialog two.
+#[tactic(auto, unfolding(crate::specs::Steps::ReadLine::abandon_at))]
+fn read_abandon(alloc: Global, fields: &[u8]) -> Result<Option<UserCommand>, AllocError>
+    ensures { IfOk result (λ abandon. abandon ≡ reading.abandon_at fields.now) }
+{
+    match read_abandon_request(alloc, fields)? {
+        Some(request) => Ok(Some(UserCommand::AbandonRequest(request))),
+        None => Ok(read_abandon_dialog(alloc, fields)?.map(UserCommand::AbandonDialog)),
+    }
+}
+
+// The Call-ID as a word, and the id of the request.
+#[tactic(auto, unfolding(crate::specs::Steps::ReadLine::abandon_request_at))]
+fn read_abandon_request(alloc: Global, fields: &[u8]) -> Result<Option<AbandonRequest>, AllocError>
+    ensures { IfOk result (λ abandon. abandon ≡ reading.abandon_request_at fields.now) }
+{
+    let Some((call_id, id)) = call_id_field(alloc, fields)? else {
+        return Ok(None);
+    };
+    let Some(id) = read_id(id) else {
+        return Ok(None);
+    };
+    Ok(Some(AbandonRequest { call_id, id }))
+}
+
+// The Call-ID and both tags as words.
+#[tactic(auto, unfolding(crate::specs::Steps::ReadLine::abandon_dialog_at))]
+fn read_abandon_dialog(alloc: Global, fields: &[u8]) -> Result<Option<AbandonDialog>, AllocError>
+    ensures { IfOk result (λ abandon. abandon ≡ reading.abandon_dialog_at fields.now) }
+{
+    let Some((call_id, tags)) = call_id_field(alloc, fields)? else {
+        return Ok(None);
+    };
+    let Some((local_tag, remote_tag)) = tag_field(alloc, tags)? else {
+        return Ok(None);
+    };
+    let Some(remote_tag) = read_tag(alloc, remote_tag)? else {
+        return Ok(None);
+    };
+    Ok(Some(AbandonDialog {
+        call_id,
+        local_tag,
+        remote_tag,
+    }))
 }

@@ -10,8 +10,8 @@ use crate::field_writer::{
 };
 use sip_message::{Addr, CallId, Token, Uri};
 use sip_user::{
-    Cancel, DialogBody, DialogRequest, Invite, Plain, ProvisionalSupport, Reliability, Respond,
-    UserCommand,
+    AbandonDialog, AbandonRequest, Cancel, DialogBody, DialogRequest, Invite, Plain,
+    ProvisionalSupport, Reliability, Respond, UserCommand,
 };
 use std::alloc::AllocError;
 
@@ -33,6 +33,8 @@ pub(crate) fn push_command(file: &mut Vec<u8>, command: &UserCommand) -> Result<
             push_dialog_body(file, prack)
         }
         UserCommand::Cancel(cancel) => push_cancel(file, cancel),
+        UserCommand::AbandonRequest(abandon) => push_abandon_request(file, abandon),
+        UserCommand::AbandonDialog(abandon) => push_abandon_dialog(file, abandon),
     }
 }
 
@@ -103,6 +105,28 @@ fn push_cancel(file: &mut Vec<u8>, cancel: &Cancel) -> Result<(), AllocError>
     file.extend_from_slice(b"cancel")?;
     push_text(file, cancel.call_id.as_slice())?;
     push_id(file, cancel.id)
+}
+
+fn push_abandon_request(file: &mut Vec<u8>, abandon: &AbandonRequest) -> Result<(), AllocError>
+    ensures { OnOk result (file.new.items ≡ file.old.items
+        ++ written.command_text (command.AbandonRequest abandon.now)) }
+{
+    file.extend_from_slice(b"abandon")?;
+    push_text(file, abandon.call_id.as_slice())?;
+    push_id(file, abandon.id)
+}
+
+fn push_abandon_dialog(file: &mut Vec<u8>, abandon: &AbandonDialog) -> Result<(), AllocError>
+    ensures { OnOk result (file.new.items ≡ file.old.items
+        ++ written.command_text (command.AbandonDialog abandon.now)) }
+{
+    file.extend_from_slice(b"abandon")?;
+    push_dialog(
+        file,
+        &abandon.call_id,
+        &abandon.local_tag,
+        &abandon.remote_tag,
+    )
 }
 
 // A call, and the address to which its first request goes.

@@ -13,7 +13,7 @@ use crate::command_line::read_command;
 use crate::failed_line::read_failed;
 use crate::given_header::{GivenHeader, header_in};
 use crate::numbers::{read_address, read_seed};
-use crate::version::Version;
+use crate::version::{FileKind, Version};
 use crate::words::read_rest;
 use sip_message::Addr;
 use sip_round::Event;
@@ -75,18 +75,23 @@ pub fn read_event_line(alloc: Global, line: &[u8]) -> Result<Option<Event>, Allo
     }
 }
 
-/// The command that a line says, if it is the line of a command. The line stands without its end.
+/// The command that a line says, if it is the line of a command and a file of this kind may have
+/// it. The line stands without its end.
 ///
 /// # Errors
 ///
 /// Memory ran out.
-pub fn read_command_line(alloc: Global, line: &[u8]) -> Result<Option<UserCommand>, AllocError>
-    ensures some { IfOk result (λ found. IfSome found (SpellsCommand line.now)) }
+pub fn read_command_line(
+    alloc: Global,
+    kind: FileKind,
+    line: &[u8],
+) -> Result<Option<UserCommand>, AllocError>
+    ensures some { IfOk result (λ found. IfSome found (SpellsCommand kind line.now)) }
     ensures none { IfOk result (λ found. IfNone found
-        ((given : command.UserCommand) → ¬ SpellsCommand line.now given)) }
+        ((given : command.UserCommand) → ¬ SpellsCommand kind line.now given)) }
 {
-    match read_event_line(alloc, line)? {
-        Some(event) => Ok(command_of(event)),
+    match read_line(alloc, kind.written(), line)? {
+        Some(said) => Ok(command_in(said)),
         None => Ok(None),
     }
 }
@@ -133,12 +138,17 @@ fn event_in(line: EventLine) -> Option<Event>
     }
 }
 
-fn command_of(event: Event) -> Option<UserCommand>
-    ensures { result ≡ written.user_command_of event }
+fn command_in(line: EventLine) -> Option<UserCommand>
+    ensures { result ≡ written.user_command_of line }
 {
-    match event {
-        Event::Command(command) => Some(command),
-        Event::Datagram { .. } | Event::Failed(_) => None,
+    match line {
+        EventLine::Event(Event::Command(command)) => Some(command),
+        EventLine::Event(Event::Datagram { .. } | Event::Failed(_))
+        | EventLine::Local(_)
+        | EventLine::Seed(_)
+        | EventLine::First(_)
+        | EventLine::Round(_)
+        | EventLine::Header(_) => None,
     }
 }
 

@@ -245,7 +245,10 @@ fn uri_field(alloc: Global, fields: &[u8]) -> Result<Option<(Uri, &[u8])>, Alloc
     Ok(Some((uri, fields)))
 }
 
-fn tag_field(alloc: Global, fields: &[u8]) -> Result<Option<(Option<Token>, &[u8])>, AllocError>
+pub(crate) fn tag_field(
+    alloc: Global,
+    fields: &[u8],
+) -> Result<Option<(Option<Token>, &[u8])>, AllocError>
     ensures { IfOk result (λ read. read_now read ≡ field_at 32 reading.tag_at fields.now) }
 {
     let Some((tag, fields)) = cut(b' ', fields) else {
@@ -299,7 +302,7 @@ pub(crate) fn read_method(alloc: Global, field: &[u8]) -> Result<Option<Token>, 
 
 // A token, or nothing for the empty tag.
 #[tactic(auto, unfolding(crate::specs::Steps::ReadLine::tag_at))]
-fn read_tag(alloc: Global, field: &[u8]) -> Result<Option<Option<Token>>, AllocError>
+pub(crate) fn read_tag(alloc: Global, field: &[u8]) -> Result<Option<Option<Token>>, AllocError>
     ensures { IfOk result (λ tag. tag ≡ reading.tag_at field.now) }
 {
     let Some(text) = read_word(alloc, field)? else {

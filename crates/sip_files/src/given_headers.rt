@@ -195,7 +195,8 @@ fn command_with(
         }
         UserCommand::Ack(ack) => Ok(body_with(alloc, headers, ack)?.map(UserCommand::Ack)),
         UserCommand::Prack(prack) => Ok(body_with(alloc, headers, prack)?.map(UserCommand::Prack)),
-        UserCommand::Cancel(_) => Ok(None),
+        UserCommand::Cancel(_) | UserCommand::AbandonRequest(_) | UserCommand::AbandonDialog(_) =>
+            Ok(None),
     }
 }
 

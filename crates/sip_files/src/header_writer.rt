@@ -47,7 +47,8 @@ fn push_command_headers(file: &mut Vec<u8>, command: &UserCommand) -> Result<(),
         UserCommand::Respond(respond) => push_content(file, &[], &respond.content),
         UserCommand::Ack(ack) => push_content(file, &[], &ack.content),
         UserCommand::Prack(prack) => push_content(file, &[], &prack.content),
-        UserCommand::Cancel(_) => Ok(()),
+        UserCommand::Cancel(_) | UserCommand::AbandonRequest(_) | UserCommand::AbandonDialog(_) =>
+            Ok(()),
     }
 }
 

@@ -1,6 +1,6 @@
 //! Laws of the files' spellings. The contract of each is the law, and a call does nothing.
 
-ghost use Rattle.std.specs.Prelude.{◌≡◌, ◌↔◌, ℕ, List, IsTrue, codes, nat_eq, not};
+ghost use Rattle.std.specs.Prelude.{◌≡◌, ◌↔◌, ℕ, List, IsTrue, codes, nat_eq, not, ◌&&◌};
 ghost use Rattle.sip_files.specs.declared.event_line.EventLine.{EventLine};
 ghost use Rattle.sip_files.specs.declared.version.Version.{Version};
 ghost use Rattle.sip_files.specs.declared.version.Version.TheVariants.{Two, SessionOne};
@@ -53,14 +53,15 @@ pub fn one_meaning_of_a_session()
 {}
 
 /// Every event file is a session of the same configuration and rounds. Lines none of which begins
-/// with a space, so that none is a header line, are a session exactly if they are an event file of
-/// version 2; only the line of the version differs.
+/// with a space, so that none is a header line, or with `abandon`, are a session exactly if they
+/// are an event file of version 2; only the line of the version differs.
 pub fn an_event_file_is_a_session()
     ensures session { (config : Config) (rounds : List Round) (text : List ℕ)
         → SpellsEvents config rounds text → SpellsSession config rounds text }
     ensures without_headers { (config : Config) (rounds : List Round) (lines : List (List ℕ))
         → AllByRecursion IsOneLine lines
-        → AllByRecursion (λ line. IsTrue (not (starts_with nat_eq line (codes " ")))) lines
+        → AllByRecursion (λ line. IsTrue (not (starts_with nat_eq line (codes " "))
+        && not (starts_with nat_eq line (codes "abandon ")))) lines
         → (SpellsIn SessionOne config rounds (file_text SessionOne lines)
         ↔ SpellsIn Two config rounds (file_text Two lines)) }
 {}

@@ -8,9 +8,9 @@ ghost use Rattle.sip_files.specs.Written.{written_version};
 /// The version of a file: which lines it may have.
 #[derive(Clone, Copy)]
 pub enum Version {
-    /// An event file: all lines but `cancel` and header lines.
+    /// An event file: all lines but `cancel`, `abandon` and header lines.
     One,
-    /// An event file: all lines but header lines.
+    /// An event file: all lines but `abandon` and header lines.
     Two,
     /// A session file: all lines.
     SessionOne,

@@ -20,6 +20,7 @@ use Rattle.sip_held_dialogs.specs.Sent.{NumberedFrom, cseq_of_output, cseqs_in, 
 abbrev pub start_of : Id → Order → Option (Id × Key)
 start_of id (order.Start key call_id message to) = Some (id, key)
 start_of id (order.Answer key message) = None
+start_of id (order.Abandon key) = None
 
 abbrev pub start_in : CallOut → Option (Id × Key)
 start_in (out.Notice notice) = None
@@ -71,6 +72,7 @@ none_numbered name (out.Notice notice ∷ outs) none = none_numbered name outs n
 none_numbered name (out.Direct to bytes ∷ outs) none = none_numbered name outs none
 none_numbered name (out.Command id (order.Answer key message) ∷ outs) none =
     none_numbered name outs none
+none_numbered name (out.Command id (order.Abandon key) ∷ outs) none = none_numbered name outs none
 none_numbered name (out.Command id (order.Start key call_id message to) ∷ outs) none =
     absurd (started (id, key) (starts outs) none)
 

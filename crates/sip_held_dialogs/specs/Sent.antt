@@ -36,6 +36,7 @@ cseq_of_request name request =
 abbrev pub cseq_of_order : DialogId → Order → Option CSeq
 cseq_of_order name (order.Start key call_id request to) = cseq_of_request name request
 cseq_of_order name (order.Answer key response) = None
+cseq_of_order name (order.Abandon key) = None
 
 -- the same for an output; only an ACK goes out without a transaction
 abbrev pub cseq_of_output : DialogId → CallOut → Option CSeq
@@ -75,6 +76,7 @@ number_before start (Some held) = Some held.dialog.local_cseq
 abbrev pub response_to_order : Order → Option Message
 response_to_order (order.Start key call_id request to) = None
 response_to_order (order.Answer key response) = Some response
+response_to_order (order.Abandon key) = None
 
 -- the response that an output gives
 abbrev pub response_in : CallOut → Option Message

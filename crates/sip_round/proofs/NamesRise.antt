@@ -243,6 +243,16 @@ third_few x k now at ((id, command.Answer key message) ∷ rest) =
     (sym (ap (with_one k item items) hit)) later)
     (λ miss. subst (λ xs. how_many x xs ≤ how_many x (ids_of (order_starts rest)))
     (sym (ap (with_one k item items) miss)) later)
+third_few x k now at ((id, command.Abandon key) ∷ rest) =
+    let items = timed_items now (command_items (suc at) rest) in
+    let item : model.Item Key (Timed Input) =
+    record { place = at; key = key; input = order id (command.Abandon key) now } in
+    let later = third_few x k now (suc at) rest in
+    by_bool (is_at (key_cmp key) k)
+    (λ hit. subst (λ xs. how_many x xs ≤ how_many x (ids_of (order_starts rest)))
+    (sym (ap (with_one k item items) hit)) later)
+    (λ miss. subst (λ xs. how_many x xs ≤ how_many x (ids_of (order_starts rest)))
+    (sym (ap (with_one k item items) miss)) later)
 
 client_side : (k : Key) (server : Key) → IsServer server → IsClient k
     → is_at (key_cmp k) server ≡ true → ⊥
@@ -271,6 +281,13 @@ third_none_more k server now at id (command.Answer key message) rest clients non
     let items = timed_items now (command_items (suc at) rest) in
     let item : model.Item Key (Timed Input) =
     record { place = at; key = key; input = order id (command.Answer key message) now } in
+    by_bool (is_at (key_cmp key) k)
+    (λ hit. ap (with_one k item items) hit ∙ none clients)
+    (λ miss. ap (with_one k item items) miss ∙ none clients)
+third_none_more k server now at id (command.Abandon key) rest clients none =
+    let items = timed_items now (command_items (suc at) rest) in
+    let item : model.Item Key (Timed Input) =
+    record { place = at; key = key; input = order id (command.Abandon key) now } in
     by_bool (is_at (key_cmp key) k)
     (λ hit. ap (with_one k item items) hit ∙ none clients)
     (λ miss. ap (with_one k item items) miss ∙ none clients)

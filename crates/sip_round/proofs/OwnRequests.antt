@@ -15,7 +15,7 @@ use Rattle.sip_message.specs.declared.start_line.StartLine.TheVariants as start
 use Rattle.keyed_machine.specs.Machine.{adds, Timed, Machine}
 use Rattle.keyed_machine.proofs.Ordered.{by_bool}
 use Rattle.sip_transactions.specs.declared.input.Input.{Input}
-use Rattle.sip_transactions.specs.declared.input.Input.TheVariants.{Receive, Start, Answer, Failed}
+use Rattle.sip_transactions.specs.declared.input.Input.TheVariants.{Receive, Start, Answer, Failed, Abandon}
 use Rattle.sip_transactions.specs.declared.life.Context.{Context}
 use Rattle.sip_transactions.specs.declared.life.Life.{Life}
 use Rattle.sip_transactions.specs.declared.output.UpKind.{UpKind}
@@ -138,6 +138,7 @@ unfolding begun outputs_of
 begun_own key now None step = tt
 begun_own key now (Some (Answer id message)) step = tt
 begun_own key now (Some (Failed id)) step = tt
+begun_own key now (Some Abandon) step = tt
 begun_own key now (Some (Receive id message reply_to)) step =
     let context = context_by id message.call_id reply_to None in
     let event = arrival_id message.start id in

@@ -18,7 +18,7 @@ use Rattle.keyed_machine.specs.Laws.{EachKeyAlone}
 use Rattle.keyed_machine.specs.Machine.{Timed, adds, given_at, outputs_from, said_after, said_in_rest, tick_at}
 use Rattle.keyed_machine.proofs.Ordered.{by_bool}
 use Rattle.sip_transactions.specs.declared.input.Input.{Input}
-use Rattle.sip_transactions.specs.declared.input.Input.TheVariants.{Receive, Start, Answer, Failed}
+use Rattle.sip_transactions.specs.declared.input.Input.TheVariants.{Receive, Start, Answer, Failed, Abandon}
 use Rattle.sip_transactions.specs.declared.life.Context.{Context}
 use Rattle.sip_transactions.specs.declared.life.Life.{Life}
 use Rattle.sip_transactions.specs.declared.output.Out.{Out}
@@ -41,7 +41,7 @@ use Rattle.sip_transactions.specs.Machine.{transaction_machine}
 use Rattle.sip_transactions.proofs.Rules.{step_is}
 use Rattle.sip_transactions.specs.Steps.Output.{handed_out, made_bytes, made_of, outputs_of}
 use Rattle.sip_transactions.specs.Rows.{rows_of}
-use Rattle.sip_transactions.proofs.LawSteps.{RowFor, by_step, is_ended}
+use Rattle.sip_transactions.proofs.LawSteps.{RowFor, abandoned, by_step, is_ended}
 use Rattle.sip_transactions.proofs.RowFacts.{and-left, and-right, row_passes, table_passes}
 use Rattle.sip_round.specs.declared.config.Config.{Config}
 use Rattle.sip_round.specs.declared.round.Round.{Round}
@@ -159,6 +159,7 @@ module _ (branch method : List ℕ) where
   started_out now id call_id request to =
       by_step (λ after. IsSome after.0 → after.1 ≡ out.Send client to (written request) ∷ [])
       client None (given_at now (Start id call_id request to)) (λ some. absurd (false≢true some))
+      (λ some. absurd (false≢true some))
       (λ step row some.
       let started : is_start row.trigger ≡ true =
       ap (λ o. is_start (unwrap_or o on.Start)) (sym row.triggered) in
@@ -176,7 +177,7 @@ module _ (branch method : List ℕ) where
   unfolding begun life_after
   arrived_none now id message to =
       by_step (λ after. IsSome after.0 → ⊥) client None (given_at now (Receive id message to))
-      (λ some. false≢true some)
+      (λ some. false≢true some) (λ some. false≢true some)
       (λ step row.
       let other : is_start row.trigger ≡ false =
       ap (λ o. is_start (unwrap_or o on.Ack)) (sym row.triggered)
@@ -192,7 +193,7 @@ module _ (branch method : List ℕ) where
   unfolding begun
   begins_so now None some =
       absurd (by_step (λ after. IsSome after.0 → ⊥) client None (tick_at now)
-      (λ some. false≢true some)
+      (λ some. false≢true some) (λ some. false≢true some)
       (λ step row some. false≢true some) some)
   begins_so now (Some (Receive id message to)) some = absurd (arrived_none now id message to some)
   begins_so now (Some (Start id call_id request to)) some = record {
@@ -208,10 +209,13 @@ module _ (branch method : List ℕ) where
   }
   begins_so now (Some (Answer id message)) some =
       absurd (by_step (λ after. IsSome after.0 → ⊥) client None (given_at now (Answer id message))
-      (λ some. false≢true some) (λ step row some. false≢true some) some)
+      (λ some. false≢true some) (λ some. false≢true some) (λ step row some. false≢true some) some)
   begins_so now (Some (Failed id)) some =
       absurd (by_step (λ after. IsSome after.0 → ⊥) client None (given_at now (Failed id))
-      (λ some. false≢true some) (λ step row some. false≢true some) some)
+      (λ some. false≢true some) (λ some. false≢true some) (λ step row some. false≢true some) some)
+  begins_so now (Some Abandon) some =
+      absurd (false≢true (sym (ap (λ (done : Option Life × List Out). is_some done.0)
+      (abandoned client None now)) ∙ some))
 
 -- ---- over rounds
 

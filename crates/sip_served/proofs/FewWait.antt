@@ -184,6 +184,8 @@ command_keeps state id (command.Respond r) now all =
 command_keeps state id (command.Ack i) now all = all
 command_keeps state id (command.Prack i) now all = all
 command_keeps state id (command.Cancel i) now all = all
+command_keeps state id (command.AbandonRequest i) now all = all
+command_keeps state id (command.AbandonDialog i) now all = all
 
 pub event_keeps : (state : State) (event : Event) → IsKeptEach state
     → IsKeptEach (event_taken state event).0

@@ -335,6 +335,8 @@ module _ (call_id : List ℕ) where
   command_is state id (command.Ack i) now of_call its = (its, tt)
   command_is state id (command.Prack i) now of_call its = (its, tt)
   command_is state id (command.Cancel i) now of_call its = (its, tt)
+  command_is state id (command.AbandonRequest i) now of_call its = (its, tt)
+  command_is state id (command.AbandonDialog i) now of_call its = (its, tt)
 
   pub item_is : (state : State) (tag : List ℕ) (id : Id) (one : Item) (now : ℕ)
       → IsItemOf call_id one → IsStateOf call_id state

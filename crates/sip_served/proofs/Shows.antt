@@ -159,6 +159,8 @@ command_shows state id (command.Respond r) now =
 command_shows state id (command.Ack i) now = refl
 command_shows state id (command.Prack i) now = refl
 command_shows state id (command.Cancel i) now = refl
+command_shows state id (command.AbandonRequest i) now = refl
+command_shows state id (command.AbandonDialog i) now = refl
 
 pub event_shows : (state : State) (event : Event)
     → reported (event_taken state event).1 ≡ ids_for_user state event

@@ -161,6 +161,8 @@ module _ (state : State) (stories : Stories) (told : AreTold state.requests stor
     command_on tag id (command.Ack i) now = told
     command_on tag id (command.Prack i) now = told
     command_on tag id (command.Cancel i) now = told
+    command_on tag id (command.AbandonRequest i) now = told
+    command_on tag id (command.AbandonDialog i) now = told
 
     tick_on : (now : ℕ)
         → AreTold ((tick_taken state now).0).requests (event_told state (Ticks now) stories)

@@ -22,6 +22,7 @@ abbrev pub sends_success : Id → Id → Order → Bool
 sends_success invite id (order.Start key call_id request to) = false
 sends_success invite id (order.Answer key response) =
     is_id id invite && (is_invite response && has_success response.start)
+sends_success invite id (order.Abandon key) = false
 
 -- the user is told of the ACK of the INVITE of this id, or that none came
 abbrev pub tells_of_ack : Id → Notice → Bool

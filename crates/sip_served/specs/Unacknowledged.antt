@@ -38,6 +38,7 @@ abbrev pub rseq_sent : Id → Id → Order → Option ℕ
 rseq_sent invite id (order.Start key call_id request to) = None
 rseq_sent invite id (order.Answer key response) =
     if is_id id invite then response.rseq else None
+rseq_sent invite id (order.Abandon key) = None
 
 -- a final response
 abbrev pub has_final : StartLine → Bool
@@ -49,6 +50,7 @@ abbrev pub sends_final : Id → Id → Order → Bool
 sends_final invite id (order.Start key call_id request to) = false
 sends_final invite id (order.Answer key response) =
     is_id id invite && has_final response.start
+sends_final invite id (order.Abandon key) = false
 
 -- the RSeq of the response to the request of this id of whose PRACK the user is told
 abbrev pub rseq_told : Id → Notice → Option ℕ

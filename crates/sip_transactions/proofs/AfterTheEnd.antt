@@ -14,7 +14,7 @@ use Rattle.sip_message.specs.declared.start_line.StartLine.{StartLine}
 use Rattle.sip_message.specs.declared.start_line.StartLine.TheVariants as start
 use Rattle.keyed_machine.specs.Machine.{outputs_from, state_left, Timed}
 use Rattle.sip_transactions.specs.declared.input.Input.{Input}
-use Rattle.sip_transactions.specs.declared.input.Input.TheVariants.{Receive, Start, Answer, Failed}
+use Rattle.sip_transactions.specs.declared.input.Input.TheVariants.{Receive, Start, Answer, Failed, Abandon}
 use Rattle.sip_transactions.specs.declared.life.Context.{Context}
 use Rattle.sip_transactions.specs.declared.life.Life.{Life}
 use Rattle.sip_transactions.specs.declared.output.Out.{Out}
@@ -151,6 +151,8 @@ begun_other id key now (Some (Answer i message)) step trigger triggered passed o
     record { life = tt; said = refl }
 begun_other id key now (Some (Failed i)) step trigger triggered passed other =
     record { life = tt; said = refl }
+begun_other id key now (Some Abandon) step trigger triggered passed other =
+    record { life = tt; said = refl }
 begun_other id key now (Some (Start i call_id message to)) step trigger triggered passed other =
     acted_other id key now (Some (Start i call_id message to)) None _ step other
 begun_other id key now (Some (Receive i message reply_to)) step trigger triggered passed other =
@@ -162,11 +164,13 @@ begun_other id key now (Some (Receive i message reply_to)) step trigger triggere
 input_other : (id : Id) (key : Key) (held : Option Life) (timed : Timed Input) → OtherLife id held
     → OtherName id (naming_id timed.input) → Other id (stepped key held timed)
 input_other id key (Some life) timed other named =
-    by_step (Other id) key (Some life) timed (record { life = other; said = refl })
+    by_step (Other id) key (Some life) timed (record { life = tt; said = refl })
+    (record { life = other; said = refl })
     (λ step row. acted_other id key timed.moment timed.input (Some life.state) life.context step
     other)
 input_other id key None timed other named =
     by_step (Other id) key None timed (record { life = tt; said = refl })
+    (record { life = tt; said = refl })
     (λ step row. begun_other id key timed.moment timed.input step row.trigger row.triggered
     (row_passes response_needs_life (rows_of (role_of key))
     (responses_in_tables (role_of key)) None row.trigger step row.row) named)
@@ -232,6 +236,8 @@ begun_names key now (Some (Answer i message)) step trigger triggered passed goes
     absurd (false≢true goes_on)
 begun_names key now (Some (Failed i)) step trigger triggered passed goes_on =
     absurd (false≢true goes_on)
+begun_names key now (Some Abandon) step trigger triggered passed goes_on =
+    absurd (false≢true goes_on)
 begun_names key now (Some (Start i call_id message to)) step trigger triggered passed goes_on = refl
 begun_names key now (Some (Receive i message reply_to)) step trigger triggered passed goes_on =
     let same : trigger ≡ arrival_of message.start message.cseq.method = cc in
@@ -242,7 +248,7 @@ first_names : (key : Key) (first : Timed Input) → IsSome (stepped key None fir
     → naming_id first.input ≡ id_of first.input
 first_names key first =
     by_step (λ after. IsSome after.0 → naming_id first.input ≡ id_of first.input) key None first
-    (λ some. absurd (false≢true some))
+    (λ some. absurd (false≢true some)) (λ some. absurd (false≢true some))
     (λ step row. begun_names key first.moment first.input step row.trigger row.triggered
     (row_passes response_needs_life (rows_of (role_of key))
     (responses_in_tables (role_of key)) None row.trigger step row.row))

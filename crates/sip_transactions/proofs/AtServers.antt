@@ -9,6 +9,7 @@ use Rattle.sip_message.specs.declared.key.Key.TheVariants as key
 use Rattle.sip_message.specs.declared.message.Message.{Message}
 use Rattle.sip_message.specs.Written.{written}
 use Rattle.sip_transactions.specs.declared.life.Life.{Life}
+use Rattle.sip_transactions.specs.declared.output.Out.{Out}
 use Rattle.sip_transactions.specs.declared.output.Out.TheVariants.{Send}
 use Rattle.sip_transactions.specs.declared.input.Input.TheVariants as input
 use Rattle.sip_transactions.specs.declared.input.Input.{Input}
@@ -26,9 +27,9 @@ use Rattle.sip_timers.specs.declared.estimate.TheConstants.{LIFETIME}
 use Rattle.sip_transactions.specs.declared.trigger.Class.TheVariants as class
 use Rattle.sip_transactions.specs.declared.trigger.Trigger.{Trigger}
 use Rattle.sip_transactions.specs.declared.trigger.Trigger.TheVariants as on
-use Rattle.sip_transactions.specs.Steps.Input.{answer_of, is_same_method, role_of, trigger_of}
+use Rattle.sip_transactions.specs.Steps.Input.{answer_of, is_abandon, is_same_method, role_of, trigger_of}
 use Rattle.sip_transactions.specs.Laws.{IsServer}
-use Rattle.sip_transactions.specs.Steps.Life.{stepped, stepped_by, step_for, acted, life_after}
+use Rattle.sip_transactions.specs.Steps.Life.{stepped, stepped_by, step_for, acted, given_up, life_after}
 use Rattle.sip_transactions.specs.Steps.Output.{outputs_of, made_of, handed_out}
 use Rattle.sip_transactions.specs.Rows.{row_of, rows_of}
 use Rattle.sip_transactions.specs.ServerLaws.{is_answering, is_open, is_final_answer, answering, AnsweredAgain, EndsAfterItsAnswer, FailedSendKeeps}
@@ -53,13 +54,19 @@ server_role (key.Server branch sent_by method) server =
 
 -- an input of a life, if this row fits it
 by_row : (key : Key) (life : Life) (timed : Timed Input) (trigger : Trigger) (row : Option Step)
+    → is_abandon timed.input ≡ false
     → trigger_of (Some life) timed.moment timed.input ≡ Some trigger
     → row_of (rows_of (role_of key)) (Some life.state) trigger ≡ row
     → stepped key (Some life) timed ≡ stepped_by key (Some life) timed.moment timed.input row
 unfolding stepped step_for
-by_row key life timed trigger row triggered fits =
-    ap (λ t. stepped_by key (Some life) timed.moment timed.input
-    (option_and_then (row_of (rows_of (role_of key)) (Some life.state)) t)) triggered
+by_row key life timed trigger row goes_on triggered fits =
+    let by : Option Trigger → Option Life × List Out =
+    λ t. stepped_by key (Some life) timed.moment timed.input
+    (option_and_then (row_of (rows_of (role_of key)) (Some life.state)) t) in
+    ap (λ b. stepped_by key (Some life) timed.moment timed.input (cond b (Some given_up)
+    (option_and_then (row_of (rows_of (role_of key)) (Some life.state))
+    (trigger_of (Some life) timed.moment timed.input)))) goes_on
+    ∙ ap by triggered
     ∙ ap (stepped_by key (Some life) timed.moment timed.input) fits
 
 -- ---- a request that was answered
@@ -94,7 +101,7 @@ acted_again key life bytes last id message reply_to now =
 
 pub answered_again : AnsweredAgain step_machine
 answered_again key server life bytes answering last id message reply_to now request =
-    by_row key life (receipt id message reply_to now) on.Request (Some again)
+    by_row key life (receipt id message reply_to now) on.Request (Some again) refl
     (ap (λ (t : Trigger). Some t) request)
     (again_row (role_of key) (server_role key server) life.state answering)
     ∙ acted_again key life bytes last id message reply_to now
@@ -132,10 +139,10 @@ by_failed_row : (key : Key) (life : Life) (id : Id) (now : ℕ)
     ⊎ (row_of (rows_of (role_of key)) (Some life.state) on.Failed ≡ None)
     → (stepped key (Some life) (failed_send id now)).0 ≡ Some life
 by_failed_row key life id now (inl fits) =
-    ap (λ p. p.0) (by_row key life (failed_send id now) on.Failed (Some keeps) refl fits)
+    ap (λ p. p.0) (by_row key life (failed_send id now) on.Failed (Some keeps) refl refl fits)
     ∙ acted_failed key life id now
 by_failed_row key life id now (inr none) =
-    ap (λ p. p.0) (by_row key life (failed_send id now) on.Failed None refl none)
+    ap (λ p. p.0) (by_row key life (failed_send id now) on.Failed None refl refl none)
 
 pub failed_send_keeps : FailedSendKeeps step_machine
 failed_send_keeps key server life id now =
@@ -193,7 +200,7 @@ by_answer : (key : Key) → role_of key ≡ Server → (life : Life) → is_open
     → (stepped key (Some life) (answering id response now)).0 ≡ Some (answered now response life)
 by_answer key server life unanswered id response now None is final = absurd (false≢true final)
 by_answer key server life unanswered id response now (Some t) is final =
-    ap (λ p. p.0) (by_row key life (answering id response now) t (Some answers) is
+    ap (λ p. p.0) (by_row key life (answering id response now) t (Some answers) refl is
     (ap (λ r. row_of (rows_of r) (Some life.state) t) server
     ∙ answer_row life.state unanswered t final))
     ∙ acted_answer key life id response now
@@ -212,12 +219,17 @@ unfolding ends life_after
 acted_end key life moment = refl
 
 by_nothing : (key : Key) (life : Life) (timed : Timed Input)
-    → trigger_of (Some life) timed.moment timed.input ≡ None
+    → is_abandon timed.input ≡ false → trigger_of (Some life) timed.moment timed.input ≡ None
     → stepped key (Some life) timed ≡ (Some life, [])
 unfolding stepped step_for
-by_nothing key life timed none =
-    ap (λ t. stepped_by key (Some life) timed.moment timed.input
-    (option_and_then (row_of (rows_of (role_of key)) (Some life.state)) t)) none
+by_nothing key life timed goes_on none =
+    let by : Option Trigger → Option Life × List Out =
+    λ t. stepped_by key (Some life) timed.moment timed.input
+    (option_and_then (row_of (rows_of (role_of key)) (Some life.state)) t) in
+    ap (λ b. stepped_by key (Some life) timed.moment timed.input (cond b (Some given_up)
+    (option_and_then (row_of (rows_of (role_of key)) (Some life.state))
+    (trigger_of (Some life) timed.moment timed.input)))) goes_on
+    ∙ ap by none
 
 due_at : (now moment : ℕ) (response : Message) (life : Life) (b : Bool)
     → nat_le (now + LIFETIME) moment ≡ b
@@ -234,12 +246,12 @@ at_tick : (key : Key) → role_of key ≡ Server → (now moment : ℕ) (respons
 unfolding answered
 at_tick key server now moment response life true late =
     ap (λ p. p.0) (by_row key (answered now response life) (tick_at moment) on.TimeoutDue
-    (Some ends)
+    (Some ends) refl
     (due_at now moment response life true late)
     (ap (λ r. row_of (rows_of r) (Some Completed) on.TimeoutDue) server ∙ ends_row))
     ∙ acted_end key (answered now response life) moment
 at_tick key server now moment response life false early =
-    ap (λ p. p.0) (by_nothing key (answered now response life) (tick_at moment)
+    ap (λ p. p.0) (by_nothing key (answered now response life) (tick_at moment) refl
     (due_at now moment response life false early))
 
 pub ends_after_its_answer : EndsAfterItsAnswer step_machine

@@ -13,7 +13,7 @@ use Rattle.sip_message.specs.declared.start_line.StartLine.TheVariants as start
 use Rattle.sip_message.specs.HopByHop.{ack_of}
 use Rattle.sip_message.specs.Written.{written}
 use Rattle.sip_transactions.specs.declared.input.Input.{Input}
-use Rattle.sip_transactions.specs.declared.input.Input.TheVariants.{Receive, Start, Answer, Failed}
+use Rattle.sip_transactions.specs.declared.input.Input.TheVariants.{Receive, Start, Answer, Failed, Abandon}
 use Rattle.sip_transactions.specs.declared.life.Context.{Context}
 use Rattle.sip_transactions.specs.declared.life.Life.{Life}
 use Rattle.sip_transactions.specs.declared.output.Out.{Out}
@@ -258,6 +258,7 @@ repeat_due life now (Some (Answer id message)) trigger is repeat =
     absurd (answer_no_repeat message.start trigger is repeat)
 repeat_due life now (Some (Failed id)) trigger is repeat =
     let same : on.Failed ≡ trigger = cc in absurd (false≢true (ap is_repeat same ∙ repeat))
+repeat_due life now (Some Abandon) trigger is repeat = cc
 
 pub response_message : (life : Life) (now : ℕ) (input : Option Input) (trigger : Trigger)
     → trigger_of (Some life) now input ≡ Some trigger → comes_as_response trigger ≡ true
@@ -271,6 +272,7 @@ response_message life now (Some (Answer id message)) trigger is response = refl
 response_message life now (Some (Failed id)) trigger is response =
     let same : on.Failed ≡ trigger = cc in
     absurd (false≢true (ap comes_as_response same ∙ response))
+response_message life now (Some Abandon) trigger is response = cc
 
 -- an ACK that is made isn't the INVITE
 pub record IsApart (text : List ℕ) (made : Option (List ℕ)) : Type 0 where

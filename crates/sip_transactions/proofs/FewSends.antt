@@ -173,6 +173,7 @@ module _ (role : Role) (client : is_client role ≡ true) (key : Key) (text : Li
   unfolding FitAfter
   input_few life timed own fit =
       by_step (Few role text (room life)) key (Some life) timed
+      (record { few = omega arith; fit = tt })
       (record { few = omega arith; fit = fit })
       (λ step row. row_few life timed.moment timed.input row.trigger row.triggered fit step.next
       step.handed step.sent step.due
@@ -284,6 +285,7 @@ few_from branch method now id call_id request to rest own within =
     let first = given_at now (Start id call_id request to) in
     let one : Few role text (1 + most_repeats role) (stepped k None first) =
     by_step (Few role text (1 + most_repeats role)) k None first
+    (record { few = omega arith; fit = tt })
     (record { few = omega arith; fit = tt })
     (λ step row. start_few role client k text invite now id call_id request to step.next step.handed
     step.sent step.due (start_row role client row.trigger step row.triggered row.row)) in

@@ -1,6 +1,6 @@
 -- One input of a transaction, in the form that the laws need.
 use Rattle.std.proofs.Common.{◌≡◌, ℕ, ◌+◌, Bool, true, false, cond, ◌&&◌, ◌||◌, List, [], ◌++◌, refl, sym, ◌∙◌, ap, subst, add-zero}
-use Rattle.std.specs.Prelude.{not, Option, None, Some, is_none, option_map, option_to_list, codes}
+use Rattle.std.specs.Prelude.{not, Option, None, Some, is_none, option_and_then, option_map, option_to_list, codes}
 use Rattle.std.specs.List.{AllByRecursion}
 use Rattle.std.proofs.lemmas.Bool.{false≢true}
 use Rattle.std.proofs.lemmas.Option.{option_and_then_some}
@@ -15,6 +15,7 @@ use Rattle.sip_message.specs.declared.start_line.StartLine.TheVariants as start
 use Rattle.sip_transactions.specs.declared.input.Command.{Command}
 use Rattle.sip_transactions.specs.declared.input.Command.TheVariants as command
 use Rattle.sip_transactions.specs.declared.input.Input.{Input}
+use Rattle.sip_transactions.specs.declared.input.Input.TheVariants.{Receive, Start, Answer, Failed, Abandon}
 use Rattle.keyed_machine.specs.Machine.{Timed}
 use Rattle.sip_transactions.specs.declared.life.Context.{Context}
 use Rattle.sip_transactions.specs.declared.life.Life.{Life}
@@ -30,9 +31,9 @@ use Rattle.sip_transactions.specs.declared.step.UpAction.TheVariants as up
 use Rattle.sip_transactions.specs.declared.trigger.Trigger.{Trigger}
 use Rattle.sip_transactions.specs.declared.trigger.Trigger.TheVariants as on
 use Rattle.sip_transactions.specs.Rows.{row_of, rows_of}
-use Rattle.sip_transactions.specs.Steps.Input.{role_of, trigger_of, is_same_method, answer_of, class_of, arrived_in, message_in}
+use Rattle.sip_transactions.specs.Steps.Input.{role_of, trigger_of, is_abandon, is_same_method, answer_of, class_of, arrived_in, message_in}
 use Rattle.sip_transactions.specs.Steps.Output.{outputs_of, handed_out, sent_bytes, made_bytes, send_out}
-use Rattle.sip_transactions.specs.Steps.Life.{stepped, step_for, stepped_by, acted_if, context_of, state_of}
+use Rattle.sip_transactions.specs.Steps.Life.{stepped, step_for, stepped_by, acted_if, begun, context_of, given_up, life_after, state_of}
 use Rattle.sip_transactions.specs.Laws.{IsSend, CommandsOnlySend, IsServer, is_request_up, requests_in}
 use Rattle.sip_transactions.specs.Shard.{order}
 use Rattle.sip_transactions.specs.Steps.Life.{step_machine}
@@ -46,13 +47,33 @@ pub record RowFor (key : Key) (held : Option Life) (timed : Timed Input)
   pub row : row_of (rows_of (role_of key)) (state_of held) trigger
       ≡ Some step
 
+-- an input that gives the transaction up
+abandoned_is : (input : Option Input) → is_abandon input ≡ true → input ≡ Some Abandon
+abandoned_is None given = absurd (false≢true given)
+abandoned_is (Some (Receive id message reply_to)) given = absurd (false≢true given)
+abandoned_is (Some (Start id call_id message to)) given = absurd (false≢true given)
+abandoned_is (Some (Answer id message)) given = absurd (false≢true given)
+abandoned_is (Some (Failed id)) given = absurd (false≢true given)
+abandoned_is (Some Abandon) given = refl
+
+-- it ends, and nothing is said
+pub abandoned : (key : Key) (held : Option Life) (now : ℕ)
+    → stepped key held (record { moment = now; input = Some Abandon }) ≡ (None, [])
+unfolding stepped step_for life_after outputs_of handed_out begun
+abandoned key None now = refl
+abandoned key (Some life) now = refl
+
 row_for : (key : Key) (held : Option Life) (timed : Timed Input) (step : Step)
+    → is_abandon timed.input ≡ false
     → step_for key held timed.moment timed.input ≡ Some step → RowFor key held timed step
 unfolding step_for
-row_for key held timed step found =
+row_for key held timed step goes_on found =
+    let row : Option Trigger → Option Step =
+    option_and_then (row_of (rows_of (role_of key)) (state_of held)) in
+    let trigger = trigger_of held timed.moment timed.input in
     option_and_then_some {P = RowFor key held timed step}
-    (row_of (rows_of (role_of key)) (state_of held))
-    (trigger_of held timed.moment timed.input) step found
+    (row_of (rows_of (role_of key)) (state_of held)) trigger step
+    (sym (ap (λ b. cond b (Some given_up) (row trigger)) goes_on) ∙ found)
     (λ trigger is row. record { trigger = trigger; triggered = is; row = row })
 
 by_option : {T : Type 0} (G : Option T → Type 0) (o : Option T) → (o ≡ None → G None)
@@ -60,18 +81,31 @@ by_option : {T : Type 0} (G : Option T → Type 0) (o : Option T) → (o ≡ Non
 by_option G None none some = none refl
 by_option G (Some x) none some = some x refl
 
--- an input does nothing, or what its row says
-pub by_step : (G : Option Life × List Out → Type 0) (key : Key) (held : Option Life)
-    (timed : Timed Input)
+by_row : (G : Option Life × List Out → Type 0) (key : Key) (held : Option Life)
+    (timed : Timed Input) → is_abandon timed.input ≡ false
     → G (held, []) → ((step : Step) → RowFor key held timed step
     → G (acted_if key timed.moment timed.input (state_of held)
     (context_of (role_of key) held timed.input) step))
     → G (stepped key held timed)
 unfolding stepped
-by_step G key held timed nothing acts =
+by_row G key held timed goes_on nothing acts =
     by_option (λ o. G (stepped_by key held timed.moment timed.input o))
     (step_for key held timed.moment timed.input) (λ none. nothing)
-    (λ step found. acts step (row_for key held timed step found))
+    (λ step found. acts step (row_for key held timed step goes_on found))
+
+-- an input gives the transaction up, does nothing, or does what its row says
+pub by_step : (G : Option Life × List Out → Type 0) (key : Key) (held : Option Life)
+    (timed : Timed Input)
+    → G (None, []) → G (held, []) → ((step : Step) → RowFor key held timed step
+    → G (acted_if key timed.moment timed.input (state_of held)
+    (context_of (role_of key) held timed.input) step))
+    → G (stepped key held timed)
+by_step G key held timed over nothing acts =
+    by_test (is_abandon timed.input)
+    (λ given. subst (λ input. G (stepped key held (record { moment = timed.moment; input = input })))
+    (sym (abandoned_is timed.input given))
+    (subst G (sym (abandoned key held timed.moment)) over))
+    (λ goes_on. by_row G key held timed goes_on nothing acts)
 
 -- ---- tests of the tables
 abbrev pub is_request : Trigger → Bool
@@ -216,6 +250,7 @@ arrived-order : (id : Id) (command : Command) (now : ℕ)
     → arrived_in (order id command now).input ≡ None
 arrived-order id (command.Start k call_id message to) now = refl
 arrived-order id (command.Answer k message) now = refl
+arrived-order id (command.Abandon k) now = refl
 
 order_outputs : (key : Key) (context : Context) (step : Step) (made : Option (List ℕ))
     → not (is_told step.handed) ≡ true → AllByRecursion IsSend
@@ -241,10 +276,12 @@ is_order_trigger held id (command.Start k call_id message to) now trigger e =
     let same : on.Start ≡ trigger = cc in subst (λ t. is_order t ≡ true) same refl
 is_order_trigger held id (command.Answer k message) now trigger e =
     answer_is_order message.start trigger e
+is_order_trigger held id (command.Abandon k) now trigger e = cc
 
 moment-order : (id : Id) (command : Command) (now : ℕ) → (order id command now).moment ≡ now
 moment-order id (command.Start k call_id message to) now = refl
 moment-order id (command.Answer k message) now = refl
+moment-order id (command.Abandon k) now = refl
 
 orders_send : (key : Key) (state : Option State) (context : Option Context) (step : Step) (id : Id)
     (command : Command)
@@ -259,7 +296,7 @@ orders_send key state (Some context) step id command now moment quiet =
 
 pub commands_only_send : CommandsOnlySend step_machine
 commands_only_send key held id command now =
-    by_step (λ after. AllByRecursion IsSend after.1) key held (order id command now) tt
+    by_step (λ after. AllByRecursion IsSend after.1) key held (order id command now) tt tt
     (λ step row.
     let ordered : is_order row.trigger ≡ true =
     is_order_trigger held id command now row.trigger

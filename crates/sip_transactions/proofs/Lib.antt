@@ -1,3 +1,4 @@
+pub mod Abandoned
 pub mod AfterTheEnd
 pub mod AtServers
 pub mod LawSteps

@@ -11,7 +11,7 @@ use Rattle.sip_message.specs.declared.start_line.StartLine.TheVariants as start
 use Rattle.keyed_machine.specs.Machine.{outputs_from, Timed}
 use Rattle.keyed_machine.proofs.Lives.{IsWithinLife, is_within}
 use Rattle.sip_transactions.specs.declared.input.Input.{Input}
-use Rattle.sip_transactions.specs.declared.input.Input.TheVariants.{Receive, Start, Answer, Failed}
+use Rattle.sip_transactions.specs.declared.input.Input.TheVariants.{Receive, Start, Answer, Failed, Abandon}
 use Rattle.sip_transactions.specs.declared.life.Context.{Context}
 use Rattle.sip_transactions.specs.declared.life.Life.{Life}
 use Rattle.sip_transactions.specs.declared.output.UpKind.TheVariants as kind
@@ -100,6 +100,8 @@ begins_once key now (Some (Answer id message)) step trigger triggered passed goe
     absurd (false≢true goes_on)
 begins_once key now (Some (Failed id)) step trigger triggered passed goes_on =
     absurd (false≢true goes_on)
+begins_once key now (Some Abandon) step trigger triggered passed goes_on =
+    absurd (false≢true goes_on)
 begins_once key now (Some (Start id call_id message to)) step trigger triggered passed goes_on =
     let same : on.Start ≡ trigger = cc in
     let request : (is_message step.handed && is_request trigger) ≡ true =
@@ -120,7 +122,7 @@ pub first_once : (key : Key) → IsServer key → (first : Timed Input)
     → requests_in (stepped key None first).1 ≡ 1
 first_once key server first =
     by_step (λ after. IsSome after.0 → requests_in after.1 ≡ 1) key None first
-    (λ some. absurd (false≢true some))
+    (λ some. absurd (false≢true some)) (λ some. absurd (false≢true some))
     (λ step row. begins_once key first.moment first.input step row.trigger row.triggered
     (row_passes begins_by_request (rows_of (role_of key))
     (server_tables key server) None row.trigger step row.row))
@@ -159,6 +161,7 @@ later_once key held context up.Message now (Some (Start id call_id message to)) 
 later_once key held context up.Message now (Some (Answer id message)) trigger triggered passed =
     refl
 later_once key held context up.Message now (Some (Failed id)) trigger triggered passed = refl
+later_once key held context up.Message now (Some Abandon) trigger triggered passed = refl
 later_once key held context up.Message now (Some (Receive id message reply_to)) trigger triggered
     passed =
     let same : arrival_of message.start message.cseq.method ≡ trigger = cc in
@@ -168,7 +171,7 @@ later_once key held context up.Message now (Some (Receive id message reply_to)) 
 pub held_silent : (key : Key) (life : Life) (timed : Timed Input)
     → requests_in (stepped key (Some life) timed).1 ≡ 0
 held_silent key life timed =
-    by_step (λ after. requests_in after.1 ≡ 0) key (Some life) timed refl
+    by_step (λ after. requests_in after.1 ≡ 0) key (Some life) timed refl refl
     (λ step row. requests-outputs key life.context step _ _
     ∙ later_once key (Some life) life.context step.handed timed.moment timed.input row.trigger
     row.triggered

@@ -14,7 +14,7 @@ use Rattle.sip_message.specs.declared.start_line.StartLine.{StartLine}
 use Rattle.sip_message.specs.declared.start_line.StartLine.TheVariants as start
 use Rattle.keyed_machine.specs.Machine.{outputs_from, Timed}
 use Rattle.sip_transactions.specs.declared.input.Input.{Input}
-use Rattle.sip_transactions.specs.declared.input.Input.TheVariants.{Receive, Start, Answer, Failed}
+use Rattle.sip_transactions.specs.declared.input.Input.TheVariants.{Receive, Start, Answer, Failed, Abandon}
 use Rattle.sip_transactions.specs.declared.life.Context.{Context}
 use Rattle.sip_transactions.specs.declared.life.Life.{Life}
 use Rattle.sip_transactions.specs.declared.output.UpKind.TheVariants as kind
@@ -73,7 +73,7 @@ none_counted (Some (out.Up up)) none =
 held_ids : (key : Key) (life : Life) (timed : Timed Input)
     → request_ids (stepped key (Some life) timed).1 ≡ []
 held_ids key life timed =
-    by_step (λ after. request_ids after.1 ≡ []) key (Some life) timed refl
+    by_step (λ after. request_ids after.1 ≡ []) key (Some life) timed refl refl
     (λ step row. ids-outputs key life.context step _ _
     ∙ none_counted (handed_out key life.context step.handed _)
     (later_once key (Some life) life.context step.handed timed.moment timed.input row.trigger
@@ -116,6 +116,7 @@ unfolding begun
 begun_ids key now None step = inl refl
 begun_ids key now (Some (Answer id message)) step = inl refl
 begun_ids key now (Some (Failed id)) step = inl refl
+begun_ids key now (Some Abandon) step = inl refl
 begun_ids key now (Some (Start id call_id message to)) step =
     inl (ids-outputs key _ step _ None ∙ nothing_handed key _ step.handed)
 begun_ids key now (Some (Receive id message reply_to)) step =
@@ -128,7 +129,7 @@ input_ids : (key : Key) (held : Option Life) (timed : Timed Input)
 input_ids key (Some life) timed = inl (held_ids key life timed)
 input_ids key None timed =
     by_step (λ after. Named (naming_id timed.input) (request_ids after.1)) key None timed
-    (inl refl) (λ step row. begun_ids key timed.moment timed.input step)
+    (inl refl) (inl refl) (λ step row. begun_ids key timed.moment timed.input step)
 
 all_later : (P : Id → Type 0) (name : Option Id) (names : List Id)
     → AllByRecursion P (cons_option name names) → AllByRecursion P names

@@ -50,6 +50,7 @@ use Rattle.sip_transactions.specs.Timers.{rearmed}
 use Rattle.sip_transactions.specs.Rules.Step.{row_applied, context_at_first, trigger_of_message, handed_up, step_at, text_sent}
 use Rattle.sip_transactions.specs.Rules.Tables.{client, invite_client, invite_server, server, table}
 use Rattle.sip_transactions.specs.Rules.Timers.{timers_after}
+use Rattle.sip_transactions.proofs.LawSteps.{abandoned}
 
 -- ---- the tables
 
@@ -501,6 +502,7 @@ step_is (key.Client branch method) held now (Some (input.Start id call_id messag
     started_at_client branch method now held id call_id message to
 step_is (key.Server branch sent_by method) held now (Some (input.Start id call_id message to)) =
     started_at_server branch sent_by method now held id call_id message to
+step_is key held now (Some input.Abandon) = sym (abandoned key held now)
 step_is key None now None = refl
 step_is key None now (Some (input.Answer id message)) =
     sym (unanswered key now (input.Answer id message) _ refl)

@@ -14,7 +14,7 @@ use Rattle.sip_message.specs.Written.{written}
 use Rattle.keyed_machine.specs.Machine.{LifeIn, Machine, Timed, adds, given_at, outputs_from, said_after, said_at_first, said_in_rest, state_left}
 use Rattle.sip_transactions.specs.declared.input.Command.{Command}
 use Rattle.sip_transactions.specs.declared.input.Input.{Input}
-use Rattle.sip_transactions.specs.declared.input.Input.TheVariants.{Receive, Start, Answer, Failed}
+use Rattle.sip_transactions.specs.declared.input.Input.TheVariants.{Receive, Start, Answer, Failed, Abandon}
 use Rattle.sip_transactions.specs.declared.life.Life.{Life}
 use Rattle.sip_transactions.specs.declared.output.UpKind.{UpKind}
 use Rattle.sip_transactions.specs.declared.output.UpKind.TheVariants as kind
@@ -77,6 +77,7 @@ id_of (Some (Receive id message reply_to)) = Some id
 id_of (Some (Start id call_id message to)) = Some id
 id_of (Some (Answer id message)) = Some id
 id_of (Some (Failed id)) = Some id
+id_of (Some Abandon) = None
 
 -- the id of a request that came, also of an ACK
 abbrev pub arrival_id : StartLine → Id → Option Id
@@ -90,6 +91,7 @@ naming_id (Some (Receive id message reply_to)) = arrival_id message.start id
 naming_id (Some (Start id call_id message to)) = Some id
 naming_id (Some (Answer id message)) = None
 naming_id (Some (Failed id)) = None
+naming_id (Some Abandon) = None
 
 -- the ids of the requests that came and of the starts, in order
 abbrev pub names_in : List (Timed Input) → List Id

@@ -10,7 +10,7 @@ use Rattle.sip_message.specs.TopVia.{is_sent_by_of}
 use Rattle.sip_message.specs.Message.{is_request_message}
 use Rattle.sip_transactions.specs.declared.input.Command.{Command}
 use Rattle.sip_transactions.specs.declared.input.Command.TheVariants as command
-use Rattle.sip_transactions.specs.declared.input.Input.TheVariants.{Receive, Start, Answer, Failed}
+use Rattle.sip_transactions.specs.declared.input.Input.TheVariants.{Receive, Start, Answer, Failed, Abandon}
 use Rattle.sip_transactions.specs.declared.input.Input.{Input}
 use Rattle.keyed_machine.specs.Machine.{Timed, given_at}
 use Rattle.sip_transactions.specs.declared.life.Life.{Life}
@@ -30,11 +30,13 @@ keyed_input local id message reply_to =
 abbrev pub command_key : Command → Key
 command_key (command.Start key call_id message to) = key
 command_key (command.Answer key message) = key
+command_key (command.Abandon key) = key
 
 -- what a command is to its transaction
 abbrev pub asked_by : Id → Command → Input
 asked_by id (command.Start key call_id message to) = Start id call_id message to
 asked_by id (command.Answer key message) = Answer id message
+asked_by id (command.Abandon key) = Abandon
 
 -- ---- for steps and laws: `run` needs nothing of what follows
 

@@ -19,12 +19,17 @@ pub enum Command {
         key: SharedKey,
         message: Boxed<Message>,
     },
+    /// Ends a transaction, whatever its state: nothing more is sent or handed up.
+    Abandon {
+        key: SharedKey,
+    },
 }
 
 impl Command {
     ghost use Rattle.sip_transactions.specs.Shard.{command_key, asked_by};
 
-    /// The key of the transaction that it is for, and the input that it is to it, with this id.
+    /// The key of the transaction that it is for, and the input that it is to it, with this id if
+    /// it has one.
     pub fn addressed(self, id: Id) -> (SharedKey, Input)
         ensures { result ≡ (command_key self, asked_by id self) }
     {
@@ -44,6 +49,7 @@ impl Command {
                 },
             ),
             Command::Answer { key, message } => (key, Input::Answer { id, message }),
+            Command::Abandon { key } => (key, Input::Abandon),
         }
     }
 }
@@ -58,6 +64,7 @@ impl Drop for Command {
                 to: _,
             } => {}
             Command::Answer { key: _, message: _ } => {}
+            Command::Abandon { key: _ } => {}
         }
     }
 }
@@ -87,6 +94,8 @@ pub enum Input {
     Failed {
         id: Id,
     },
+    /// The user gives the transaction up.
+    Abandon,
 }
 
 impl Input {
@@ -101,7 +110,7 @@ impl Input {
             Input::Receive { message, .. }
             | Input::Start { message, .. }
             | Input::Answer { message, .. } => Some(message.get()),
-            Input::Failed { .. } => None,
+            Input::Failed { .. } | Input::Abandon => None,
         }
     }
 
@@ -115,7 +124,8 @@ impl Input {
                 reply_to,
                 ..
             } => Some((message, reply_to)),
-            Input::Start { .. } | Input::Answer { .. } | Input::Failed { .. } => None,
+            Input::Start { .. } | Input::Answer { .. } | Input::Failed { .. } | Input::Abandon =>
+                None,
         }
     }
 }

@@ -3,6 +3,7 @@
 ghost use Rattle.std.specs.Prelude.{◌≡◌, Option};
 ghost use Rattle.sip_message.specs.declared.key.Key.{Key};
 ghost use Rattle.keyed_machine.specs.Machine.{Timed};
+ghost use Rattle.sip_transactions.specs.Abandoned.{AbandonEnds, LateResponseIsDropped};
 ghost use Rattle.sip_transactions.specs.declared.input.Input.{Input};
 ghost use Rattle.sip_transactions.specs.declared.life.Life.{Life};
 ghost use Rattle.sip_transactions.specs.Laws.{AtMostOneRow, CommandsOnlySend, OneRequestUp, RequestsComeUpById, NothingAfterTheEnd, FewSends};
@@ -58,6 +59,13 @@ pub fn failed_send_keeps()
 /// the first tick from then on (RFC 3261, section 17.2.2).
 pub fn ends_after_its_answer()
     ensures { EndsAfterItsAnswer transaction_machine }
+{}
+
+/// A transaction that the user gives up ends, whatever its state, and says nothing. A response to
+/// it that comes afterwards is dropped.
+pub fn an_abandoned_transaction_ends()
+    ensures ends { AbandonEnds transaction_machine }
+    ensures late { LateResponseIsDropped transaction_machine }
 {}
 
 /// The machine of transactions, which is defined by the rules, takes the same steps as the code,

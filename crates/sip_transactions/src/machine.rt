@@ -15,7 +15,7 @@ use crate::output::Out;
 use crate::rows::step_of;
 use crate::said::{passed_on, said};
 use crate::state::Role;
-use crate::step::{Next, Sent, Step};
+use crate::step::{Next, Sent, Step, UpAction};
 use crate::trigger::trigger_of;
 use keyed_machine::StateMachine;
 use sip_message::{Addr, Id, Key, Message, SharedKey};
@@ -38,7 +38,8 @@ fn role_of(key: &Key) -> Role
     }
 }
 
-// What the row for an input, or for a tick, does, if there is one.
+// What the row for an input, or for a tick, does, if there is one. No row is for a transaction that
+// is given up: it ends.
 #[tactic(auto, unfolding(crate::specs::Steps::Life::step_for))]
 fn step_for(key: &SharedKey, held: Option<&Life>, now: u64, input: Option<&Input>) -> Option<Step>
     ensures value { result ≡ step_for key.now (option_copied held.entry) now
@@ -46,6 +47,9 @@ fn step_for(key: &SharedKey, held: Option<&Life>, now: u64, input: Option<&Input
     ensures timely { IfSome result
         (λ step. RepeatsInTime step.due now (option_copied held.entry)) }
 {
+    if let Some(Input::Abandon) = input {
+        return Some(Step::end(UpAction::Nothing));
+    }
     let trigger = trigger_of(held, now, input)?;
     step_of(role_of(key.get()), held.map(|life| life.state), trigger)
 }
@@ -158,7 +162,9 @@ fn begin(
                 None,
             )
         }
-        Input::Answer { .. } | Input::Failed { .. } => Ok((None, Vec::new(alloc))),
+        Input::Answer { .. } | Input::Failed { .. } | Input::Abandon => {
+            Ok((None, Vec::new(alloc)))
+        }
     }
 }
 
@@ -275,7 +281,7 @@ impl StateMachine for Transactions {
         match input {
             Input::Receive { message, .. } => message.get().is_request(),
             Input::Start { .. } => true,
-            Input::Answer { .. } | Input::Failed { .. } => false,
+            Input::Answer { .. } | Input::Failed { .. } | Input::Abandon => false,
         }
     }
 

@@ -67,6 +67,7 @@ pub fn trigger_of(held: Option<&Life>, now: u64, input: Option<&Input>) -> Optio
         Some(Input::Start { .. }) => Some(Trigger::Start),
         Some(Input::Answer { message, .. }) => answer_of(message.get()),
         Some(Input::Failed { .. }) => Some(Trigger::Failed),
+        Some(Input::Abandon) => None,
     }
 }
 

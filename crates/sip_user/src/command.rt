@@ -88,6 +88,20 @@ pub struct Cancel {
     pub id: Id,
 }
 
+/// Gives a client request up: it is no longer held, and its transaction ends at once.
+pub struct AbandonRequest {
+    pub call_id: CallId,
+    /// The request.
+    pub id: Id,
+}
+
+/// Gives a dialog up: it ends, and nothing is sent. An absent tag is the empty tag.
+pub struct AbandonDialog {
+    pub call_id: CallId,
+    pub local_tag: Option<Token>,
+    pub remote_tag: Option<Token>,
+}
+
 /// What the user asks of a call.
 #[derive(Drop)]
 pub enum UserCommand {
@@ -98,6 +112,8 @@ pub enum UserCommand {
     Ack(DialogBody),
     Prack(DialogBody),
     Cancel(Cancel),
+    AbandonRequest(AbandonRequest),
+    AbandonDialog(AbandonDialog),
 }
 
 impl UserCommand {
@@ -116,6 +132,8 @@ impl UserCommand {
             UserCommand::Ack(ack) => &ack.call_id,
             UserCommand::Prack(prack) => &prack.call_id,
             UserCommand::Cancel(cancel) => &cancel.call_id,
+            UserCommand::AbandonRequest(abandon) => &abandon.call_id,
+            UserCommand::AbandonDialog(abandon) => &abandon.call_id,
         }
     }
 }
@@ -266,6 +284,45 @@ impl Clone for Cancel {
     }
 }
 
+impl Drop for AbandonRequest {
+    fn drop(self) {
+        let AbandonRequest { call_id: _, id: _ } = self;
+    }
+}
+
+impl Clone for AbandonRequest {
+    ghost is_clone = { λ a b. b ≡ a };
+
+    fn clone(&self) -> Result<AbandonRequest, AllocError> {
+        Ok(AbandonRequest {
+            call_id: self.call_id.clone()?,
+            id: self.id,
+        })
+    }
+}
+
+impl Drop for AbandonDialog {
+    fn drop(self) {
+        let AbandonDialog {
+            call_id: _,
+            local_tag: _,
+            remote_tag: _,
+        } = self;
+    }
+}
+
+impl Clone for AbandonDialog {
+    ghost is_clone = { λ a b. b ≡ a };
+
+    fn clone(&self) -> Result<AbandonDialog, AllocError> {
+        Ok(AbandonDialog {
+            call_id: self.call_id.clone()?,
+            local_tag: self.local_tag.clone()?,
+            remote_tag: self.remote_tag.clone()?,
+        })
+    }
+}
+
 impl Clone for UserCommand {
     ghost is_clone = { λ a b. b ≡ a };
 
@@ -278,6 +335,8 @@ impl Clone for UserCommand {
             UserCommand::Ack(ack) => UserCommand::Ack(ack.clone()?),
             UserCommand::Prack(prack) => UserCommand::Prack(prack.clone()?),
             UserCommand::Cancel(cancel) => UserCommand::Cancel(cancel.clone()?),
+            UserCommand::AbandonRequest(abandon) => UserCommand::AbandonRequest(abandon.clone()?),
+            UserCommand::AbandonDialog(abandon) => UserCommand::AbandonDialog(abandon.clone()?),
         })
     }
 }

@@ -9,8 +9,8 @@ pub mod outputs;
 mod refusal;
 
 pub use command::{
-    Cancel, DialogBody, DialogRequest, Invite, Plain, ProvisionalSupport, Reliability, Respond,
-    UserCommand,
+    AbandonDialog, AbandonRequest, Cancel, DialogBody, DialogRequest, Invite, Plain,
+    ProvisionalSupport, Reliability, Respond, UserCommand,
 };
 pub use item::{CallOut, Item};
 pub use notice::Notice;

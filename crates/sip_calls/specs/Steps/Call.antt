@@ -10,7 +10,7 @@ use Rattle.sip_served.specs.Respond.{respond_taken}
 use Rattle.sip_served.specs.State.{empty_at}
 use Rattle.sip_served.specs.Step.{kind_taken}
 use Rattle.sip_user.specs.declared.command.UserCommand.{UserCommand}
-use Rattle.sip_user.specs.declared.command.UserCommand.TheVariants.{Invite, Plain, Request, Respond, Ack, Prack, Cancel}
+use Rattle.sip_user.specs.declared.command.UserCommand.TheVariants.{Invite, Plain, Request, Respond, Ack, Prack, Cancel, AbandonRequest, AbandonDialog}
 use Rattle.sip_user.specs.declared.item.Item.{Item}
 use Rattle.sip_user.specs.declared.item.Item.TheVariants.{Up, User}
 use Rattle.sip_user.specs.declared.item.CallOut.{CallOut}
@@ -19,6 +19,7 @@ use Rattle.sip_user.specs.declared.notice.Notice.{Notice as ANotice}
 use Rattle.sip_user.specs.declared.notice.Notice.TheVariants.{Timeout, Failed}
 use Rattle.sip_user.specs.Notices.{refused}
 use Rattle.sip_user.specs.declared.refusal.Refusal.TheVariants.{CallInUse, NoSuchCall}
+use Rattle.sip_clients.specs.Abandon.{dialog_abandoned, request_abandoned}
 use Rattle.sip_clients.specs.Cancel.{cancel_by_user}
 use Rattle.sip_clients.specs.Client.{Clients}
 use Rattle.sip_clients.specs.Clients.{ack_by_user, invite_taken, request_lost, plain_taken, prack_by_user, request_by_user, response_taken}
@@ -75,6 +76,10 @@ first_command_taken call event (Respond respond) =
 first_command_taken call event (Ack ack) = (call, refused event.id ack.call_id NoSuchCall)
 first_command_taken call event (Prack prack) = (call, refused event.id prack.call_id NoSuchCall)
 first_command_taken call event (Cancel cancel) = (call, refused event.id cancel.call_id NoSuchCall)
+first_command_taken call event (AbandonRequest abandon) =
+    (call, refused event.id abandon.call_id NoSuchCall)
+first_command_taken call event (AbandonDialog abandon) =
+    (call, refused event.id abandon.call_id NoSuchCall)
 
 -- a command while something is held: no first request is sent
 abbrev pub command_taken : Call → Event → UserCommand → CallTaken
@@ -88,6 +93,10 @@ command_taken call event (Ack ack) = by_clients call (ack_by_user event ack (sid
 command_taken call event (Prack prack) = by_clients call (prack_by_user event prack (side_of call))
 command_taken call event (Cancel cancel) =
     by_clients call (cancel_by_user event cancel (side_of call))
+command_taken call event (AbandonRequest abandon) =
+    by_clients call (request_abandoned event abandon (side_of call))
+command_taken call event (AbandonDialog abandon) =
+    by_clients call (dialog_abandoned event abandon (side_of call))
 
 -- ---- the machine
 

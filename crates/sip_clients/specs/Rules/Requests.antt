@@ -13,7 +13,6 @@ use Rattle.sip_message.specs.Message.{bare}
 use Rattle.sip_message.specs.Party.{party_of}
 use Rattle.sip_message.specs.TopVia.{top_branch}
 use Rattle.sip_message.specs.Written.{written}
-use Rattle.sip_message.specs.declared.addr.Addr.{Addr}
 use Rattle.sip_message.specs.declared.cseq.CSeq.{CSeq}
 use Rattle.sip_message.specs.declared.id.Id.{Id}
 use Rattle.sip_message.specs.declared.message.Message.{Message}

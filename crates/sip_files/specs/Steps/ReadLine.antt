@@ -1,7 +1,7 @@
 -- Reading a line of a file, by its version, from left to right. What a line means is defined by the
 -- lines' texts.
 use Rattle.std.specs.Prelude.{ℕ, ◌^◌, ◌-◌, ◌==◌, List, [], length, Option, Some, None, codes, if◌then◌else◌}
-use Rattle.std.specs.Option.{option_map}
+use Rattle.std.specs.Option.{option_map, option_or}
 use Rattle.std.specs.Str.{bytes_eq}
 use Rattle.sip_text.specs.Number.{number_at}
 use Rattle.sip_text.specs.Options.{◌>>=◌}
@@ -24,6 +24,8 @@ use Rattle.sip_user.specs.declared.command.Plain.{Plain}
 use Rattle.sip_user.specs.declared.command.ProvisionalSupport.{ProvisionalSupport}
 use Rattle.sip_user.specs.declared.command.ProvisionalSupport.TheVariants as support
 use Rattle.sip_user.specs.declared.command.Respond.{Respond}
+use Rattle.sip_user.specs.declared.command.AbandonDialog.{AbandonDialog}
+use Rattle.sip_user.specs.declared.command.AbandonRequest.{AbandonRequest}
 use Rattle.sip_user.specs.declared.command.Cancel.{Cancel}
 use Rattle.sip_user.specs.declared.command.UserCommand.{UserCommand}
 use Rattle.sip_user.specs.declared.command.UserCommand.TheVariants as command
@@ -188,6 +190,34 @@ cancel_in One fields = None
 cancel_in Two fields = cancel_at fields
 cancel_in SessionOne fields = cancel_at fields
 
+abbrev pub abandon_request_of : List ℕ × Id → AbandonRequest
+abandon_request_of read = record { call_id = read.0; id = read.1 }
+
+unfoldable pub abandon_request_at : List ℕ → Option AbandonRequest
+abandon_request_at fields =
+    option_map abandon_request_of (ended_by (field_at 32 call_id_at) id_at fields)
+
+abbrev pub abandon_dialog_of : (List ℕ × Option (List ℕ)) × Option (List ℕ) → AbandonDialog
+abandon_dialog_of read =
+    record { call_id = (read.0).0; local_tag = (read.0).1; remote_tag = read.1 }
+
+unfoldable pub abandon_dialog_at : List ℕ → Option AbandonDialog
+abandon_dialog_at fields =
+    option_map abandon_dialog_of
+    (ended_by (both_at (field_at 32 call_id_at) (field_at 32 tag_at)) tag_at fields)
+
+-- a request has one field after the Call-ID, a dialog two
+unfoldable pub abandon_at : List ℕ → Option UserCommand
+abandon_at fields =
+    option_or (option_map command.AbandonRequest (abandon_request_at fields))
+    (option_map command.AbandonDialog (abandon_dialog_at fields))
+
+-- only a session has this line
+abbrev pub abandon_in : Version → List ℕ → Option UserCommand
+abandon_in One fields = None
+abandon_in Two fields = None
+abandon_in SessionOne fields = abandon_at fields
+
 abbrev pub command_at : Version → List ℕ → List ℕ → Option UserCommand
 command_at version keyword fields =
     if bytes_eq keyword (codes "invite") then option_map command.Invite (invite_at fields)
@@ -198,6 +228,7 @@ command_at version keyword fields =
     else if bytes_eq keyword (codes "prack") then option_map command.Prack (body_at fields)
     else if bytes_eq keyword (codes "cancel")
     then option_map command.Cancel (cancel_in version fields)
+    else if bytes_eq keyword (codes "abandon") then abandon_in version fields
     else None
 
 -- ---- failed sends

@@ -14,7 +14,7 @@ use Rattle.sip_message.specs.Response.{response_of}
 use Rattle.sip_message.specs.Written.{written}
 use Rattle.sip_timers.specs.Queue.{is_due}
 use Rattle.sip_transactions.specs.declared.input.Input.{Input}
-use Rattle.sip_transactions.specs.declared.input.Input.TheVariants.{Receive, Start, Answer, Failed}
+use Rattle.sip_transactions.specs.declared.input.Input.TheVariants.{Receive, Start, Answer, Failed, Abandon}
 use Rattle.sip_transactions.specs.declared.life.Context.{Context}
 use Rattle.sip_transactions.specs.declared.life.Life.{Life}
 use Rattle.sip_transactions.specs.declared.output.DropReason.TheVariants.{NoTransaction}
@@ -97,7 +97,8 @@ context_at_first id call_id to request =
 -- One input of a transaction at a moment, or the moment alone: if both timers are due, only the
 -- ending one fires. A request or a start begins a life if none is held; a response or an ACK
 -- doesn't. If one is held, a start does nothing (the last row). The client of an INVITE keeps the
--- INVITE for its ACKs. An answer or a failure does nothing if none is held; its id isn't used.
+-- INVITE for its ACKs. An answer or a failure does nothing if none is held; its id isn't used. A
+-- transaction that the user gives up ends, whatever its state, and nothing goes up or out (own).
 unfoldable pub step_at : Key → Option Life → ℕ → Option Input → Option Life × List Out
 step_at key held now (Some (Receive id message reply_to)) =
     let (trigger, kind) = trigger_of_message message.start message reply_to in
@@ -106,6 +107,7 @@ step_at key held now (Some (Receive id message reply_to)) =
 step_at key held now (Some (Start id call_id message to)) =
     let invite = if bytes_eq (method_in key) (codes "INVITE") then Some message else None in
     row_applied key now held (context_at_first id call_id to invite) on.Start (Some message) None
+step_at key held now (Some Abandon) = (None, [])
 step_at key None now other = (None, [])
 step_at key (Some life) now (Some (Answer id message)) = elim message.start [
   | start.Request uri ↦ (Some life, [])

@@ -1,5 +1,5 @@
 -- What an input is to a transaction: its table and its trigger.
-use Rattle.std.specs.Prelude.{ℕ, Bool, ◌==◌, nat_lt, nat_eq, if◌then◌else◌, List, codes, Option, None, Some}
+use Rattle.std.specs.Prelude.{ℕ, Bool, true, false, ◌==◌, nat_lt, nat_eq, if◌then◌else◌, List, codes, Option, None, Some}
 use Rattle.std.specs.Cmp.Lexicographic.{pointwise}
 use Rattle.sip_message.specs.declared.addr.Addr.{Addr}
 use Rattle.sip_message.specs.declared.key.Key.{Key}
@@ -14,7 +14,7 @@ use Rattle.sip_transactions.specs.declared.trigger.Class.TheVariants.{Trying, Pr
 use Rattle.sip_transactions.specs.declared.trigger.Trigger.{Trigger}
 use Rattle.sip_transactions.specs.declared.trigger.Trigger.TheVariants as on
 use Rattle.sip_transactions.specs.declared.input.Input.{Input}
-use Rattle.sip_transactions.specs.declared.input.Input.TheVariants.{Receive, Start, Answer, Failed}
+use Rattle.sip_transactions.specs.declared.input.Input.TheVariants.{Receive, Start, Answer, Failed, Abandon}
 use Rattle.sip_transactions.specs.declared.life.Life.{Life}
 use Rattle.sip_timers.specs.Queue.{is_due}
 
@@ -41,6 +41,7 @@ message_in (Some (Receive id message reply_to)) = Some message
 message_in (Some (Start id call_id message to)) = Some message
 message_in (Some (Answer id message)) = Some message
 message_in (Some (Failed id)) = None
+message_in (Some Abandon) = None
 
 -- the message that came, and the address of a response to it
 abbrev pub arrived_in : Option Input → Option (Message × Addr)
@@ -49,6 +50,7 @@ arrived_in (Some (Receive id message reply_to)) = Some (message, reply_to)
 arrived_in (Some (Start id call_id message to)) = None
 arrived_in (Some (Answer id message)) = None
 arrived_in (Some (Failed id)) = None
+arrived_in (Some Abandon) = None
 
 -- a message that came, by its start line and its method
 abbrev pub arrival_of : StartLine → List ℕ → Trigger
@@ -79,3 +81,13 @@ trigger_of held now (Some (Receive id message reply_to)) =
 trigger_of held now (Some (Start id call_id message to)) = Some on.Start
 trigger_of held now (Some (Answer id message)) = answer_of message.start
 trigger_of held now (Some (Failed id)) = Some on.Failed
+trigger_of held now (Some Abandon) = None
+
+-- the user gives the transaction up
+abbrev pub is_abandon : Option Input → Bool
+is_abandon None = false
+is_abandon (Some (Receive id message reply_to)) = false
+is_abandon (Some (Start id call_id message to)) = false
+is_abandon (Some (Answer id message)) = false
+is_abandon (Some (Failed id)) = false
+is_abandon (Some Abandon) = true

@@ -8,7 +8,7 @@ use Rattle.sip_transactions.specs.declared.state.Role.{Role}
 use Rattle.sip_transactions.specs.declared.state.Role.TheVariants.{InviteClient, Client, InviteServer, Server}
 use Rattle.sip_transactions.specs.declared.state.State.{State}
 use Rattle.sip_transactions.specs.declared.input.Input.{Input}
-use Rattle.sip_transactions.specs.declared.input.Input.TheVariants.{Receive, Start, Answer, Failed}
+use Rattle.sip_transactions.specs.declared.input.Input.TheVariants.{Receive, Start, Answer, Failed, Abandon}
 use Rattle.keyed_machine.specs.Machine.{Machine, Timed}
 use Rattle.sip_transactions.specs.declared.life.Context.{Context}
 use Rattle.sip_transactions.specs.declared.life.Life.{Life}
@@ -17,20 +17,28 @@ use Rattle.sip_transactions.specs.declared.step.Step.{Step}
 use Rattle.sip_transactions.specs.declared.step.Next.{Next}
 use Rattle.sip_transactions.specs.declared.step.Next.TheVariants.{Same, Ended, Become}
 use Rattle.sip_transactions.specs.declared.step.Due.{Due}
+use Rattle.sip_transactions.specs.declared.step.Due.TheVariants.{Clear}
+use Rattle.sip_transactions.specs.declared.step.Sent.TheVariants as send
+use Rattle.sip_transactions.specs.declared.step.UpAction.TheVariants as up
 use Rattle.sip_transactions.specs.Timers.{rearmed, no_dues}
 use Rattle.sip_transactions.specs.Rows.{row_of, rows_of}
-use Rattle.sip_transactions.specs.Steps.Input.{role_of, trigger_of, message_in, arrived_in}
+use Rattle.sip_transactions.specs.Steps.Input.{role_of, trigger_of, message_in, arrived_in, is_abandon}
 use Rattle.sip_transactions.specs.Steps.Output.{outputs_of, made_bytes}
 
 -- the state of the life that is held, if one is
 abbrev pub state_of : Option Life → Option State
 state_of held = option_map (λ life. life.state) held
 
+-- what a transaction does that the user gives up: it ends
+abbrev pub given_up : Step
+given_up = record { next = Ended; handed = up.Nothing; sent = send.Nothing; due = Clear }
+
 -- what the row for an input does, if there is one
 unfoldable pub step_for : Key → Option Life → ℕ → Option Input → Option Step
 step_for key held now input =
     let rows = rows_of (role_of key) in
-    option_and_then (row_of rows (state_of held)) (trigger_of held now input)
+    if is_abandon input then Some given_up
+    else option_and_then (row_of rows (state_of held)) (trigger_of held now input)
 
 -- the client of an INVITE keeps the INVITE, for its ACKs
 abbrev pub keeps_request : Role → Bool
@@ -59,6 +67,7 @@ begun role (Some (Start id call_id message to)) =
 begun role None = None
 begun role (Some (Answer id message)) = None
 begun role (Some (Failed id)) = None
+begun role (Some Abandon) = None
 
 -- the context that a row uses: that of the held life, or the one with which the input begins a life
 abbrev pub context_of : Role → Option Life → Option Input → Option Context

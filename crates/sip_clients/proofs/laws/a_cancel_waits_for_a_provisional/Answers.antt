@@ -1,6 +1,7 @@
 -- The law `a_cancel_waits_for_a_provisional`: a CANCEL waits only while no provisional response
 -- came.
 use Rattle.sip_clients.proofs.Waiting.{ack_waits, cancel_waits, invite_waits, lost_waits, plain_waits, prack_waits, request_waits, response_waits, tick_waits}
+use Rattle.sip_clients.proofs.Abandons as abandons
 use Rattle.sip_clients.proofs.laws.a_cancel_waits_for_a_provisional.Goals as goal
 
 pub returns-clause-response : goal.returns-clause-response
@@ -29,3 +30,9 @@ returns-clause-cancel c = cancel_waits
 
 pub returns-clause-tick : goal.returns-clause-tick
 returns-clause-tick c = tick_waits
+
+pub returns-clause-abandon_request : goal.returns-clause-abandon_request
+returns-clause-abandon_request c = abandons.request_waits
+
+pub returns-clause-abandon_dialog : goal.returns-clause-abandon_dialog
+returns-clause-abandon_dialog c = abandons.dialog_waits

@@ -2,6 +2,7 @@
 -- says.
 use Rattle.sip_clients.proofs.CommandStories.{ack_holds, cancel_holds, invite_holds, lost_holds, plain_holds, prack_holds, request_holds, tick_holds}
 use Rattle.sip_clients.proofs.ReplyStories.{response_holds}
+use Rattle.sip_clients.proofs.Abandons as abandons
 use Rattle.sip_clients.proofs.laws.each_client_request_is_told.Goals as goal
 
 pub returns-clause-response : goal.returns-clause-response
@@ -30,3 +31,9 @@ returns-clause-cancel c = cancel_holds
 
 pub returns-clause-tick : goal.returns-clause-tick
 returns-clause-tick c = tick_holds
+
+pub returns-clause-abandon_request : goal.returns-clause-abandon_request
+returns-clause-abandon_request c = abandons.request_holds
+
+pub returns-clause-abandon_dialog : goal.returns-clause-abandon_dialog
+returns-clause-abandon_dialog c = abandons.dialog_holds

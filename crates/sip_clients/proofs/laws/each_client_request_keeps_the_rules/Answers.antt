@@ -2,6 +2,7 @@
 -- what happened before.
 use Rattle.sip_clients.proofs.CommandStories.{ack_rules, cancel_rules, invite_rules, lost_rules, plain_rules, prack_rules, request_rules, tick_rules}
 use Rattle.sip_clients.proofs.ReplyStories.{response_rules}
+use Rattle.sip_clients.proofs.Abandons as abandons
 use Rattle.sip_clients.proofs.laws.each_client_request_keeps_the_rules.Goals as goal
 
 pub returns-clause-response : goal.returns-clause-response
@@ -30,3 +31,9 @@ returns-clause-cancel c = cancel_rules
 
 pub returns-clause-tick : goal.returns-clause-tick
 returns-clause-tick c = tick_rules
+
+pub returns-clause-abandon_request : goal.returns-clause-abandon_request
+returns-clause-abandon_request c = abandons.request_rules
+
+pub returns-clause-abandon_dialog : goal.returns-clause-abandon_dialog
+returns-clause-abandon_dialog c = abandons.dialog_rules

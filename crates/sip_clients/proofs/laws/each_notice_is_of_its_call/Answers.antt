@@ -2,6 +2,7 @@
 -- the call.
 use Rattle.sip_clients.proofs.OwnCommands.{ack_own, cancel_own, dialog_request_own, invite_own, plain_own, prack_own}
 use Rattle.sip_clients.proofs.OwnReplies.{lost_own, response_own, tick_own}
+use Rattle.sip_clients.proofs.Abandons as abandons
 use Rattle.sip_clients.proofs.laws.each_notice_is_of_its_call.Goals as goal
 
 pub returns-clause-response : goal.returns-clause-response
@@ -30,3 +31,9 @@ returns-clause-cancel c = cancel_own
 
 pub returns-clause-tick : goal.returns-clause-tick
 returns-clause-tick c = tick_own
+
+pub returns-clause-abandon_request : goal.returns-clause-abandon_request
+returns-clause-abandon_request c = abandons.request_own
+
+pub returns-clause-abandon_dialog : goal.returns-clause-abandon_dialog
+returns-clause-abandon_dialog c = abandons.dialog_own

@@ -1,5 +1,6 @@
 -- The law `no_other_step_sends_a_cancel_or_an_ack`, step by step.
 use Rattle.sip_clients.proofs.OtherSends.{ack_no_cancel, cancel_no_ack, invite_no_ack, invite_no_cancel, lost_no_ack, lost_no_cancel, plain_no_ack, plain_no_cancel, prack_no_ack, prack_no_cancel, request_no_ack, request_no_cancel, response_by_status, tick_no_ack, tick_no_cancel}
+use Rattle.sip_clients.proofs.Abandons as abandons
 use Rattle.sip_clients.proofs.laws.no_other_step_sends_a_cancel_or_an_ack.Goals as goal
 
 pub returns-clause-response : goal.returns-clause-response
@@ -29,3 +30,11 @@ returns-clause-request c event command =
 
 pub returns-clause-prack : goal.returns-clause-prack
 returns-clause-prack c event command = (prack_no_cancel event command, prack_no_ack event command)
+
+pub returns-clause-abandon_request : goal.returns-clause-abandon_request
+returns-clause-abandon_request c event command =
+    (abandons.request_no_cancel event command, abandons.request_no_ack event command)
+
+pub returns-clause-abandon_dialog : goal.returns-clause-abandon_dialog
+returns-clause-abandon_dialog c event command =
+    (abandons.dialog_no_cancel event command, abandons.dialog_no_ack event command)

@@ -1,6 +1,5 @@
 -- The law `responses_and_ends_are_by_the_rules`: for responses, lost requests and ticks the rule
 -- says the same as the step.
-use Rattle.std.proofs.Common.{refl}
 use Rattle.sip_clients.proofs.RuleEnds.{lost_same, removal_same, tick_same}
 use Rattle.sip_clients.proofs.RuleResponses.{response_same}
 use Rattle.sip_clients.proofs.rules.responses_and_ends_are_by_the_rules.Goals as goal

@@ -1,7 +1,5 @@
 -- `Clients::cancel` does what the rule of the command Cancel says.
-use Rattle.std.proofs.Common.{ap, rules, sym, ◌∙◌}
-use Rattle.sip_clients.specs.Cancel.{cancelled}
-use Rattle.sip_clients.specs.Client.{Clients, ClientTaken}
+use Rattle.std.proofs.Common.{rules, sym, ◌∙◌}
 use Rattle.sip_clients.proofs.RuleRequests.{cancel_same}
 use Rattle.sip_clients.proofs.clients.Clients.cancel.Goals as goal
 
