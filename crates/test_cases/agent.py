@@ -46,7 +46,10 @@ class Agent:
         return made_name(self.seed, event_id, index)
 
     def give(self, key, trigger, *others):
-        """What a transaction says to what comes to it."""
+        """What a transaction says to what comes to it. One that the user gives up is gone."""
+        if trigger == "abandon":
+            self.held.pop(key, None)
+            return []
         happening = Happening(self.now, trigger, *others)
         held, said, *_ = step(machine_of(key), self.held.get(key), happening)
         self.held[key] = held
@@ -185,15 +188,22 @@ LINES = {
     "ack": [("call_id", CALL_ID), ("local_tag", TAG), ("remote_tag", TAG), ("body", BODY)],
     "prack": [("call_id", CALL_ID), ("local_tag", TAG), ("remote_tag", TAG), ("body", BODY)],
     "cancel": [("call_id", CALL_ID), ("id", id_of)],
+    "abandon": [("call_id", CALL_ID), ("id", id_of)],
 }
+# The fields of `abandon` where it names a dialog and not a request.
+DIALOG = [("call_id", CALL_ID), ("local_tag", TAG), ("remote_tag", TAG)]
+# Which lines the versions of a file don't have.
+LACKS = {"sip-events 1": ("cancel", "abandon"), "sip-events 2": ("abandon",), "sip-session 1": ()}
 
 
 def event_of(line, version):
     """The event of a line, or None."""
     kinds = [kind for kind in LINES if line.startswith(f"{kind} ")]
-    if not kinds or kinds[0] == "cancel" and version == "sip-events 1":
+    if not kinds or kinds[0] in LACKS[version]:
         return None
     kind, fields = kinds[0], LINES[kinds[0]]
+    if kind == "abandon" and line.count(" ") == len(DIALOG):
+        fields = DIALOG
     texts = line[len(kind) + 1 :].split(" ", len(fields) - 1)
     values = {name: form(text) for (name, form), text in zip(fields, texts)}
     if len(texts) < len(fields) or None in values.values():
@@ -227,7 +237,7 @@ def with_headers(event, lines):
     """An event with the header lines before it; None where they may not stand there."""
     if not lines:
         return event
-    if not event or event.kind in ("datagram", "failed", "cancel"):
+    if not event or event.kind in ("datagram", "failed", "cancel", "abandon"):
         return None
     for line in lines:
         try:

@@ -639,6 +639,25 @@ class Call:
             if sent.has_provisional:
                 self.start(event_id, sent.message.cancel(), sent.address)
 
+    def user_abandon(self, event_id, event):
+        """The user gives up a request, whose transaction ends, or a dialog. Nothing is sent or
+        told but the ends of dialogs (a choice of our own)."""
+        sent, dialog = self.sent.get(event.id), None
+        if not event.id:
+            dialog = self.find(event.local_tag, event.remote_tag)
+        if not self.is_held():
+            self.refused(event_id, NO_SUCH_CALL)
+        elif event.id and not sent:
+            self.refused(event_id, NO_SUCH_REQUEST)
+        elif not event.id and not dialog:
+            self.refused(event_id, NO_SUCH_DIALOG)
+        elif dialog:
+            self.end(dialog)
+        else:
+            del self.sent[event.id]
+            self.agent.commands.append((client_key(sent.message), "abandon"))
+            self.end_early(event.id)
+
     # Time.
 
     def tick(self):

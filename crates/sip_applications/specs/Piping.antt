@@ -41,10 +41,10 @@ Says kind text said.Comment = IsTrue (is_comment text)
 Says kind text said.TooLong =
     IsFalse (is_comment text) × IsFalse (is_looked_at text)
 Says kind text (said.Command command) =
-    IsTrue (is_looked_at text) × IsFalse (is_for_header kind text) × SpellsCommand text command
+    IsTrue (is_looked_at text) × IsFalse (is_for_header kind text) × SpellsCommand kind text command
 Says kind text said.NoCommand =
     IsTrue (is_looked_at text) × IsFalse (is_for_header kind text)
-    × ((command : UserCommand) → ¬ SpellsCommand text command)
+    × ((command : UserCommand) → ¬ SpellsCommand kind text command)
 Says kind text (said.Header header) =
     IsTrue (is_looked_at text) × IsTrue (is_for_header kind text) × SpellsHeader text header
 Says kind text said.NoHeader =

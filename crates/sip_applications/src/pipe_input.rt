@@ -106,7 +106,7 @@ fn said_by(alloc: Global, kind: FileKind, number: u64, text: &[u8]) -> Result<Pi
     let line = without_end(text);
     let said = line_says(alloc, kind, line)?;
     let wrong = match &said {
-        Said::NoCommand => Some(wrong_word(alloc, line)?),
+        Said::NoCommand => Some(wrong_word(alloc, kind, line)?),
         _ => None,
     };
     Ok(PipeLine {
@@ -138,7 +138,7 @@ fn line_says(alloc: Global, kind: FileKind, line: &[u8]) -> Result<Said, AllocEr
             None => Said::NoHeader,
         });
     }
-    Ok(match read_command_line(alloc, line)? {
+    Ok(match read_command_line(alloc, kind, line)? {
         Some(command) => Said::Command(command),
         None => Said::NoCommand,
     })

@@ -1,6 +1,6 @@
 //! What is wrong with a line of the pipe that isn't a command.
 
-use sip_files::read_command_line;
+use sip_files::{FileKind, read_command_line};
 use sip_text::cut;
 use std::alloc::{AllocError, Global};
 
@@ -78,21 +78,35 @@ impl Field {
     }
 }
 
-/// The words with which a line may begin.
+/// The words with which a line may begin, with or without header lines.
 const COMMANDS: &str = "invite, plain, request, respond, ack, prack or cancel";
 
-/// What is wrong with a line that isn't a command's. The line stands without its end.
+const COMMANDS_OF_A_SESSION: &str =
+    "invite, plain, request, respond, ack, prack, cancel or abandon";
+
+/// How many words stand after `abandon` if it names a dialog: the Call-ID and both tags.
+const WORDS_OF_A_DIALOG: usize = 3;
+
+/// What is wrong with a line that isn't a command's in a file of this kind. The line stands without
+/// its end.
 ///
 /// # Errors
 ///
 /// Memory ran out.
-pub(crate) fn wrong_word(alloc: Global, line: &[u8]) -> Result<WrongWord, AllocError> {
+pub(crate) fn wrong_word(
+    alloc: Global,
+    kind: FileKind,
+    line: &[u8],
+) -> Result<WrongWord, AllocError> {
     let (keyword, mut left) = first_word(line);
-    let fields = fields_of(alloc, keyword)?;
+    let fields = match kind {
+        FileKind::Session if keyword == b"abandon".as_slice() => fields_of_abandon(alloc, line)?,
+        FileKind::Session | FileKind::Events => fields_of(alloc, keyword)?,
+    };
     if fields.is_empty() {
         return Ok(WrongWord {
             number: 1,
-            expected: COMMANDS,
+            expected: commands_of(kind),
         });
     }
     let mut text = Vec::from_slice(alloc, keyword)?;
@@ -109,7 +123,7 @@ pub(crate) fn wrong_word(alloc: Global, line: &[u8]) -> Result<WrongWord, AllocE
         };
         text.push(b' ')?;
         text.extend_from_slice(word)?;
-        if !goes_on(alloc, &text, &fields[index + 1..])? {
+        if !goes_on(alloc, kind, &text, &fields[index + 1..])? {
             return Ok(field.missed_at(number));
         }
         left = after;
@@ -125,6 +139,23 @@ fn first_word(text: &[u8]) -> (&[u8], Option<&[u8]>) {
     match cut(b' ', text) {
         Some((word, rest)) => (word, Some(rest)),
         None => (text, None),
+    }
+}
+
+fn commands_of(kind: FileKind) -> &'static str {
+    match kind {
+        FileKind::Events => COMMANDS,
+        FileKind::Session => COMMANDS_OF_A_SESSION,
+    }
+}
+
+// The fields of `abandon`: those of a dialog if it has four words, otherwise those of a request.
+fn fields_of_abandon(alloc: Global, line: &[u8]) -> Result<Vec<Field>, AllocError> {
+    let spaces = line.iter().filter(|byte| **byte == b' ').count();
+    if spaces < WORDS_OF_A_DIALOG {
+        Vec::from_slice(alloc, &[Field::CallId, Field::RequestId])
+    } else {
+        Vec::from_slice(alloc, &[Field::CallId, Field::LocalTag, Field::RemoteTag])
     }
 }
 
@@ -193,11 +224,16 @@ fn fields_of(alloc: Global, keyword: &[u8]) -> Result<Vec<Field>, AllocError> {
 }
 
 // Whether this text, with these fields behind it, is a command.
-fn goes_on(alloc: Global, text: &[u8], fields: &[Field]) -> Result<bool, AllocError> {
+fn goes_on(
+    alloc: Global,
+    kind: FileKind,
+    text: &[u8],
+    fields: &[Field],
+) -> Result<bool, AllocError> {
     let mut line = Vec::from_slice(alloc, text)?;
     for field in fields {
         line.push(b' ')?;
         line.extend_from_slice(field.sample().as_bytes())?;
     }
-    Ok(read_command_line(alloc, &line)?.is_some())
+    Ok(read_command_line(alloc, kind, &line)?.is_some())
 }

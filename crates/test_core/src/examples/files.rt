@@ -56,8 +56,17 @@ fn text_of(alloc: Global, rounds: &[Round]) -> Result<Vec<u8>, AllocError> {
 }
 
 pub fn a_command_is_read(alloc: Global) -> Result<(), Stop> {
-    check(is_cancel(&read_command_line(alloc, b"cancel c2 9.4")?))?;
-    check(read_command_line(alloc, b"cancel c2")?.is_none())
+    let kind = FileKind::Events;
+    check(is_cancel(&read_command_line(alloc, kind, b"cancel c2 9.4")?))?;
+    check(read_command_line(alloc, kind, b"cancel c2")?.is_none())?;
+    // Only a session has the command that gives up.
+    check(read_command_line(alloc, kind, b"abandon c2 9.4")?.is_none())?;
+    match read_command_line(alloc, FileKind::Session, b"abandon c2 9.4")? {
+        Some(UserCommand::AbandonRequest(abandon)) => {
+            check(abandon.id.round == 9 && abandon.id.place == 4)
+        }
+        _ => Err(Stop::Different),
+    }
 }
 
 fn is_cancel(command: &Option<UserCommand>) -> bool {

@@ -1,7 +1,7 @@
 //! Event files and parts that several examples use.
 
 use crate::faults::of_events;
-use sip_files::{read_command_line, write_output};
+use sip_files::{FileKind, read_command_line, write_output};
 use sip_message::{Message, key_of};
 use sip_round::{Config, Output};
 use sip_text::Boxed;
@@ -66,9 +66,9 @@ fn kind_of(message: Boxed<Message>) -> UpKind {
     }
 }
 
-/// What the user asks for with a line of an event file.
+/// What the user asks for with a line of a session file.
 pub fn asked(alloc: Global, line: &[u8]) -> Result<Item, Stop> {
-    match read_command_line(alloc, line)? {
+    match read_command_line(alloc, FileKind::Session, line)? {
         Some(command) => Ok(Item::User(command)),
         None => Err(Stop::Different),
     }
