@@ -1,5 +1,5 @@
--- The user gives a request or a dialog up: what is true of a refusal, and of the end of what is held,
--- is true of the command.
+-- The user gives a request or a dialog up: what is true of a refusal, and of the end of what is
+-- held, is true of the command.
 use Rattle.std.specs.Prelude.{Option, None, Some}
 use Rattle.std.specs.Map.{lookup}
 use Rattle.std.specs.Option.{option_map_or}

@@ -184,10 +184,10 @@ module _ (config : Config) (rounds : List Round)
     input_gave front rest (Some call) held now (Some (event, User (user.Prack prack))) are = tt
     input_gave front rest (Some call) held now (Some (event, User (user.Cancel cancel))) are =
         cancel_gave front rest call now event cancel are held
-    input_gave front rest (Some call) held now (Some (event, User (user.AbandonRequest abandon))) are =
-        tt
-    input_gave front rest (Some call) held now (Some (event, User (user.AbandonDialog abandon))) are =
-        tt
+    input_gave front rest (Some call) held now
+        (Some (event, User (user.AbandonRequest abandon))) are = tt
+    input_gave front rest (Some call) held now
+        (Some (event, User (user.AbandonDialog abandon))) are = tt
 
     all_gave : (front rest : List (Timed CallItem)) → inputs ≡ front ++ rest
         → AllCancel (calls_of config) call_id (IsOrigin config rounds call_id)
