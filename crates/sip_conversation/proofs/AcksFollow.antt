@@ -40,7 +40,7 @@ use Rattle.sip_conversation.proofs.RackedCalls.{front_differ}
 use Rattle.sip_conversation.specs.AckedResponses.{AcksFollowResponses, FollowsSuccess, IsAckOfSuccess}
 use Rattle.sip_conversation.specs.Commands.{CommandsKeepTypes, EventKeepsTypes}
 use Rattle.sip_conversation.specs.Conversation.{Carried, Side, Turn, rounds_of}
-use Rattle.sip_conversation.specs.Messages.{CallSays, CallsKeepRules, message_of}
+use Rattle.sip_conversation.specs.Messages.{Asks, CallSays, CallsKeepRules}
 use Rattle.sip_conversation.specs.Replies.{AreCounted, ToldResponse}
 use Rattle.sip_conversation.proofs.AckedCalls.{Is2xx, IsAckOf, all_acked}
 use Rattle.sip_conversation.proofs.Among.{all_go, each_of}
@@ -220,14 +220,15 @@ module _ (configs : Side → Config) (fair : IsFair configs) (before : List Turn
 no_ack_asked : (config : Config) (rounds : List Round)
     → EachKeyAlone call_cmp (call_machine (calls_of config)) tick_at → (id : Id)
     (command : Command) → CallSays config rounds (call_out.Command id command)
-    → is_request_message (message_of command) ≡ true
-    → (message_of command).cseq.method ≡ codes "ACK" → ⊥
-no_ack_asked config rounds alone id (order.Start key call_id message to) says is ack =
-    (out_own config rounds alone (call_out.Command id (order.Start key call_id message to))
-    says).own.method ack
-no_ack_asked config rounds alone id (order.Answer key message) says is ack =
+    → (message : Message) → Asks command message → is_request_message message ≡ true
+    → message.cseq.method ≡ codes "ACK" → ⊥
+no_ack_asked config rounds alone id (order.Start key call_id request to) says message same is ack =
+    (out_own config rounds alone (call_out.Command id (order.Start key call_id request to))
+    says).own.method (ap (λ m. m.cseq.method) same ∙ ack)
+no_ack_asked config rounds alone id (order.Answer key answer) says message same is ack =
     false≢true (sym (out_replies config alone rounds
-    (call_out.Command id (order.Answer key message)) says) ∙ is)
+    (call_out.Command id (order.Answer key answer)) says) ∙ ap is_request_message same ∙ is)
+no_ack_asked config rounds alone id (order.Abandon key) says message asks is ack = asks
 
 pub acks_follow : (configs : Side → Config) → IsFair configs → (turns : List Turn)
     → Carried configs turns → CommandsKeepTypes turns → AcksFollowResponses configs turns

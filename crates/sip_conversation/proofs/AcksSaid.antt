@@ -98,6 +98,7 @@ module _ (configs : Side → Config) (fair : IsFair configs) (turns : List Turn)
       absurd (false≢true (sym (out_replies (configs s) (fair.calls s) (rounds_of s turns)
       (call_out.Command id (order.Answer key message)) says)
       ∙ (ap is_request_message same ∙ its.is_request)))
+  by_whom ack its (Asked id (order.Abandon key) says same) = absurd same
   by_whom ack its (Direct to says) =
       ⊎_elim
       (λ none. absurd (no_rounds_call (configs s) to (written ack)

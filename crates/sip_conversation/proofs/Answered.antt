@@ -225,6 +225,8 @@ module _ (config : Config) (rounds : List Round) (Came : Message → Type 0) whe
     command_gives now event (user.Ack ack) among = tt
     command_gives now event (user.Prack prack) among = tt
     command_gives now event (user.Cancel cancel) among = tt
+    command_gives now event (user.AbandonRequest abandon) among = tt
+    command_gives now event (user.AbandonDialog abandon) among = tt
 
     -- a request that comes up to the call
     pub request_came : (now : ℕ) (event : Id) (made : List ℕ) (up : AnUp) (request : Message)
@@ -301,11 +303,13 @@ module _ (config : Config) (rounds : List Round) (Came : Message → Type 0) whe
     StartAsks key (input.Start id call_id message to) = IsAsk message
     StartAsks key (input.Answer id message) = Unit {0}
     StartAsks key (input.Failed id) = Unit {0}
+    StartAsks key input.Abandon = Unit {0}
 
     out_fits : (out : CallOut) → OutSays Answers out → OutFits config StartAsks out
     out_fits (call_out.Notice notice) says = tt
     out_fits (call_out.Command id (order.Start key call_id message to)) says = says
     out_fits (call_out.Command id (order.Answer key message)) says = tt
+    out_fits (call_out.Command id (order.Abandon key)) says = tt
     out_fits (call_out.Direct to bytes) says = tt
 
     start_asks : (key : Key) (id : Id) (call_id : List ℕ) (message : Message) (to : Addr)
@@ -329,6 +333,7 @@ module _ (config : Config) (rounds : List Round) (Came : Message → Type 0) whe
     answered response (Asked id (order.Answer key message) says same) status is =
         subst Answers same (out_says (call_out.Command id (order.Answer key message)) says) status
         is
+    answered response (Asked id (order.Abandon key) says same) status is = absurd same
     answered response (Direct to says) status is =
         let text = out_says (call_out.Direct to (written response)) says in
         absurd (no_ack response text.0 status is (text.2).request (text.2).method text.1)

@@ -206,6 +206,7 @@ module _ (seed call_id : List ℕ) (Came : Id → Type 0) (Cancels : Id → Mess
   abbrev pub CommandSays : Id → Command → Type 0
   CommandSays id (order.Start key of message to) = IsStarted id key of message
   CommandSays id (order.Answer key message) = Unit {0}
+  CommandSays id (order.Abandon key) = Unit {0}
 
   abbrev pub OutSays : CallOut → Type 0
   OutSays (out.Notice notice) = Unit {0}
@@ -224,6 +225,7 @@ module _ (seed call_id : List ℕ) (Came : Id → Type 0) (Cancels : Id → Mess
   silent_say (out.Direct to bytes ∷ outs) none = (tt, silent_say outs none)
   silent_say (out.Command id (order.Answer key message) ∷ outs) none =
       (tt, silent_say outs none)
+  silent_say (out.Command id (order.Abandon key) ∷ outs) none = (tt, silent_say outs none)
   silent_say (out.Command id (order.Start key of message to) ∷ outs) none =
       absurd (some_started (id, key) (starts outs) none)
 

@@ -17,7 +17,7 @@ use Rattle.sip_user.specs.declared.item.CallOut.{CallOut}
 use Rattle.sip_user.specs.declared.item.Item.TheVariants.{Up, User}
 use Rattle.sip_held_dialogs.specs.Ids.{is_id}
 use Rattle.sip_held_dialogs.proofs.Each.{both, each_left}
-use Rattle.sip_held_dialogs.proofs.Starts.{starts}
+use Rattle.sip_held_dialogs.proofs.Starts.{ended_starts, starts}
 use Rattle.sip_served.proofs.ArrivalRules.{kind_same}
 use Rattle.sip_served.proofs.NoStarts.{kind_starts, respond_starts}
 use Rattle.sip_served.proofs.ResponseRules.{respond_same}
@@ -30,13 +30,14 @@ use Rattle.sip_calls.specs.Call.{CallItem, CallTaken, Taken, call_machine, call_
 use Rattle.sip_calls.specs.Histories.{call_from}
 use Rattle.sip_calls.specs.OwnCall.{AreSidesOf, IsCallOf, IsInputOf}
 use Rattle.sip_calls.specs.Provisionals.{event_in, event_of_kind}
-use Rattle.sip_calls.specs.Sides.{holds_any}
+use Rattle.sip_calls.specs.Sides.{by_clients, holds_any}
 use Rattle.sip_calls.specs.declared.call.Call.{Call}
 use Rattle.sip_calls.specs.declared.calls.Calls.{Calls}
 use Rattle.sip_calls.proofs.CallStarts.{tick_silent}
 use Rattle.sip_calls.proofs.OwnCall.{each_notice_is_own}
 use Rattle.sip_conversation.proofs.Branches.{AreOwn, Comes, Own, OutSays, invite_own, plain_own, silent_say}
 use Rattle.sip_conversation.proofs.BranchSteps.{ack_own, cancel_taken, lost_own, prack_own, received_own, request_own}
+use Rattle.sip_conversation.proofs.GivenUp.{dialog_given_up, named, request_given_up}
 
 -- nothing is said of commands to cancel
 abbrev pub AnyCancel : Id → Message → Type 0
@@ -132,6 +133,8 @@ module _ (calls : Calls) (call_id : List ℕ) (Came : Id → Type 0)
   first_own call id now (user.Ack ack) came its own = (own, (tt, tt))
   first_own call id now (user.Prack prack) came its own = (own, (tt, tt))
   first_own call id now (user.Cancel cancel) came its own = (own, (tt, tt))
+  first_own call id now (user.AbandonRequest abandon) came its own = (own, (tt, tt))
+  first_own call id now (user.AbandonDialog abandon) came its own = (own, (tt, tt))
 
   command_own : (call : Call) (id : Id) (now : ℕ) (command : UserCommand) → Came id
       → CommandCancels call id command → AreSidesOf call_id call → OwnClients call
@@ -155,6 +158,16 @@ module _ (calls : Calls) (call_id : List ℕ) (Came : Id → Type 0)
   command_own call id now (user.Cancel cancel) came asks sides own =
       cancel_taken calls.seed call_id Came Cancels (event_of calls id now) cancel (side_of call)
       (comes_so id now came) asks own
+  command_own call id now (user.AbandonRequest abandon) came asks sides own =
+      request_given_up (event_of calls id now) abandon (side_of call)
+      (λ taken. Done (by_clients call taken)) (own, (tt, tt))
+      (λ client.
+      let so = lost_own calls.seed call_id Came Cancels abandon.id false (side_of call) own in
+      (so.0, (tt, so.1)))
+  command_own call id now (user.AbandonDialog abandon) came asks sides own =
+      dialog_given_up (event_of calls id now) abandon (side_of call)
+      (λ taken. Done (by_clients call taken)) (own, (tt, tt))
+      (λ held. (own, says_none _ (ended_starts (named abandon) (side_of call).dialogs)))
 
   -- ---- one input
 
@@ -243,6 +256,8 @@ module _ (calls : Calls) (call_id : List ℕ) (Came : Id → Type 0) where
   any_input (Some call) (Some (id, User (user.Ack ack))) = tt
   any_input (Some call) (Some (id, User (user.Prack prack))) = tt
   any_input (Some call) (Some (id, User (user.Cancel cancel))) = λ invite found. tt
+  any_input (Some call) (Some (id, User (user.AbandonRequest abandon))) = tt
+  any_input (Some call) (Some (id, User (user.AbandonDialog abandon))) = tt
 
   pub any_inputs : (state : Option Call) (inputs : List (Timed CallItem))
       → AllCancel calls call_id Came AnyCancel state inputs

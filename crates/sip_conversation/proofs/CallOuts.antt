@@ -16,7 +16,7 @@ use Rattle.sip_user.specs.declared.command.UserCommand.{UserCommand}
 use Rattle.sip_user.specs.declared.item.CallOut.{CallOut}
 use Rattle.sip_user.specs.declared.item.Item.TheVariants.{Up, User}
 use Rattle.sip_user.specs.declared.notice.Notice.{Notice}
-use Rattle.sip_clients.proofs.ClientOuts.{Allows, ack_command_told, cancel_told, clients_tick, command_told, invite_told, lost_told, plain_told, prack_command_told, response_told}
+use Rattle.sip_clients.proofs.ClientOuts.{Allows, abandon_dialog_told, abandon_request_told, ack_command_told, cancel_told, clients_tick, command_told, invite_told, lost_told, plain_told, prack_command_told, response_told}
 use Rattle.sip_message.specs.Party.{tag_of}
 use Rattle.sip_message.specs.declared.id.Id.{Id}
 use Rattle.sip_message.specs.declared.message.Message.{Message}
@@ -178,6 +178,8 @@ module _ (Tells : List ℕ → Id → ℕ → List ℕ → List ℕ → List ℕ
   first_fits call event (user.Ack ack) = (tt, tt)
   first_fits call event (user.Prack prack) = (tt, tt)
   first_fits call event (user.Cancel cancel) = (tt, tt)
+  first_fits call event (user.AbandonRequest abandon) = (tt, tt)
+  first_fits call event (user.AbandonDialog abandon) = (tt, tt)
 
   user_fits : (call : Call) (event : Event) (command : UserCommand)
       → Fit (command_taken call event command).1
@@ -194,6 +196,10 @@ module _ (Tells : List ℕ → Id → ℕ → List ℕ → List ℕ → List ℕ
       prack_command_told OutFits allows event prack (side_of call)
   user_fits call event (user.Cancel cancel) =
       cancel_told OutFits allows event cancel (side_of call)
+  user_fits call event (user.AbandonRequest abandon) =
+      abandon_request_told OutFits allows event abandon (side_of call) (λ client. tt)
+  user_fits call event (user.AbandonDialog abandon) =
+      abandon_dialog_told OutFits allows event abandon (side_of call)
 
   ticked_fits : (call : Call) (now : ℕ) → Fit (ticked call now).1
   ticked_fits call now =

@@ -24,7 +24,7 @@ use Rattle.sip_calls.specs.declared.call.Call.{Call}
 use Rattle.sip_calls.specs.declared.calls.Calls.{Calls}
 use Rattle.sip_clients.specs.declared.event.Event.{Event}
 use Rattle.sip_clients.specs.Name.{name_of}
-use Rattle.sip_clients.proofs.ClientAsks.{AskAll, OutSays, ack_command_says, cancel_says, clients_tick_says, command_says, invite_says, lost_says, plain_says, prack_command_says, response_says}
+use Rattle.sip_clients.proofs.ClientAsks.{AskAll, OutSays, abandon_dialog_says, abandon_request_says, ack_command_says, cancel_says, clients_tick_says, command_says, invite_says, lost_says, plain_says, prack_command_says, response_says}
 use Rattle.sip_conversation.proofs.ServedReplies.{AllowsServed, KindBrought, OwnReplies, RespondGiven, StateGiven, kind_fits, respond_fits, tick_fits}
 
 -- nothing is required of Call-IDs and of ACKs here
@@ -68,6 +68,8 @@ module _ (Brought : Arrival → Type 0) (Given : Arrival → Message → Type 0)
   UserGives (user.Ack ack) = Unit {0}
   UserGives (user.Prack prack) = Unit {0}
   UserGives (user.Cancel cancel) = Unit {0}
+  UserGives (user.AbandonRequest abandon) = Unit {0}
+  UserGives (user.AbandonDialog abandon) = Unit {0}
 
   abbrev pub InputGives : Calls → Option CallItem → Type 0
   InputGives calls None = Unit {0}
@@ -111,6 +113,8 @@ module _ (Brought : Arrival → Type 0) (Given : Arrival → Message → Type 0)
   first_says call event (user.Ack ack) is = (is, (tt, tt))
   first_says call event (user.Prack prack) is = (is, (tt, tt))
   first_says call event (user.Cancel cancel) is = (is, (tt, tt))
+  first_says call event (user.AbandonRequest abandon) is = (is, (tt, tt))
+  first_says call event (user.AbandonDialog abandon) is = (is, (tt, tt))
 
   user_says : (call : Call) (event : Event) (command : UserCommand) → UserGives command
       → CallIs call → CallSays (command_taken call event command)
@@ -131,6 +135,12 @@ module _ (Brought : Arrival → Type 0) (Given : Arrival → Message → Type 0)
       (record { served = is.served; clients = so.0 }, so.1)
   user_says call event (user.Cancel cancel) gives is =
       let so = cancel_says Says event cancel (side_of call) is.clients in
+      (record { served = is.served; clients = so.0 }, so.1)
+  user_says call event (user.AbandonRequest abandon) gives is =
+      let so = abandon_request_says Says event abandon (side_of call) is.clients in
+      (record { served = is.served; clients = so.0 }, so.1)
+  user_says call event (user.AbandonDialog abandon) gives is =
+      let so = abandon_dialog_says Says event abandon (side_of call) is.clients in
       (record { served = is.served; clients = so.0 }, so.1)
 
   tick_says : (call : Call) (now : ℕ) → CallIs call → CallSays (ticked call now)

@@ -59,10 +59,12 @@ ReceivesSound key (input.Receive id message reply_to) = IsMessage message
 ReceivesSound key (input.Start id call_id message to) = Unit {0}
 ReceivesSound key (input.Answer id message) = Unit {0}
 ReceivesSound key (input.Failed id) = Unit {0}
+ReceivesSound key input.Abandon = Unit {0}
 
 asked_sound : (id : Id) (c : Command) → ReceivesSound (command_key c) (asked_by id c)
 asked_sound id (command.Start key call_id message to) = tt
 asked_sound id (command.Answer key message) = tt
+asked_sound id (command.Abandon key) = tt
 
 out_sound : (config : Config) (out : CallOut) → OutFits config ReceivesSound out
 out_sound config (call_out.Notice notice) = tt

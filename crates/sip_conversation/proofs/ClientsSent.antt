@@ -186,6 +186,10 @@ module _ (Went : Outgoing → Type 0) where
     command_went side event (user.Cancel cancel) stories all =
         either AllWent (list_any is_refusal outs) stories _ (λ refused. all)
         (λ taken. begun_went _ outs _ went (happened cancel.id _ stories all))
+    command_went side event (user.AbandonRequest abandon) stories all =
+        either AllWent (list_any is_refusal outs) stories _ (λ refused. all)
+        (λ taken. removed StoryWent abandon.id stories all)
+    command_went side event (user.AbandonDialog abandon) stories all = all
 
     input_went : (calls : Calls) (side : Side) (input : Option CallItem) (now : ℕ)
         (stories : ClientStories) → AllWent stories
@@ -231,6 +235,7 @@ start_so : (one : CallOut) (sent : Outgoing) → request_in one ≡ Some sent
 start_so (out.Notice notice) sent is = absurd cc
 start_so (out.Direct to bytes) sent is = absurd cc
 start_so (out.Command id (order.Answer key message)) sent is = absurd cc
+start_so (out.Command id (order.Abandon key)) sent is = absurd cc
 start_so (out.Command id (order.Start key of request to)) sent is =
     let made : Outgoing = record { id = id; request = request; to = to } in
     let same : made ≡ sent = cc in

@@ -63,6 +63,7 @@ use Rattle.sip_calls.specs.declared.calls.Calls.{Calls}
 use Rattle.sip_calls.proofs.CallStarts.{tick_silent}
 use Rattle.sip_conversation.specs.Requests.{request_asked_by}
 use Rattle.sip_conversation.proofs.Branches.{either, first_false, first_holds, found_or}
+use Rattle.sip_conversation.proofs.GivenUp.{dialog_given_up, named, request_given_up}
 
 -- the type of what a response is with all that comes up with it
 abbrev Domain : {A B : Type 0} → (A → B) → Type 0
@@ -253,6 +254,7 @@ module _ (Asks : Id → List ℕ → List ℕ → Type 0) (Pracks : List ℕ →
   OutAsks (out.Notice notice) = Unit {0}
   OutAsks (out.Command id (order.Start key call_id message to)) = IsAsked id message
   OutAsks (out.Command id (order.Answer key message)) = Unit {0}
+  OutAsks (out.Command id (order.Abandon key)) = Unit {0}
   OutAsks (out.Direct to bytes) = Unit {0}
 
   abbrev Say : List CallOut → Type 0
@@ -266,6 +268,7 @@ module _ (Asks : Id → List ℕ → List ℕ → Type 0) (Pracks : List ℕ →
   silent (out.Notice notice ∷ outs) none = (tt, silent outs none)
   silent (out.Direct to bytes ∷ outs) none = (tt, silent outs none)
   silent (out.Command id (order.Answer key message) ∷ outs) none = (tt, silent outs none)
+  silent (out.Command id (order.Abandon key) ∷ outs) none = (tt, silent outs none)
   silent (out.Command id (order.Start key call_id message to) ∷ outs) none =
       absurd (some_started (id, key) (starts outs) none)
 
@@ -563,6 +566,8 @@ module _ (Asks : Id → List ℕ → List ℕ → Type 0) (Pracks : List ℕ →
   first_says call event (user.Ack ack) asks = (tt, tt)
   first_says call event (user.Prack prack) asks = (tt, tt)
   first_says call event (user.Cancel cancel) asks = (tt, tt)
+  first_says call event (user.AbandonRequest abandon) asks = (tt, tt)
+  first_says call event (user.AbandonDialog abandon) asks = (tt, tt)
 
   command_says : (call : Call) (event : Event) (command : UserCommand)
       → CommandAsks event.id command
@@ -579,6 +584,12 @@ module _ (Asks : Id → List ℕ → List ℕ → Type 0) (Pracks : List ℕ →
   command_says call event (user.Ack ack) asks = ack_says event ack (side_of call)
   command_says call event (user.Prack prack) asks = prack_says event prack (side_of call) asks
   command_says call event (user.Cancel cancel) asks = cancel_says event cancel (side_of call)
+  command_says call event (user.AbandonRequest abandon) asks =
+      request_given_up event abandon (side_of call) (λ taken. Say taken.1) (tt, tt)
+      (λ client. (tt, lost_says abandon.id false (side_of call)))
+  command_says call event (user.AbandonDialog abandon) asks =
+      dialog_given_up event abandon (side_of call) (λ taken. Say taken.1) (tt, tt)
+      (λ held. silent _ (ended_starts (named abandon) (side_of call).dialogs))
 
   abbrev pub InputAsks : Option CallItem → Type 0
   InputAsks None = Unit {0}

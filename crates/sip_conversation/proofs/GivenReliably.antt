@@ -151,6 +151,7 @@ module _ (Brought : Message → Type 0) (calls : Calls) (inputs : List (Timed Ca
     out_gave now event respond same (out.Direct to bytes) among = tt
     out_gave now event respond same (out.Command id (order.Start key call_id message to)) among =
         tt
+    out_gave now event respond same (out.Command id (order.Abandon key)) among = tt
     out_gave now event respond same (out.Command id (order.Answer key response)) among = λ rseq is.
         let timed : Timed CallItem = given_at now (event, User (user.Respond respond)) in
         subst (λ xs. Contains (given_from calls id None xs) (rseq, response)) (sym same)
@@ -176,6 +177,8 @@ module _ (Brought : Message → Type 0) (calls : Calls) (inputs : List (Timed Ca
     command_fits now event (user.Ack ack) same = tt
     command_fits now event (user.Prack prack) same = tt
     command_fits now event (user.Cancel cancel) same = tt
+    command_fits now event (user.AbandonRequest abandon) same = tt
+    command_fits now event (user.AbandonDialog abandon) same = tt
 
     input_fits : (now : ℕ) (input : Option CallItem)
         → inputs ≡ before ++ record { moment = now; input = input } ∷ after

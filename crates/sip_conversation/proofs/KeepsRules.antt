@@ -14,7 +14,7 @@ use Rattle.sip_calls.specs.Call.{CallItem, call_machine}
 use Rattle.sip_calls.specs.Provisionals.{EventsDiffer}
 use Rattle.sip_calls.specs.declared.calls.Calls.{Calls}
 use Rattle.sip_conversation.specs.Commands.{KeepsTypes}
-use Rattle.sip_conversation.specs.Messages.{message_of}
+use Rattle.sip_conversation.specs.Messages.{AsksByRules}
 
 -- a message that comes up keeps the rules of messages
 abbrev pub KindKeeps : UpKind → Type 0
@@ -38,7 +38,7 @@ Any message = Unit {0}
 -- this is said too
 abbrev pub KeepsRulesWith : (Message → Type 0) → CallOut → Type 0
 KeepsRulesWith AckIs (call_out.Notice notice) = Unit {0}
-KeepsRulesWith AckIs (call_out.Command id command) = IsMessage (message_of command)
+KeepsRulesWith AckIs (call_out.Command id command) = AsksByRules command
 KeepsRulesWith AckIs (call_out.Direct to bytes) =
     (message : Message) × (bytes ≡ written message) × IsMessage message × AckIs message
 

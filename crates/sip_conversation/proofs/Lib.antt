@@ -35,6 +35,7 @@ pub mod PracksServed
 pub mod PracksOfCalls
 pub mod ToTags
 pub mod GivenReliably
+pub mod GivenUp
 pub mod PracksSaid
 pub mod OwedTold
 pub mod DialogOfReply

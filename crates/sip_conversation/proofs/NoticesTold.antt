@@ -23,7 +23,7 @@ use Rattle.sip_clients.specs.Outputs.{start_command}
 use Rattle.sip_clients.specs.Tick.{clients_ticked}
 use Rattle.sip_clients.specs.declared.client.Client.{Client}
 use Rattle.sip_clients.specs.declared.event.Event.{Event}
-use Rattle.sip_clients.proofs.ClientOuts.{Allows, ack_command_told, cancel_told, clients_tick, command_told, invite_told, lost_told, plain_told, prack_command_told, response_told}
+use Rattle.sip_clients.proofs.ClientOuts.{Allows, abandon_dialog_told, abandon_request_told, ack_command_told, cancel_told, clients_tick, command_told, invite_told, lost_told, plain_told, prack_command_told, response_told}
 use Rattle.sip_calls.specs.Call.{CallItem, Taken, call_machine, call_step, event_of, kept, made_tag, new_call}
 use Rattle.sip_calls.specs.Sides.{by_server, holds_any, side_of}
 use Rattle.sip_calls.specs.Steps.Call.{command_taken, first_command_taken, step_taken, ticked, up_taken}
@@ -109,6 +109,8 @@ module _ (Own : List ℕ → Type 0) (Brought : Arrival → Type 0) (AckCame : M
   first_tells call event (user.Ack ack) holds = (holds, (others _ tt, tt))
   first_tells call event (user.Prack prack) holds = (holds, (others _ tt, tt))
   first_tells call event (user.Cancel cancel) holds = (holds, (others _ tt, tt))
+  first_tells call event (user.AbandonRequest abandon) holds = (holds, (others _ tt, tt))
+  first_tells call event (user.AbandonDialog abandon) holds = (holds, (others _ tt, tt))
 
   command_tells : (call : Call) (event : Event) (command : UserCommand) → CommandGives command
       → Holds call → Done (command_taken call event command)
@@ -125,6 +127,10 @@ module _ (Own : List ℕ → Type 0) (Brought : Arrival → Type 0) (AckCame : M
       (holds, prack_command_told Tell allows event prack (side_of call))
   command_tells call event (user.Cancel cancel) gives holds =
       (holds, cancel_told Tell allows event cancel (side_of call))
+  command_tells call event (user.AbandonRequest abandon) gives holds =
+      (holds, abandon_request_told Tell allows event abandon (side_of call) (λ client. tt))
+  command_tells call event (user.AbandonDialog abandon) gives holds =
+      (holds, abandon_dialog_told Tell allows event abandon (side_of call))
 
   ticked_tells : (call : Call) (now : ℕ) → Holds call → Done (ticked call now)
   ticked_tells call now holds =

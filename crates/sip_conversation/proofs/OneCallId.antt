@@ -139,6 +139,8 @@ user_gives (user.Respond respond) = λ local held came named.
 user_gives (user.Ack ack) = tt
 user_gives (user.Prack prack) = tt
 user_gives (user.Cancel cancel) = tt
+user_gives (user.AbandonRequest abandon) = tt
+user_gives (user.AbandonDialog abandon) = tt
 
 kind_gives : (made : List ℕ) (up : AnUp) (k : UpKind)
     → KindBrought AnyCall Any AnyAck made up k
@@ -216,6 +218,7 @@ module _ (config : Config)
     StartFits key (input.Start id of message to) = StartedSo id key of message to
     StartFits key (input.Answer id message) = Unit {0}
     StartFits key (input.Failed id) = Unit {0}
+    StartFits key input.Abandon = Unit {0}
 
     out_fits : (out : CallOut) → Contains given_out out → OutFits config StartFits out
     out_fits (call_out.Notice notice) among = tt
@@ -224,6 +227,7 @@ module _ (config : Config)
         let says = call_says config rounds out among in
         record { call_id = says.0; by = out_own out says; among = among }
     out_fits (call_out.Command id (order.Answer key message)) among = tt
+    out_fits (call_out.Command id (order.Abandon key)) among = tt
     out_fits (call_out.Direct to bytes) among = tt
 
     started_so : (key : Key) (id : Id) (of : List ℕ) (message : Message) (to : Addr)
@@ -341,6 +345,8 @@ module _ (config : Config)
         absurd (false≢true (sym (out_replies early
         (call_out.Command other (order.Answer asked sent)) says)
         ∙ (ap is_request_message same ∙ asks)))
+    one_start_of message (Asked other (order.Abandon asked) says same) asks token key is id of
+        request to given = absurd same
     one_start_of message (Direct at says) asks token key is id of request to given =
         let started = started_so key id of request to given in
         let ack = out_replies early (call_out.Direct at (written message)) says in

@@ -16,6 +16,7 @@ use Rattle.keyed_machine.specs.Phase.{PhaseOutputs}
 use Rattle.keyed_machine.specs.Rules.{said_since}
 use Rattle.sip_held_dialogs.specs.Ids.{is_id}
 use Rattle.sip_user.specs.declared.item.CallOut.{CallOut}
+use Rattle.sip_transactions.specs.declared.input.Command.TheVariants as order
 use Rattle.sip_user.specs.declared.item.CallOut.TheVariants as out
 use Rattle.sip_held_dialogs.proofs.Starts.{start_in, starts}
 use Rattle.sip_calls.specs.declared.call.Call.{Call}
@@ -28,7 +29,7 @@ use Rattle.sip_round.specs.Answers.{Past, calls_of, given_second, no_past, past_
 use Rattle.sip_round.specs.Outputs.{all_said, joined}
 use Rattle.sip_round.proofs.GivenNotices.{calls_are, calls_from}
 use Rattle.sip_round.proofs.StartedOnce.{counted, counted_one, started_from, started_once}
-use Rattle.sip_conversation.specs.Messages.{CallSays, message_of}
+use Rattle.sip_conversation.specs.Messages.{CallSays}
 use Rattle.sip_conversation.proofs.Among.{first_or_later, in_all_of, in_one_of, kept_among, none_among}
 use Rattle.sip_conversation.proofs.Rounds.{calls_give}
 
@@ -44,7 +45,9 @@ start_id one = option_map (λ start. start.0) (start_in one)
 -- the request with which an output starts a transaction, if it does
 abbrev pub started_with : Message → CallOut → Message
 started_with otherwise (out.Notice notice) = otherwise
-started_with otherwise (out.Command id command) = message_of command
+started_with otherwise (out.Command id (order.Start key call_id request to)) = request
+started_with otherwise (out.Command id (order.Answer key response)) = response
+started_with otherwise (out.Command id (order.Abandon key)) = otherwise
 started_with otherwise (out.Direct to bytes) = otherwise
 
 module _ (x : Id) where

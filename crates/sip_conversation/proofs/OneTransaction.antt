@@ -16,7 +16,7 @@ use Rattle.sip_message.specs.Message.{is_request_line, is_request_message}
 use Rattle.sip_message.specs.Written.{written}
 use Rattle.keyed_machine.specs.Machine.{Timed, given_at, outputs_from}
 use Rattle.sip_transactions.specs.declared.input.Input.{Input}
-use Rattle.sip_transactions.specs.declared.input.Input.TheVariants.{Answer, Failed, Receive, Start}
+use Rattle.sip_transactions.specs.declared.input.Input.TheVariants.{Abandon, Answer, Failed, Receive, Start}
 use Rattle.sip_transactions.specs.declared.life.Context.{Context}
 use Rattle.sip_transactions.specs.declared.life.Life.{Life}
 use Rattle.sip_transactions.specs.declared.output.UpKind.{UpKind}
@@ -255,6 +255,7 @@ module _ (all : List (Timed Input)) (Says Came : Message → Type 0) where
         → IfSome (made_bytes request s (message_in input)) (IsTextOf Says)
     made request started s held now None trigger among is fits trying = tt
     made request started s held now (Some (Failed id)) trigger among is fits trying = tt
+    made request started s held now (Some Abandon) trigger among is fits trying = tt
     made request started s held now (Some (Start id call_id message to)) trigger among is fits
         trying =
         made_of_start request s now id call_id message to among
@@ -321,6 +322,7 @@ module _ (all : List (Timed Input)) (Says Came : Message → Type 0) where
     arrived_came now (Some (Start id call_id message to)) among = tt
     arrived_came now (Some (Answer id message)) among = tt
     arrived_came now (Some (Failed id)) among = tt
+    arrived_came now (Some Abandon) among = tt
 
     sent_text : (last : Option (List ℕ)) (s : Sent) (bytes : Option (List ℕ))
         → IfSome last (IsTextOf Says) → IfSome bytes (IsTextOf Says)
@@ -356,6 +358,7 @@ module _ (all : List (Timed Input)) (Says Came : Message → Type 0) where
         kept false = tt
     begun_sound r now (Some (Answer id message)) among = tt
     begun_sound r now (Some (Failed id)) among = tt
+    begun_sound r now (Some Abandon) among = tt
 
     context_sound : (r : Role) (held : Option Life) (now : ℕ) (input : Option Input)
         → Contains all (record { moment = now; input = input }) → IsSoundLife held
@@ -398,7 +401,7 @@ module _ (all : List (Timed Input)) (Says Came : Message → Type 0) where
         → Contains all (record { moment = now; input = input }) → IsSoundLife held
         → After (stepped key held (record { moment = now; input = input }))
     one_input key held now input among sound =
-        by_step After key held (record { moment = now; input = input }) (sound, tt)
+        by_step After key held (record { moment = now; input = input }) (tt, tt) (sound, tt)
         (λ step row. acted_sound key held now input (context_of (role_of key) held input) step
         among (context_sound (role_of key) held now input among sound) row)
 

@@ -167,6 +167,8 @@ module _ (pending : PendingRequest) (name : DialogId) where
   command_owes (user.Request command) outs owed among = among
   command_owes (user.Respond command) outs owed among = among
   command_owes (user.Cancel command) outs owed among = among
+  command_owes (user.AbandonRequest command) outs owed among = among
+  command_owes (user.AbandonDialog command) outs owed among = among
 
   none_owed : (b : Bool) (owed : List PendingRequest) → Contains (if b then [] else owed) pending
       → Contains owed pending

@@ -438,6 +438,7 @@ module _ (Brought : Arrival → Type 0) (Gave : Id → ℕ → Message → Type 
   OutGiven (out.Notice notice) = Unit {0}
   OutGiven (out.Command id (order.Start key call_id request to)) = Unit {0}
   OutGiven (out.Command id (order.Answer key response)) = Given id response
+  OutGiven (out.Command id (order.Abandon key)) = Unit {0}
   OutGiven (out.Direct to bytes) = Unit {0}
 
   abbrev pub OutsGiven : List CallOut → Type 0
@@ -449,6 +450,7 @@ module _ (Brought : Arrival → Type 0) (Gave : Id → ℕ → Message → Type 
   OutGave (out.Command id (order.Start key call_id request to)) = Unit {0}
   OutGave (out.Command id (order.Answer key response)) =
       (rseq : ℕ) → response.rseq ≡ Some rseq → Gave id rseq response
+  OutGave (out.Command id (order.Abandon key)) = Unit {0}
   OutGave (out.Direct to bytes) = Unit {0}
 
   abbrev pub OutsGave : List CallOut → Type 0

@@ -250,6 +250,8 @@ module _ (configs : Side → Config) (fair : IsFair configs) (before : List Turn
       absurd (false≢true (sym (out_replies local_config (fair.calls turn.side) rounds_now
       (call_out.Command id (order.Answer key answer)) says)
       ∙ (ap is_request_message same ∙ asks)))
+  said_follows carried_so keep_so prack (Asked id (order.Abandon key) says same) asks method rack
+      is = absurd same
   said_follows carried_so keep_so prack (Direct to says) asks method rack is =
       let ack = out_replies local_config (fair.calls turn.side) rounds_now
       (call_out.Direct to (written prack)) says in

@@ -32,7 +32,7 @@ use Rattle.sip_clients.specs.Outputs.{start_command}
 use Rattle.sip_clients.specs.declared.client.Client.{Client}
 use Rattle.sip_clients.specs.Name.{name_of}
 use Rattle.sip_clients.specs.declared.event.Event.{Event}
-use Rattle.sip_clients.proofs.ClientOuts.{Allows, ack_command_told, cancel_told, clients_tick, command_told, invite_told, lost_told, plain_told, prack_command_told, response_told}
+use Rattle.sip_clients.proofs.ClientOuts.{Allows, abandon_dialog_told, abandon_request_told, ack_command_told, cancel_told, clients_tick, command_told, invite_told, lost_told, plain_told, prack_command_told, response_told}
 use Rattle.sip_clients.proofs.RuleEnds.{lost_same, tick_same}
 use Rattle.sip_clients.proofs.RuleRequests.{ack_same, cancel_same, invite_same, plain_same, prack_same, request_same}
 use Rattle.sip_clients.proofs.RuleResponses.{response_same}
@@ -47,6 +47,8 @@ use Rattle.sip_calls.proofs.HeldById.{held_by_id}
 use Rattle.sip_conversation.proofs.Among.{first_or_later, none_among}
 use Rattle.sip_conversation.proofs.PracksCame.{Holds, OutGiven, OutsGave, OutsGiven, served_tick}
 use Rattle.sip_conversation.proofs.PracksServed.{Apart, KindBrought, kind_done, respond_done}
+use Rattle.sip_clients.proofs.Abandons as given_up
+use Rattle.sip_clients.specs.Rules.Abandon.{abandon_dialog_command, abandon_request_command}
 
 -- ---- ids that rise
 
@@ -204,6 +206,8 @@ module _ (Brought : Arrival → Type 0) (Gave : Id → ℕ → Message → Type 
   first_given call event (user.Ack ack) holds = (holds, (tt, tt))
   first_given call event (user.Prack prack) holds = (holds, (tt, tt))
   first_given call event (user.Cancel cancel) holds = (holds, (tt, tt))
+  first_given call event (user.AbandonRequest abandon) holds = (holds, (tt, tt))
+  first_given call event (user.AbandonDialog abandon) holds = (holds, (tt, tt))
 
   command_given : (call : Call) (event : Event) (command : UserCommand)
       → CommandFits command (item_of_call true call event (User command)).1 → HoldsCall call
@@ -235,6 +239,19 @@ module _ (Brought : Arrival → Type 0) (Gave : Id → ℕ → Message → Type 
     by_clients_so (cancel_command event cancel (side_of call)) _
         (cancel_same event cancel (side_of call))
         (cancel_told (OutGiven Brought Gave) allows event cancel (side_of call)),
+  )
+  command_given call event (user.AbandonRequest abandon) fits holds = (
+    holds,
+    by_clients_so (abandon_request_command event abandon (side_of call)) _
+        (given_up.request_same event abandon (side_of call))
+        (abandon_request_told (OutGiven Brought Gave) allows event abandon (side_of call)
+        (λ client. tt)),
+  )
+  command_given call event (user.AbandonDialog abandon) fits holds = (
+    holds,
+    by_clients_so (abandon_dialog_command event abandon (side_of call)) _
+        (given_up.dialog_same event abandon (side_of call))
+        (abandon_dialog_told (OutGiven Brought Gave) allows event abandon (side_of call)),
   )
 
   tick_given : (call : Call) (now : ℕ) → HoldsCall call → Done (call_tick call now)

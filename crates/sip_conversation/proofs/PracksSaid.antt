@@ -188,6 +188,8 @@ module _ (Came : Message → Type 0) where
             (out_given (call_out.Command id (order.Answer key message)) says rseq
             (ap (λ (m : Message). m.rseq) same ∙ number_is status rseq response number)),
       )
+      given_in_call response (Asked id (order.Abandon key) says same) status rseq is number =
+          absurd same
       given_in_call response (Direct to says) status rseq is number =
           let text = out_replies config alone rounds (call_out.Direct to (written response)) says in
           absurd (no_ack response text.0 status is (text.2).request (text.2).method text.1)

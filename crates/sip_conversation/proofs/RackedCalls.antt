@@ -25,7 +25,7 @@ use Rattle.sip_user.specs.declared.item.Item.TheVariants.{Up, User}
 use Rattle.sip_held_dialogs.specs.declared.pending_request.PendingRequest.{PendingRequest}
 use Rattle.sip_held_dialogs.specs.declared.pending_request.PendingRequest.TheVariants.{Ack, Prack}
 use Rattle.sip_held_dialogs.proofs.Each.{both}
-use Rattle.sip_held_dialogs.proofs.Starts.{starts}
+use Rattle.sip_held_dialogs.proofs.Starts.{ended_starts, starts}
 use Rattle.sip_served.proofs.ArrivalRules.{kind_same}
 use Rattle.sip_served.proofs.NoStarts.{kind_starts, respond_starts}
 use Rattle.sip_served.proofs.ResponseRules.{respond_same}
@@ -49,6 +49,7 @@ use Rattle.sip_conversation.proofs.OwedTold.{WasAskedFor, owed_was_asked}
 use Rattle.sip_conversation.proofs.PracksOfCalls.{from_more}
 use Rattle.sip_conversation.proofs.PracksServed.{same_name}
 use Rattle.sip_conversation.proofs.RackedSteps.{Hears, OutRacked, Pays, Say, ack_racked, cancel_command_racked, invite_racked, lost_racked, no_requests, plain_racked, prack_command_racked, received_racked, request_command_racked}
+use Rattle.sip_conversation.proofs.GivenUp.{dialog_given_up, named, request_given_up}
 
 -- ---- the first of different ids differ too
 
@@ -202,6 +203,8 @@ module _ (calls : Calls) (all : List (Timed CallItem)) where
   first_says call id now (user.Ack ack) = (tt, tt)
   first_says call id now (user.Prack prack) = (tt, tt)
   first_says call id now (user.Cancel cancel) = (tt, tt)
+  first_says call id now (user.AbandonRequest abandon) = (tt, tt)
+  first_says call id now (user.AbandonDialog abandon) = (tt, tt)
 
   command_says : (call : Call) (id : Id) (now : ℕ) (command : UserCommand) → PaysIn call
       → Says (item_of_call true call (event_of calls id now) (User command)).1
@@ -218,6 +221,13 @@ module _ (calls : Calls) (all : List (Timed CallItem)) where
       prack_command_racked IsTold (event_of calls id now) prack (side_of call) pays
   command_says call id now (user.Cancel cancel) pays =
       cancel_command_racked IsTold (event_of calls id now) cancel (side_of call)
+  command_says call id now (user.AbandonRequest abandon) pays =
+      request_given_up (event_of calls id now) abandon (side_of call) (λ taken. Says taken.1)
+      (tt, tt) (λ client. (tt, lost_racked IsTold abandon.id false (side_of call)))
+  command_says call id now (user.AbandonDialog abandon) pays =
+      dialog_given_up (event_of calls id now) abandon (side_of call) (λ taken. Says taken.1)
+      (tt, tt)
+      (λ held. no_requests IsTold _ (ended_starts (named abandon) (side_of call).dialogs))
 
   -- ---- one input, after others
 

@@ -104,6 +104,7 @@ module _ (Fact : DialogId → RAck → Type 0) where
   OutRacked (out.Notice notice) = Unit {0}
   OutRacked (out.Command id (order.Start key call_id message to)) = IsRacked message
   OutRacked (out.Command id (order.Answer key message)) = Unit {0}
+  OutRacked (out.Command id (order.Abandon key)) = Unit {0}
   OutRacked (out.Direct to bytes) = Unit {0}
 
   abbrev pub Say : List CallOut → Type 0
@@ -323,6 +324,7 @@ module _ (Fact : DialogId → RAck → Type 0) where
   no_requests (out.Direct to bytes ∷ outs) none = (tt, no_requests outs none)
   no_requests (out.Command id (order.Answer key message) ∷ outs) none =
       (tt, no_requests outs none)
+  no_requests (out.Command id (order.Abandon key) ∷ outs) none = (tt, no_requests outs none)
   no_requests (out.Command id (order.Start key of message to) ∷ outs) none =
       absurd (some_started (id, key) (starts outs) none)
     where

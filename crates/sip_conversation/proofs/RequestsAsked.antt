@@ -102,6 +102,10 @@ module _ (config : Config) (rounds : List Round)
         ByUser record { event = event; now = now; command = prack; gave = among; body_is = refl }
     input_asks now (Some (event, User (user.Cancel cancel))) among =
         asked now event (user.Cancel cancel) among
+    input_asks now (Some (event, User (user.AbandonRequest abandon))) among =
+        asked now event (user.AbandonRequest abandon) among
+    input_asks now (Some (event, User (user.AbandonDialog abandon))) among =
+        asked now event (user.AbandonDialog abandon) among
 
   out_asks : (out : CallOut) → (says : CallSays config rounds out) → OutIsAsked says.0 out
   out_asks out says =
@@ -180,6 +184,10 @@ module _ (config : Config) (rounds : List Round)
     input_gave front rest (Some call) held now (Some (event, User (user.Prack prack))) are = tt
     input_gave front rest (Some call) held now (Some (event, User (user.Cancel cancel))) are =
         cancel_gave front rest call now event cancel are held
+    input_gave front rest (Some call) held now
+        (Some (event, User (user.AbandonRequest abandon))) are = tt
+    input_gave front rest (Some call) held now
+        (Some (event, User (user.AbandonDialog abandon))) are = tt
 
     all_gave : (front rest : List (Timed CallItem)) → inputs ≡ front ++ rest
         → AllCancel (calls_of config) call_id (IsOrigin config rounds call_id)
@@ -252,6 +260,7 @@ module _ (config : Config) (rounds : List Round)
   user_asked message (Asked id (order.Answer key response) says same) rules is other =
       absurd (no_request message is (ap is_request_message (sym same)
       ∙ out_replies config alone rounds (call_out.Command id (order.Answer key response)) says))
+  user_asked message (Asked id (order.Abandon key) says same) rules is other = absurd same
   user_asked message (Direct to says) rules is other =
       let text = out_replies config alone rounds (call_out.Direct to (written message)) says in
       absurd (no_ack message other (is_ack message text.0 is rules.method (text.2).request
@@ -275,6 +284,7 @@ module _ (config : Config) (rounds : List Round)
   user_pracked message (Asked id (order.Answer key response) says same) rules is prack =
       absurd (no_request message is (ap is_request_message (sym same)
       ∙ out_replies config alone rounds (call_out.Command id (order.Answer key response)) says))
+  user_pracked message (Asked id (order.Abandon key) says same) rules is prack = absurd same
   user_pracked message (Direct to says) rules is prack =
       let text = out_replies config alone rounds (call_out.Direct to (written message)) says in
       absurd (not_both (sym prack ∙ is_ack message text.0 is rules.method (text.2).request
@@ -300,6 +310,7 @@ module _ (config : Config) (rounds : List Round)
   start_of (call_out.Direct to bytes) id request starts sends = absurd cc
   start_of (call_out.Command other (order.Answer key message)) id request starts sends =
       absurd cc
+  start_of (call_out.Command other (order.Abandon key)) id request starts sends = absurd cc
   start_of (call_out.Command other (order.Start key of message to)) id request starts sends =
       let ids : other ≡ id = same_Some other id starts in record {
         key = key;
@@ -355,6 +366,7 @@ module _ (config : Config) (rounds : List Round)
   user_cancelled message (Asked id (order.Answer key response) says same) rules is cancel =
       absurd (no_request message is (ap is_request_message (sym same)
       ∙ out_replies config alone rounds (call_out.Command id (order.Answer key response)) says))
+  user_cancelled message (Asked id (order.Abandon key) says same) rules is cancel = absurd same
   user_cancelled message (Direct to says) rules is cancel =
       let text = out_replies config alone rounds (call_out.Direct to (written message)) says in
       absurd (no_cancel (sym cancel ∙ is_ack message text.0 is rules.method (text.2).request

@@ -492,6 +492,8 @@ module _ (configs : Side → Config) (fair : IsFair configs) (before : List Turn
     command_said now event (user.Ack ack) among = tt
     command_said now event (user.Prack prack) among = tt
     command_said now event (user.Cancel cancel) among = tt
+    command_said now event (user.AbandonRequest abandon) among = tt
+    command_said now event (user.AbandonDialog abandon) among = tt
 
     input_said : (now : ℕ) (input : Option CallItem)
         → Contains inputs (record { moment = now; input = input })

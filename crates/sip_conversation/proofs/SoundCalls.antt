@@ -29,7 +29,7 @@ use Rattle.sip_conversation.proofs.SoundClients.{AreSoundClients, IsSoundSide, P
 use Rattle.sip_conversation.proofs.SoundReplies as replies
 use Rattle.sip_conversation.proofs.SoundReplies.{Hears, lost_done, received_done, reply_for}
 use Rattle.sip_conversation.proofs.SoundServed as served
-use Rattle.sip_conversation.proofs.SoundServed.{IsSoundState, empty_sound, kind_done, respond_done}
+use Rattle.sip_conversation.proofs.SoundServed.{IsSoundState, dialog_ends, empty_sound, kind_done, respond_done}
 use Rattle.sip_message.specs.declared.message.Message.{Message}
 use Rattle.sip_message.specs.declared.addr.Addr.{Addr}
 use Rattle.std.specs.Map.{lookup}
@@ -46,6 +46,7 @@ use Rattle.sip_conversation.proofs.Rounds.{all_of_parts}
 use Rattle.sip_clients.proofs.DialogSends.{AreNamed}
 use Rattle.sip_calls.specs.Provisionals.{EventsDiffer}
 use Rattle.sip_conversation.proofs.PracksOfCalls.{from_more}
+use Rattle.sip_conversation.proofs.GivenUp as given_up
 
 -- of each ACK that is sent as a text this is said
 module _ (AckIs : Message → Type 0) where
@@ -133,6 +134,8 @@ module _ (AckIs : Message → Type 0) where
   first_done call event (user.Ack ack) address types sound = (sound, (tt, tt))
   first_done call event (user.Prack prack) address types sound = (sound, (tt, tt))
   first_done call event (user.Cancel cancel) address types sound = (sound, (tt, tt))
+  first_done call event (user.AbandonRequest abandon) address types sound = (sound, (tt, tt))
+  first_done call event (user.AbandonDialog abandon) address types sound = (sound, (tt, tt))
 
   command_done : (call : Call) (event : Event) (command : UserCommand) → IsAddr event.local
       → KeepsTypes command → PaysIn AckIs (side_of call) → AreNamed (side_of call).dialogs
@@ -155,6 +158,21 @@ module _ (AckIs : Message → Type 0) where
   command_done call event (user.Cancel cancel) address types pays named sound =
       by_clients_done call _ sound
       (cancel_done AckIs event cancel (side_of call) (sides_of call sound))
+  command_done call event (user.AbandonRequest abandon) address types pays named sound =
+      by_clients_done call _ sound
+      (given_up.request_given_up event abandon (side_of call) (clients.Taken AckIs)
+      (sides_of call sound, (tt, tt))
+      (λ client.
+      let so = lost_done AckIs abandon.id false (side_of call) (sides_of call sound) in
+      (so.0, (tt, so.1))))
+  command_done call event (user.AbandonDialog abandon) address types pays named sound =
+      let sides = sides_of call sound in
+      by_clients_done call _ sound
+      (given_up.dialog_given_up event abandon (side_of call) (clients.Taken AckIs)
+      (sides, (tt, tt))
+      (λ held.
+      let so = dialog_ends AckIs (given_up.named abandon) (side_of call).dialogs sides.dialogs in
+      (record { dialogs = so.0; clients = sides.clients }, so.1)))
 
   -- ---- one input
 

@@ -67,11 +67,13 @@ module _ (config : Config) (rounds : List Round) where
   KeyFits key (input.Start id call_id message to) = Unit {0}
   KeyFits key (input.Answer id message) = Unit {0}
   KeyFits key (input.Failed id) = Unit {0}
+  KeyFits key input.Abandon = Unit {0}
 
   out_fits : (out : CallOut) → OutFits config KeyFits out
   out_fits (call_out.Notice notice) = tt
   out_fits (call_out.Command id (order.Start key call_id message to)) = tt
   out_fits (call_out.Command id (order.Answer key message)) = tt
+  out_fits (call_out.Command id (order.Abandon key)) = tt
   out_fits (call_out.Direct to bytes) = tt
 
   has_key : (key : Key) (id : Id) (message : Message) (reply_to : Addr)

@@ -14,7 +14,7 @@ use Rattle.sip_message.specs.declared.start_line.StartLine.TheVariants as start
 use Rattle.keyed_machine.specs.Machine.{Timed, given_at, outputs_from}
 use Rattle.keyed_machine.proofs.Ordered.{by_bool}
 use Rattle.sip_transactions.specs.declared.input.Input.{Input}
-use Rattle.sip_transactions.specs.declared.input.Input.TheVariants.{Answer, Failed, Receive, Start}
+use Rattle.sip_transactions.specs.declared.input.Input.TheVariants.{Abandon, Answer, Failed, Receive, Start}
 use Rattle.sip_transactions.specs.declared.life.Context.{Context}
 use Rattle.sip_transactions.specs.declared.life.Life.{Life}
 use Rattle.sip_transactions.specs.declared.output.Out.{Out}
@@ -186,10 +186,10 @@ module _ (branch method : List ℕ) (all : List (Timed Input)) where
       → After (stepped client None (record { moment = now; input = input }))
   unfolding begun
   first_input now None among =
-      by_step After client None (record { moment = now; input = None }) (tt, tt)
+      by_step After client None (record { moment = now; input = None }) (tt, tt) (tt, tt)
       (λ step row. (tt, tt))
   first_input now (Some (Receive id message to)) among =
-      by_step After client None (given_at now (Receive id message to)) (tt, tt)
+      by_step After client None (given_at now (Receive id message to)) (tt, tt) (tt, tt)
       (λ step row.
       let other : is_start row.trigger ≡ false =
       ap (λ o. is_start (unwrap_or o on.Ack)) (sym row.triggered)
@@ -204,22 +204,27 @@ module _ (branch method : List ℕ) (all : List (Timed Input)) where
       (and-left (is_ended step.next) (hands_nothing step.handed) ended)
       (and-right (is_ended step.next) (hands_nothing step.handed) ended))
   first_input now (Some (Start id call_id message to)) among =
-      by_step After client None (given_at now (Start id call_id message to)) (tt, tt)
+      by_step After client None (given_at now (Start id call_id message to)) (tt, tt) (tt, tt)
       (λ step row. acted_started now (Some (Start id call_id message to)) None
       (context_by id call_id to (cond (keeps_request (role_of client)) (Some message) None)) step
       (now, message, to, among))
   first_input now (Some (Answer id message)) among =
-      by_step After client None (given_at now (Answer id message)) (tt, tt)
+      by_step After client None (given_at now (Answer id message)) (tt, tt) (tt, tt)
       (λ step row. (tt, tt))
   first_input now (Some (Failed id)) among =
-      by_step After client None (given_at now (Failed id)) (tt, tt) (λ step row. (tt, tt))
+      by_step After client None (given_at now (Failed id)) (tt, tt) (tt, tt)
+      (λ step row. (tt, tt))
+  first_input now (Some Abandon) among =
+      by_step After client None (given_at now Abandon) (tt, tt) (tt, tt)
+      (λ step row. (tt, tt))
 
   one_input : (held : Option Life) (now : ℕ) (input : Option Input)
       → Contains all (record { moment = now; input = input }) → LifeIsStarted held
       → After (stepped client held (record { moment = now; input = input }))
   one_input None now input among started = first_input now input among
   one_input (Some life) now input among started =
-      by_step After client (Some life) (record { moment = now; input = input }) (started, tt)
+      by_step After client (Some life) (record { moment = now; input = input }) (tt, tt)
+      (started, tt)
       (λ step row. acted_started now input (state_of (Some life)) life.context step started)
 
   -- ---- all inputs

@@ -76,6 +76,7 @@ module _ (alone : EachKeyAlone key_cmp transaction_machine tick_at) where
     IsSoundInput key (input.Start id call_id message to) = Says message
     IsSoundInput key (input.Answer id message) = Says message
     IsSoundInput key (input.Failed id) = Unit {0}
+    IsSoundInput key input.Abandon = Unit {0}
 
     -- its calls say this, and by the rules
     abbrev IsSoundOut : CallOut → Type 0
@@ -90,6 +91,7 @@ module _ (alone : EachKeyAlone key_cmp transaction_machine tick_at) where
         (sound.1, Asked id (command.Start key call_id message to) sound.0 refl)
     sound_command id (command.Answer key message) sound =
         (sound.1, Asked id (command.Answer key message) sound.0 refl)
+    sound_command id (command.Abandon key) sound = tt
 
     out_fits : (out : CallOut) → IsSoundOut out → OutFits config IsSoundInput out
     out_fits (call_out.Notice notice) sound = tt
@@ -235,6 +237,7 @@ module _ (alone : EachKeyAlone key_cmp transaction_machine tick_at) where
     IsUnchanged turns s key (input.Start id call_id message to) = Unit {0}
     IsUnchanged turns s key (input.Answer id message) = Unit {0}
     IsUnchanged turns s key (input.Failed id) = Unit {0}
+    IsUnchanged turns s key input.Abandon = Unit {0}
 
     abbrev ArrivesUnchanged : List Turn → Side → Event → Type 0
     ArrivesUnchanged turns s e = (id : Id) → ArrivalFits (configs s) (IsUnchanged turns s)
@@ -261,6 +264,7 @@ module _ (alone : EachKeyAlone key_cmp transaction_machine tick_at) where
         → IsUnchanged turns s (command_key c) (asked_by id c)
     command_unchanged turns s id (command.Start key call_id message to) = tt
     command_unchanged turns s id (command.Answer key message) = tt
+    command_unchanged turns s id (command.Abandon key) = tt
 
     out_unchanged : (turns : List Turn) (s : Side) (out : CallOut)
         → OutFits (configs s) (IsUnchanged turns s) out

@@ -109,7 +109,7 @@ After after = HaveMethods after.1
 one_input : (key : Key) (held : Option Life) (timed : Timed Input)
     → After (stepped key held timed)
 one_input key held timed =
-    by_step After key held timed tt
+    by_step After key held timed tt tt
     (λ step row. acted_methods key timed.moment timed.input (state_of held)
     (context_of (role_of key) held timed.input) step)
 

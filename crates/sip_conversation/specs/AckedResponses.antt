@@ -22,7 +22,7 @@ use Rattle.sip_round.specs.Laws.{call_inputs_of}
 use Rattle.sip_round.specs.declared.config.Config.{Config}
 use Rattle.sip_round.specs.declared.output.Output.TheVariants.{Notice}
 use Rattle.sip_conversation.specs.Conversation.{Side, Turn, given_by, rounds_of}
-use Rattle.sip_conversation.specs.Messages.{CallSays, message_of}
+use Rattle.sip_conversation.specs.Messages.{Asks, CallSays}
 use Rattle.sip_conversation.specs.Replies.{AreCounted, ToldResponse}
 
 -- what a call of a side gives at these inputs, its first ones, in order
@@ -82,8 +82,8 @@ pub record AcksFollow (configs : Side → Config) (before : List Turn) (turn : T
   pub asked : (id : Id) (command : Command)
       → CallSays (configs turn.side) (rounds_of turn.side (before ++ turn ∷ []))
       (call_out.Command id command)
-      → is_request_message (message_of command) ≡ true
-      → (message_of command).cseq.method ≢ codes "ACK"
+      → (message : Message) → Asks command message → is_request_message message ≡ true
+      → message.cseq.method ≢ codes "ACK"
 
 -- in every turn
 abbrev pub AcksFollowResponses : (Side → Config) → List Turn → Type 0

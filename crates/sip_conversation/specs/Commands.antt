@@ -56,6 +56,8 @@ KeepsTypes (user.Respond respond) = IsRespond respond
 KeepsTypes (user.Ack ack) = IsContent ack.content
 KeepsTypes (user.Prack prack) = IsContent prack.content
 KeepsTypes (user.Cancel cancel) = Unit {0}
+KeepsTypes (user.AbandonRequest abandon) = Unit {0}
+KeepsTypes (user.AbandonDialog abandon) = Unit {0}
 
 abbrev pub EventKeepsTypes : Event → Type 0
 EventKeepsTypes (Command command) = KeepsTypes command

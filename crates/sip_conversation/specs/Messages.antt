@@ -11,7 +11,7 @@ use Rattle.sip_message.specs.Source.{stamped}
 use Rattle.sip_message.specs.Written.{written}
 use Rattle.keyed_machine.specs.Machine.{given_at}
 use Rattle.sip_transactions.specs.declared.input.Command.{Command}
-use Rattle.sip_transactions.specs.declared.input.Command.TheVariants.{Answer, Start}
+use Rattle.sip_transactions.specs.declared.input.Command.TheVariants.{Abandon, Answer, Start}
 use Rattle.sip_transactions.specs.declared.input.Input.{Input}
 use Rattle.sip_transactions.specs.declared.input.Input.TheVariants as input
 use Rattle.sip_transactions.specs.declared.output.UpKind.{UpKind}
@@ -27,10 +27,17 @@ use Rattle.sip_round.specs.declared.round.Round.{Round}
 use Rattle.sip_round.specs.Laws.{call_inputs_of, inputs_of, said_of_call}
 use Rattle.sip_conversation.specs.Conversation.{Side, Turn, peer, rounds_of}
 
--- the message that a command asks a transaction to send
-abbrev pub message_of : Command → Message
-message_of (Start key call_id message to) = message
-message_of (Answer key message) = message
+-- a command asks a transaction to send this message
+abbrev pub Asks : Command → Message → Type 0
+Asks (Start key call_id message to) asked = message ≡ asked
+Asks (Answer key message) asked = message ≡ asked
+Asks (Abandon key) asked = ⊥
+
+-- the message that a command asks a transaction to send keeps the rules of messages
+abbrev pub AsksByRules : Command → Type 0
+AsksByRules (Start key call_id message to) = IsMessage message
+AsksByRules (Answer key message) = IsMessage message
+AsksByRules (Abandon key) = Unit {0}
 
 -- it is a response of 300 or above; no message has a status above 699
 abbrev pub IsFailure : Message → Type 0
@@ -52,7 +59,7 @@ module _ (config : Config) (rounds : List Round) where
   -- 300 to 699 that came to it (17.1.1.3).
   pub data IsSaid (message : Message) : Type 0 where
     Asked : (id : Id) (command : Command) → CallSays (call_out.Command id command)
-        → message_of command ≡ message → IsSaid message
+        → Asks command message → IsSaid message
     Direct : (to : Addr) → CallSays (call_out.Direct to (written message)) → IsSaid message
     Trying : (key : Key) (id : Id) (request : Message) (reply_to : Addr)
         → IsGiven key (input.Receive id request reply_to) → is_request_message request ≡ true
@@ -65,7 +72,7 @@ module _ (config : Config) (rounds : List Round) where
 -- a message that a call asks to send keeps the rules of messages; a text is that of such a message
 abbrev pub KeepsRules : CallOut → Type 0
 KeepsRules (call_out.Notice notice) = Unit {0}
-KeepsRules (call_out.Command id command) = IsMessage (message_of command)
+KeepsRules (call_out.Command id command) = AsksByRules command
 KeepsRules (call_out.Direct to bytes) =
     (message : Message) × (bytes ≡ written message) × IsMessage message
 
