@@ -1,5 +1,5 @@
 -- An ACK that a call sends follows the 2xx that it acknowledges, of which the user was told.
-use Rattle.std.proofs.Common.{◌≡◌, ◌⊎◌, inl, inr, ℕ, true, false, List, [], ◌∷◌, ◌++◌, refl, sym, ap, ◌∙◌, subst, append_assoc}
+use Rattle.std.proofs.Common.{◌≡◌, ◌⊎◌, inl, inr, ℕ, true, false, List, [], ◌∷◌, ◌++◌, refl, sym, ap, ◌∙◌, subst}
 use Rattle.std.specs.Prelude.{◌==◌, IfSome, Some, codes, length, not, Contains, None}
 use Rattle.std.specs.List.{AllByRecursion}
 use Rattle.std.proofs.lemmas.Bool.{false≢true}
@@ -31,13 +31,12 @@ use Rattle.sip_calls.specs.declared.calls.Calls.{Calls}
 use Rattle.sip_round.specs.declared.config.Config.{Config}
 use Rattle.sip_round.specs.declared.round.Round.{Round}
 use Rattle.sip_round.specs.Answers.{calls_of}
-use Rattle.sip_round.specs.Laws.{call_inputs_of, said_of_call}
+use Rattle.sip_round.specs.Laws.{call_inputs_of}
 use Rattle.sip_round.proofs.CallEvents.{events_differ}
 use Rattle.sip_user.specs.declared.item.CallOut.{CallOut}
 use Rattle.sip_user.specs.declared.notice.Notice.TheVariants.{Response}
 use Rattle.sip_calls.specs.Provisionals.{EventsDiffer}
 use Rattle.sip_conversation.proofs.RackedCalls.{front_differ}
-use Rattle.sip_conversation.proofs.AmongInputs.{out_of_one_input}
 use Rattle.sip_conversation.specs.AckedResponses.{AcksFollowResponses, FollowsSuccess, IsAckOfSuccess}
 use Rattle.sip_conversation.specs.Commands.{CommandsKeepTypes, EventKeepsTypes}
 use Rattle.sip_conversation.specs.Conversation.{Carried, Side, Turn, rounds_of}
@@ -49,7 +48,7 @@ use Rattle.sip_conversation.proofs.CallOuts.{ResponseTells}
 use Rattle.sip_conversation.proofs.CallsKeep.{calls_keep_rules, inputs_keep_so}
 use Rattle.sip_conversation.proofs.Carrying.{TurnHolds}
 use Rattle.sip_conversation.proofs.Fronts.{carried_before, carried_to, keeps_before, keeps_to}
-use Rattle.sip_conversation.proofs.HeardReplies.{WasHeard, has_come, invite_answered, of_up, same_outs, told_so}
+use Rattle.sip_conversation.proofs.HeardReplies.{WasHeard, has_come, invite_answered, of_up, told_so, longer, of_first}
 use Rattle.sip_conversation.proofs.KeepsRules.{Any, KeepsInput, KeepsRulesWith}
 use Rattle.sip_conversation.proofs.SoundCalls.{IsSoundCall, any_pays, held_sound}
 use Rattle.sip_conversation.proofs.SoundClients.{IsNamedIn, client_found}
@@ -179,46 +178,6 @@ module _ (configs : Side → Config) (fair : IsFair configs) (before : List Turn
           dialog_is = one.tells.dialog_is;
         }
 
-  module _ (call_id : List ℕ) (first later : List (Timed CallItem))
-      (are : inputs call_id ≡ first ++ later) (name : DialogId) (number : ℕ)
-      (early : WasHeard Is2xx calls first name number) where
-    -- what was heard at the first inputs was heard
-    abbrev longer : WasHeard Is2xx calls (inputs call_id) name number
-    longer = record {
-      before = early.before;
-      timed = early.timed;
-      after = early.after ++ later;
-      are = are ∙ (ap (λ (xs : List (Timed CallItem)). xs ++ later) early.are
-          ∙ append_assoc early.before (early.timed ∷ early.after) later);
-      call = early.call;
-      held = early.held;
-      event = early.event;
-      up = early.up;
-      comes = early.comes;
-      response = early.response;
-      kind_is = early.kind_is;
-      client = early.client;
-      client_is = early.client_is;
-      name_is = early.name_is;
-      has = early.has;
-      number_is = early.number_is;
-      status = early.status;
-      status_is = early.status_is;
-      is = early.is;
-      told = early.told;
-    }
-
-    of_first : (out : CallOut)
-        → Contains (call_step calls (Some early.call) early.timed.input early.timed.moment).1 out
-        → Contains (outputs_from (call_machine calls) call_id None first) out
-    of_first out among =
-        subst (λ xs. Contains (outputs_from (call_machine calls) call_id None xs) out)
-        (sym early.are)
-        (out_of_one_input calls call_id early.before early.timed early.after out
-        (subst (λ state.
-        Contains (call_step calls state early.timed.input early.timed.moment).1 out)
-        (sym early.held) among))
-
   -- what a call sends as a text is such an ACK
   sent_acked : CommandsKeepTypes (before ++ turn ∷ []) → (call_id : List ℕ)
       (first later : List (Timed CallItem)) → inputs call_id ≡ first ++ later → (to : Addr)
@@ -252,8 +211,9 @@ module _ (configs : Side → Config) (fair : IsFair configs) (before : List Turn
         method = so.method;
         call_id_is = so.call_id_is;
         follows = follows call_id name ack.cseq.number
-            (longer call_id first later are name ack.cseq.number so.heard) keeps first
-            (of_first call_id first later are name ack.cseq.number so.heard);
+            (longer Is2xx calls (inputs call_id) first later are name ack.cseq.number so.heard)
+            keeps first (of_first Is2xx calls (inputs call_id) first later are name
+            ack.cseq.number so.heard call_id);
       }
 
 -- what a call asks a transaction to send is no ACK

@@ -106,7 +106,7 @@ module _ (configs : Side → Config) where
           first = subst (FollowsAs last response.call_id) so.dialog
               (subst (λ c. FollowsAs last c
               (dialog_id_of_tags (tag_of so.prack.from) (tag_of so.prack.to))) so.call_id
-              (follow last.before last.after last.turn last.turns_are so.prack
+              ((follow last.before last.after last.turn last.turns_are).said so.prack
               (said_by_last s turns so.prack last so.said) so.is_request so.method
               record { rseq = 1; cseq = response.cseq.number; method = codes "INVITE" } so.rack));
         })

@@ -1,5 +1,5 @@
 -- The input at which a call hears a response to an INVITE, of which the user is told.
-use Rattle.std.proofs.Common.{◌≡◌, ℕ, Bool, true, false, ◌||◌, List, [], ◌∷◌, ◌++◌, refl, sym, ap, ◌∙◌, subst}
+use Rattle.std.proofs.Common.{◌≡◌, ℕ, Bool, true, false, ◌||◌, List, [], ◌∷◌, ◌++◌, refl, sym, ap, ◌∙◌, subst, append_assoc}
 use Rattle.std.specs.Prelude.{Contains, IfSome, None, Some, codes}
 use Rattle.std.specs.List.{AllByRecursion, list_any}
 use Rattle.std.specs.Str.{bytes_eq}
@@ -90,6 +90,47 @@ pub record WasHeard (Is : ℕ → Message → Type 0) (calls : Calls) (inputs : 
   pub status_is : status_of response.start ≡ Some status
   pub is : Is status response
   pub told : list_any is_response (call_step calls (Some call) timed.input timed.moment).1 ≡ true
+
+-- ---- the first inputs
+
+module _ (Is : ℕ → Message → Type 0) (calls : Calls) (all first later : List (Timed CallItem))
+    (are : all ≡ first ++ later) (name : DialogId) (number : ℕ)
+    (early : WasHeard Is calls first name number) where
+  -- what was heard at the first inputs was heard
+  abbrev pub longer : WasHeard Is calls all name number
+  longer = record {
+    before = early.before;
+    timed = early.timed;
+    after = early.after ++ later;
+    are = are ∙ (ap (λ (xs : List (Timed CallItem)). xs ++ later) early.are
+        ∙ append_assoc early.before (early.timed ∷ early.after) later);
+    call = early.call;
+    held = early.held;
+    event = early.event;
+    up = early.up;
+    comes = early.comes;
+    response = early.response;
+    kind_is = early.kind_is;
+    client = early.client;
+    client_is = early.client_is;
+    name_is = early.name_is;
+    has = early.has;
+    number_is = early.number_is;
+    status = early.status;
+    status_is = early.status_is;
+    is = early.is;
+    told = early.told;
+  }
+
+  pub of_first : (key : List ℕ) (out : CallOut)
+      → Contains (call_step calls (Some early.call) early.timed.input early.timed.moment).1 out
+      → Contains (outputs_from (call_machine calls) key None first) out
+  of_first key out among =
+      subst (λ xs. Contains (outputs_from (call_machine calls) key None xs) out) (sym early.are)
+      (out_of_one_input calls key early.before early.timed early.after out
+      (subst (λ state.
+      Contains (call_step calls state early.timed.input early.timed.moment).1 out)
+      (sym early.held) among))
 
 -- ---- lists
 

@@ -1,6 +1,6 @@
 -- A PRACK that a side says follows the reliable provisional response that it acknowledges, of which
 -- the user was told in its dialog.
-use Rattle.std.proofs.Common.{◌≡◌, ℕ, true, List, [], ◌∷◌, ◌++◌, refl, sym, ap, ◌∙◌, subst}
+use Rattle.std.proofs.Common.{◌≡◌, ℕ, true, List, [], ◌∷◌, ◌++◌, refl, sym, ap, ◌∙◌, subst, append-nil}
 use Rattle.std.specs.Prelude.{Contains, IsTrue, None, Some, codes}
 use Rattle.std.specs.List.{AllByRecursion}
 use Rattle.std.specs.Str.{bytes_eq}
@@ -25,7 +25,7 @@ use Rattle.sip_user.specs.declared.item.CallOut.TheVariants as call_out
 use Rattle.sip_user.specs.declared.notice.Notice.TheVariants as notice
 use Rattle.sip_clients.specs.Clients.{status_of}
 use Rattle.sip_clients.specs.Provisionals.{provisional_number}
-use Rattle.sip_calls.specs.Call.{CallItem, call_machine}
+use Rattle.sip_calls.specs.Call.{CallItem, call_machine, call_step}
 use Rattle.sip_calls.specs.CallShard.{call_cmp}
 use Rattle.sip_calls.specs.declared.calls.Calls.{Calls}
 use Rattle.sip_round.specs.declared.config.Config.{Config}
@@ -34,10 +34,12 @@ use Rattle.sip_round.specs.declared.round.Round.{Round}
 use Rattle.sip_round.specs.Answers.{calls_of, past_of}
 use Rattle.sip_round.specs.Laws.{call_inputs_of, said_of_call}
 use Rattle.sip_round.proofs.CallEvents.{events_differ}
+use Rattle.sip_calls.specs.Provisionals.{EventsDiffer}
+use Rattle.sip_conversation.specs.AckedResponses.{outs_of}
 use Rattle.sip_conversation.specs.Conversation.{Carried, Side, Turn, given_by, rounds_of}
 use Rattle.sip_conversation.specs.Messages.{CallsKeepRules, IsSaid}
 use Rattle.sip_conversation.specs.Messages.IsSaid.{Acknowledges, Asked, Direct, Trying}
-use Rattle.sip_conversation.specs.Pracks.{FollowsResponse, PracksFollowResponses}
+use Rattle.sip_conversation.specs.Pracks.{FollowsResponse, PracksFollowResponses, FollowsAt}
 use Rattle.sip_conversation.specs.Provisionals.{SaidReliably, told_reliably}
 use Rattle.sip_conversation.specs.Replies.{AreCounted, IsStartedFor}
 use Rattle.sip_conversation.proofs.AckTexts.{is_ack}
@@ -47,8 +49,8 @@ use Rattle.sip_conversation.proofs.Fronts.{carried_before, carried_to, keeps_bef
 use Rattle.sip_conversation.proofs.OneCallId.{out_replies}
 use Rattle.sip_conversation.proofs.Origins.{IsOrigin, inputs_come}
 use Rattle.sip_conversation.proofs.Provisionals.{IsReliablySo, said_reliably}
-use Rattle.sip_conversation.proofs.HeardReplies.{invite_answered, has_come, of_up, same_outs, told_so}
-use Rattle.sip_conversation.proofs.RackedCalls.{HasRseq, IsTold, OutIsTold, WasTold, all_told}
+use Rattle.sip_conversation.proofs.HeardReplies.{invite_answered, has_come, of_up, same_outs, told_so, longer, of_first}
+use Rattle.sip_conversation.proofs.RackedCalls.{HasRseq, IsTold, OutIsTold, WasTold, all_told, front_differ}
 use Rattle.sip_conversation.proofs.RepliesSaid.{IsFair}
 use Rattle.sip_conversation.proofs.ToldCallId.{own_reply}
 use Rattle.sip_conversation.proofs.ToldInLife.{told_in_life}
@@ -88,6 +90,19 @@ module _ (config : Config) (rounds : List Round)
         (call_out.Command id (order.Start key of prack to))
         (subst (AllByRecursion (OutIsTold calls inputs)) (sym same_so)
         (all_told calls call_id inputs (events_differ config call_id rounds))) among
+
+    -- at whichever of the call's inputs it starts it
+    reported_by : (first later : List (Timed CallItem)) → inputs ≡ first ++ later → (id : Id)
+        (key : Key) (of : List ℕ) (prack : Message) (to : Addr)
+        → Contains (outputs_from (call_machine calls) call_id None first)
+        (call_out.Command id (order.Start key of prack to)) → (rack : RAck)
+        → prack.rack ≡ Some rack
+        → IsTold calls first (dialog_id_of_tags (tag_of prack.from) (tag_of prack.to)) rack
+    reported_by first later are id key of prack to among =
+        each_of (OutIsTold calls first) (outputs_from (call_machine calls) call_id None first)
+        (call_out.Command id (order.Start key of prack to))
+        (all_told calls call_id first (front_differ first later
+        (subst EventsDiffer are (events_differ config call_id rounds)))) among
 
     -- and has its Call-ID
     own_call : (id : Id) (key : Key) (of : List ℕ) (prack : Message) (to : Addr)
@@ -160,10 +175,15 @@ module _ (configs : Side → Config) (fair : IsFair configs) (before : List Turn
           from = λ few. reply.request.copies.from ∙ (own few).alike.from;
         }
 
-    follows : rack.method ≡ codes "INVITE" → Carried configs (before ++ turn ∷ [])
+    -- what the call gives at that input, it gives at its first inputs
+    follows : (first : List (Timed CallItem))
+        → ((out : CallOut) → Contains (call_step (calls_of local_config) (Some was.call)
+        was.timed.input was.timed.moment).1 out
+        → Contains (outs_of configs turn.side call_id first) out)
+        → rack.method ≡ codes "INVITE" → Carried configs (before ++ turn ∷ [])
         → CallsKeepRules configs (before ++ turn ∷ [])
-        → FollowsResponse configs before turn call_id name rack
-    follows method carried_so keep_so =
+        → FollowsAt configs before turn call_id first name rack
+    follows first at method carried_so keep_so =
         let HasIt = HasRseq rack.rseq in
         let one = told_so configs fair before turn call_id HasIt name rack.cseq was
         (IsTelling call_id rack)
@@ -179,26 +199,31 @@ module _ (configs : Side → Config) (fair : IsFair configs) (before : List Turn
         (call_inputs_of local_config rounds_now call_id) name rack.rseq rack.cseq was out one.among
         refl in
         record {
-          invite = lives.invite;
-          life = lives.life;
-          life_is = lives.life_is;
-          id = one.id;
-          status = one.status;
-          local_tag = one.local_tag;
-          remote_tag = one.remote_tag;
-          body = one.body;
-          told = subst (λ c. Contains (given_by configs (before ++ turn ∷ []) turn.side)
-              (output.Notice (notice.Response c one.id one.status one.local_tag one.remote_tag
-              one.body))) one.tells.of_is one.given;
-          in_life = subst (λ c. Contains (told_reliably configs before turn call_id lives.invite
-              lives.life) (
-                rack.rseq,
-                call_out.Notice (notice.Response c one.id one.status one.local_tag one.remote_tag
-                    one.body),
-              )) one.tells.of_is lives.among;
-          said = one.tells.said;
-          cseq = one.tells.cseq;
-          method = method;
+          response = record {
+            invite = lives.invite;
+            life = lives.life;
+            life_is = lives.life_is;
+            id = one.id;
+            status = one.status;
+            local_tag = one.local_tag;
+            remote_tag = one.remote_tag;
+            body = one.body;
+            told = subst (λ c. Contains (given_by configs (before ++ turn ∷ []) turn.side)
+                (output.Notice (notice.Response c one.id one.status one.local_tag one.remote_tag
+                one.body))) one.tells.of_is one.given;
+            in_life = subst (λ c. Contains (told_reliably configs before turn call_id lives.invite
+                lives.life) (
+                  rack.rseq,
+                  call_out.Notice (notice.Response c one.id one.status one.local_tag one.remote_tag
+                      one.body),
+                )) one.tells.of_is lives.among;
+            said = one.tells.said;
+            cseq = one.tells.cseq;
+            method = method;
+          };
+          by_then = subst (λ c. Contains (outs_of configs turn.side call_id first)
+              (call_out.Notice (notice.Response c one.id one.status one.local_tag one.remote_tag
+              one.body))) one.tells.of_is (at out one.among);
         }
 
   said_follows : Carried configs (before ++ turn ∷ [])
@@ -214,9 +239,12 @@ module _ (configs : Side → Config) (fair : IsFair configs) (before : List Turn
       (call_out.Command id (order.Start key of m to))) same says.1 in
       let so = reported_in local_config rounds_now alone says.0 id key of prack to among rack is in
       let name = dialog_id_of_tags (tag_of prack.from) (tag_of prack.to) in
+      let inputs = call_inputs_of local_config rounds_now says.0 in
+      let at = follows says.0 name rack so.1 inputs
+      (of_first (HasRseq rack.rseq) (calls_of local_config) inputs inputs []
+      (sym (append-nil inputs)) name rack.cseq so.1 says.0) so.0 carried_so keep_so in
       subst (λ c. FollowsResponse configs before turn c name rack)
-      (sym (own_call local_config rounds_now alone says.0 id key of prack to among))
-      (follows says.0 name rack so.1 so.0 carried_so keep_so)
+      (sym (own_call local_config rounds_now alone says.0 id key of prack to among)) at.response
   said_follows carried_so keep_so prack (Asked id (order.Answer key answer) says same) asks method
       rack is =
       absurd (false≢true (sym (out_replies local_config (fair.calls turn.side) rounds_now
@@ -236,6 +264,27 @@ module _ (configs : Side → Config) (fair : IsFair configs) (before : List Turn
       method rack is =
       absurd (no_ack (sym (ap (λ (m : Message). m.cseq.method) same) ∙ method))
 
+  -- at whichever of its inputs a call asks to send it
+  asked_follows : Carried configs (before ++ turn ∷ [])
+      → CallsKeepRules configs (before ++ turn ∷ []) → (call_id : List ℕ)
+      (first later : List (Timed CallItem))
+      → call_inputs_of local_config rounds_now call_id ≡ first ++ later → (id : Id) (key : Key)
+      (of : List ℕ) (prack : Message) (to : Addr)
+      → Contains (outs_of configs turn.side call_id first)
+      (call_out.Command id (order.Start key of prack to)) → (rack : RAck)
+      → prack.rack ≡ Some rack → FollowsAt configs before turn call_id first
+      (dialog_id_of_tags (tag_of prack.from) (tag_of prack.to)) rack
+  asked_follows carried_so keep_so call_id first later are id key of prack to among rack is =
+      let calls = calls_of local_config in
+      let inputs = call_inputs_of local_config rounds_now call_id in
+      let so = reported_by local_config rounds_now (fair.calls turn.side) call_id first later are
+      id key of prack to among rack is in
+      let name = dialog_id_of_tags (tag_of prack.from) (tag_of prack.to) in
+      follows call_id name rack
+      (longer (HasRseq rack.rseq) calls inputs first later are name rack.cseq so.1) first
+      (of_first (HasRseq rack.rseq) calls inputs first later are name rack.cseq so.1 call_id)
+      so.0 carried_so keep_so
+
 -- where there is no round nothing is said
 pub no_rounds_say : (config : Config) (prack : Message) → is_request_message prack ≡ true
     → prack.cseq.method ≡ codes "PRACK" → IsSaid config [] prack → ⊥
@@ -252,10 +301,12 @@ no_rounds_say config prack asks method
 
 pub pracks_follow : (configs : Side → Config) → IsFair configs → (turns : List Turn)
     → Carried configs turns → CallsKeepRules configs turns → PracksFollowResponses configs turns
-pracks_follow configs fair turns carried keep before after turn same prack said asks method rack
-    is =
-    said_follows configs fair before turn
-    (carried_before configs turns before after turn same carried)
-    (keeps_before configs turns before after turn same keep)
-    (carried_to configs turns before after turn same carried)
-    (keeps_to configs turns before after turn same keep) prack said asks method rack is
+pracks_follow configs fair turns carried keep before after turn same =
+    let early = carried_before configs turns before after turn same carried in
+    let rules = keeps_before configs turns before after turn same keep in
+    let carried_so = carried_to configs turns before after turn same carried in
+    let keep_so = keeps_to configs turns before after turn same keep in
+    record {
+      said = said_follows configs fair before turn early rules carried_so keep_so;
+      asked = asked_follows configs fair before turn early rules carried_so keep_so;
+    }

@@ -106,6 +106,8 @@ pub fn responses_told_were_said(one: Config, other: Config)
 /// other side said that response as a reliable provisional one with that RSeq, as its user answered
 /// the request so. Its CSeq has the number that the RAck names, if the rounds of the side that says
 /// the PRACK are counted as above; and the RAck's method is INVITE (RFC 3262, sections 4 and 7.2).
+/// At whichever of its inputs a call asks a transaction to send such a PRACK, the user is told of
+/// that response at this input or at one before it.
 pub fn pracks_follow_responses(one: Config, other: Config)
     ensures { (turns : List Turn) → Carried (of_sides one other) turns
         → CommandsKeepTypes turns
