@@ -258,6 +258,43 @@ def reads_many(library: str) -> bool:
         )
 
 
+def resumes(library: str) -> bool:
+    """An agent that goes on from the lines of another's rounds, of which the last isn't whole, gives
+    what that one gives."""
+    source, journal = ("192.0.2.9", 5060), b""
+    invite = (
+        b"INVITE sip:a@192.0.2.1 SIP/2.0\r\nVia: SIP/2.0/UDP 192.0.2.9;branch=z9hG4bKx\r\n"
+        b"Max-Forwards: 70\r\nFrom: <sip:c@d>;tag=f1\r\nTo: <sip:a@192.0.2.1>\r\nCall-ID: c1\r\n"
+        b"CSeq: 1 INVITE\r\nContact: <sip:c@192.0.2.9>\r\n\r\n"
+    )
+    ring = sip_ua.Response("c1", (0, 1), 180, "Ringing", headers=[("Server", "x y")])
+    answer = sip_ua.Response("c1", (0, 1), 200, "OK")
+    with Agent(library, ("192.0.2.1", 5060), bytes(32)) as one:
+        assert one.round_text() == b""
+        one.datagram(source, invite)
+        one.run(7)
+        journal += one.round_text()
+        one.ask(ring)
+        one.run(9)
+        journal += one.round_text()
+        with Agent(library, ("192.0.2.1", 5060), bytes(32)) as other:
+            taken = other.resume(journal + b"round 12\n Server: z")
+            same = other.round_text() == one.round_text()
+            for agent in one, other:
+                agent.ask(answer)
+            busy = status_of(lambda: other.resume(b"round 12\n"))
+            sent = one.run(20), one.run(600)
+            return (
+                taken == len(journal)
+                and same
+                and busy == sip_ua.Status.BUSY
+                and (other.run(20), other.run(600)) == sent
+                and len(sent[0]) == 1
+                and status_of(lambda: other.resume(b"round 9\n")) == sip_ua.Status.BACKWARDS
+                and status_of(lambda: other.resume(b"x\nround 700\n")) == sip_ua.Status.BAD_LINE
+            )
+
+
 def bad_fields(library: str) -> bool:
     """Commands with a bad part: which it is, and nothing is asked for. One that is refused."""
     with Agent(library, ("192.0.2.1", 5060), bytes(32)) as agent:
@@ -324,11 +361,13 @@ def main() -> int:
     print("  misuse: " + ("told" if right else f"not told: {faults(library)}"))
     read = reads(library)
     print("  headers out and in: " + ("right" if read else "wrong"))
+    resumed = resumes(library)
+    print("  an agent that goes on from a journal: " + ("right" if resumed else "wrong"))
     many = reads_many(library)
     print("  16,000 values of a header: " + ("right" if many else "wrong"))
     parts = bad_fields(library)
     print("  fields of commands: " + ("right" if parts else "wrong"))
-    return 0 if same == total and right and read and many and parts else 1
+    return 0 if same == total and right and read and resumed and many and parts else 1
 
 
 if __name__ == "__main__":

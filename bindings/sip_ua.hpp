@@ -353,6 +353,26 @@ public:
         return std::pair(text.substr(0, told.name_len), text.substr(told.name_len));
     }
 
+    /// The lines of the last round, as a session file has them. Appended to a journal before the
+    /// outputs of the round go out, they let an agent go on in another process.
+    std::string round_text() {
+        std::size_t len = 0;
+        return text_of(
+            [&](std::uint8_t *room, std::size_t size) {
+                return sip_ua_round_text(&agent, &len, room, size);
+            },
+            [&] { return len; });
+    }
+
+    /// Runs the first round of a text again, as round_text gave it, without outputs. Returns how
+    /// many bytes it takes; call it again behind them, until none is left. SIP_UA_BAD_LINE in the
+    /// last round means that it wasn't written whole: cut the journal before it.
+    std::size_t resume(std::string_view text) {
+        sip_ua_resumed resumed{};
+        check(sip_ua_resume(&agent, text.empty() ? "" : text.data(), text.size(), &resumed));
+        return resumed.len;
+    }
+
 private:
     static constexpr sip_ua none = SIP_UA_NONE;
 

@@ -73,6 +73,7 @@ class Status(_Number):
     NULL = 13
     BAD_FIELD = 14
     NO_ROOM = 15  # no call raises it: the buffer grows
+    BUSY = 16
 
     # The names of version 0.3. The next version won't have them.
     NOT_HELD = 1
@@ -566,6 +567,10 @@ class _TextLength(ctypes.Structure):
         return (self.len,)
 
 
+class _Resumed(ctypes.Structure):
+    _fields_ = [("len", ctypes.c_size_t), ("bad_line", ctypes.c_uint64)]
+
+
 class _HeaderLengths(ctypes.Structure):
     _fields_ = [
         ("is_there", ctypes.c_bool),
@@ -623,6 +628,8 @@ _FUNCTIONS = {
     "header_line": (_place, _size, _at(_HeaderLengths)) + _room,
     "header_values": (_place,) + _text + (_at(_TextLength),) + _room,
     "header_lines": (_place, _at(_TextLength)) + _room,
+    "round_text": (_at(_TextLength),) + _room,
+    "resume": _text + (_at(_Resumed),),
     "free": (),
 }
 _SEND = 1
@@ -862,6 +869,32 @@ class Agent:
         begins = ctypes.c_bool()
         self._call("would_begin", data, begins)
         return begins.value
+
+    # -- a journal
+
+    def round_text(self) -> bytes:
+        """The lines of the last round, as a session file has them. Appended to a journal before the
+        outputs of the round go out, they let an agent go on in another process."""
+        (text,) = self._texts("round_text", _TextLength())
+        return text
+
+    def resume(self, rounds: bytes) -> int:
+        """Runs rounds again, as `round_text` gave them, without outputs, and returns how many bytes
+        they take. The agent is a new one. If the last round wasn't written whole, it is left: cut
+        the journal there. Any other fault raises an Error; the rounds before it were run."""
+        data, at = ctypes.create_string_buffer(rounds, len(rounds)), 0
+        told = _Resumed()
+        while at < len(rounds):
+            text = ctypes.c_char_p(ctypes.addressof(data) + at)
+            try:
+                self._call("resume", text, len(rounds) - at, told)
+            except Error as error:
+                if error.status == Status.BAD_LINE and b"\nround " not in rounds[at:]:
+                    break
+                raise
+            self._round += 1
+            at += told.len
+        return at
 
     # -- what the datagrams of the last round say
 

@@ -345,6 +345,13 @@ typedef struct sip_ua_text {
     size_t len;
 } sip_ua_text;
 
+/* What sip_ua_resume did: how many bytes of the text it took; or, after SIP_UA_BAD_LINE, the number
+ * of the bad line from 1, or 0 if the text is empty or its first round too long. */
+typedef struct sip_ua_resumed {
+    size_t len;
+    uint64_t bad_line;
+} sip_ua_resumed;
+
 /* A header line, or none. */
 typedef struct sip_ua_header_lengths {
     bool is_there;
@@ -385,8 +392,9 @@ enum {
     SIP_UA_BAD_CONFIGURATION = 12, /* not 1 to 256 shards, or a first round above 2^62 */
     SIP_UA_NULL = 13,             /* a pointer was NULL */
     SIP_UA_BAD_FIELD = 14,        /* a field of a command is bad */
-    SIP_UA_NO_ROOM = 15           /* the text is longer than the buffer: nothing was written, and an
+    SIP_UA_NO_ROOM = 15,          /* the text is longer than the buffer: nothing was written, and an
                                      output stays. The lengths say how much room it needs */
+    SIP_UA_BUSY = 16              /* sip_ua_resume while events wait or outputs are left */
 };
 
 /* The names of version 0.3. The next version won't have them. */
@@ -415,6 +423,7 @@ static inline const char *sip_ua_status_text(uint32_t status)
     case SIP_UA_NULL: return "a pointer is NULL";
     case SIP_UA_BAD_FIELD: return "a field of the command is bad";
     case SIP_UA_NO_ROOM: return "the text is longer than the buffer";
+    case SIP_UA_BUSY: return "events wait, or outputs of the last round are left";
     default: return "unknown status";
     }
 }
@@ -531,6 +540,8 @@ uint32_t sip_ua_raw_header_values(sip_ua *agent, uint32_t place, const uint8_t *
                                   size_t name_len, size_t *len, uint8_t *buffer, size_t room);
 uint32_t sip_ua_raw_header_lines(sip_ua *agent, uint32_t place, size_t *len, uint8_t *buffer,
                                  size_t room);
+uint32_t sip_ua_raw_round_text(sip_ua *agent, size_t *len, uint8_t *buffer, size_t room);
+uint32_t sip_ua_raw_resume(sip_ua *agent, const uint8_t *text, size_t len, sip_ua_resumed *resumed);
 uint32_t sip_ua_raw_free(sip_ua *agent);
 
 /* Creates an agent, in a `sip_ua` that has none. One shard is enough. The number of shards, up to
@@ -971,6 +982,32 @@ static inline uint32_t sip_ua_header_lines(sip_ua *agent, uint32_t place, size_t
     if (agent == NULL || len == NULL || (buffer == NULL && room != 0))
         return SIP_UA_NULL;
     return sip_ua_raw_header_lines(agent, place, len, sip_ua_raw_room(buffer, &otherwise), room);
+}
+
+/* The lines of the last round, as a session file has them behind its head (docs/FORMATS.md); none
+ * before the first round. Appended to a journal before the round's outputs go out, they let an agent
+ * go on in another process: see sip_ua_resume. They are written to the buffer. Faults:
+ * SIP_UA_NO_ROOM, if `len` is more than `room`; SIP_UA_NO_MEMORY. */
+static inline uint32_t sip_ua_round_text(sip_ua *agent, size_t *len, uint8_t *buffer, size_t room)
+{
+    uint8_t otherwise = 0;
+    if (agent == NULL || len == NULL || (buffer == NULL && room != 0))
+        return SIP_UA_NULL;
+    return sip_ua_raw_round_text(agent, len, sip_ua_raw_room(buffer, &otherwise), room);
+}
+
+/* Runs the first round of a text again, as sip_ua_round_text gave it, without outputs. The text may
+ * go on with more rounds: call it again behind the `len` bytes that it took, until none is left. The
+ * agent is a new one, with the configuration of the journal's; it goes on as that one did. If the
+ * process died while it wrote the last round, its outputs didn't go out: where that round gives
+ * SIP_UA_BAD_LINE, cut the journal before it. Faults: SIP_UA_BUSY; SIP_UA_BAD_LINE;
+ * SIP_UA_NO_MEMORY; those of sip_ua_run about the round. */
+static inline uint32_t sip_ua_resume(sip_ua *agent, const void *text, size_t len,
+                                     sip_ua_resumed *resumed)
+{
+    if (agent == NULL || text == NULL || resumed == NULL)
+        return SIP_UA_NULL;
+    return sip_ua_raw_resume(agent, (const uint8_t *)text, len, resumed);
 }
 
 /* Frees the agent; its `sip_ua` has none then. Fault: SIP_UA_NO_AGENT, if it has none. */

@@ -13,7 +13,7 @@ use Rattle.sip_round.specs.declared.output.PlacedOutput.{PlacedOutput}
 use Rattle.sip_round.specs.declared.round.Round.{Round}
 use Rattle.sip_timers.specs.Queue.{is_due}
 use Rattle.sip_host.specs.Handing.{datagram_in, head_of, length_of_line, line_text, lines_text, put_if, put_in, start_of, start_text, text_of, values_text}
-use Rattle.sip_host.specs.Hosting.{Answer, Begins, BeginsAt, HasLinesAt, HasValuesAt, after_one, after_taking}
+use Rattle.sip_host.specs.Hosting.{Answer, Begins, BeginsAt, HasLinesAt, HasValuesAt, after_one, after_taking, last_events}
 use Rattle.sip_host.specs.declared.host.Host.{Host}
 use Rattle.sip_host.specs.declared.host_fault.HostFault.{HostFault}
 use Rattle.sip_host.specs.declared.host_fault.HostFault.TheVariants as fault
@@ -212,7 +212,7 @@ TellsOrNot number told nothing before after Tells =
 -- the datagram at a place
 abbrev pub TellsDatagram : ℕ → ℕ → Datagram → List ℕ → List ℕ → Host → Type 0
 TellsDatagram place number told before after host =
-    let came = datagram_in (event_at host.last_events place) in
+    let came = datagram_in (event_at (last_events host) place) in
     (number ≡ room_answer told.len (length before))
     × (told ≡ datagram_of (option_map (λ c. (c.0, length c.1)) came))
     × (after ≡ put_if (option_map (λ c. c.1) came) before)

@@ -1,4 +1,5 @@
 pub mod Called
+pub mod Journal
 pub mod Owned
 pub mod Status
 pub mod Typed

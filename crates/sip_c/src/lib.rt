@@ -4,6 +4,7 @@
 mod commands;
 mod exports;
 mod handle;
+mod journal;
 mod owned;
 mod questions;
 mod status;
@@ -20,6 +21,7 @@ pub use exports::{
     sip_ua_raw_run, sip_ua_raw_skip,
 };
 pub use handle::Handle;
+pub use journal::{sip_ua_raw_resume, sip_ua_raw_round_text};
 pub use questions::{
     sip_ua_raw_datagram_at, sip_ua_raw_header_line, sip_ua_raw_header_lines,
     sip_ua_raw_header_value, sip_ua_raw_header_values, sip_ua_raw_last_id, sip_ua_raw_start_line,
@@ -27,6 +29,6 @@ pub use questions::{
 };
 pub use typed::TypedOutput;
 pub use values::{
-    Address, Asked, Configuration, Datagram, Due, EventId, HeaderLengths, StartLine, Stats,
-    TextLength, Told,
+    Address, Asked, Configuration, Datagram, Due, EventId, HeaderLengths, Resumed, StartLine,
+    Stats, TextLength, Told,
 };

@@ -1,9 +1,11 @@
 //! The numbers that calls answer.
 
 ghost use Rattle.std.specs.Prelude.{◌≡◌};
+ghost use Rattle.sip_c.specs.Journal as journal;
 ghost use Rattle.sip_c.specs.Status as spec;
 
-use sip_host::{Field, HostFault};
+use sip_host::{Field, HostFault, ResumeFault};
+use sip_journal::LinesFault;
 use sip_round::RoundFault;
 
 pub(crate) const OK: u32 = 0;
@@ -82,5 +84,26 @@ pub(crate) fn number_of_answer(answer: Result<(), HostFault>) -> u32
     match answer {
         Ok(()) => OK,
         Err(fault) => number_of(fault),
+    }
+}
+
+/// The number of a call that runs a round again.
+pub(crate) fn number_of_resume(answer: &Result<usize, ResumeFault>) -> u32
+    ensures { result ≡ journal.number_of_resume answer.now }
+{
+    match answer {
+        Ok(_) => OK,
+        Err(ResumeFault::Busy) => 16,
+        Err(ResumeFault::Lines(fault)) => number_of_lines(*fault),
+        Err(ResumeFault::Round(fault)) => number_of_round(*fault),
+    }
+}
+
+fn number_of_lines(fault: LinesFault) -> u32
+    ensures { result ≡ journal.number_of_lines fault }
+{
+    match fault {
+        LinesFault::TooLong | LinesFault::BadLine(_) | LinesFault::NotOne => 3,
+        LinesFault::NoMemory => 10,
     }
 }

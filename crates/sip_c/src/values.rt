@@ -2,9 +2,11 @@
 
 ghost use Rattle.std.specs.Prelude.{◌≡◌};
 ghost use Rattle.sip_c.specs.Called as spec;
+ghost use Rattle.sip_c.specs.Journal as journal;
 
 use crate::status::number_of_field;
-use sip_host::{Holdings, HostFault, LineLength, NextOutput, StartLength};
+use sip_host::{Holdings, HostFault, LineLength, NextOutput, ResumeFault, StartLength};
+use sip_journal::LinesFault;
 use sip_message::{Addr, Id};
 use sip_round::Config;
 use sip_user::{ProvisionalSupport, Reliability};
@@ -369,6 +371,35 @@ pub(crate) fn start_line_of(start: Option<StartLength>) -> StartLine
             status: u32::from(status),
             method_len: 0,
             len: reason,
+        },
+    }
+}
+
+/// How long the lines of the round were that was run again, in bytes, or the number of the line
+/// that is bad.
+#[repr(C)]
+#[derive(Clone, Copy)]
+pub struct Resumed {
+    pub len: usize,
+    pub bad_line: u64,
+}
+
+/// What is told of a call that runs a round again.
+pub(crate) fn resumed_of(answer: &Result<usize, ResumeFault>) -> Resumed
+    ensures { result ≡ journal.resumed_of answer.now }
+{
+    match answer {
+        Ok(len) => Resumed {
+            len: *len,
+            bad_line: 0,
+        },
+        Err(ResumeFault::Lines(LinesFault::BadLine(line))) => Resumed {
+            len: 0,
+            bad_line: *line,
+        },
+        Err(_) => Resumed {
+            len: 0,
+            bad_line: 0,
         },
     }
 }

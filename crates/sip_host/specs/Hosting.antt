@@ -38,6 +38,15 @@ shard_of cut name shards = spread_shard name shards
 abbrev pub round_at : ℕ → Host → Round
 round_at moment host = record { moment = moment; events = host.events }
 
+-- the events of a round, if there is one
+abbrev pub events_in : Option Round → List Event
+events_in None = []
+events_in (Some round) = round.events
+
+-- the events of a host's last round
+abbrev pub last_events : Host → List Event
+last_events host = events_in host.last_round
+
 -- the output with this index in a host's last round
 abbrev pub output_at : Host → ℕ → Option Output
 output_at host index = option_map (λ placed. placed.output) (slice_get host.outputs.items index)
@@ -68,7 +77,7 @@ Reports output old new = IsSomeAnd (sent_key (output_at old output))
 
 -- Whatever rounds the agent stood for, it now stands for one more: that of the host's events at
 -- this moment. The outputs are the answer to that round after them, each with its place. The
--- round's events are kept, none is left, no output is taken, and the next command has the same
+-- round is kept, no event is left, no output is taken, and the next command has the same
 -- headers.
 pub record IsAnswered (moment : ℕ) (old new : Host) : Type 0 where
   pub stands : (config : Config) (rounds : List Round)
@@ -82,7 +91,7 @@ pub record IsAnswered (moment : ℕ) (old new : Host) : Type 0 where
       → StandsFor shard_of old.agent config rounds
       → answers config (rounds ++ round_at moment old ∷ [])
       ≡ answers config rounds ++ map (λ placed. placed.output) new.outputs.items ∷ []
-  pub kept : new.last_events ≡ old.events
+  pub kept : new.last_round ≡ Some (round_at moment old)
   pub no_events : new.events ≡ []
   pub none_taken : new.taken ≡ 0
   pub headers : new.headers ≡ old.headers
@@ -99,7 +108,7 @@ pub record Begins (config : Config) (shards : ℕ) (host : Host) : Type 0 where
   pub count : shard_count host.agent ≡ shards
   pub no_headers : host.headers ≡ []
   pub no_events : host.events ≡ []
-  pub no_last_events : host.last_events ≡ []
+  pub no_last_round : host.last_round ≡ None
   pub no_outputs : host.outputs.items ≡ []
   pub none_taken : host.taken ≡ 0
 
@@ -175,19 +184,19 @@ pub record HoldsSo (host : Host) (holds : Holdings) : Type 0 where
 
 -- what its start line says; none if no datagram came in there
 pub record BeginsAt (host : Host) (place : ℕ) (says : Option (FirstLine (List ℕ))) : Type 0 where
-  pub of_datagram : IfSome (datagram_at host.last_events place) (BeginsWith says)
-  pub none : datagram_at host.last_events place ≡ None → says ≡ None
+  pub of_datagram : IfSome (datagram_at (last_events host) place) (BeginsWith says)
+  pub none : datagram_at (last_events host) place ≡ None → says ≡ None
 
 -- the values of a header
 pub record HasValuesAt (host : Host) (place : ℕ) (name : List ℕ) (values : List (List ℕ)) :
     Type 0 where
-  pub of_datagram : IfSome (datagram_at host.last_events place) (HasValues name values)
-  pub none : datagram_at host.last_events place ≡ None → values ≡ []
+  pub of_datagram : IfSome (datagram_at (last_events host) place) (HasValues name values)
+  pub none : datagram_at (last_events host) place ≡ None → values ≡ []
 
 -- all header lines
 pub record HasLinesAt (host : Host) (place : ℕ) (lines : List HeaderLine) : Type 0 where
-  pub of_datagram : IfSome (datagram_at host.last_events place) (HasHeaderLines lines)
-  pub none : datagram_at host.last_events place ≡ None → lines ≡ []
+  pub of_datagram : IfSome (datagram_at (last_events host) place) (HasHeaderLines lines)
+  pub none : datagram_at (last_events host) place ≡ None → lines ≡ []
 
 -- ---- what a datagram would do
 

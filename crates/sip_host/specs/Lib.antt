@@ -2,3 +2,4 @@ pub mod Absolute
 pub mod Asking
 pub mod Handing
 pub mod Hosting
+pub mod Resuming

@@ -1,6 +1,6 @@
 //! A host's agent: events go in, rounds run, outputs come out.
 
-ghost use Rattle.std.specs.Prelude.{◌≡◌, ◌⊎◌, Option, ◌<◌, ◌≤◌, ◌+◌, ◌++◌, ◌∷◌, [], ℕ, List, IfOk, IfSome, Err, None, Ok, OnErr, OnOk, Some, length, false, nat_lt, if◌then◌else◌};
+ghost use Rattle.std.specs.Prelude.{◌≡◌, ◌⊎◌, Option, ◌<◌, ◌≤◌, ◌+◌, ◌++◌, ◌∷◌, [], ℕ, List, IfOk, IfSome, Err, None, Ok, OnErr, OnOk, Some, length, false, nat_lt, true, if◌then◌else◌};
 ghost use Rattle.std.specs.List.{slice_get};
 ghost use Rattle.std.specs.Option.{option_copied, option_map};
 ghost use Rattle.sip_timers.specs.Queue.{is_due};
@@ -19,7 +19,12 @@ ghost use Rattle.sip_files.specs.Given.{with_given};
 ghost use Rattle.sip_round.specs.declared.round.Event.TheVariants.{Command};
 ghost use Rattle.sip_host.specs.Asking.{Makes, TakesCommand, TakesHeader, ack_of, cancel_of, invite_of, plain_of, prack_of, request_of, respond_of, without_headers};
 ghost use Rattle.sip_host.specs.Handing.{datagram_in, head_of, length_of_line, line_text, lines_text, put_if, put_in, start_of, start_text, text_of, values_text};
-ghost use Rattle.sip_host.specs.Hosting.{Begins, BeginsAt, HasLinesAt, HasValuesAt, HoldsSo, RunsRound, TakesDatagram, TakesFailure, TakesLine, TakesLines, TellsIfItBegins, after_one, after_taking, last_id_of, output_at, shard_of, with_events};
+ghost use Rattle.sip_host.specs.Hosting.{Begins, BeginsAt, HasLinesAt, HasValuesAt, HoldsSo, RunsRound, TakesDatagram, TakesFailure, TakesLine, TakesLines, TellsIfItBegins, after_one, after_taking, last_events, last_id_of, output_at, shard_of, with_events};
+ghost use Rattle.sip_files.specs.Written.{IsSessionRound};
+ghost use Rattle.sip_host.specs.Resuming.{GoesOn, Resumes, is_idle, text_of_round};
+ghost use Rattle.sip_journal.specs.Rounds.{SpellsRound};
+ghost use Rattle.sip_round.specs.AgentState.{refusal_of};
+ghost use Rattle.sip_round.specs.declared.round_fault.RoundFault.TheVariants as round_fault;
 ghost use Rattle.sip_host.specs.declared.field.Field.TheVariants as field;
 ghost use Rattle.sip_host.specs.declared.host_fault.HostFault.TheVariants as fault;
 
@@ -38,20 +43,26 @@ use crate::holdings::Holdings;
 use crate::host_fault::HostFault;
 use crate::line_length::LineLength;
 use crate::next_output::NextOutput;
+use crate::resume_fault::ResumeFault;
 use crate::start_length::StartLength;
-use sip_files::{GivenHeader, read_event_line, read_event_lines, with_given};
+use sip_files::{
+    FileKind, GivenHeader, read_event_line, read_event_lines, with_given, write_file_round,
+};
+use sip_journal::laws::what_is_written_are_the_lines_of_a_round;
+use sip_journal::{first_round_of, read_round};
 use sip_message::{Addr, Id, ReadFault, Spread, Token};
 use sip_reader::{FirstLine, HeaderLine, header_lines, header_values, read, start_line};
 use sip_round::{
-    Agent, Config, Event, MAX_EVENTS_OF_ROUND, NoMemory, PlacedOutput, Round, datagram_at, event_at,
+    Agent, Config, Event, MAX_EVENTS_OF_ROUND, NoMemory, PlacedOutput, Round, RoundFault,
+    datagram_at, event_at,
 };
 use sip_text::{Series, Text};
 use sip_user::UserCommand;
 use std::alloc::{AllocError, Global};
 use std::mem;
 
-/// One user agent, the headers of its next command, the events of its next round, and the events
-/// and outputs of its last round.
+/// One user agent, the headers of its next command, the events of its next round, and its last round
+/// with the outputs.
 #[derive(Drop)]
 pub struct Host {
     alloc: Global,
@@ -59,7 +70,7 @@ pub struct Host {
     // The headers of the next command that is made of fields.
     headers: Series<GivenHeader>,
     events: Series<Event>,
-    last_events: Series<Event>,
+    last_round: Option<Round>,
     outputs: Vec<PlacedOutput>,
     taken: usize,
 }
@@ -80,7 +91,7 @@ impl Host {
             agent: Agent::new(alloc, config, shards, Spread)?,
             headers: Series::new(alloc),
             events: Series::new(alloc),
-            last_events: Series::new(alloc),
+            last_round: None,
             outputs: Vec::new(alloc),
             taken: 0,
         })
@@ -280,7 +291,7 @@ impl Host {
         let round = Round { moment, events };
         match self.agent.run_round_in_turn_with_places(&round) {
             Ok(outputs) => {
-                self.last_events = round.events;
+                self.last_round = Some(round);
                 self.outputs = outputs;
                 self.taken = 0;
                 Ok(())
@@ -290,6 +301,46 @@ impl Host {
                 Err(HostFault::Round(fault))
             }
         }
+    }
+
+    /// The lines of the last round, as a session file has them behind its head; none before the
+    /// first round. A host that writes them to a journal, before it sends what the round gives, can
+    /// go on from there in another process: see [`Host::resume`].
+    ///
+    /// # Errors
+    ///
+    /// Memory ran out.
+    pub fn round_text(&self) -> Result<Vec<u8>, AllocError>
+        ensures written { IfOk result (λ text. text.items ≡ text_of_round self.now.last_round) }
+        ensures spelled { IfOk result (λ text. IfSome self.now.last_round
+            (λ round. IsSessionRound round → SpellsRound text.items round)) }
+    {
+        what_is_written_are_the_lines_of_a_round();
+        match &self.last_round {
+            Some(round) => write_file_round(self.alloc, FileKind::Session, round),
+            None => Ok(Vec::new(self.alloc)),
+        }
+    }
+
+    /// Runs the first round of a text again, as [`Host::round_text`] gave it, and tells how long
+    /// its lines are. It gives no outputs. The text can go on with the lines of more rounds, each
+    /// for a further call. A host that is new, and begun as the one of the journal was, goes on as
+    /// that one once all its rounds were run again.
+    ///
+    /// # Errors
+    ///
+    /// `Busy`; otherwise the first fault of the lines, or the reason why the agent refuses the
+    /// round. All faults but `Round(NoMemory)` with `broken` leave the host as it is.
+    pub fn resume(&mut self, text: &[u8]) -> Result<usize, ResumeFault>
+        ensures { Resumes text.now self.old self.new result }
+    {
+        if !self.is_idle() {
+            return Err(ResumeFault::Busy);
+        }
+        let lines = first_round_of(text);
+        let round = read_round(self.alloc, lines)?;
+        self.go_on(round)?;
+        Ok(lines.len())
     }
 
     /// The next output of the last round, if one is left. If its text fits into the buffer, it goes
@@ -363,9 +414,9 @@ impl Host {
     /// is none at place 0. A notice with a place is about the datagram that came in there. Takes no
     /// memory.
     pub fn event(&self, place: u32) -> Option<&Event>
-        ensures { option_copied result ≡ event_at self.now.last_events place }
+        ensures { option_copied result ≡ event_at (last_events self.now) place }
     {
-        event_at(self.last_events.as_slice(), place)
+        event_at(self.last_events(), place)
     }
 
     /// What the start line of the datagram says that came in at this place of the last round, even
@@ -378,7 +429,7 @@ impl Host {
     pub fn start_line(&self, place: u32) -> Result<Option<FirstLine<Token>>, AllocError>
         ensures { IfOk result (BeginsAt self.now place) }
     {
-        match datagram_at(self.last_events.as_slice(), place) {
+        match datagram_at(self.last_events(), place) {
             Some(bytes) => start_line(self.alloc, bytes.as_slice()),
             None => Ok(None),
         }
@@ -394,7 +445,7 @@ impl Host {
     pub fn header_values(&self, place: u32, name: &[u8]) -> Result<Series<Text>, AllocError>
         ensures { IfOk result (HasValuesAt self.now place name.now) }
     {
-        match datagram_at(self.last_events.as_slice(), place) {
+        match datagram_at(self.last_events(), place) {
             Some(bytes) => header_values(self.alloc, bytes.as_slice(), name),
             None => Ok(Series::new(self.alloc)),
         }
@@ -408,12 +459,12 @@ impl Host {
     ///
     /// Memory ran out.
     pub fn header_lines(&self, place: u32) -> Result<Series<HeaderLine>, AllocError>
-        ensures headers { IfOk result (λ headers. IfSome (datagram_at self.now.last_events place)
+        ensures headers { IfOk result (λ headers. IfSome (datagram_at (last_events self.now) place)
             (HasHeaderLines headers)) }
-        ensures none { IfOk result (λ headers. datagram_at self.now.last_events place ≡ None
+        ensures none { IfOk result (λ headers. datagram_at (last_events self.now) place ≡ None
             → headers ≡ []) }
     {
-        match datagram_at(self.last_events.as_slice(), place) {
+        match datagram_at(self.last_events(), place) {
             Some(bytes) => header_lines(self.alloc, bytes.as_slice()),
             None => Ok(Series::new(self.alloc)),
         }
@@ -423,9 +474,9 @@ impl Host {
     /// one did. Its bytes go to the beginning of the buffer, if they fit. Takes no memory.
     pub fn datagram_at(&self, place: u32, buffer: &mut [u8]) -> Option<(Addr, usize)>
         ensures told { result ≡ option_map (λ came. (came.0, length came.1))
-            (datagram_in (event_at self.now.last_events place)) }
+            (datagram_in (event_at (last_events self.now) place)) }
         ensures put { buffer.new ≡ put_if (option_map (λ came. came.1)
-            (datagram_in (event_at self.now.last_events place))) buffer.old }
+            (datagram_in (event_at (last_events self.now) place))) buffer.old }
     {
         match self.event(place) {
             Some(Event::Datagram { from, bytes }) => {
@@ -619,6 +670,42 @@ impl Host {
         ensures left { self.new ≡ without_headers self.old }
     {
         mem::replace(&mut self.headers, Series::new(self.alloc))
+    }
+
+    // Whether no event waits for the next round, and all outputs of the last one are taken.
+    fn is_idle(&self) -> bool
+        ensures { result ≡ is_idle self.now }
+    {
+        self.events.len() == 0 && self.outputs.len() <= self.taken
+    }
+
+    // Runs a round whose outputs nobody takes.
+    fn go_on(&mut self, round: Round) -> Result<(), RoundFault>
+        requires { is_idle self.old ≡ true }
+        ensures goes_on { OnOk result (GoesOn round self.old self.new) }
+        ensures refused { IfSome (refusal_of self.old.agent round) (λ why. result ≡ Err why) }
+        ensures memory { refusal_of self.old.agent round ≡ None
+            → OnErr result ((result ≡ Err (round_fault.NoMemory false))
+            ⊎ (result ≡ Err (round_fault.NoMemory true))) }
+        ensures same { OnErr result (¬ (result ≡ Err (round_fault.NoMemory true))
+            → self.new ≡ self.old) }
+        ensures broken { result ≡ Err (round_fault.NoMemory true) → self.new.agent.shards ≡ None }
+    {
+        self.agent.run_round_in_turn(&round)?;
+        self.last_round = Some(round);
+        self.outputs = Vec::new(self.alloc);
+        self.taken = 0;
+        Ok(())
+    }
+
+    // The events of the last round.
+    fn last_events(&self) -> &[Event]
+        ensures { result.now ≡ last_events self.now }
+    {
+        match &self.last_round {
+            Some(round) => round.events.as_slice(),
+            None => &[],
+        }
     }
 
     // Adds an event to the next round.

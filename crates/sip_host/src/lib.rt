@@ -14,6 +14,7 @@ mod host;
 mod host_fault;
 mod line_length;
 mod next_output;
+mod resume_fault;
 mod start_length;
 
 pub use field::Field;
@@ -26,4 +27,5 @@ pub use host::Host;
 pub use host_fault::HostFault;
 pub use line_length::LineLength;
 pub use next_output::NextOutput;
+pub use resume_fault::ResumeFault;
 pub use start_length::StartLength;

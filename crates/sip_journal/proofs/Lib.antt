@@ -1,0 +1,2 @@
+pub mod FirstRound
+pub mod HeadLines
