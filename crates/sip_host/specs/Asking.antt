@@ -127,6 +127,8 @@ rules_of (command.Respond c) =
 rules_of (command.Ack c) = dialog_rules c.call_id c.local_tag c.remote_tag
 rules_of (command.Prack c) = dialog_rules c.call_id c.local_tag c.remote_tag
 rules_of (command.Cancel c) = (field.CallId, is_word c.call_id) ∷ []
+rules_of (command.AbandonRequest c) = (field.CallId, is_word c.call_id) ∷ []
+rules_of (command.AbandonDialog c) = dialog_rules c.call_id c.local_tag c.remote_tag
 
 -- the first of these fields that doesn't keep its rule
 abbrev pub first_bad : List (Field × Bool) → Option Field
