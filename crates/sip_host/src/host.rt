@@ -654,8 +654,8 @@ impl Host {
             → TakesCommand wanted self.old self.new result }
     {
         let headers = self.take_headers();
-        self.has_room()?;
-        let Some(command) = with_given(self.alloc, headers, made?)? else {
+        let command = self.with_room(made)?;
+        let Some(command) = with_given(self.alloc, headers, command)? else {
             return Err(HostFault::BadField(Field::Headers));
         };
         self.events.push(Event::Command(command))?;
@@ -718,6 +718,18 @@ impl Host {
         self.has_room()?;
         self.events.push(event)?;
         Ok(())
+    }
+
+    // What was made, if the next round has room for one more event.
+    fn with_room(&self, made: Result<UserCommand, HostFault>) -> Result<UserCommand, HostFault>
+        ensures { result ≡ (if nat_lt (length self.now.events) 65536 then made
+            else Err fault.TooManyEvents) }
+    {
+        if self.events.len() < MAX_EVENTS_OF_ROUND {
+            made
+        } else {
+            Err(HostFault::TooManyEvents)
+        }
     }
 
     // Whether the next round has room for one more event.
