@@ -260,7 +260,7 @@ def reads_many(library: str) -> bool:
 
 def resumes(library: str) -> bool:
     """An agent that goes on from the lines of another's rounds, of which the last isn't whole, gives
-    what that one gives."""
+    what that one gives. A journal may end at any byte: all whole rounds before it are taken."""
     source, journal = ("192.0.2.9", 5060), b""
     invite = (
         b"INVITE sip:a@192.0.2.1 SIP/2.0\r\nVia: SIP/2.0/UDP 192.0.2.9;branch=z9hG4bKx\r\n"
@@ -277,8 +277,11 @@ def resumes(library: str) -> bool:
         one.ask(ring)
         one.run(9)
         journal += one.round_text()
+        for torn in (b"r", b"round", b"round 12"):
+            with Agent(library, ("192.0.2.1", 5060), bytes(32)) as other:
+                assert other.resume(journal + torn) == len(journal)
         with Agent(library, ("192.0.2.1", 5060), bytes(32)) as other:
-            taken = other.resume(journal + b"round 12\n Server: z")
+            taken = other.resume(journal + b"round 12\n Server: z\nresp")
             same = other.round_text() == one.round_text()
             for agent in one, other:
                 agent.ask(answer)

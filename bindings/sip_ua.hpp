@@ -365,8 +365,9 @@ public:
     }
 
     /// Runs the first round of a text again, as round_text gave it, without outputs. Returns how
-    /// many bytes it takes; call it again behind them, until none is left. SIP_UA_BAD_LINE in the
-    /// last round means that it wasn't written whole: cut the journal before it.
+    /// many bytes it takes; call it again behind them, until none is left. First cut the journal
+    /// behind its last line feed. SIP_UA_BAD_LINE in the last round then means that it wasn't
+    /// written whole: cut the journal before it.
     std::size_t resume(std::string_view text) {
         sip_ua_resumed resumed{};
         check(sip_ua_resume(&agent, text.empty() ? "" : text.data(), text.size(), &resumed));

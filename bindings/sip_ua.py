@@ -880,8 +880,11 @@ class Agent:
 
     def resume(self, rounds: bytes) -> int:
         """Runs rounds again, as `round_text` gave them, without outputs, and returns how many bytes
-        they take. The agent is a new one. If the last round wasn't written whole, it is left: cut
-        the journal there. Any other fault raises an Error; the rounds before it were run."""
+        they take. The agent is a new one. If the last round wasn't written whole, what can't be run
+        of it is left: cut the journal there. Any other fault raises an Error; the rounds before it
+        were run."""
+        # A line without its end would count as one of the round before.
+        rounds = rounds[: rounds.rfind(b"\n") + 1]
         data, at = ctypes.create_string_buffer(rounds, len(rounds)), 0
         told = _Resumed()
         while at < len(rounds):

@@ -999,9 +999,10 @@ static inline uint32_t sip_ua_round_text(sip_ua *agent, size_t *len, uint8_t *bu
 /* Runs the first round of a text again, as sip_ua_round_text gave it, without outputs. The text may
  * go on with more rounds: call it again behind the `len` bytes that it took, until none is left. The
  * agent is a new one, with the configuration of the journal's; it goes on as that one did. If the
- * process died while it wrote the last round, its outputs didn't go out: where that round gives
- * SIP_UA_BAD_LINE, cut the journal before it. Faults: SIP_UA_BUSY; SIP_UA_BAD_LINE;
- * SIP_UA_NO_MEMORY; those of sip_ua_run about the round. */
+ * process died while it wrote the last round, its outputs didn't go out. So first cut the journal
+ * behind its last line feed: a line without one would count as one of the round before. Then, where
+ * the last round gives SIP_UA_BAD_LINE, cut the journal before it. Faults: SIP_UA_BUSY;
+ * SIP_UA_BAD_LINE; SIP_UA_NO_MEMORY; those of sip_ua_run about the round. */
 static inline uint32_t sip_ua_resume(sip_ua *agent, const void *text, size_t len,
                                      sip_ua_resumed *resumed)
 {
