@@ -12,7 +12,7 @@ use Rattle.sip_message.specs.declared.header.Header.{Header}
 use Rattle.sip_header_values.specs.Address.{AreNameAddrs, name_addrs_from}
 use Rattle.sip_header_values.specs.Sequence.{AreTokens, tokens_from}
 use Rattle.sip_header_values.proofs.Rows.{name_addrs_reads, tokens_reads}
-use Rattle.sip_headers.specs.Draft.{no_draft, with_value, with_class, with_line, long_name, other_from}
+use Rattle.sip_headers.specs.HeaderFields.{no_header_fields, with_value, with_class, with_line, long_name, other_from}
 use Rattle.sip_headers.specs.Slot.{listed}
 use Rattle.sip_headers.specs.HeaderLine.{Class, bad, known, other, IsHeaderLine, class_by_name, class_by_parts, class_from, line_from}
 use Rattle.sip_headers.specs.Headers.{IsOther}
@@ -156,7 +156,7 @@ no_others : (others : List Header) → ◌≡◌ {A = Option (List Header)} (Som
 no_others others e = inl (sym (same_some [] others e))
 
 few_of_value : (header : HeaderName) (value : List ℕ) (others : List Header)
-    → (with_value no_draft header value).others ≡ Some others → Few others
+    → (with_value no_header_fields header value).others ≡ Some others → Few others
 few_of_value name.Via value others e = no_others others e
 few_of_value name.MaxForwards value others e = no_others others e
 few_of_value name.From value others e = no_others others e
@@ -173,7 +173,7 @@ few_of_value name.RAck value others e = no_others others e
 few_of_value name.ContentLength value others e = no_others others e
 
 few_of_class : (class : Class) (others : List Header)
-    → (with_class no_draft class).others ≡ Some others → Few others
+    → (with_class no_header_fields class).others ≡ Some others → Few others
 few_of_class bad others e = no_others others e
 few_of_class (known header value) others e = few_of_value header value others e
 few_of_class (other name value) others e =
@@ -203,10 +203,10 @@ last_by others left (Some x) (inr one) parts none =
 
 -- what the last other header of a draft gives, if it has one after one line
 pub last_given : (text : List ℕ) (others left : List Header) (last : Option Header)
-    (made : Option GivenHeader) → (with_line no_draft text).others ≡ Some others
+    (made : Option GivenHeader) → (with_line no_header_fields text).others ≡ Some others
     → others ≡ left ++ option_to_list last → (last ≡ None → others ≡ [])
     → MatchOption last (made ≡ None) (λ x. IsSomeAnd made (λ y. y ≡ given.Other x))
-    → made ≡ other_given (with_line no_draft text).others
+    → made ≡ other_given (with_line no_header_fields text).others
 last_given text others left last made is parts none maps =
     made_of last made maps
     ∙ last_by others left last (few_of_class (class_from text) others is) parts none

@@ -26,7 +26,7 @@ use Rattle.sip_grammar.proofs.Passing.{cut_here, token_passes}
 use Rattle.sip_grammar.proofs.Pieces.{by_bool}
 use Rattle.sip_header_values.proofs.Rows.{name_addrs_reads, tokens_reads}
 use Rattle.sip_grammar.proofs.WrittenBytes.{solid_end, token_solid, header_value_kept, header_value_plain}
-use Rattle.sip_headers.specs.Draft.{long_name}
+use Rattle.sip_headers.specs.HeaderFields.{long_name}
 use Rattle.sip_headers.specs.HeaderLine.{IsHeaderLine, line_from}
 use Rattle.sip_headers.proofs.NamedLines.{line_reads}
 use Rattle.sip_grammar.proofs.TextEnds.{Good, Again, moved}

@@ -11,7 +11,7 @@ use Rattle.sip_message.specs.declared.header.Header.{Header}
 use Rattle.sip_message.specs.declared.name_addr.NameAddr.{NameAddr}
 use Rattle.sip_header_values.specs.Address.{AreNameAddrs, name_addrs_from}
 use Rattle.sip_header_values.specs.Sequence.{AreTokens, tokens_from}
-use Rattle.sip_headers.specs.Draft.{other_from}
+use Rattle.sip_headers.specs.HeaderFields.{other_from}
 use Rattle.sip_headers.specs.HeaderLine.{Class, bad, known, other, class_from, IsHeaderLine}
 use Rattle.sip_headers.specs.Headers.{IsOther}
 use Rattle.sip_user.specs.declared.command.DialogBody.{DialogBody}

@@ -4,12 +4,12 @@
 ghost use Rattle.std.specs.Prelude.{◌≡◌, IfOk};
 ghost use Rattle.sip_files.specs.Given as given;
 ghost use Rattle.sip_files.specs.Steps.ReadLine as reading;
-ghost use Rattle.sip_headers.specs.Draft.{no_draft, with_line};
+ghost use Rattle.sip_headers.specs.HeaderFields.{no_header_fields, with_line};
 
 use crate::version::Version;
 use crate::words::read_rest;
 use sip_header_values::{AddressListRow, Row, TokenListRow};
-use sip_headers::{Draft, LineClass, class_of};
+use sip_headers::{HeaderFields, LineClass, class_of};
 use sip_message::{Header, HeaderName, NameAddr, Token};
 use sip_text::Series;
 use std::alloc::{AllocError, Global};
@@ -102,9 +102,10 @@ fn read_value(
 
 // Another header, with its own name. The draft of a message puts it under its long name.
 fn read_other(alloc: Global, line: &[u8]) -> Result<Option<GivenHeader>, AllocError>
-    ensures { IfOk result (λ made. made ≡ given.other_given (with_line no_draft line.now).others) }
+    ensures { IfOk result
+        (λ made. made ≡ given.other_given (with_line no_header_fields line.now).others) }
 {
-    let mut draft = Draft::new(alloc);
+    let mut draft = HeaderFields::new(alloc);
     draft.add(alloc, line)?;
     let Some(others) = draft.others.take() else {
         return Ok(None);

@@ -7,7 +7,7 @@ use Rattle.sip_grammar.specs.HeaderEntry.{entry, headers, is_needed}
 use Rattle.sip_headers.specs.Complete.{slot_of, IsComplete, draft_with}
 use Rattle.sip_headers.specs.Headers.{Headers}
 use Rattle.sip_headers.specs.Presence.{slot_presence, list_presence, presence_of, is_nowhere, is_repeated, is_unfit, has_bad_header, missing, repeated}
-use Rattle.sip_headers.specs.declared.draft.Draft.{Draft}
+use Rattle.sip_headers.specs.declared.header_fields.HeaderFields.{HeaderFields}
 use Rattle.sip_headers.specs.declared.slot.Slot.{Slot}
 use Rattle.sip_headers.specs.declared.slot.Slot.TheVariants.{Absent, Once, Twice, Bad}
 use Rattle.sip_headers.proofs.Presences.{fits}
@@ -47,7 +47,8 @@ pub is_there : {X : Type 0} (o : Option X) → is_none o ≡ false → (x : X) �
 is_there None e = absurd cc
 is_there (Some x) e = (x, refl)
 
-pub headers_there : (d : Draft) → has_bad_header d ≡ false → missing d ≡ None → repeated d ≡ None
+pub headers_there : (d : HeaderFields) → has_bad_header d ≡ false → missing d ≡ None
+    → repeated d ≡ None
     → (h : Headers) × (d ≡ draft_with h)
 headers_there d bad none single =
     let flags = or_parts _ _ (or_parts _ _ bad).0 in
@@ -122,13 +123,14 @@ complete_with h = record {
   others = refl;
 }
 
-pub complete_of : (d : Draft) → has_bad_header d ≡ false → missing d ≡ None → repeated d ≡ None
+pub complete_of : (d : HeaderFields) → has_bad_header d ≡ false → missing d ≡ None
+    → repeated d ≡ None
     → IsComplete d
 complete_of d bad none single =
     let all = headers_there d bad none single in
-    subst (λ (e : Draft). IsComplete e) (sym all.1) (complete_with all.0)
+    subst (λ (e : HeaderFields). IsComplete e) (sym all.1) (complete_with all.0)
 
-pub via_there : (d : Draft) → missing d ≡ None → is_nowhere (list_presence d.vias) ≡ false
+pub via_there : (d : HeaderFields) → missing d ≡ None → is_nowhere (list_presence d.vias) ≡ false
 via_there d none =
     (not_found (λ header. is_needed (entry header).kind && is_nowhere (presence_of d header))
     headers none).0

@@ -9,11 +9,11 @@ use Rattle.sip_grammar.specs.declared.header_name.HeaderName.TheVariants as name
 use Rattle.sip_text.proofs.ReadForms.{Reads, not_read}
 use Rattle.sip_header_values.proofs.Rows.{numeral_reads, party_reads, name_addrs_reads, vias_reads, tokens_reads, call_id_reads, cseq_reads, rack_reads}
 use Rattle.sip_headers.specs.Steps.Columns.{continued}
-use Rattle.sip_headers.specs.Draft.{with_value, with_class, with_line, no_draft, draft_of}
+use Rattle.sip_headers.specs.HeaderFields.{with_value, with_class, with_line, no_header_fields, draft_of}
 use Rattle.sip_headers.specs.HeaderLine.{Class, bad, known, other, class_from}
 use Rattle.sip_headers.specs.Section.{IsDraftOf, before_values, values, before_others, others_of, is_bad_class, has_bad_line}
 use Rattle.sip_headers.specs.Slot.{met, listed, slot_from, list_from, HasBad, IsSlot, IsList}
-use Rattle.sip_headers.specs.declared.draft.Draft.{Draft}
+use Rattle.sip_headers.specs.declared.header_fields.HeaderFields.{HeaderFields}
 use Rattle.sip_headers.specs.declared.slot.Slot.{Slot}
 use Rattle.sip_headers.specs.declared.slot.Slot.TheVariants.{Absent, Once, Twice, Bad}
 
@@ -22,7 +22,7 @@ or_true true = refl
 or_true false = refl
 
 -- one more value of one header
-step_value : (d : Draft) (header : HeaderName) (value : List ℕ) (rest : Bool)
+step_value : (d : HeaderFields) (header : HeaderName) (value : List ℕ) (rest : Bool)
     (v : HeaderName → List (List ℕ)) (o : List (List ℕ × List ℕ))
     → continued (with_value d header value) rest v o
     ≡ continued d rest (λ h. before_values h (known header value) (v h)) o
@@ -41,7 +41,7 @@ step_value d name.RSeq value rest v o = refl
 step_value d name.RAck value rest v o = refl
 step_value d name.ContentLength value rest v o = refl
 
-step : (d : Draft) (class : Class) (rest : Bool) (v : HeaderName → List (List ℕ))
+step : (d : HeaderFields) (class : Class) (rest : Bool) (v : HeaderName → List (List ℕ))
     (o : List (List ℕ × List ℕ)) → continued (with_class d class) rest v o
     ≡ continued d (is_bad_class class rest) (λ h. before_values h class (v h))
     (before_others class o)
@@ -54,7 +54,7 @@ or_false : (b : Bool) → (b || false) ≡ b
 or_false true = refl
 or_false false = refl
 
-pub fold-with_line : (d : Draft) (lines : List (List ℕ))
+pub fold-with_line : (d : HeaderFields) (lines : List (List ℕ))
     → fold with_line d lines ≡ continued d (has_bad_line lines) (λ h. values h lines)
     (others_of lines)
 fold-with_line d [] = ap (λ b. record d { is_bad = b }) (sym (or_false d.is_bad))
@@ -171,7 +171,8 @@ list_is {f = f} {P = P} reads vs = list_on f P reads (Some []) [] vs ([], tt, re
 
 pub is_draft : (lines : List (List ℕ)) → IsDraftOf (draft_of lines) lines
 is_draft lines =
-    subst (λ (d : Draft). IsDraftOf d lines) (sym (fold-with_line no_draft lines)) (record {
+    subst (λ (d : HeaderFields). IsDraftOf d lines)
+    (sym (fold-with_line no_header_fields lines)) (record {
       bad_is = refl;
       vias = list_is vias_reads (values name.Via lines);
       max_forwards = slot_is numeral_reads (values name.MaxForwards lines);

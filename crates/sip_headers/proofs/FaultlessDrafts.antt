@@ -7,7 +7,7 @@ use Rattle.sip_message.specs.declared.fault.ReadFault.TheVariants as fault
 use Rattle.sip_headers.specs.Complete.{slot_of, draft_with, fault_in, first_fault, unless_fault, faultless}
 use Rattle.sip_headers.specs.Headers.{Headers}
 use Rattle.sip_headers.specs.Presence.{slot_presence, list_presence, presence_of, is_nowhere, is_repeated, is_unfit, has_bad_header, missing, repeated}
-use Rattle.sip_headers.specs.declared.draft.Draft.{Draft}
+use Rattle.sip_headers.specs.declared.header_fields.HeaderFields.{HeaderFields}
 use Rattle.sip_headers.proofs.Presences.{list_never_repeated}
 
 none_any : {A : Type 0} (p : A → Bool) (xs : List A) → AllByRecursion (λ x. p x ≡ false) xs
@@ -143,7 +143,7 @@ none_repeated h =
       ),
     )
 
-pub fault_from : (d : Draft) (b : Bool) (m r : Option HeaderName) → has_bad_header d ≡ b
+pub fault_from : (d : HeaderFields) (b : Bool) (m r : Option HeaderName) → has_bad_header d ≡ b
     → missing d ≡ m → repeated d ≡ r → fault_in d ≡ cond b (Some fault.BadHeader) (first_fault m r)
 unfolding fault_in
 fault_from d b m r e f g =

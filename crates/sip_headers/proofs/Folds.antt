@@ -13,10 +13,10 @@ use Rattle.sip_text.specs.Trimmed.{trimmed_end}
 use Rattle.sip_text.specs.Unfolded.{begins_blank, joined}
 use Rattle.sip_text.proofs.LineParts.{at_lf, longer, split_at, slice_split-cut_at}
 use Rattle.sip_text.proofs.Separators.{mapped}
-use Rattle.sip_headers.specs.Draft.{with_line}
+use Rattle.sip_headers.specs.HeaderFields.{with_line}
 use Rattle.sip_headers.specs.Folding.{Section, with_line_of, section_from, section_at, folded_onto, whole_lines, whole_section}
 use Rattle.sip_headers.specs.Steps.Drafted.{onto_section, behind_line, drafted_on, onto_lines, lines_from, lines_at}
-use Rattle.sip_headers.specs.declared.draft.Draft.{Draft}
+use Rattle.sip_headers.specs.declared.header_fields.HeaderFields.{HeaderFields}
 
 -- ---- the lines of a text
 
@@ -107,7 +107,8 @@ ends_unended line text e = rw (no_line text e) refl
 
 -- ---- the header lines
 
-pub section_ends : (draft : Draft) (text line after : List ℕ) (total : Option (Draft × List ℕ))
+pub section_ends : (draft : HeaderFields) (text line after : List ℕ)
+    (total : Option (HeaderFields × List ℕ))
     → line_at text ≡ Some (line, after) → line ≡ []
     → drafted_on draft (whole_section (section_at text)) ≡ total → Some (draft, after) ≡ total
 section_ends draft text line after total e empty so_far =
@@ -121,13 +122,13 @@ whole_behind [] rest section full = absurd (full refl)
 whole_behind (b ∷ bs) rest None full = refl
 whole_behind (b ∷ bs) rest (Some s) full = refl
 
-drafted_behind : (draft : Draft) (line : List ℕ) (section : Option Section)
+drafted_behind : (draft : HeaderFields) (line : List ℕ) (section : Option Section)
     → drafted_on draft (behind_line line section) ≡ drafted_on (with_line draft line) section
 drafted_behind draft line None = refl
 drafted_behind draft line (Some s) = refl
 
-pub section_goes_on : (draft : Draft) (text line after whole rest : List ℕ)
-    (total : Option (Draft × List ℕ)) → line_at text ≡ Some (line, after) → (line ≡ [] → ⊥)
+pub section_goes_on : (draft : HeaderFields) (text line after whole rest : List ℕ)
+    (total : Option (HeaderFields × List ℕ)) → line_at text ≡ Some (line, after) → (line ≡ [] → ⊥)
     → onto_section line (section_at after) ≡ behind_line whole (whole_section (section_at rest))
     → drafted_on draft (whole_section (section_at text)) ≡ total
     → drafted_on (with_line draft whole) (whole_section (section_at rest)) ≡ total
@@ -137,7 +138,7 @@ section_goes_on draft text line after whole rest total e full whole_is so_far =
     ∙ whole_behind line after (section_at after) full ∙ whole_is))
     ∙ so_far
 
-pub section_stops : (draft : Draft) (text : List ℕ) (total : Option (Draft × List ℕ))
+pub section_stops : (draft : HeaderFields) (text : List ℕ) (total : Option (HeaderFields × List ℕ))
     → line_at text ≡ None → drafted_on draft (whole_section (section_at text)) ≡ total
     → None ≡ total
 section_stops draft text total e so_far =

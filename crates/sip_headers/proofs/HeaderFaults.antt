@@ -8,14 +8,14 @@ use Rattle.sip_grammar.specs.declared.header_name.HeaderName.{HeaderName}
 use Rattle.sip_message.specs.declared.fault.ReadFault.{ReadFault}
 use Rattle.sip_message.specs.declared.fault.ReadFault.TheVariants as fault
 use Rattle.sip_headers.specs.Complete.{draft_with, first_fault, unless_fault, faultless}
-use Rattle.sip_headers.specs.Draft.{draft_of}
+use Rattle.sip_headers.specs.HeaderFields.{draft_of}
 use Rattle.sip_headers.specs.Faults.{Decides, HasBadValue, HasBadHeader, HeaderCondition, header_faults}
 use Rattle.sip_message.specs.declared.header.Header.{Header}
 use Rattle.sip_headers.specs.Headers.{AreHeaders, Headers, IsOther}
 use Rattle.sip_headers.specs.HeaderLine.{IsHeaderLine}
 use Rattle.sip_headers.specs.Presence.{presence_of, is_unfit, has_bad_header, missing, repeated}
 use Rattle.sip_headers.specs.Section.{has_bad_line, has_no_values, values}
-use Rattle.sip_headers.specs.declared.draft.Draft.{Draft}
+use Rattle.sip_headers.specs.declared.header_fields.HeaderFields.{HeaderFields}
 use Rattle.sip_headers.proofs.Drafts.{is_draft}
 use Rattle.sip_headers.proofs.FaultOrder.{first_more, first_behind, none_both, told_first, told_none, Tells, found_first, found_nothing}
 use Rattle.sip_headers.proofs.FaultlessDrafts.{fault_from}
@@ -256,10 +256,10 @@ pub decided : (lines : List (List ℕ))
 decided lines = by_names lines (faultless (draft_of lines)) (decided_by_line lines)
 
 -- a draft of lines that has no fault, and what it holds
-abbrev Holds : List (List ℕ) → Draft → Type 0
+abbrev Holds : List (List ℕ) → HeaderFields → Type 0
 Holds lines d = (h : Headers) × AreHeaders h lines × (d ≡ draft_with h)
 
-found_from : (lines : List (List ℕ)) (d : Draft) (b : Bool) (m r : Option HeaderName)
+found_from : (lines : List (List ℕ)) (d : HeaderFields) (b : Bool) (m r : Option HeaderName)
     → has_bad_header (draft_of lines) ≡ b → missing (draft_of lines) ≡ m
     → repeated (draft_of lines) ≡ r
     → unless_fault (cond b (Some fault.BadHeader) (first_fault m r)) (draft_of lines) ≡ Ok d
@@ -268,13 +268,13 @@ found_from lines d true m r bad none single e = absurd cc
 found_from lines d false (Some n) r bad none single e = absurd cc
 found_from lines d false None (Some n) bad none single e = absurd cc
 found_from lines d false None None bad none single e =
-    subst (λ (f : Draft). Holds lines f) (same_Ok (draft_of lines) d e)
+    subst (λ (f : HeaderFields). Holds lines f) (same_Ok (draft_of lines) d e)
     (complete_headers lines bad none single)
   where
-    same_Ok : (x y : Draft) → ◌≡◌ {A = Result Draft ReadFault} (Ok x) (Ok y) → x ≡ y
+    same_Ok : (x y : HeaderFields) → ◌≡◌ {A = Result HeaderFields ReadFault} (Ok x) (Ok y) → x ≡ y
     same_Ok x y p = cc
 
-pub headers_take : (lines : List (List ℕ)) (d : Draft) → faultless (draft_of lines) ≡ Ok d
+pub headers_take : (lines : List (List ℕ)) (d : HeaderFields) → faultless (draft_of lines) ≡ Ok d
     → Holds lines d
 headers_take lines d e =
     let f = draft_of lines in

@@ -7,13 +7,13 @@ use Rattle.sip_text.proofs.ReadForms.{Reads}
 use Rattle.sip_grammar.specs.declared.header_name.HeaderName.TheVariants as name
 use Rattle.sip_header_values.proofs.Rows.{numeral_reads, party_reads, name_addrs_reads, vias_reads, tokens_reads, call_id_reads, cseq_reads, rack_reads}
 use Rattle.sip_headers.specs.Complete.{slot_of, draft_with, faultless}
-use Rattle.sip_headers.specs.Draft.{no_draft, draft_of}
+use Rattle.sip_headers.specs.HeaderFields.{no_header_fields, draft_of}
 use Rattle.sip_headers.specs.Headers.{Headers, One, AtMostOne, AreHeaders}
 use Rattle.sip_headers.specs.Slot.{Many}
 use Rattle.sip_headers.specs.Presence.{list_presence, is_nowhere, has_bad_header, missing, repeated}
 use Rattle.sip_headers.specs.Section.{values, others_of, IsDraftOf}
 use Rattle.sip_headers.specs.Slot.{met, listed, slot_from, list_from, IsSlot}
-use Rattle.sip_headers.specs.declared.draft.Draft.{Draft}
+use Rattle.sip_headers.specs.declared.header_fields.HeaderFields.{HeaderFields}
 use Rattle.sip_headers.specs.declared.slot.Slot.TheVariants.{Absent, Once}
 use Rattle.sip_headers.proofs.Completes.{headers_there, via_there}
 use Rattle.sip_headers.proofs.Drafts.{fold-with_line, is_draft}
@@ -61,7 +61,7 @@ at_most_one_is P (Some x) vs is = is
 pub drafted : (h : Headers) (lines : List (List ℕ)) → ByLine h lines
     → draft_of lines ≡ draft_with h
 drafted h lines is =
-    fold-with_line no_draft lines ∙ (λ i. record {
+    fold-with_line no_header_fields lines ∙ (λ i. record {
       is_bad = good_lines lines is.0 i;
       vias = many_list vias_reads h.vias (values name.Via lines) is.1.vias i;
       max_forwards = open_slot numeral_reads h.max_forwards
@@ -130,7 +130,7 @@ only_headers g h lines is also =
 pub headers_are : (h : Headers) (lines : List (List ℕ)) → draft_of lines ≡ draft_with h
     → (h.vias ≡ [] → ⊥) → AreHeaders h lines
 headers_are h lines same some =
-    let is = subst (λ (d : Draft). IsDraftOf d lines) same (is_draft lines) in
+    let is = subst (λ (d : HeaderFields). IsDraftOf d lines) same (is_draft lines) in
     by_name h lines (
       lines_are lines (sym is.bad_is),
       record {
@@ -151,7 +151,7 @@ headers_are h lines same some =
         rack = at_most_one_is _ h.rack (values name.RAck lines) is.rack;
         content_length =
             at_most_one_is _ h.content_length (values name.ContentLength lines) is.content_length;
-        others = others_are h.others lines (ap (λ (d : Draft). d.others) same);
+        others = others_are h.others lines (ap (λ (d : HeaderFields). d.others) same);
       },
     )
 
@@ -163,7 +163,7 @@ complete_headers lines bad none single =
     let there = via_there (draft_of lines) none in
     let some : all.0.vias ≡ [] → ⊥ = λ (e : all.0.vias ≡ []).
     let nowhere : is_nowhere (list_presence (draft_of lines).vias) ≡ true =
-    ap (λ (d : Draft). is_nowhere (list_presence d.vias)) all.1
+    ap (λ (d : HeaderFields). is_nowhere (list_presence d.vias)) all.1
     ∙ ap (λ vs. is_nowhere (list_presence (Some vs))) e in
     let f : true ≡ false = sym nowhere ∙ there in
     cc in

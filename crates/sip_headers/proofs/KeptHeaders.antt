@@ -9,12 +9,12 @@ use Rattle.sip_grammar.specs.HeaderValue.{is_header_value}
 use Rattle.sip_grammar.specs.OtherName.{is_other_name}
 use Rattle.sip_grammar.specs.declared.header_name.HeaderName.{HeaderName}
 use Rattle.sip_message.specs.declared.header.Header.{Header}
-use Rattle.sip_headers.specs.Draft.{long_name, other_from, no_draft, draft_of}
+use Rattle.sip_headers.specs.HeaderFields.{long_name, other_from, no_header_fields, draft_of}
 use Rattle.sip_headers.specs.HeaderLine.{class_by_name, class_by_parts, line_from}
 use Rattle.sip_headers.specs.Headers.{IsOther}
 use Rattle.sip_headers.specs.Section.{is_bad_class, has_bad_line, others_of}
 use Rattle.sip_headers.specs.Slot.{listed}
-use Rattle.sip_headers.specs.declared.draft.Draft.{Draft}
+use Rattle.sip_headers.specs.declared.header_fields.HeaderFields.{HeaderFields}
 use Rattle.sip_headers.proofs.Drafts.{fold-with_line}
 use Rattle.sip_headers.proofs.NamedLines.{IsSomeHeaderLine, line_reads}
 
@@ -129,7 +129,7 @@ others_take front all (o ∷ os) e =
 
 pub others_column : (lines : List (List ℕ))
     → (draft_of lines).others ≡ fold with_other (Some []) (others_of lines)
-others_column lines = ap (λ (d : Draft). d.others) (fold-with_line no_draft lines)
+others_column lines = ap (λ (d : HeaderFields). d.others) (fold-with_line no_header_fields lines)
 
 pub others_are : (kept : List Header) (lines : List (List ℕ)) → (draft_of lines).others ≡ Some kept
     → AllZip IsOther kept (others_of lines)

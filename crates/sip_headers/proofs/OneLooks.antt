@@ -7,7 +7,7 @@ use Rattle.sip_headers.specs.Complete.{slot_of, once, fault_in, unless_fault, dr
 use Rattle.sip_headers.specs.Headers.{Headers}
 use Rattle.sip_headers.specs.Steps.OneLook.{is_fitting, is_at_most_once, is_whole}
 use Rattle.sip_headers.specs.Presence.{list_presence}
-use Rattle.sip_headers.specs.declared.draft.Draft.{Draft}
+use Rattle.sip_headers.specs.declared.header_fields.HeaderFields.{HeaderFields}
 use Rattle.sip_headers.specs.declared.slot.Slot.{Slot}
 use Rattle.sip_headers.specs.declared.slot.Slot.TheVariants.{Absent, Once, Twice, Bad}
 use Rattle.sip_headers.proofs.Completes.{complete_with}
@@ -40,7 +40,7 @@ fitting_there None e = absurd cc
 fitting_there (Some []) e = absurd cc
 fitting_there (Some (x ∷ xs)) e = (x ∷ xs, refl, λ none. absurd cc)
 
-whole_draft : (d : Draft) → is_whole d ≡ true
+whole_draft : (d : HeaderFields) → is_whole d ≡ true
     → (h : Headers) × (d ≡ draft_with h) × (h.vias ≡ [] → ⊥)
 whole_draft d whole =
     let to_supported = and_parts _ _ whole in
@@ -111,14 +111,14 @@ whole_draft d whole =
       vias.2,
     )
 
-none_told : (o : Option ReadFault) (d e : Draft) → unless_fault o d ≡ Ok e → o ≡ None
+none_told : (o : Option ReadFault) (d e : HeaderFields) → unless_fault o d ≡ Ok e → o ≡ None
 none_told None d e same = refl
 none_told (Some fault) d e same = absurd cc
 
-pub whole_faultless : (d : Draft) → is_whole d ≡ true → (fault_in d ≡ None) × IsComplete d
+pub whole_faultless : (d : HeaderFields) → is_whole d ≡ true → (fault_in d ≡ None) × IsComplete d
 whole_faultless d whole =
     let all = whole_draft d whole in
-    subst (λ (e : Draft). (fault_in e ≡ None) × IsComplete e) (sym all.1) (
+    subst (λ (e : HeaderFields). (fault_in e ≡ None) × IsComplete e) (sym all.1) (
       none_told (fault_in (draft_with all.0)) (draft_with all.0) (draft_with all.0)
           (no_fault all.0 all.2),
       complete_with all.0,

@@ -13,7 +13,7 @@ use Rattle.sip_grammar.specs.HeaderValue.{has_no_blank_ends, has_no_line_byte, i
 use Rattle.sip_grammar.specs.OtherName.{is_compact_name, is_other_name}
 use Rattle.sip_grammar.specs.declared.header_name.HeaderName.{HeaderName}
 use Rattle.sip_message.specs.declared.header.Header.{Header}
-use Rattle.sip_headers.specs.Draft.{long_name}
+use Rattle.sip_headers.specs.HeaderFields.{long_name}
 use Rattle.sip_headers.specs.HeaderLine.{Class, bad, known, other, IsHeaderLine, class_by_name, class_by_parts, class_from, line_from}
 use Rattle.sip_headers.specs.Headers.{IsOther}
 use Rattle.sip_headers.specs.Named.{others_in}

@@ -25,11 +25,11 @@ use Rattle.sip_grammar.proofs.Cuts.{at_again}
 use Rattle.sip_grammar.proofs.Passing.{cut_here, token_passes}
 use Rattle.sip_grammar.proofs.PlainRuns.{token_is}
 use Rattle.sip_grammar.proofs.WrittenBytes.{no_lf, solid_end, solid_line, token_solid}
-use Rattle.sip_headers.specs.Draft.{with_class}
+use Rattle.sip_headers.specs.HeaderFields.{with_class}
 use Rattle.sip_headers.specs.Steps.Drafted.{drafted_at}
 use Rattle.sip_headers.specs.HeaderLine.{Class, class_by_name, class_from}
 use Rattle.sip_headers.specs.Steps.PlainLine.{IsPlainEnd, IsPlainLine, behind_feed, behind_line_end}
-use Rattle.sip_headers.specs.declared.draft.Draft.{Draft}
+use Rattle.sip_headers.specs.declared.header_fields.HeaderFields.{HeaderFields}
 use Rattle.sip_headers.proofs.Folds.{ends_plain, section_goes_on}
 
 -- ---- the bytes before the first one that passes a test
@@ -171,7 +171,7 @@ plain_line_is text p value after class e end anew is =
 
 -- ---- the lines of a text, one after the other
 
-pub adds_line : (draft : Draft) (text after : List ℕ) (class : Class)
+pub adds_line : (draft : HeaderFields) (text after : List ℕ) (class : Class)
     → IsPlainLine text class after
     → drafted_at (with_class draft class) after ≡ drafted_at draft text
 adds_line draft text after class plain =

@@ -6,11 +6,11 @@ use Rattle.sip_grammar.specs.HeaderEntry.{entry, headers, is_needed, is_single}
 use Rattle.sip_grammar.specs.declared.header_name.HeaderName.TheVariants as name
 use Rattle.sip_header_values.specs.ViaValue.{AreVias}
 use Rattle.sip_header_values.specs.declared.via.ViaDraft.{ViaDraft}
-use Rattle.sip_headers.specs.Draft.{draft_of}
+use Rattle.sip_headers.specs.HeaderFields.{draft_of}
 use Rattle.sip_headers.specs.Presence.{slot_presence, list_presence, presence_of, is_nowhere, is_repeated, is_unfit, has_bad_header, missing, repeated}
 use Rattle.sip_headers.specs.Section.{IsDraftOf, has_no_values, values}
 use Rattle.sip_headers.specs.Slot.{IsSlot, IsList}
-use Rattle.sip_headers.specs.declared.draft.Draft.{Draft}
+use Rattle.sip_headers.specs.declared.header_fields.HeaderFields.{HeaderFields}
 use Rattle.sip_headers.specs.declared.slot.Slot.{Slot}
 use Rattle.sip_headers.specs.declared.slot.Slot.TheVariants.{Absent, Once, Twice, Bad}
 use Rattle.sip_headers.proofs.Drafts.{is_draft}
@@ -81,11 +81,11 @@ via_nowhere (Some (x ∷ xs)) (v ∷ vs) is fit = refl
 
 -- ---- all headers
 
-pub fits : (d : Draft) → has_bad_header d ≡ false
+pub fits : (d : HeaderFields) → has_bad_header d ≡ false
     → AllByRecursion (λ header. is_unfit (presence_of d header) ≡ false) headers
 fits d e = none_of (λ header. is_unfit (presence_of d header)) headers (or_parts _ _ e).1
 
-missing_of : (d : Draft) (lines : List (List ℕ)) → IsDraftOf d lines
+missing_of : (d : HeaderFields) (lines : List (List ℕ)) → IsDraftOf d lines
     → AllByRecursion (λ header. is_unfit (presence_of d header) ≡ false) headers
     → missing d ≡ find (λ header. is_needed (entry header).kind
     && has_no_values (values header lines)) headers
@@ -108,7 +108,7 @@ missing_of d lines is fit =
       ),
     )
 
-repeated_of : (d : Draft) (lines : List (List ℕ)) → IsDraftOf d lines
+repeated_of : (d : HeaderFields) (lines : List (List ℕ)) → IsDraftOf d lines
     → AllByRecursion (λ header. is_unfit (presence_of d header) ≡ false) headers
     → repeated d ≡ find (λ header. is_single (entry header).kind
     && ltb 1 (length (values header lines))) headers

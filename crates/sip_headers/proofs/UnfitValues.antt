@@ -8,7 +8,7 @@ use Rattle.sip_headers.specs.Faults.{HasBadValue}
 use Rattle.sip_headers.specs.Presence.{slot_presence, list_presence, presence_of, is_unfit}
 use Rattle.sip_headers.specs.Section.{IsDraftOf, values}
 use Rattle.sip_headers.specs.Slot.{HasBad, IsSlot, IsList}
-use Rattle.sip_headers.specs.declared.draft.Draft.{Draft}
+use Rattle.sip_headers.specs.declared.header_fields.HeaderFields.{HeaderFields}
 use Rattle.sip_headers.specs.declared.slot.Slot.{Slot}
 use Rattle.sip_headers.specs.declared.slot.Slot.TheVariants.{Absent, Once, Twice, Bad}
 
@@ -52,7 +52,7 @@ list_fits : {X : Type 0} (P : List X → List ℕ → Type 0) (o : Option (List 
 list_fits P None vs is e bad = absurd cc
 list_fits P (Some xs) vs is e bad = zip_no_bad P is.0 vs is.1 bad
 
-pub unfit_value : (d : Draft) (lines : List (List ℕ)) → IsDraftOf d lines → (h : HeaderName)
+pub unfit_value : (d : HeaderFields) (lines : List (List ℕ)) → IsDraftOf d lines → (h : HeaderName)
     → is_unfit (presence_of d h) ≡ true → HasBadValue h (values h lines)
 unfit_value d lines is name.Via e = list_unfit _ d.vias (values name.Via lines) is.vias e
 unfit_value d lines is name.MaxForwards e =
@@ -76,10 +76,11 @@ unfit_value d lines is name.RAck e = slot_unfit _ d.rack (values name.RAck lines
 unfit_value d lines is name.ContentLength e =
     slot_unfit _ d.content_length (values name.ContentLength lines) is.content_length e
 
-abbrev Fits : Draft → Type 0
+abbrev Fits : HeaderFields → Type 0
 Fits d = AllByRecursion (λ header. is_unfit (presence_of d header) ≡ false) headers
 
-pub fit_value : (d : Draft) (lines : List (List ℕ)) → IsDraftOf d lines → Fits d → (h : HeaderName)
+pub fit_value : (d : HeaderFields) (lines : List (List ℕ)) → IsDraftOf d lines → Fits d
+    → (h : HeaderName)
     → HasBadValue h (values h lines) → ⊥
 fit_value d lines is fit name.Via bad = list_fits _ d.vias (values name.Via lines) is.vias fit.0 bad
 fit_value d lines is fit name.From bad =

@@ -7,7 +7,7 @@ use Rattle.sip_message.specs.declared.fault.ReadFault.{ReadFault}
 use Rattle.sip_message.specs.declared.fault.ReadFault.TheVariants as fault
 use Rattle.sip_headers.specs.Headers.{Headers}
 use Rattle.sip_headers.specs.Presence.{has_bad_header, missing, repeated}
-use Rattle.sip_headers.specs.declared.draft.Draft.{Draft}
+use Rattle.sip_headers.specs.declared.header_fields.HeaderFields.{HeaderFields}
 use Rattle.sip_headers.specs.declared.slot.Slot.{Slot}
 use Rattle.sip_headers.specs.declared.slot.Slot.TheVariants.{Absent, Once, Twice, Bad}
 
@@ -20,7 +20,7 @@ first_fault None (Some header) = Some (fault.Repeated header)
 first_fault None None = None
 
 -- the first fault of a draft, by its headers
-unfoldable pub fault_in : Draft → Option ReadFault
+unfoldable pub fault_in : HeaderFields → Option ReadFault
 fault_in d = if has_bad_header d then Some fault.BadHeader else first_fault (missing d) (repeated d)
 
 -- ---- slots
@@ -39,7 +39,7 @@ once Bad = None
 -- ---- all headers
 
 -- each mandatory header is there once, and each list is in its form
-pub record IsComplete (d : Draft) : Type 0 where
+pub record IsComplete (d : HeaderFields) : Type 0 where
   pub vias : is_some d.vias ≡ true
   pub from : is_some (once d.from) ≡ true
   pub to : is_some (once d.to) ≡ true
@@ -53,11 +53,11 @@ pub record IsComplete (d : Draft) : Type 0 where
   pub others : is_some d.others ≡ true
 
 -- the method of the CSeq
-abbrev pub method_in : Draft → Option (List ℕ)
+abbrev pub method_in : HeaderFields → Option (List ℕ)
 method_in d = option_map (λ cseq. cseq.method) (once d.cseq)
 
 -- the draft of lines that have exactly these headers
-abbrev pub draft_with : Headers → Draft
+abbrev pub draft_with : Headers → HeaderFields
 draft_with h = record {
   is_bad = false;
   vias = Some h.vias;
@@ -78,10 +78,10 @@ draft_with h = record {
 }
 
 -- the draft, if it has no fault
-abbrev pub unless_fault : Option ReadFault → Draft → Result Draft ReadFault
+abbrev pub unless_fault : Option ReadFault → HeaderFields → Result HeaderFields ReadFault
 unless_fault (Some e) d = Err e
 unless_fault None d = Ok d
 
 -- the draft, or its first fault
-abbrev pub faultless : Draft → Result Draft ReadFault
+abbrev pub faultless : HeaderFields → Result HeaderFields ReadFault
 faultless d = unless_fault (fault_in d) d

@@ -18,7 +18,7 @@ use Rattle.sip_header_values.specs.declared.numeral.Numeral.{Numeral}
 use Rattle.sip_header_values.specs.declared.sequence.CSeqDraft.{CSeqDraft}
 use Rattle.sip_header_values.specs.declared.sequence.RAckDraft.{RAckDraft}
 use Rattle.sip_header_values.specs.declared.via.ViaDraft.{ViaDraft}
-use Rattle.sip_headers.specs.Draft.{long_name}
+use Rattle.sip_headers.specs.HeaderFields.{long_name}
 use Rattle.sip_headers.specs.Named.{OfHeaderLines, others_in, values_of}
 use Rattle.sip_headers.specs.Slot.{Many}
 

@@ -1,7 +1,7 @@
 pub mod Slot
 pub mod HeaderLine
 pub mod Named
-pub mod Draft
+pub mod HeaderFields
 pub mod Section
 pub mod Folding
 pub mod Whole

@@ -13,7 +13,7 @@ use Rattle.sip_header_values.specs.declared.via.ViaDraft.{ViaDraft}
 use Rattle.sip_text.specs.Options.{◌>>=◌}
 use Rattle.sip_headers.specs.Complete.{once}
 use Rattle.sip_headers.specs.Headers.{Headers}
-use Rattle.sip_headers.specs.declared.draft.Draft.{Draft}
+use Rattle.sip_headers.specs.declared.header_fields.HeaderFields.{HeaderFields}
 use Rattle.sip_headers.specs.declared.numbers.Numbers.{Numbers}
 use Rattle.sip_headers.specs.declared.slot.Slot.{Slot}
 use Rattle.sip_headers.specs.declared.slot.Slot.TheVariants.{Absent, Once, Twice, Bad}
@@ -99,7 +99,7 @@ known_rack Twice = None
 known_rack Bad = None
 
 -- all numbers of a draft, if each word in a number's place is one
-unfoldable pub numbers_in : Draft → Option Numbers
+unfoldable pub numbers_in : HeaderFields → Option Numbers
 numbers_in d = do
   cseq ← once d.cseq
   number ← known cseq.number
@@ -139,7 +139,7 @@ rack_with (Once rack) (Some numbers) =
 rack_with slot numbers = None
 
 -- a message with the headers of a draft, these Via values and these numbers
-abbrev pub message_with : StartLine → List Via → Numbers → Draft → List ℕ → Option Message
+abbrev pub message_with : StartLine → List Via → Numbers → HeaderFields → List ℕ → Option Message
 message_with start vias numbers d body = do
   from ← once d.from
   to ← once d.to

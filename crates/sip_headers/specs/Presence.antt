@@ -4,7 +4,7 @@ use Rattle.std.specs.List.{list_any}
 use Rattle.sip_grammar.specs.HeaderEntry.{entry, headers, is_needed}
 use Rattle.sip_grammar.specs.declared.header_name.HeaderName.{HeaderName}
 use Rattle.sip_grammar.specs.declared.header_name.HeaderName.TheVariants as name
-use Rattle.sip_headers.specs.declared.draft.Draft.{Draft}
+use Rattle.sip_headers.specs.declared.header_fields.HeaderFields.{HeaderFields}
 use Rattle.sip_headers.specs.declared.faults.Presence.{Presence}
 use Rattle.sip_headers.specs.declared.faults.Presence.TheVariants.{Nowhere, Fitting, Repeated, Unfit}
 use Rattle.sip_headers.specs.declared.slot.Slot.{Slot}
@@ -24,7 +24,7 @@ list_presence (Some []) = Nowhere
 list_presence (Some (x ∷ xs)) = Fitting
 
 -- the presence of each header that may be missing or repeated
-abbrev pub presence_of : Draft → HeaderName → Presence
+abbrev pub presence_of : HeaderFields → HeaderName → Presence
 presence_of d name.Via = list_presence d.vias
 presence_of d name.From = slot_presence d.from
 presence_of d name.To = slot_presence d.to
@@ -56,15 +56,15 @@ is_unfit Unfit = true
 is_unfit presence = false
 
 -- a line is no header line, or a value isn't in its header's form
-abbrev pub has_bad_header : Draft → Bool
+abbrev pub has_bad_header : HeaderFields → Bool
 has_bad_header d =
     d.is_bad || is_none d.others || list_any (λ header. is_unfit (presence_of d header)) headers
 
 -- the first mandatory header of the table that isn't there
-abbrev pub missing : Draft → Option HeaderName
+abbrev pub missing : HeaderFields → Option HeaderName
 missing d = find (λ header. is_needed (entry header).kind && is_nowhere (presence_of d header))
     headers
 
 -- the first header of the table that is there twice and may occur once
-abbrev pub repeated : Draft → Option HeaderName
+abbrev pub repeated : HeaderFields → Option HeaderName
 repeated d = find (λ header. is_repeated (presence_of d header)) headers

@@ -11,7 +11,7 @@ use Rattle.sip_header_values.specs.ViaValue.{AreVias}
 use Rattle.sip_headers.specs.HeaderLine.{Class, bad, known, other, class_from}
 use Rattle.sip_headers.specs.Named.{is_same}
 use Rattle.sip_headers.specs.Slot.{IsSlot, IsList}
-use Rattle.sip_headers.specs.declared.draft.Draft.{Draft}
+use Rattle.sip_headers.specs.declared.header_fields.HeaderFields.{HeaderFields}
 
 -- the value of a line, if it is of this header, before those that follow
 abbrev pub before_values : HeaderName → Class → List (List ℕ) → List (List ℕ)
@@ -59,7 +59,7 @@ repeated_in lines = find (λ header. is_single (entry header).kind
     && nat_lt 1 (length (values header lines))) headers
 
 -- The draft holds the values of each header.
-pub record IsDraftOf (d : Draft) (lines : List (List ℕ)) : Type 0 where
+pub record IsDraftOf (d : HeaderFields) (lines : List (List ℕ)) : Type 0 where
   pub bad_is : d.is_bad ≡ has_bad_line lines
   pub vias : IsList AreVias d.vias (values name.Via lines)
   pub max_forwards : IsSlot IsNumeral d.max_forwards (values name.MaxForwards lines)

@@ -4,7 +4,7 @@ ghost use Rattle.std.specs.Prelude.{◌≡◌, Some, []};
 ghost use Rattle.sip_headers.specs.Complete as complete;
 ghost use Rattle.sip_headers.specs.Numbers as numbered;
 
-use crate::draft::Draft;
+use crate::header_fields::HeaderFields;
 use crate::numbers::Numbers;
 use crate::slot::Slot;
 use sip_grammar::Token;
@@ -18,14 +18,14 @@ use std::mem;
 /// A draft without a fault, on the heap. A contract sees it as the draft.
 #[derive(Drop)]
 pub struct Faultless {
-    draft: Box<Draft>,
+    draft: Box<HeaderFields>,
 }
 
 impl Model for Faultless {
     ghost use Rattle.sip_headers.specs.Complete.{IsComplete};
-    ghost use Rattle.sip_headers.specs.declared.draft.Draft.{Draft};
+    ghost use Rattle.sip_headers.specs.declared.header_fields.HeaderFields.{HeaderFields};
 
-    ghost Value = { Draft };
+    ghost Value = { HeaderFields };
 
     ghost view = { λ a. a.draft.value };
 
@@ -39,7 +39,7 @@ impl Faultless {
     ///
     /// BadHeader if a line is no header line, or a value isn't in its header's form; Missing for
     /// the first mandatory header that isn't there; Repeated for the first that is there twice.
-    pub fn new(draft: Box<Draft>) -> Result<Faultless, ReadFault>
+    pub fn new(draft: Box<HeaderFields>) -> Result<Faultless, ReadFault>
         ensures { result ≡ complete.faultless draft.value }
     {
         match draft.fault() {

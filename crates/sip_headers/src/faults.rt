@@ -6,7 +6,7 @@ ghost use Rattle.std.specs.List.{list_any};
 ghost use Rattle.sip_grammar.specs.HeaderEntry as table;
 ghost use Rattle.sip_headers.specs.Presence as presence;
 
-use crate::draft::Draft;
+use crate::header_fields::HeaderFields;
 use crate::slot::Slot;
 use sip_grammar::{HeaderKind, HeaderName};
 use sip_message::ReadFault;
@@ -86,7 +86,7 @@ fn list_presence<T>(list: &Option<Series<T>>) -> Presence
     }
 }
 
-impl Draft {
+impl HeaderFields {
     /// How often the header was found.
     pub fn presence(&self, header: HeaderName) -> Presence
         ensures { result ≡ presence.presence_of self.now header }

@@ -7,7 +7,7 @@ ghost use Rattle.sip_headers.specs.Folding as folding;
 ghost use Rattle.sip_headers.specs.Steps.Drafted as steps;
 ghost use Rattle.sip_headers.specs.Whole.{whole_now};
 
-use crate::draft::Draft;
+use crate::header_fields::HeaderFields;
 use crate::line_class::plain_line;
 use sip_text::{begins_blank, next_line, trimmed_end, trimmed_start};
 use std::alloc::{AllocError, Global};
@@ -94,11 +94,11 @@ fn without_blank_end(mut line: Vec<u8>) -> Vec<u8>
 
 /// What the header lines say, on the heap, and the text after the empty line that ends them. None
 /// without an empty line.
-pub fn gather(alloc: Global, text: &[u8]) -> Result<Option<(Box<Draft>, &[u8])>, AllocError>
+pub fn gather(alloc: Global, text: &[u8]) -> Result<Option<(Box<HeaderFields>, &[u8])>, AllocError>
     ensures { IfOk result (λ found. option_map (λ g. (g.0.value, g.1.now)) found
         ≡ steps.gathered_at text.now) }
 {
-    let mut draft = Box::new(alloc, Draft::new(alloc))?;
+    let mut draft = Box::new(alloc, HeaderFields::new(alloc))?;
     let Some(rest) = add_section(alloc, &mut draft, text)? else {
         return Ok(None);
     };
@@ -108,7 +108,7 @@ pub fn gather(alloc: Global, text: &[u8]) -> Result<Option<(Box<Draft>, &[u8])>,
 /// Adds the header lines, and returns the text after the empty line that ends them.
 fn add_section<'a>(
     alloc: Global,
-    draft: &mut Draft,
+    draft: &mut HeaderFields,
     text: &'a [u8],
 ) -> Result<Option<&'a [u8]>, AllocError>
     ensures { IfOk result (λ found. option_map (λ after. (draft.new, after.now)) found
@@ -127,7 +127,11 @@ fn add_section<'a>(
 }
 
 /// Adds the header lines without folds at the start of the text, and returns the text after them.
-fn add_plain<'a>(alloc: Global, draft: &mut Draft, text: &'a [u8]) -> Result<&'a [u8], AllocError>
+fn add_plain<'a>(
+    alloc: Global,
+    draft: &mut HeaderFields,
+    text: &'a [u8],
+) -> Result<&'a [u8], AllocError>
     ensures same { IfOk result (λ rest. steps.drafted_at draft.new rest.now
         ≡ steps.drafted_at draft.old text.now) }
     ensures shorter { IfOk result (λ rest. length rest.now ≤ length text.now) }

@@ -1,12 +1,12 @@
 //! What a draft says of the lines that it was made from.
 ghost use Rattle.std.specs.Prelude.{◌≡◌, ℕ, List, Ok, false};
 ghost use Rattle.sip_headers.specs.Complete.{draft_with, faultless};
-ghost use Rattle.sip_headers.specs.Draft.{draft_of};
+ghost use Rattle.sip_headers.specs.HeaderFields.{draft_of};
 ghost use Rattle.sip_headers.specs.Faults.{Decides, HeaderCondition, header_faults};
 ghost use Rattle.sip_headers.specs.Headers.{AreHeaders, Headers};
 ghost use Rattle.sip_headers.specs.Presence as presence;
 ghost use Rattle.sip_headers.specs.Section.{IsDraftOf, missing_in, repeated_in};
-ghost use Rattle.sip_headers.specs.declared.draft.Draft.{Draft};
+ghost use Rattle.sip_headers.specs.declared.header_fields.HeaderFields.{HeaderFields};
 
 /// A draft to which the lines were added in order has the values of each header.
 pub fn what_is_gathered()
@@ -29,7 +29,7 @@ pub fn what_is_repeated()
 /// A draft to which the lines were added has no fault exactly if the lines have headers, and then
 /// holds these. Otherwise the fault is the first whose condition is true.
 pub fn what_headers_are()
-    ensures found { (lines : List (List ℕ)) (d : Draft) → faultless (draft_of lines) ≡ Ok d
+    ensures found { (lines : List (List ℕ)) (d : HeaderFields) → faultless (draft_of lines) ≡ Ok d
         → (h : Headers) × AreHeaders h lines × (d ≡ draft_with h) }
     ensures only { (lines : List (List ℕ)) (h : Headers) → AreHeaders h lines
         → faultless (draft_of lines) ≡ Ok (draft_with h) }

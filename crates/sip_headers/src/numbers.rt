@@ -3,7 +3,7 @@ ghost use Rattle.std.specs.Prelude.{◌≡◌, IfOk};
 ghost use Rattle.sip_text.specs.Forms.{each};
 ghost use Rattle.sip_headers.specs.Numbers as numbered;
 
-use crate::draft::Draft;
+use crate::header_fields::HeaderFields;
 use crate::slot::Slot;
 use sip_header_values::{Numeral, RAckDraft, ViaDraft};
 use sip_message::{RAck, Via};
@@ -21,7 +21,7 @@ pub struct Numbers {
     pub content_length: Option<u32>,
 }
 
-impl Draft {
+impl HeaderFields {
     /// The numbers, or None if a word in a number's place isn't one, or a header doesn't occur as
     /// often as it has to.
     #[tactic(auto, unfolding(crate::specs::Numbers::numbers_in))]

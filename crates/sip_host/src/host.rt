@@ -325,7 +325,8 @@ impl Host {
     /// Runs the first round of a text again, as [`Host::round_text`] gave it, and tells how long
     /// its lines are. It gives no outputs. The text can go on with the lines of more rounds, each
     /// for a further call. A host that is new, and begun as the one of the journal was, goes on as
-    /// that one once all its rounds were run again.
+    /// that one once all its rounds were run again. A process can die while it writes: cut a
+    /// journal behind its last line feed first.
     ///
     /// # Errors
     ///

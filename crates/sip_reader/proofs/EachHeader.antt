@@ -19,10 +19,10 @@ use Rattle.sip_header_values.specs.declared.numeral.Numeral.{Numeral}
 use Rattle.sip_header_values.specs.declared.numeral.Numeral.TheVariants.{Number}
 use Rattle.sip_header_values.specs.declared.via.ViaDraft.{ViaDraft}
 use Rattle.sip_headers.specs.Complete.{slot_of, draft_with}
-use Rattle.sip_headers.specs.Draft.{no_draft}
+use Rattle.sip_headers.specs.HeaderFields.{no_header_fields}
 use Rattle.sip_headers.specs.Numbers.{via_draft, rack_draft, headers_with}
 use Rattle.sip_headers.specs.Slot.{met, listed}
-use Rattle.sip_headers.specs.declared.draft.Draft.{Draft}
+use Rattle.sip_headers.specs.declared.header_fields.HeaderFields.{HeaderFields}
 use Rattle.sip_headers.specs.declared.slot.Slot.{Slot}
 use Rattle.sip_headers.specs.declared.slot.Slot.TheVariants.{Absent, Once}
 use Rattle.sip_message.specs.Rules.{IsParty, IsNameAddr, IsRAck, IsVia, IsOtherHeader, IsMessage}
@@ -35,14 +35,14 @@ use Rattle.sip_headers.proofs.WrittenVias.{via_again}
 
 -- ---- one header after another
 
-slot_goes : {X : Type 0} (put : Slot X → Draft) (f : List ℕ → Option X) (x : X)
+slot_goes : {X : Type 0} (put : Slot X → HeaderFields) (f : List ℕ → Option X) (x : X)
     (text value rest : List ℕ) → Again f x value
     → Goes (put Absent) text (put (met Absent (f value))) rest
     → Goes (put Absent) text (put (Once x)) rest
 slot_goes put f x text value rest again goes =
     goes_to (ap (λ o. put (met Absent o)) again.read) goes
 
-more_goes : {X : Type 0} (put : Option (List X) → Draft) (f : List ℕ → Option (List X))
+more_goes : {X : Type 0} (put : Option (List X) → HeaderFields) (f : List ℕ → Option (List X))
     (front more : List X) (text value rest : List ℕ) → Again f more value
     → Goes (put (Some front)) text (put (listed (Some front) (f value))) rest
     → Goes (put (Some front)) text (put (Some (front ++ more))) rest
@@ -53,7 +53,7 @@ more_goes put f front more text value rest again goes =
 abbrev numbered : Option ℕ → Slot Numeral
 numbered n = slot_of (option_map (λ x. Number x) n)
 
-number_goes : (put : Slot Numeral → Draft) (line : ℕ → List ℕ) (text : Option ℕ → List ℕ)
+number_goes : (put : Slot Numeral → HeaderFields) (line : ℕ → List ℕ) (text : Option ℕ → List ℕ)
     → (text None ≡ []) → ((n : ℕ) → text (Some n) ≡ line n)
     → ((n : ℕ) (rest : List ℕ) → n < 2 ^ 32 → Ready rest
     → Goes (put Absent) (line n ++ rest) (put (Once (Number n))) rest)
@@ -69,7 +69,7 @@ number_goes put line text none some step (Some n) rest lt ready =
 abbrev IsToken : List ℕ → Type 0
 IsToken token = IsTrue (is_token token)
 
-tokens_go : (put : Option (List (List ℕ)) → Draft) (line : List ℕ → List (List ℕ) → List ℕ)
+tokens_go : (put : Option (List (List ℕ)) → HeaderFields) (line : List ℕ → List (List ℕ) → List ℕ)
     (text : List (List ℕ) → List ℕ) → (text [] ≡ [])
     → ((t : List ℕ) (ts : List (List ℕ)) → text (t ∷ ts) ≡ line t ts)
     → ((t : List ℕ) (ts : List (List ℕ)) (rest : List ℕ) → IsToken t → AllByRecursion IsToken ts
@@ -85,47 +85,47 @@ tokens_go put line text none some step (t ∷ ts) rest all ready =
 
 -- ---- the drafts on the way
 
-abbrev with_vias : Message → Option (List ViaDraft) → Draft
-with_vias m o = record no_draft { vias = o }
+abbrev with_vias : Message → Option (List ViaDraft) → HeaderFields
+with_vias m o = record no_header_fields { vias = o }
 
-abbrev with_hops : Message → Slot Numeral → Draft
+abbrev with_hops : Message → Slot Numeral → HeaderFields
 with_hops m s = record (with_vias m (Some (map via_draft m.vias))) { max_forwards = s }
 
-abbrev pub with_from : Message → Slot Party → Draft
+abbrev pub with_from : Message → Slot Party → HeaderFields
 with_from m s = record (with_hops m (numbered m.max_forwards)) { from = s }
 
-abbrev with_to : Message → Slot Party → Draft
+abbrev with_to : Message → Slot Party → HeaderFields
 with_to m s = record (with_from m (Once m.from)) { to = s }
 
-abbrev with_call_id : Message → Slot (List ℕ) → Draft
+abbrev with_call_id : Message → Slot (List ℕ) → HeaderFields
 with_call_id m s = record (with_to m (Once m.to)) { call_id = s }
 
-abbrev pub identified : Message → Draft
+abbrev pub identified : Message → HeaderFields
 identified m = record (with_call_id m (Once m.call_id))
     { cseq = Once (record { number = Number m.cseq.number; method = m.cseq.method }) }
 
-abbrev with_contacts : Message → Option (List NameAddr) → Draft
+abbrev with_contacts : Message → Option (List NameAddr) → HeaderFields
 with_contacts m o = record (identified m) { contacts = o }
 
-abbrev with_record_routes : Message → Option (List NameAddr) → Draft
+abbrev with_record_routes : Message → Option (List NameAddr) → HeaderFields
 with_record_routes m o = record (with_contacts m (Some m.contacts)) { record_routes = o }
 
-abbrev pub with_routes : Message → Option (List NameAddr) → Draft
+abbrev pub with_routes : Message → Option (List NameAddr) → HeaderFields
 with_routes m o = record (with_record_routes m (Some m.record_routes)) { routes = o }
 
-abbrev with_require : Message → Option (List (List ℕ)) → Draft
+abbrev with_require : Message → Option (List (List ℕ)) → HeaderFields
 with_require m o = record (with_routes m (Some m.routes)) { require = o }
 
-abbrev with_supported : Message → Option (List (List ℕ)) → Draft
+abbrev with_supported : Message → Option (List (List ℕ)) → HeaderFields
 with_supported m o = record (with_require m (Some m.require)) { supported = o }
 
-abbrev with_rseq : Message → Slot Numeral → Draft
+abbrev with_rseq : Message → Slot Numeral → HeaderFields
 with_rseq m s = record (with_supported m (Some m.supported)) { rseq = s }
 
-abbrev pub with_rack : Message → Option RAck → Draft
+abbrev pub with_rack : Message → Option RAck → HeaderFields
 with_rack m o = record (with_rseq m (numbered m.rseq)) { rack = slot_of (option_map rack_draft o) }
 
-abbrev with_others : Message → Option (List Header) → Draft
+abbrev with_others : Message → Option (List Header) → HeaderFields
 with_others m o = record (with_rack m m.rack) { others = o }
 
 -- ---- each header
@@ -135,7 +135,7 @@ same_list [] = refl
 same_list (x ∷ xs) = ap (λ ys. x ∷ ys) (same_list xs)
 
 pub vias_go : (m : Message) (rest : List ℕ) → AllByRecursion IsVia m.vias → Ready rest
-    → Goes no_draft (flat_map via_line m.vias ++ rest) (with_hops m Absent) rest
+    → Goes no_header_fields (flat_map via_line m.vias ++ rest) (with_hops m Absent) rest
 vias_go m rest all ready =
     list_goes (with_vias m) via_line via_draft IsVia
     (λ front v r is ok. let again = via_again v is in

@@ -9,11 +9,11 @@ use Rattle.sip_message.specs.declared.fault.ReadFault.TheVariants as fault
 use Rattle.sip_message.specs.declared.message.Message.{Message}
 use Rattle.sip_message.specs.declared.start_line.StartLine.{StartLine}
 use Rattle.sip_headers.specs.Complete.{faultless}
-use Rattle.sip_headers.specs.Draft.{draft_of}
+use Rattle.sip_headers.specs.HeaderFields.{draft_of}
 use Rattle.sip_headers.specs.Faults.{IsFirst, NoneHolds, Decides, HeaderCondition, header_faults}
 use Rattle.sip_headers.specs.Folding.{Section, section_at}
 use Rattle.sip_headers.specs.Steps.Drafted.{onto_section}
-use Rattle.sip_headers.specs.declared.draft.Draft.{Draft}
+use Rattle.sip_headers.specs.declared.header_fields.HeaderFields.{HeaderFields}
 use Rattle.sip_headers.proofs.FaultOrder.{told_decides, first_more, first_behind, none_both}
 use Rattle.sip_headers.proofs.HeaderFaults.{decided, headers_take}
 use Rattle.sip_reader.specs.declared.first_line.FirstLine.{FirstLine}
@@ -66,7 +66,7 @@ lines_decided start lines rest line e =
     (told_decides (HeaderCondition lines) (LineCondition start lines rest) header_faults
     (faultless (draft_of lines)) (same_conditions start lines rest) (decided lines))
     (λ d is. let held = headers_take lines d is in
-    subst (λ (f : Draft). Decides (LineCondition start lines rest) last_faults
+    subst (λ (f : HeaderFields). Decides (LineCondition start lines rest) last_faults
     (message_of_draft line f rest)) (sym held.2)
     (headers_decided start lines rest line held.0
     (record { start_is = e; headers_are = held.1 })))

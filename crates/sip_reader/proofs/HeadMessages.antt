@@ -10,7 +10,7 @@ use Rattle.sip_grammar.proofs.HeaderNames.{long_names}
 use Rattle.sip_grammar.specs.declared.header_name.HeaderName.{HeaderName}
 use Rattle.sip_message.specs.declared.header.Header.{Header}
 use Rattle.sip_message.specs.declared.message.Message.{Message}
-use Rattle.sip_headers.specs.Draft.{long_name}
+use Rattle.sip_headers.specs.HeaderFields.{long_name}
 use Rattle.sip_headers.specs.HeaderLine.{IsHeaderLine}
 use Rattle.sip_headers.specs.Headers.{AreRows, IsOther}
 use Rattle.sip_headers.specs.Named.{is_same, others_in, values_of}

@@ -7,7 +7,7 @@ use Rattle.std.specs.Str.{str_eq_ignore_ascii_case}
 use Rattle.sip_text.specs.Line.{line_at}
 use Rattle.sip_grammar.specs.HeaderEntry.{header_named}
 use Rattle.sip_grammar.specs.declared.header_name.HeaderName.{HeaderName}
-use Rattle.sip_headers.specs.Draft.{long_name}
+use Rattle.sip_headers.specs.HeaderFields.{long_name}
 use Rattle.sip_headers.specs.Folding.{folded_onto, whole_lines}
 use Rattle.sip_headers.specs.HeaderLine.{IsHeaderLine, known, other, class_by_name, class_by_parts, line_from}
 use Rattle.sip_headers.specs.Steps.Drafted.{lines_at, onto_lines}

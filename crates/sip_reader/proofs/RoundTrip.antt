@@ -15,10 +15,10 @@ use Rattle.sip_message.specs.Written.{header_line, via_line, party_line, contact
 use Rattle.sip_header_values.specs.declared.numeral.Numeral.{Numeral}
 use Rattle.sip_header_values.specs.declared.numeral.Numeral.TheVariants.{Number}
 use Rattle.sip_headers.specs.Complete.{draft_with, faultless}
-use Rattle.sip_headers.specs.Draft.{no_draft}
+use Rattle.sip_headers.specs.HeaderFields.{no_header_fields}
 use Rattle.sip_headers.specs.Numbers.{via_draft, rack_draft, headers_with, are_numbers}
 use Rattle.sip_headers.proofs.HeaderNumbers.{is_number, is_port, port_words}
-use Rattle.sip_headers.specs.declared.draft.Draft.{Draft}
+use Rattle.sip_headers.specs.declared.header_fields.HeaderFields.{HeaderFields}
 use Rattle.sip_headers.specs.declared.slot.Slot.TheVariants.{Absent}
 use Rattle.sip_headers.proofs.Folds.{ends_here}
 use Rattle.sip_headers.proofs.FaultlessDrafts.{no_fault}
@@ -70,7 +70,7 @@ header_lines m =
     flat_map via_line m.vias ++ (number_line (codes "Max-Forwards") m.max_forwards
     ++ identity_lines m)
 
-abbrev whole : Message → Draft
+abbrev whole : Message → HeaderFields
 whole m = draft_with (headers_with m (Some (length m.body)))
 
 content_goes : (m : Message) → IsMessage m → length m.body < 2 ^ 32
@@ -120,7 +120,7 @@ identity_goes m is lt =
     ++ (header_line (codes "CSeq") (cseq_text m.cseq) ++ route_lines m))) is.from to.ready) to
 
 headers_go : (m : Message) → IsMessage m → length m.body < 2 ^ 32
-    → Goes no_draft (header_lines m) (whole m) (last_text m)
+    → Goes no_header_fields (header_lines m) (whole m) (last_text m)
 headers_go m is lt =
     let identity = identity_goes m is lt in
     let hops = two_go (hops_go m (identity_lines m) is.max_forwards identity.ready) identity in

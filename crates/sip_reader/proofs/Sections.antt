@@ -4,10 +4,10 @@ use Rattle.std.specs.Prelude.{nat_lt}
 use Rattle.std.specs.Option.{option_map}
 use Rattle.sip_text.specs.Line.{line_at}
 use Rattle.sip_message.specs.declared.fault.ReadFault.TheVariants as fault
-use Rattle.sip_headers.specs.Draft.{draft_of}
+use Rattle.sip_headers.specs.HeaderFields.{draft_of}
 use Rattle.sip_headers.specs.Folding.{Section, section_at, whole_section}
 use Rattle.sip_headers.specs.Steps.Drafted.{onto_section, behind_line, gathered_at}
-use Rattle.sip_headers.specs.declared.draft.Draft.{Draft}
+use Rattle.sip_headers.specs.declared.header_fields.HeaderFields.{HeaderFields}
 use Rattle.sip_headers.proofs.Folds.{no_line}
 use Rattle.sip_reader.specs.ReadMessage.{◌>>=◌, or_fault, message_of_lines, message_of_section, message_in, message_at}
 use Rattle.sip_reader.specs.SkippedEnds.{without_line_ends}
@@ -50,7 +50,7 @@ pub no_first_line : (text front : List ℕ) → front ≡ without_line_ends text
     → None ≡ line_at front → message_in front ≡ Err fault.NoEmptyLine
 no_first_line text front front_is none = by_line text front None front_is none
 
-abbrev drafted : Section → Draft × List ℕ
+abbrev drafted : Section → HeaderFields × List ℕ
 drafted s = (draft_of s.0, s.1)
 
 none_by : (whole : List ℕ) (section : Option Section) → option_map drafted section ≡ None
@@ -67,19 +67,20 @@ none_gathered text front line after whole rest front_is line_is whole_is none =
     by_line text front (Some (line, after)) front_is line_is
     ∙ ap message_of_section whole_is ∙ none_by whole (whole_section (section_at rest)) (sym none)
 
-some_by : (whole : List ℕ) (section : Option Section) (draft : Draft) (body : List ℕ)
+some_by : (whole : List ℕ) (section : Option Section) (draft : HeaderFields) (body : List ℕ)
     → option_map drafted section ≡ Some (draft, body)
     → message_of_section (behind_line whole section) ≡ message_of_lines whole draft body
 unfolding message_of_section
 some_by whole None draft body e = absurd cc
 some_by whole (Some s) draft body e =
     let same : drafted s ≡ (draft, body) = same_pair (drafted s) (draft, body) e in
-    ap (λ (p : Draft × List ℕ). message_of_lines whole p.0 p.1) same
+    ap (λ (p : HeaderFields × List ℕ). message_of_lines whole p.0 p.1) same
   where
-    same_pair : (p q : Draft × List ℕ) → Some p ≡ Some q → p ≡ q
+    same_pair : (p q : HeaderFields × List ℕ) → Some p ≡ Some q → p ≡ q
     same_pair p q f = cc
 
-pub some_gathered : (text front line after whole rest : List ℕ) (draft : Draft) (body : List ℕ)
+pub some_gathered : (text front line after whole rest : List ℕ) (draft : HeaderFields)
+    (body : List ℕ)
     → front ≡ without_line_ends text → Some (line, after) ≡ line_at front
     → onto_section line (section_at after) ≡ behind_line whole (whole_section (section_at rest))
     → Some (draft, body) ≡ gathered_at rest → message_in front ≡ message_of_lines whole draft body

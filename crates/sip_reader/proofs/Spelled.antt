@@ -12,7 +12,7 @@ use Rattle.sip_message.specs.declared.start_line.StartLine.{StartLine}
 use Rattle.sip_message.specs.declared.via.Via.{Via}
 use Rattle.sip_header_values.specs.declared.via.ViaDraft.{ViaDraft}
 use Rattle.sip_headers.specs.Complete.{draft_with, faultless}
-use Rattle.sip_headers.specs.Draft.{draft_of}
+use Rattle.sip_headers.specs.HeaderFields.{draft_of}
 use Rattle.sip_headers.specs.Folding.{Section, section_at}
 use Rattle.sip_headers.specs.Steps.Drafted.{onto_section}
 use Rattle.sip_headers.specs.Headers.{Headers, AreHeaders}

@@ -24,12 +24,12 @@ use Rattle.sip_grammar.specs.declared.header_name.HeaderName.{HeaderName}
 use Rattle.sip_grammar.specs.declared.header_name.HeaderName.TheVariants as name
 use Rattle.sip_message.specs.declared.header.Header.{Header}
 use Rattle.sip_message.specs.Written.{header_line, other_line}
-use Rattle.sip_headers.specs.Draft.{with_value, with_class, with_line, long_name, other_from}
+use Rattle.sip_headers.specs.HeaderFields.{with_value, with_class, with_line, long_name, other_from}
 use Rattle.sip_headers.specs.Folding.{section_at, whole_section}
 use Rattle.sip_headers.specs.Steps.Drafted.{drafted_on}
 use Rattle.sip_headers.specs.HeaderLine.{Class, known, other, class_by_name, class_by_parts, class_from}
 use Rattle.sip_headers.specs.Slot.{listed}
-use Rattle.sip_headers.specs.declared.draft.Draft.{Draft}
+use Rattle.sip_headers.specs.declared.header_fields.HeaderFields.{HeaderFields}
 use Rattle.sip_headers.proofs.Folds.{section_ends, section_goes_on, ends_here}
 use Rattle.sip_message.specs.Rules.{IsOtherHeader}
 use Rattle.sip_grammar.proofs.Characters.{token_without, token_full}
@@ -68,31 +68,33 @@ pub record Ready (text : List ℕ) : Type 0 where
   pub line_is : line_at text ≡ Some (line, after)
   pub anew : begins_blank line ≡ false
 
-abbrev pub gathered : Draft → List ℕ → Option (Draft × List ℕ)
+abbrev pub gathered : HeaderFields → List ℕ → Option (HeaderFields × List ℕ)
 gathered d text = drafted_on d (whole_section (section_at text))
 
 -- the lines at the start of the text lead from one draft to the other
-pub record Goes (d : Draft) (text : List ℕ) (e : Draft) (rest : List ℕ) : Type 0 where
+pub record Goes (d : HeaderFields) (text : List ℕ) (e : HeaderFields) (rest : List ℕ) : Type 0 where
   pub ready : Ready text
   pub same : gathered d text ≡ gathered e rest
 
-pub no_lines : (d e : Draft) (rest : List ℕ) → d ≡ e → Ready rest → Goes d rest e rest
+pub no_lines : (d e : HeaderFields) (rest : List ℕ) → d ≡ e → Ready rest → Goes d rest e rest
 no_lines d e rest same ready =
-    record { ready = ready; same = ap (λ (x : Draft). gathered x rest) same }
+    record { ready = ready; same = ap (λ (x : HeaderFields). gathered x rest) same }
 
-pub goes_to : {d e f : Draft} {text rest : List ℕ} → e ≡ f → Goes d text e rest → Goes d text f rest
-goes_to {d} {e} {f} {text} {rest} same goes = subst (λ (x : Draft). Goes d text x rest) same goes
+pub goes_to : {d e f : HeaderFields} {text rest : List ℕ} → e ≡ f → Goes d text e rest
+    → Goes d text f rest
+goes_to {d} {e} {f} {text} {rest} same goes =
+    subst (λ (x : HeaderFields). Goes d text x rest) same goes
 
-from_text : {d e : Draft} {text other rest : List ℕ} → text ≡ other → Goes d other e rest
+from_text : {d e : HeaderFields} {text other rest : List ℕ} → text ≡ other → Goes d other e rest
     → Goes d text e rest
 from_text {d} {e} {text} {other} {rest} same goes =
     subst (λ (xs : List ℕ). Goes d xs e rest) (sym same) goes
 
-pub two_go : {d e f : Draft} {one two three : List ℕ} → Goes d one e two → Goes e two f three
+pub two_go : {d e f : HeaderFields} {one two three : List ℕ} → Goes d one e two → Goes e two f three
     → Goes d one f three
 two_go first second = record { ready = first.ready; same = first.same ∙ second.same }
 
-line_goes : (d : Draft) (line rest : List ℕ) → has_no 10 line ≡ true → (line ≡ [] → ⊥)
+line_goes : (d : HeaderFields) (line rest : List ℕ) → has_no 10 line ≡ true → (line ≡ [] → ⊥)
     → begins_blank line ≡ false → Ready rest
     → Goes d (line ++ (13 ∷ (10 ∷ rest))) (with_line d line) rest
 line_goes d line rest free full anew ready =
@@ -113,7 +115,8 @@ line_goes d line rest free full anew ready =
 pub end_ready : (body : List ℕ) → Ready (13 ∷ (10 ∷ body))
 end_ready body = record { line = []; after = body; line_is = ended_line [] body refl; anew = refl }
 
-pub end_gathered : (d : Draft) (body : List ℕ) → gathered d (13 ∷ (10 ∷ body)) ≡ Some (d, body)
+pub end_gathered : (d : HeaderFields) (body : List ℕ)
+    → gathered d (13 ∷ (10 ∷ body)) ≡ Some (d, body)
 end_gathered d body =
     sym (section_ends d (13 ∷ (10 ∷ body)) [] body (gathered d (13 ∷ (10 ∷ body)))
     (ended_line [] body refl) refl refl)
@@ -169,7 +172,7 @@ line_free name value token good =
     list_all-append _ name (58 ∷ (32 ∷ value))
     ∙ and_from _ _ (token_without 10 no_line_feed name token) (no_lf value good.plain)
 
-class_goes : (d : Draft) (name value rest : List ℕ) (class : Class) → is_token name ≡ true
+class_goes : (d : HeaderFields) (name value rest : List ℕ) (class : Class) → is_token name ≡ true
     → Good value → class_by_name name value (header_named name) ≡ class → Ready rest
     → Goes d (header_line name value ++ rest) (with_class d class) rest
 class_goes d name value rest class token good is ready =
@@ -196,7 +199,8 @@ name_token name.RSeq = refl
 name_token name.RAck = refl
 name_token name.ContentLength = refl
 
-pub header_goes : (d : Draft) (h : HeaderName) (value rest : List ℕ) → Good value → Ready rest
+pub header_goes : (d : HeaderFields) (h : HeaderName) (value rest : List ℕ) → Good value
+    → Ready rest
     → Goes d (header_line (entry h).name value ++ rest) (with_value d h value) rest
 header_goes d h value rest good ready =
     class_goes d (entry h).name value rest (known h value) (name_token h) good
@@ -245,7 +249,7 @@ other_good : (value : List ℕ) → is_header_value value ≡ true → Good valu
 other_good value is =
     record { kept = header_value_kept value is; plain = header_value_plain value is }
 
-pub other_goes : (d : Draft) (front : List Header) (header : Header) (rest : List ℕ)
+pub other_goes : (d : HeaderFields) (front : List Header) (header : Header) (rest : List ℕ)
     → IsOtherHeader header → d.others ≡ Some front → Ready rest
     → Goes d (other_line header ++ rest) (record d { others = Some (front ++ header ∷ []) }) rest
 other_goes d front header rest is others ready =
@@ -261,7 +265,8 @@ other_goes d front header rest is others ready =
 
 -- ---- one line for each of a list
 
-pub list_goes : {A X : Type 0} (put : Option (List X) → Draft) (line : A → List ℕ) (to : A → X)
+pub list_goes : {A X : Type 0} (put : Option (List X) → HeaderFields) (line : A → List ℕ)
+    (to : A → X)
     (Keeps : A → Type 0) → ((front : List X) (a : A) (rest : List ℕ) → Keeps a → Ready rest
     → Goes (put (Some front)) (line a ++ rest) (put (Some (front ++ to a ∷ []))) rest)
     → (front : List X) (all : List A) (rest : List ℕ) → AllByRecursion Keeps all → Ready rest

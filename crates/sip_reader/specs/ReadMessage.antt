@@ -12,10 +12,10 @@ use Rattle.sip_message.specs.declared.start_line.StartLine.TheVariants as start
 use Rattle.sip_message.specs.declared.via.Via.{Via}
 use Rattle.sip_header_values.specs.declared.via.ViaDraft.{ViaDraft}
 use Rattle.sip_headers.specs.Complete.{faultless, method_in}
-use Rattle.sip_headers.specs.Draft.{draft_of}
+use Rattle.sip_headers.specs.HeaderFields.{draft_of}
 use Rattle.sip_headers.specs.Folding.{Section, section_at, whole_section}
 use Rattle.sip_headers.specs.Numbers.{numbers_in, via_with, message_with}
-use Rattle.sip_headers.specs.declared.draft.Draft.{Draft}
+use Rattle.sip_headers.specs.declared.header_fields.HeaderFields.{HeaderFields}
 use Rattle.sip_reader.specs.ReadStart.{start_at}
 use Rattle.sip_reader.specs.SkippedEnds.{without_line_ends}
 use Rattle.sip_reader.specs.declared.first_line.FirstLine.{FirstLine}
@@ -66,7 +66,8 @@ body_of text None = Some text
 body_of text (Some n) = if nat_lt (length text) n then None else Some (take n text)
 
 -- the message of a start line, a draft without a fault, and what follows
-unfoldable pub message_of_draft : FirstLine (List ℕ) → Draft → List ℕ → Result Message ReadFault
+unfoldable pub message_of_draft : FirstLine (List ℕ) → HeaderFields → List ℕ
+    → Result Message ReadFault
 message_of_draft line d text = do
   numbers ← or_fault fault.BadNumber (numbers_in d)
   drafts ← or_fault fault.BadHeader d.vias
@@ -77,7 +78,7 @@ message_of_draft line d text = do
   or_fault fault.BadHeader (message_with start vias numbers d body)
 
 -- the message of a start line as text, a draft of the headers, and what follows
-unfoldable pub message_of_lines : List ℕ → Draft → List ℕ → Result Message ReadFault
+unfoldable pub message_of_lines : List ℕ → HeaderFields → List ℕ → Result Message ReadFault
 message_of_lines start_line draft text = do
   start ← or_fault fault.BadStartLine (start_at start_line)
   d ← faultless draft

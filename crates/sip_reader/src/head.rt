@@ -7,7 +7,7 @@ ghost use Rattle.sip_reader.specs.Head as head;
 ghost use Rattle.sip_reader.specs.Steps.ReadHead as reading;
 
 use crate::first_line::FirstLine;
-use crate::layout::without_line_ends;
+use crate::leading_line_ends::without_line_ends;
 use crate::start_reader::start_of;
 use crate::untyped_line::HeaderLine;
 use sip_grammar::{HeaderName, Token};

@@ -4,7 +4,7 @@
 mod first_line;
 mod head;
 mod laws;
-mod layout;
+mod leading_line_ends;
 mod reader;
 mod rules;
 mod start_reader;

@@ -7,10 +7,10 @@ ghost use Rattle.sip_reader.specs.Faults.{TellsFault};
 ghost use Rattle.sip_reader.specs.ReadMessage as reading;
 ghost use Rattle.sip_reader.specs.Spells.{Spells, Answers};
 
-use crate::layout::without_line_ends;
+use crate::leading_line_ends::without_line_ends;
 use crate::start_reader::start_of;
 use sip_header_values::ViaDraft;
-use sip_headers::{Draft, Faultless, Numbers, gather, whole_line, with_ports};
+use sip_headers::{Faultless, HeaderFields, Numbers, gather, whole_line, with_ports};
 use sip_message::{Message, ReadFault, Vias};
 use sip_text::{Series, Text, next_line};
 use std::alloc::Global;
@@ -61,7 +61,7 @@ fn is_too_long(text: &[u8]) -> bool
 fn message_of(
     alloc: Global,
     start_line: &[u8],
-    draft: Box<Draft>,
+    draft: Box<HeaderFields>,
     rest: &[u8],
 ) -> Result<Message, ReadFault>
     ensures { reading.Gives result (reading.message_of_lines start_line.now draft.value rest.now) }

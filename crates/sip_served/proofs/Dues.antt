@@ -12,8 +12,8 @@ use Rattle.sip_reliable.specs.Ledger.{next_moment, tick_answer}
 use Rattle.sip_held_dialogs.proofs.Dues.{earlier_due, earliest, or_assoc, or_false}
 use Rattle.sip_served.specs.declared.held_request.HeldRequest.{HeldRequest}
 use Rattle.sip_served.specs.declared.held_request.Success.{Success}
-use Rattle.sip_served.specs.declared.tick.SuccessDue.{SuccessDue}
-use Rattle.sip_served.specs.declared.tick.SuccessDue.TheVariants as repeat
+use Rattle.sip_served.specs.declared.retransmissions.SuccessDue.{SuccessDue}
+use Rattle.sip_served.specs.declared.retransmissions.SuccessDue.TheVariants as repeat
 use Rattle.sip_served.specs.Tick.{next_due_of, request_due, request_ticked, success_answer, success_moment, success_at_tick, success_ticked, success_told}
 use Rattle.sip_served.proofs.RequestLives.{provisionals_alone, success_alone}
 

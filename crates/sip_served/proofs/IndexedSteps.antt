@@ -24,8 +24,8 @@ use Rattle.sip_served.specs.declared.change.Change.TheVariants.{Ack, Answer, Fin
 use Rattle.sip_served.specs.declared.held_request.HeldRequest.{HeldRequest}
 use Rattle.sip_served.specs.declared.held_request.SuccessEnd.TheVariants.{Acknowledged}
 use Rattle.sip_served.specs.declared.request_keys.PrackKey.{PrackKey}
-use Rattle.sip_served.specs.declared.tick.SuccessDue.{SuccessDue}
-use Rattle.sip_served.specs.declared.tick.SuccessDue.TheVariants as repeat
+use Rattle.sip_served.specs.declared.retransmissions.SuccessDue.{SuccessDue}
+use Rattle.sip_served.specs.declared.retransmissions.SuccessDue.TheVariants as repeat
 use Rattle.sip_served.specs.Steps.Change.{after_change}
 use Rattle.sip_served.specs.Respond.{answers, makes, with_dialog}
 use Rattle.sip_served.specs.declared.indices.Indices.{Indices}

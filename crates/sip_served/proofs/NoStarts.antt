@@ -24,8 +24,8 @@ use Rattle.sip_user.specs.declared.item.CallOut.{CallOut}
 use Rattle.sip_user.specs.declared.item.CallOut.TheVariants as out
 use Rattle.sip_served.specs.declared.provisionals.ReliableResponse.{ReliableResponse}
 use Rattle.sip_user.specs.declared.refusal.Refusal.{Refusal}
-use Rattle.sip_served.specs.declared.tick.SuccessDue.{SuccessDue}
-use Rattle.sip_served.specs.declared.tick.SuccessDue.TheVariants as repeat
+use Rattle.sip_served.specs.declared.retransmissions.SuccessDue.{SuccessDue}
+use Rattle.sip_served.specs.declared.retransmissions.SuccessDue.TheVariants as repeat
 use Rattle.sip_served.specs.Provisionals.{of_numbers}
 use Rattle.sip_served.specs.Acknowledgment.{ack_noted, acknowledged_invite}
 use Rattle.sip_served.specs.Arrival.{arrival_of, by_case, case_of, noted, request_held}

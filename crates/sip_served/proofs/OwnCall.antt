@@ -27,8 +27,8 @@ use Rattle.sip_user.specs.declared.item.Item.{Item}
 use Rattle.sip_user.specs.declared.item.Item.TheVariants as item
 use Rattle.sip_served.specs.declared.provisionals.ReliableResponse.{ReliableResponse}
 use Rattle.sip_user.specs.declared.refusal.Refusal.{Refusal}
-use Rattle.sip_served.specs.declared.tick.SuccessDue.{SuccessDue}
-use Rattle.sip_served.specs.declared.tick.SuccessDue.TheVariants as repeat
+use Rattle.sip_served.specs.declared.retransmissions.SuccessDue.{SuccessDue}
+use Rattle.sip_served.specs.declared.retransmissions.SuccessDue.TheVariants as repeat
 use Rattle.sip_served.specs.Acknowledgment.{ack_noted, acknowledged_invite, success_ended}
 use Rattle.sip_served.specs.declared.held_request.SuccessEnd.TheVariants.{Acknowledged}
 use Rattle.sip_served.specs.Arrival.{arrival_of, by_case, bye_taken, case_of, noted, pracked, request_held}

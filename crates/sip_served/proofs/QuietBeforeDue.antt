@@ -19,7 +19,7 @@ use Rattle.sip_reliable.proofs.Sounds.{not_longer}
 use Rattle.sip_served.specs.declared.held_request.HeldRequest.{HeldRequest}
 use Rattle.sip_served.specs.declared.held_request.Success.{Success}
 use Rattle.sip_user.specs.declared.item.CallOut.{CallOut}
-use Rattle.sip_served.specs.declared.tick.SuccessDue.TheVariants as repeat
+use Rattle.sip_served.specs.declared.retransmissions.SuccessDue.TheVariants as repeat
 use Rattle.sip_served.specs.RequestLife.{went_on}
 use Rattle.sip_served.specs.State.{State, ServedTaken, quiet}
 use Rattle.sip_served.specs.Tick.{is_kept_at, next_server_due, provisionals_by, provisionals_ticked, provisionals_told, request_due, request_ticked, success_answer, success_goes, success_moment, success_at_tick, success_ticked, success_told, tick_taken}

@@ -25,8 +25,8 @@ use Rattle.sip_held_dialogs.specs.Requests.{dialog_id_of, is_final}
 use Rattle.sip_served.specs.declared.held_request.HeldRequest.{HeldRequest}
 use Rattle.sip_served.specs.declared.held_request.Success.{Success}
 use Rattle.sip_served.specs.declared.provisionals.ReliableResponse.{ReliableResponse}
-use Rattle.sip_served.specs.declared.tick.SuccessDue.{SuccessDue}
-use Rattle.sip_served.specs.declared.tick.SuccessDue.TheVariants as repeat
+use Rattle.sip_served.specs.declared.retransmissions.SuccessDue.{SuccessDue}
+use Rattle.sip_served.specs.declared.retransmissions.SuccessDue.TheVariants as repeat
 use Rattle.sip_served.specs.Arrival.{pracked}
 use Rattle.sip_served.specs.RequestLife.{Finishes, MakesDialog, went_on}
 use Rattle.sip_served.specs.Respond.{after_answer, answer_to, answered, if_so, makes_or_confirms_dialog, is_sent_reliably, makes_dialog, sends_as, sent_as, with_routes, with_rseq}

@@ -31,8 +31,8 @@ use Rattle.sip_served.specs.declared.held_request.HeldRequest.{HeldRequest}
 use Rattle.sip_served.specs.declared.held_request.Success.{Success}
 use Rattle.sip_served.specs.declared.held_request.SuccessEnd.TheVariants.{GivenUp}
 use Rattle.sip_served.specs.declared.provisionals.ReliableResponse.{ReliableResponse}
-use Rattle.sip_served.specs.declared.tick.SuccessDue.{SuccessDue}
-use Rattle.sip_served.specs.declared.tick.SuccessDue.TheVariants as repeat
+use Rattle.sip_served.specs.declared.retransmissions.SuccessDue.{SuccessDue}
+use Rattle.sip_served.specs.declared.retransmissions.SuccessDue.TheVariants as repeat
 use Rattle.sip_served.specs.Arrival.{first_rseq}
 use Rattle.sip_served.specs.Provisionals.{without_rseq}
 use Rattle.sip_served.specs.RequestLife.{RequestHappening, EndsSuccess, Finishes, GivesUpProvisionals, MakesDialog, RepeatsProvisionals, RepeatsSuccess, SendsReliably, TakesPrack, next_retransmission, request_happened, success_sent, went_on}

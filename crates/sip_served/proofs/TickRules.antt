@@ -13,7 +13,7 @@ use Rattle.sip_user.specs.declared.item.CallOut.TheVariants.{Command}
 use Rattle.sip_served.specs.declared.held_request.HeldRequest.{HeldRequest}
 use Rattle.sip_served.specs.declared.held_request.Success.{Success}
 use Rattle.sip_served.specs.declared.provisionals.ReliableResponse.{ReliableResponse}
-use Rattle.sip_served.specs.declared.tick.SuccessDue.TheVariants as repeat
+use Rattle.sip_served.specs.declared.retransmissions.SuccessDue.TheVariants as repeat
 use Rattle.sip_served.specs.RequestLife.{went_on}
 use Rattle.sip_served.specs.Rules.Ticks.{server_due, provisionals_tick, success_tick, server_tick}
 use Rattle.sip_served.specs.State.{State}

@@ -17,7 +17,7 @@ use crate::held_request::HeldRequest;
 use crate::incoming_cancel::cancelled_request;
 use crate::indexed_requests::IndexedRequests;
 use crate::requests::held_request;
-use crate::tick::{next_due, remove_over, tick_requests};
+use crate::retransmissions::{next_due, remove_over, tick_requests};
 use sip_held_dialogs::DialogId;
 use sip_message::{Id, Key, Message, RAck};
 use sip_text::Boxed;

@@ -23,7 +23,7 @@ use crate::change::{Change, apply};
 use crate::held_request::HeldRequest;
 use crate::indices::Indices;
 use crate::request_keys::{AckKey, PrackKey, ack_key, branch_key, merge_key, prack_of};
-use crate::tick::{is_kept, request_due, tick_request};
+use crate::retransmissions::{is_kept, request_due, tick_request};
 use sip_held_dialogs::DialogId;
 use sip_message::{Id, Key, Message, RAck};
 use sip_timers::Schedule;

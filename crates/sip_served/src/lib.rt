@@ -16,9 +16,9 @@ mod provisionals;
 mod request_keys;
 mod requests;
 mod respond;
+mod retransmissions;
 mod served;
 mod server_side;
-mod tick;
 mod unsupported;
 
 pub use arrival::Arrival;

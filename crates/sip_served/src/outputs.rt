@@ -83,7 +83,7 @@ pub(crate) fn answered_with(
 }
 
 /// The 482 to a merged request, which came by another path too (RFC 3261, section 8.2.2.2).
-pub(crate) fn loop_detected(alloc: Global, arrival: &Arrival) -> Result<Vec<CallOut>, AllocError>
+pub(crate) fn merged_request(alloc: Global, arrival: &Arrival) -> Result<Vec<CallOut>, AllocError>
     ensures { IfOk result (λ outs. outs.items
         ≡ arrived.answered_with arrival.now 482 (codes "Loop Detected")) }
 {

@@ -24,7 +24,7 @@ use crate::incoming_cancel::{
     REQUEST_TERMINATED, cancel_accepted, is_unanswered_invite, request_terminated, termination_told,
 };
 use crate::outputs::{
-    bad_extension, loop_detected, no_such_dialog, notice_of_request, ok, out_of_order,
+    bad_extension, merged_request, no_such_dialog, notice_of_request, ok, out_of_order,
 };
 use crate::respond::{answer_dialogs, answer_to, refusal_for};
 use indexmap::IndexMap;
@@ -262,7 +262,7 @@ impl ServerSide {
     {
         let request = arrival.request.get();
         if self.requests.merges(request)? {
-            loop_detected(self.alloc, &arrival)
+            merged_request(self.alloc, &arrival)
         } else if requires_unknown(request) {
             bad_extension(self.alloc, &arrival)
         } else if is_bye(request) || is_prack(request) {
@@ -295,7 +295,7 @@ impl ServerSide {
             ≡ arrived.by_case case self.old call_id name arrival) }
     {
         match case {
-            ArrivalCase::Merged => loop_detected(self.alloc, &arrival),
+            ArrivalCase::Merged => merged_request(self.alloc, &arrival),
             ArrivalCase::BadExtension => bad_extension(self.alloc, &arrival),
             ArrivalCase::NoDialog => no_such_dialog(self.alloc, &arrival),
             ArrivalCase::OutOfOrder => out_of_order(self.alloc, &arrival),

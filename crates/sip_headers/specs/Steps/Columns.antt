@@ -6,11 +6,12 @@ use Rattle.sip_header_values.specs.Address.{name_addrs_from, party_from}
 use Rattle.sip_header_values.specs.Numeral.{numeral_from}
 use Rattle.sip_header_values.specs.Sequence.{call_id_from, cseq_from, rack_from, tokens_from}
 use Rattle.sip_header_values.specs.ViaValue.{vias_from}
-use Rattle.sip_headers.specs.Draft.{other_from}
+use Rattle.sip_headers.specs.HeaderFields.{other_from}
 use Rattle.sip_headers.specs.Slot.{listed, list_from, slot_from}
-use Rattle.sip_headers.specs.declared.draft.Draft.{Draft}
+use Rattle.sip_headers.specs.declared.header_fields.HeaderFields.{HeaderFields}
 
-abbrev pub continued : Draft → Bool → (HeaderName → List (List ℕ)) → List (List ℕ × List ℕ) → Draft
+abbrev pub continued : HeaderFields → Bool → (HeaderName → List (List ℕ)) → List (List ℕ × List ℕ)
+    → HeaderFields
 continued d bad values others = record {
   is_bad = d.is_bad || bad;
   vias = list_from vias_from d.vias (values name.Via);

@@ -3,7 +3,7 @@
 use Rattle.std.specs.Prelude.{Bool, true, false, not, ◌&&◌, is_some}
 use Rattle.sip_headers.specs.Complete.{once}
 use Rattle.sip_headers.specs.Presence.{list_presence}
-use Rattle.sip_headers.specs.declared.draft.Draft.{Draft}
+use Rattle.sip_headers.specs.declared.header_fields.HeaderFields.{HeaderFields}
 use Rattle.sip_headers.specs.declared.faults.Presence.{Presence}
 use Rattle.sip_headers.specs.declared.faults.Presence.TheVariants.{Fitting}
 use Rattle.sip_headers.specs.declared.slot.Slot.{Slot}
@@ -21,14 +21,14 @@ is_at_most_once (Once x) = true
 is_at_most_once slot = false
 
 -- each mandatory header is there as it has to be
-abbrev pub has_needed : Draft → Bool
+abbrev pub has_needed : HeaderFields → Bool
 has_needed d =
     is_fitting (list_presence d.vias) && is_some (once d.from) && is_some (once d.to)
     && is_some (once d.call_id)
     && is_some (once d.cseq)
 
 -- each line is a header line, and each header is there as it may be
-abbrev pub is_whole : Draft → Bool
+abbrev pub is_whole : HeaderFields → Bool
 is_whole d =
     not d.is_bad && is_some d.others && has_needed d && is_at_most_once d.max_forwards
     && is_at_most_once d.content_length

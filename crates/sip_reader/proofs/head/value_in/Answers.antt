@@ -1,7 +1,7 @@
 -- `value_in` gives the value of a line whose name is one of the header.
 use Rattle.std.proofs.Common.{List, ℕ, Bool, cond, not, Option, Some, None, sym, ap, ◌∙◌}
 use Rattle.std.specs.Str.{str_eq_ignore_ascii_case}
-use Rattle.sip_headers.specs.Draft.{long_name}
+use Rattle.sip_headers.specs.HeaderFields.{long_name}
 use Rattle.sip_headers.specs.HeaderLine.{line_from}
 use Rattle.sip_reader.proofs.HeadValues.{known_value, not_same, not_unknown, other_value}
 use Rattle.sip_reader.proofs.head.value_in.Goals as goal

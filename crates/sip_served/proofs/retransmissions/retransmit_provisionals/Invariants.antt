@@ -3,7 +3,7 @@ use Rattle.std.proofs.Common.{◌≡◌, ◌++◌, map, take}
 use Rattle.sip_transactions.specs.declared.input.Command.TheVariants.{Answer}
 use Rattle.sip_user.specs.declared.item.CallOut.TheVariants.{Command}
 use Rattle.sip_served.specs.Provisionals.{of_numbers}
-use Rattle.sip_served.proofs.tick.retransmit_provisionals.Given as goal
+use Rattle.sip_served.proofs.retransmissions.retransmit_provisionals.Given as goal
 
 abbrev pub invariant-loop-one : goal.invariant-loop-one
 invariant-loop-one l = l.outs.items ≡ l.initial.outs.items

@@ -1,8 +1,8 @@
--- `Draft::add_class`: the name and the value of a header of another name can be kept.
+-- `HeaderFields::add_class`: the name and the value of a header of another name can be kept.
 use Rattle.std.proofs.Common.{ap, ◌∙◌}
 use Rattle.sip_headers.specs.HeaderLine.{class_now}
 use Rattle.sip_headers.proofs.OthersFit.{other_fits}
-use Rattle.sip_headers.proofs.draft.Draft.add_class.Goals as goal
+use Rattle.sip_headers.proofs.header_fields.HeaderFields.add_class.Goals as goal
 
 pub add_other-requires-clause-name : goal.add_other-requires-clause-name
 add_other-requires-clause-name c =

@@ -12,12 +12,12 @@ use Rattle.sip_header_values.specs.Sequence.{call_id_from, cseq_from, rack_from,
 use Rattle.sip_header_values.specs.ViaValue.{vias_from}
 use Rattle.sip_headers.specs.HeaderLine.{Class, bad, known, other, class_from}
 use Rattle.sip_headers.specs.Slot.{met, listed}
-use Rattle.sip_headers.specs.declared.draft.Draft.{Draft}
+use Rattle.sip_headers.specs.declared.header_fields.HeaderFields.{HeaderFields}
 use Rattle.sip_headers.specs.declared.slot.Slot.TheVariants.{Absent}
 
 -- before the first header line
-abbrev pub no_draft : Draft
-no_draft = record {
+abbrev pub no_header_fields : HeaderFields
+no_header_fields = record {
   is_bad = false;
   vias = Some [];
   max_forwards = Absent;
@@ -37,7 +37,7 @@ no_draft = record {
 }
 
 -- a draft with one more value of a header
-abbrev pub with_value : Draft → HeaderName → List ℕ → Draft
+abbrev pub with_value : HeaderFields → HeaderName → List ℕ → HeaderFields
 with_value d name.Via value = record d { vias = listed d.vias (vias_from value) }
 with_value d name.MaxForwards value =
     record d { max_forwards = met d.max_forwards (numeral_from value) }
@@ -73,19 +73,19 @@ other_from name value =
     else None
 
 -- a draft with one more header that is kept as it is
-abbrev pub with_other : Draft → List ℕ → List ℕ → Draft
+abbrev pub with_other : HeaderFields → List ℕ → List ℕ → HeaderFields
 with_other d name value = record d { others = listed d.others (other_from name value) }
 
 -- a draft with one more header line
-abbrev pub with_class : Draft → Class → Draft
+abbrev pub with_class : HeaderFields → Class → HeaderFields
 with_class d bad = record d { is_bad = true }
 with_class d (known header value) = with_value d header value
 with_class d (other name value) = with_other d name value
 
 -- a draft with one more line
-abbrev pub with_line : Draft → List ℕ → Draft
+abbrev pub with_line : HeaderFields → List ℕ → HeaderFields
 with_line d line = with_class d (class_from line)
 
 -- the draft of these lines
-abbrev pub draft_of : List (List ℕ) → Draft
-draft_of lines = fold with_line no_draft lines
+abbrev pub draft_of : List (List ℕ) → HeaderFields
+draft_of lines = fold with_line no_header_fields lines

@@ -2,7 +2,7 @@
 use Rattle.std.proofs.Common.{rules}
 use Rattle.std.proofs.lemmas.Fn.{filter_same}
 use Rattle.sip_served.specs.Tick.{is_kept_at}
-use Rattle.sip_served.proofs.tick.remove_over.Goals as goal
+use Rattle.sip_served.proofs.retransmissions.remove_over.Goals as goal
 
 pub returns : goal.returns
 returns c =

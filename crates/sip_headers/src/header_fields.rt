@@ -3,7 +3,7 @@ ghost use Rattle.std.specs.Prelude.{◌≡◌, ℕ, List, [], ◌∷◌, IfOk, I
 ghost use Rattle.sip_grammar.specs.HeaderValue.{is_header_value};
 ghost use Rattle.sip_grammar.specs.OtherName.{is_other_name};
 ghost use Rattle.sip_headers.specs.Complete as complete;
-ghost use Rattle.sip_headers.specs.Draft as drafts;
+ghost use Rattle.sip_headers.specs.HeaderFields as drafts;
 ghost use Rattle.sip_headers.specs.HeaderLine.{class_from, class_now};
 ghost use Rattle.sip_headers.specs.Numbers as numbered;
 
@@ -21,7 +21,7 @@ use std::alloc::{AllocError, Global};
 
 /// What the header lines of a message say so far. A list is None if one of its lines isn't in the
 /// header's form.
-pub struct Draft {
+pub struct HeaderFields {
     /// A line is no header line.
     pub is_bad: bool,
     pub vias: Option<Series<ViaDraft>>,
@@ -41,9 +41,9 @@ pub struct Draft {
     pub others: Option<Series<Header>>,
 }
 
-impl Drop for Draft {
+impl Drop for HeaderFields {
     fn drop(self) {
-        let Draft {
+        let HeaderFields {
             is_bad: _,
             vias: _,
             max_forwards: _,
@@ -64,12 +64,12 @@ impl Drop for Draft {
     }
 }
 
-impl Draft {
+impl HeaderFields {
     /// No line. Takes no memory.
-    pub fn new(alloc: Global) -> Draft
-        ensures { result ≡ drafts.no_draft }
+    pub fn new(alloc: Global) -> HeaderFields
+        ensures { result ≡ drafts.no_header_fields }
     {
-        Draft {
+        HeaderFields {
             is_bad: false,
             vias: Some(Series::new(alloc)),
             max_forwards: Slot::Absent,
@@ -182,7 +182,7 @@ impl Draft {
         requires { complete.IsComplete self }
         ensures { numbered.message_with start vias numbers self body ≡ Some result }
     {
-        let Draft {
+        let HeaderFields {
             is_bad: _,
             vias: _,
             max_forwards: _,
@@ -252,7 +252,7 @@ fn other_header(alloc: Global, name: &[u8], value: &[u8]) -> Result<Header, Allo
 
 /// The long name, if the name is the compact name of Content-Type, Subject or Content-Encoding, in
 /// any case of the letters (RFC 3261, section 7.3.3). Otherwise the name itself.
-#[tactic(auto, unfolding(crate::specs::Draft::long_name))]
+#[tactic(auto, unfolding(crate::specs::HeaderFields::long_name))]
 pub fn long_name(name: &[u8]) -> &[u8]
     ensures { result.now ≡ drafts.long_name name.now }
 {

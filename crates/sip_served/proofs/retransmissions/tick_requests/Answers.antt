@@ -5,7 +5,7 @@ use Rattle.std.proofs.lemmas.List.Edits.{map_over_more}
 use Rattle.sip_served.specs.declared.held_request.HeldRequest.{HeldRequest}
 use Rattle.sip_served.specs.Tick.{request_ticked}
 use Rattle.sip_served.proofs.Ticks.{not_yet, told_more}
-use Rattle.sip_served.proofs.tick.tick_requests.Goals as goal
+use Rattle.sip_served.proofs.retransmissions.tick_requests.Goals as goal
 
 pub loop-held-preserved : goal.loop-held-preserved
 loop-held-preserved c =

@@ -1,9 +1,10 @@
--- `Draft::fault`: a draft in which it finds no fault is complete. One look at each header is enough
+-- `HeaderFields::fault`: a draft in which it finds no fault is complete. One look at each header is
+-- enough
 -- if all are there as they may be.
 use Rattle.std.proofs.Common.{sym, ◌∙◌}
 use Rattle.sip_headers.proofs.Completes.{complete_of}
 use Rattle.sip_headers.proofs.OneLooks.{whole_faultless}
-use Rattle.sip_headers.proofs.draft.Draft.fault.Goals as goal
+use Rattle.sip_headers.proofs.header_fields.HeaderFields.fault.Goals as goal
 
 pub returns-in-None-repeated-clause-complete : goal.returns-in-None-repeated-clause-complete
 returns-in-None-repeated-clause-complete c =

@@ -2,7 +2,7 @@
 use Rattle.std.proofs.Common.{◌≡◌, ◌++◌, map, take, drop}
 use Rattle.std.specs.List.{flat_map}
 use Rattle.sip_served.specs.Tick.{request_ticked}
-use Rattle.sip_served.proofs.tick.tick_requests.Given as goal
+use Rattle.sip_served.proofs.retransmissions.tick_requests.Given as goal
 
 abbrev pub invariant-loop-held : goal.invariant-loop-held
 invariant-loop-held l = record {
