@@ -37,6 +37,8 @@ static void typed(sip::Agent &agent) {
     agent.ack({"c4", "a", "b"});
     agent.prack({"c4", "a", "b"});
     agent.cancel("c4", id);
+    agent.abandon("c4", id);
+    agent.abandon("c4", "a", "b");
     const auto told = agent.run(11);
     std::size_t refused = 0, sent = 0;
     for (const auto &output : told) {
@@ -45,7 +47,7 @@ static void typed(sip::Agent &agent) {
         sent += output.numbers.kind == SIP_UA_SEND
             && output.body.find("\r\nSubject: one\r\n") != std::string::npos;
     }
-    expect(refused == 5, "commands of no call are refused");
+    expect(refused == 7, "commands of no call are refused");
     expect(sent == 1, "the INVITE has its header");
     expect(agent.stats().calls >= 2, "two calls are held");
     try {
@@ -126,6 +128,9 @@ int main() {
     expect(start && start->method == "OPTIONS", "its method");
     expect(start && start->uri == "sip:a@192.0.2.1", "its Request-URI");
     expect(!agent.start_line(2), "no datagram");
+    const auto traits = agent.request_traits(1);
+    expect(traits && !traits->is_in_dialog && !traits->supports_100rel, "a request's traits");
+    expect(!agent.request_traits(2), "no request, no traits");
     expect(agent.header_values(1, "f") == std::vector<std::string>{"<sip:b@192.0.2.9>;tag=f1"},
            "the values of a header");
     const auto line = agent.header_line(1, 2);

@@ -216,6 +216,20 @@ public:
         return asked(sip_ua_cancel, fields);
     }
 
+    /// Gives up a request that you sent, by its id: nothing more is sent or told of it.
+    sip_ua_id abandon(std::string_view call_id, sip_ua_id id) {
+        const sip_ua_abandon_request_fields fields = {bytes(call_id), id};
+        return asked(sip_ua_abandon_request, fields);
+    }
+
+    /// Gives up a dialog, by its tags: it ends, and nothing is sent.
+    sip_ua_id abandon(std::string_view call_id, std::string_view local_tag,
+                      std::string_view remote_tag) {
+        const sip_ua_abandon_dialog_fields fields = {bytes(call_id), bytes(local_tag),
+                                                     bytes(remote_tag)};
+        return asked(sip_ua_abandon_dialog, fields);
+    }
+
     /// Counts what is held, and what waits.
     sip_ua_counts stats() {
         sip_ua_counts told;
@@ -292,6 +306,13 @@ public:
         if (!came.is_there)
             return std::nullopt;
         return Datagram{came.from, bytes};
+    }
+
+    /// What the request with this place says of itself, if it is one.
+    std::optional<sip_ua_request_traits> request_traits(std::uint32_t place) {
+        sip_ua_request_traits traits{};
+        check(sip_ua_request_traits_at(&agent, place, &traits));
+        return traits.is_there ? std::optional(traits) : std::nullopt;
     }
 
     /// Its start line, if it has one.

@@ -19,7 +19,8 @@ returns datagrams to send, and notices:
         .. unless an event waits, wait for a datagram, the user, or agent.next_due()
         agent.datagram(source, data)
 
-The commands are Invite, Plain, Request, Response, Ack, Prack and Cancel. A round gives outputs: a
+The commands are Invite, Plain, Request, Response, Ack, Prack, Cancel, AbandonRequest and
+AbandonDialog. A round gives outputs: a
 Send, a Drop, or a Notice of one of eleven types. sip_ua_udp.py runs this loop on asyncio, and
 sip_ua_calls.py has calls as objects over that.
 
@@ -37,10 +38,10 @@ from typing import Any, ClassVar, List, NamedTuple, Optional, Sequence, Tuple, U
 
 __all__ = (
     "Agent LARGEST_DATAGRAM Error Status Field Id "
-    "Command Invite Plain Request Response Ack Prack Cancel "
+    "Command Invite Plain Request Response Ack Prack Cancel AbandonRequest AbandonDialog "
     "Output Send Line Drop DropReason Notice RequestNotice ResponseNotice AckNotice PrackNotice "
     "TimeoutNotice FailedNotice NoAckNotice NoPrackNotice CancelNotice EndedNotice RefusedNotice "
-    "Refusal Stats StartLine Datagram Message"
+    "Refusal Stats StartLine RequestTraits Datagram Message"
 ).split()
 
 # The most bytes that a UDP datagram carries over IPv4.
@@ -282,6 +283,33 @@ class Cancel(Command):
         return (self.call_id, *_id(self.id))
 
 
+@dataclass(frozen=True)
+class AbandonRequest(Command):
+    """Gives up a request that you sent, such as an INVITE whose peer is dead: it is no longer held,
+    its early dialogs end, and nothing more is sent or told of it. The id is the one that `ask`
+    returned for it."""
+
+    id: Id
+    headers: ClassVar[Headers] = ()
+    _name: ClassVar[str] = "abandon_request"
+
+    def _words(self) -> Tuple[object, ...]:
+        return (self.call_id, *_id(self.id))
+
+
+@dataclass(frozen=True)
+class AbandonDialog(Command):
+    """Gives up the dialog with these tags: it ends, and nothing is sent."""
+
+    local_tag: str
+    remote_tag: str
+    headers: ClassVar[Headers] = ()
+    _name: ClassVar[str] = "abandon_dialog"
+
+    def _words(self) -> Tuple[object, ...]:
+        return (self.call_id, self.local_tag, self.remote_tag)
+
+
 # ---- outputs
 
 
@@ -440,6 +468,16 @@ class StartLine(NamedTuple):
     reason: Optional[str]
 
 
+class RequestTraits(NamedTuple):
+    """What a request says of itself. It is in a dialog if its To has a tag: an INVITE is a re-INVITE
+    then. With `100rel` supported a provisional response may be reliable, with `100rel` required
+    each but 100 is."""
+
+    is_in_dialog: bool
+    supports_100rel: bool
+    requires_100rel: bool
+
+
 class Datagram(NamedTuple):
     """A received datagram."""
 
@@ -582,6 +620,15 @@ class _HeaderLengths(ctypes.Structure):
         return (self.name_len, self.len)
 
 
+class _RequestTraits(ctypes.Structure):
+    _fields_ = [
+        ("is_there", ctypes.c_bool),
+        ("is_in_dialog", ctypes.c_bool),
+        ("supports_100rel", ctypes.c_bool),
+        ("requires_100rel", ctypes.c_bool),
+    ]
+
+
 class _Start(ctypes.Structure):
     _fields_ = [
         ("kind", ctypes.c_uint32),
@@ -611,6 +658,8 @@ _FUNCTIONS = {
     "ack": _text * 4 + _asked,
     "prack": _text * 4 + _asked,
     "cancel": _text + _event + _asked,
+    "abandon_request": _text + _event + _asked,
+    "abandon_dialog": _text * 3 + _asked,
     "next": (_at(_TypedOutput),) + _room,
     "next_output": (_at(_LineOutput),) + _room,
     "stats": (_at(_Stats),),
@@ -624,6 +673,7 @@ _FUNCTIONS = {
     "last_id": (_at(_Id),),
     "would_begin": _text + (_at(ctypes.c_bool),),
     "datagram_at": (_place, _at(_Arrival)) + _room,
+    "request_traits": (_place, _at(_RequestTraits)),
     "start_line": (_place, _at(_Start)) + _room,
     "header_line": (_place, _size, _at(_HeaderLengths)) + _room,
     "header_values": (_place,) + _text + (_at(_TextLength),) + _room,
@@ -906,6 +956,14 @@ class Agent:
         told = _Arrival()
         (data,) = self._texts("datagram_at", told, _number(place, 32))
         return Datagram(told.source.told(), data) if told.is_there else None
+
+    def request_traits(self, place: int) -> Optional[RequestTraits]:
+        """What the request with this place says of itself, if it is one."""
+        told = _RequestTraits()
+        self._call("request_traits", _number(place, 32), told)
+        if not told.is_there:
+            return None
+        return RequestTraits(told.is_in_dialog, told.supports_100rel, told.requires_100rel)
 
     def start_line(self, place: int) -> Optional[StartLine]:
         """Its start line, if it has one."""

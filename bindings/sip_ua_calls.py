@@ -38,6 +38,7 @@ from typing import (
 )
 
 from sip_ua import (
+    AbandonRequest,
     Ack,
     AckNotice,
     Address,
@@ -467,9 +468,10 @@ class OutgoingCall(Call):
         asyncio.get_running_loop().call_later(TRANSACTION_S, self._miss_response)
 
     def _miss_response(self) -> None:
-        """The cancelled INVITE got no response. A 2xx that still comes is ended by a BYE."""
+        """The cancelled INVITE got no response in time: it is given up (RFC 3261, section 9.1)."""
         if not self._end.done():
-            self._agent.forget_later(self._id)
+            self._agent.ask(AbandonRequest(self.call_id, self._id))
+            self._agent.forget(self._id)
             self._finish(Ended(FinalResponse(408, "Request Timeout")))
 
     def _fail(self, end: Ended) -> None:

@@ -151,6 +151,10 @@ static void ask(sip::Agent &agent, const std::string &line, const std::vector<Gi
         agent.prack({texts[1], texts[2], texts[3], texts[4], headers});
     else if (keyword == "cancel")
         agent.cancel(texts[1], id(f[2]));
+    else if (keyword == "abandon" && f.size() == 3)
+        agent.abandon(texts[1], id(f[2]));
+    else if (keyword == "abandon")
+        agent.abandon(texts[1], texts[2], texts[3]);
     else
         throw std::runtime_error("no command: " + line);
 }

@@ -332,6 +332,27 @@ typedef struct sip_ua_cancel_fields {
     sip_ua_id id;
 } sip_ua_cancel_fields;
 
+/* Gives up a request that you sent. The id is that of its command. */
+typedef struct sip_ua_abandon_request_fields {
+    sip_ua_bytes call_id;
+    sip_ua_id id;
+} sip_ua_abandon_request_fields;
+
+/* Gives up a dialog. The tags are those of the notices; an absent tag is empty. */
+typedef struct sip_ua_abandon_dialog_fields {
+    sip_ua_bytes call_id;
+    sip_ua_bytes local_tag;
+    sip_ua_bytes remote_tag;
+} sip_ua_abandon_dialog_fields;
+
+/* What a request says of itself, and its notice doesn't, or none. */
+typedef struct sip_ua_request_traits {
+    bool is_there;
+    bool is_in_dialog;     /* its To has a tag: an INVITE is a re-INVITE */
+    bool supports_100rel;  /* a provisional response may be reliable */
+    bool requires_100rel;  /* each provisional response, but 100, is sent reliably */
+} sip_ua_request_traits;
+
 /* A datagram that was received, or none. */
 typedef struct sip_ua_arrival {
     bool is_there;
@@ -518,6 +539,12 @@ uint32_t sip_ua_raw_prack(sip_ua *agent, const uint8_t *call_id, size_t call_id_
                           size_t body_len, sip_ua_asked *asked);
 uint32_t sip_ua_raw_cancel(sip_ua *agent, const uint8_t *call_id, size_t call_id_len,
                            uint64_t round, uint32_t place, sip_ua_asked *asked);
+uint32_t sip_ua_raw_abandon_request(sip_ua *agent, const uint8_t *call_id, size_t call_id_len,
+                                    uint64_t round, uint32_t place, sip_ua_asked *asked);
+uint32_t sip_ua_raw_abandon_dialog(sip_ua *agent, const uint8_t *call_id, size_t call_id_len,
+                                   const uint8_t *local_tag, size_t local_tag_len,
+                                   const uint8_t *remote_tag, size_t remote_tag_len,
+                                   sip_ua_asked *asked);
 uint32_t sip_ua_raw_failed(sip_ua *agent, size_t output);
 uint32_t sip_ua_raw_run(sip_ua *agent, uint64_t moment);
 uint32_t sip_ua_raw_next_output(sip_ua *agent, sip_ua_output *output, uint8_t *buffer, size_t room);
@@ -529,6 +556,7 @@ uint32_t sip_ua_raw_last_id(sip_ua *agent, sip_ua_id *id);
 uint32_t sip_ua_raw_would_begin(sip_ua *agent, const uint8_t *bytes, size_t len, bool *begins);
 uint32_t sip_ua_raw_datagram_at(sip_ua *agent, uint32_t place, sip_ua_arrival *arrival,
                                 uint8_t *buffer, size_t room);
+uint32_t sip_ua_raw_request_traits(sip_ua *agent, uint32_t place, sip_ua_request_traits *traits);
 uint32_t sip_ua_raw_start_line(sip_ua *agent, uint32_t place, sip_ua_start *start, uint8_t *buffer,
                                size_t room);
 uint32_t sip_ua_raw_header_value(sip_ua *agent, uint32_t place, const uint8_t *name,
@@ -765,6 +793,34 @@ static inline uint32_t sip_ua_cancel(sip_ua *agent, const sip_ua_cancel_fields *
                              fields->id.round, fields->id.place, told);
 }
 
+/* Gives up a request that you sent, such as an INVITE whose peer is dead: it is no longer held, its
+ * early dialogs end, and nothing more is sent or told of it. */
+static inline uint32_t sip_ua_abandon_request(sip_ua *agent,
+                                              const sip_ua_abandon_request_fields *fields,
+                                              sip_ua_asked *asked)
+{
+    sip_ua_asked otherwise, *told = sip_ua_raw_asked(asked, &otherwise);
+    if (agent == NULL || fields == NULL || !sip_ua_raw_is_there(fields->call_id))
+        return SIP_UA_NULL;
+    return sip_ua_raw_abandon_request(agent, sip_ua_raw_at(fields->call_id), fields->call_id.len,
+                                      fields->id.round, fields->id.place, told);
+}
+
+/* Gives up a dialog: it ends, and nothing is sent. */
+static inline uint32_t sip_ua_abandon_dialog(sip_ua *agent,
+                                             const sip_ua_abandon_dialog_fields *fields,
+                                             sip_ua_asked *asked)
+{
+    sip_ua_asked otherwise, *told = sip_ua_raw_asked(asked, &otherwise);
+    if (agent == NULL || fields == NULL || !sip_ua_raw_is_there(fields->call_id)
+        || !sip_ua_raw_is_there(fields->local_tag) || !sip_ua_raw_is_there(fields->remote_tag))
+        return SIP_UA_NULL;
+    return sip_ua_raw_abandon_dialog(agent, sip_ua_raw_at(fields->call_id), fields->call_id.len,
+                                     sip_ua_raw_at(fields->local_tag), fields->local_tag.len,
+                                     sip_ua_raw_at(fields->remote_tag), fields->remote_tag.len,
+                                     told);
+}
+
 /* ---- the rest of a host's loop */
 
 /* Says that the send with this index, of the last round, failed. Except for the ACK of a 2xx, that
@@ -912,6 +968,16 @@ static inline uint32_t sip_ua_datagram_at(sip_ua *agent, uint32_t place, sip_ua_
     if (agent == NULL || arrival == NULL || (buffer == NULL && room != 0))
         return SIP_UA_NULL;
     return sip_ua_raw_datagram_at(agent, place, arrival, sip_ua_raw_room(buffer, &otherwise), room);
+}
+
+/* What the request with this place in the last round says of itself. `is_there` is false if there is
+ * none. Fault: SIP_UA_NO_MEMORY. */
+static inline uint32_t sip_ua_request_traits_at(sip_ua *agent, uint32_t place,
+                                                sip_ua_request_traits *traits)
+{
+    if (agent == NULL || traits == NULL)
+        return SIP_UA_NULL;
+    return sip_ua_raw_request_traits(agent, place, traits);
 }
 
 /* The start line of that datagram. Its text is written to the buffer. Faults: SIP_UA_NO_ROOM, if

@@ -137,6 +137,21 @@ func (a *Agent) Run(moment uint64) ([]Output, error) {
 	}
 }
 
+// RequestTraits are what a request says of itself: whether it is in a dialog, and whether it supports
+// or requires reliable provisional responses.
+type RequestTraits struct {
+	IsInDialog, Supports100rel, Requires100rel bool
+}
+
+// RequestTraits are those of the request with a place in the last round, if it is one.
+func (a *Agent) RequestTraits(place uint32) (RequestTraits, bool, error) {
+	var told C.sip_ua_request_traits
+	err := done(C.sip_ua_raw_request_traits(&a.agent, C.uint32_t(place), &told))
+	traits := RequestTraits{bool(told.is_in_dialog), bool(told.supports_100rel),
+		bool(told.requires_100rel)}
+	return traits, bool(told.is_there), err
+}
+
 // NextDue is the first moment at which something is due, if there is one.
 func (a *Agent) NextDue() (uint64, bool, error) {
 	var due C.sip_ua_due
@@ -226,6 +241,34 @@ func (a *Agent) lines(call func(*C.size_t, *C.uint8_t, C.size_t) C.uint32_t) ([]
 		lines := strings.Split(string(a.buffer[:told]), "\n")
 		return lines[:len(lines)-1], nil
 	}
+}
+
+// RoundText are the lines of the last round, as a session file has them. Appended to a journal before
+// the outputs of the round go out, they let an agent go on in another process: see Resume.
+func (a *Agent) RoundText() ([]byte, error) {
+	for {
+		var told C.size_t
+		at, size := bytesOf(a.buffer)
+		status := C.sip_ua_raw_round_text(&a.agent, &told, at, size)
+		if status == C.SIP_UA_NO_ROOM {
+			a.buffer = make([]byte, told)
+			continue
+		}
+		if status != C.SIP_UA_OK {
+			return nil, Error(status)
+		}
+		return append([]byte(nil), a.buffer[:told]...), nil
+	}
+}
+
+// Resume runs the first round of a text again, as RoundText gave it, without outputs, and returns how
+// many bytes it took. Call it again behind these, until none is left. The agent is a new one. Cut a
+// journal behind its last line feed first.
+func (a *Agent) Resume(text []byte) (int, error) {
+	var told C.sip_ua_resumed
+	at, size := bytesOf(text)
+	err := done(C.sip_ua_raw_resume(&a.agent, at, size, &told))
+	return int(told.len), err
 }
 
 // Close frees the agent.

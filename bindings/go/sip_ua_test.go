@@ -44,6 +44,13 @@ func TestAnOptionsIsAnswered(t *testing.T) {
 	if lines, err := agent.HeaderLines(2); err != nil || len(lines) != 0 {
 		t.Fatal(lines, err)
 	}
+	traits, there, err := agent.RequestTraits(outputs[0].Place)
+	if err != nil || !there || traits != (RequestTraits{}) {
+		t.Fatal(traits, there, err)
+	}
+	if _, there, err := agent.RequestTraits(2); err != nil || there {
+		t.Fatal(there, err)
+	}
 	if begins, err := agent.WouldBegin([]byte(request)); err != nil || begins {
 		t.Fatal("a request that is held would begin", begins, err)
 	}
@@ -66,6 +73,45 @@ func TestAnOptionsIsAnswered(t *testing.T) {
 		t.Fatal(answer)
 	}
 	if due, is, err := agent.NextDue(); err != nil || !is || due != 32010 {
+		t.Fatal(due, is, err)
+	}
+}
+
+// An agent dies after its first round; another goes on from its journal and answers the request.
+func TestAnAgentGoesOn(t *testing.T) {
+	begin := func() *Agent {
+		agent, err := New(netip.MustParseAddrPort("192.0.2.1:5060"), [32]byte{7}, 0)
+		if err != nil {
+			t.Fatal(err)
+		}
+		return agent
+	}
+	first := begin()
+	request := "OPTIONS sip:192.0.2.1 SIP/2.0\r\nVia: SIP/2.0/UDP 192.0.2.9;branch=z9hG4bKa1\r\n" +
+		"Supported: 100rel\r\n" +
+		"From: <sip:a@192.0.2.9>;tag=f1\r\nTo: <sip:192.0.2.1>;tag=t1\r\nCall-ID: c1\r\n" +
+		"CSeq: 7 OPTIONS\r\n\r\n"
+	if err := first.Datagram(netip.MustParseAddrPort("192.0.2.9:5060"), []byte(request)); err != nil {
+		t.Fatal(err)
+	}
+	if _, err := first.Run(5); err != nil {
+		t.Fatal(err)
+	}
+	traits, there, err := first.RequestTraits(1)
+	if err != nil || !there || traits != (RequestTraits{IsInDialog: true, Supports100rel: true}) {
+		t.Fatal(traits, there, err)
+	}
+	journal, err := first.RoundText()
+	if err != nil || first.Close() != nil {
+		t.Fatal(err)
+	}
+	second := begin()
+	defer second.Close()
+	took, err := second.Resume(journal)
+	if err != nil || took != len(journal) {
+		t.Fatal(took, err)
+	}
+	if due, is, err := second.NextDue(); err != nil || !is || due != 32005 {
 		t.Fatal(due, is, err)
 	}
 }

@@ -20,6 +20,7 @@ use Rattle.sip_host.specs.declared.host_fault.HostFault.TheVariants as fault
 use Rattle.sip_host.specs.declared.holdings.Holdings.{Holdings}
 use Rattle.sip_host.specs.declared.line_length.LineLength.{LineLength}
 use Rattle.sip_host.specs.declared.next_output.NextOutput.{NextOutput}
+use Rattle.sip_host.specs.declared.request_traits.RequestTraits.{RequestTraits as HostTraits}
 use Rattle.sip_host.specs.declared.start_length.StartLength.{StartLength}
 use Rattle.sip_host.specs.declared.start_length.StartLength.TheVariants as start
 use Rattle.sip_user.specs.declared.command.ProvisionalSupport.{ProvisionalSupport}
@@ -34,6 +35,7 @@ use Rattle.sip_c.specs.declared.values.Datagram.{Datagram}
 use Rattle.sip_c.specs.declared.values.Due.{Due}
 use Rattle.sip_c.specs.declared.values.EventId.{EventId}
 use Rattle.sip_c.specs.declared.values.HeaderLengths.{HeaderLengths}
+use Rattle.sip_c.specs.declared.values.RequestTraits.{RequestTraits}
 use Rattle.sip_c.specs.declared.values.StartLine.{StartLine}
 use Rattle.sip_c.specs.declared.values.Stats.{Stats}
 use Rattle.sip_c.specs.declared.values.TextLength.{TextLength}
@@ -133,6 +135,21 @@ length_of (Some length) = record { is_there = true; len = length }
 abbrev pub header_lengths_of : Option LineLength → HeaderLengths
 header_lengths_of None = record { is_there = false; name_len = 0; len = 0 }
 header_lengths_of (Some line) = record { is_there = true; name_len = line.name; len = line.value }
+
+-- what a request says of itself; zeros if there is none
+abbrev pub traits_given : Option HostTraits → RequestTraits
+traits_given None = record {
+  is_there = false;
+  is_in_dialog = false;
+  supports_100rel = false;
+  requires_100rel = false;
+}
+traits_given (Some traits) = record {
+  is_there = true;
+  is_in_dialog = traits.is_in_dialog;
+  supports_100rel = traits.supports_100rel;
+  requires_100rel = traits.requires_100rel;
+}
 
 -- a request line is of kind 1, a status line of kind 2; zeros if there is none
 abbrev pub start_line_of : Option StartLength → StartLine

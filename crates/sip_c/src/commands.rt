@@ -2,7 +2,7 @@
 //! given before it with `sip_ua_raw_header`.
 
 ghost use Rattle.std.specs.Prelude.{◌≡◌};
-ghost use Rattle.sip_host.specs.Asking.{TakesCommand, TakesHeader, ack_of, cancel_of, invite_of, plain_of, prack_of, request_of, respond_of};
+ghost use Rattle.sip_host.specs.Asking.{TakesCommand, TakesHeader, abandon_dialog_of, abandon_request_of, ack_of, cancel_of, invite_of, plain_of, prack_of, request_of, respond_of};
 ghost use Rattle.sip_c.specs.Called.{Asks, Calls, addr_of, asked_of, reliability_of, support_of};
 ghost use Rattle.sip_c.specs.Status as spec;
 
@@ -10,7 +10,8 @@ use crate::handle::Handle;
 use crate::status::{NO_AGENT, OK, number_of, number_of_answer};
 use crate::values::{self, Address, Asked};
 use sip_host::{
-    BodyFields, CancelFields, HostFault, InviteFields, PlainFields, RequestFields, RespondFields,
+    AbandonDialogFields, AbandonRequestFields, BodyFields, CancelFields, HostFault, InviteFields,
+    PlainFields, RequestFields, RespondFields,
 };
 use sip_message::Id;
 use std::alloc::Global;
@@ -292,6 +293,66 @@ pub extern "C" fn sip_ua_raw_cancel(
         id: Id { round, place },
     };
     let answer = host.cancel(&fields);
+    handle.put(host);
+    tell(answer, asked)
+}
+
+/// Gives up a request that was sent, by the request's id.
+#[unsafe(no_mangle)]
+pub extern "C" fn sip_ua_raw_abandon_request(
+    alloc: Global,
+    handle: &mut Handle,
+    call_id: &[u8],
+    round: u64,
+    place: u32,
+    asked: &mut Asked,
+) -> u32
+    ensures { Asks handle.old.owned.host handle.new.owned.host result asked.new
+        (TakesCommand (abandon_request_of (record {
+          call_id = call_id.entry;
+          id = record { round = round; place = place };
+        }))) }
+{
+    let Some(mut host) = handle.take(alloc) else {
+        *asked = values::nothing_asked();
+        return NO_AGENT;
+    };
+    let fields = AbandonRequestFields {
+        call_id,
+        id: Id { round, place },
+    };
+    let answer = host.abandon_request(&fields);
+    handle.put(host);
+    tell(answer, asked)
+}
+
+/// Gives up a dialog, by its tags.
+#[unsafe(no_mangle)]
+pub extern "C" fn sip_ua_raw_abandon_dialog(
+    alloc: Global,
+    handle: &mut Handle,
+    call_id: &[u8],
+    local_tag: &[u8],
+    remote_tag: &[u8],
+    asked: &mut Asked,
+) -> u32
+    ensures { Asks handle.old.owned.host handle.new.owned.host result asked.new
+        (TakesCommand (abandon_dialog_of (record {
+          call_id = call_id.entry;
+          local_tag = local_tag.entry;
+          remote_tag = remote_tag.entry;
+        }))) }
+{
+    let Some(mut host) = handle.take(alloc) else {
+        *asked = values::nothing_asked();
+        return NO_AGENT;
+    };
+    let fields = AbandonDialogFields {
+        call_id,
+        local_tag,
+        remote_tag,
+    };
+    let answer = host.abandon_dialog(&fields);
     handle.put(host);
     tell(answer, asked)
 }

@@ -12,8 +12,9 @@ mod typed;
 mod values;
 
 pub use commands::{
-    sip_ua_raw_ack, sip_ua_raw_cancel, sip_ua_raw_header, sip_ua_raw_invite, sip_ua_raw_plain,
-    sip_ua_raw_prack, sip_ua_raw_request, sip_ua_raw_respond,
+    sip_ua_raw_abandon_dialog, sip_ua_raw_abandon_request, sip_ua_raw_ack, sip_ua_raw_cancel,
+    sip_ua_raw_header, sip_ua_raw_invite, sip_ua_raw_plain, sip_ua_raw_prack, sip_ua_raw_request,
+    sip_ua_raw_respond,
 };
 pub use exports::{
     sip_ua_raw_datagram, sip_ua_raw_event_line, sip_ua_raw_event_lines, sip_ua_raw_failed,
@@ -24,11 +25,11 @@ pub use handle::Handle;
 pub use journal::{sip_ua_raw_resume, sip_ua_raw_round_text};
 pub use questions::{
     sip_ua_raw_datagram_at, sip_ua_raw_header_line, sip_ua_raw_header_lines,
-    sip_ua_raw_header_value, sip_ua_raw_header_values, sip_ua_raw_last_id, sip_ua_raw_start_line,
-    sip_ua_raw_stats, sip_ua_raw_would_begin,
+    sip_ua_raw_header_value, sip_ua_raw_header_values, sip_ua_raw_last_id,
+    sip_ua_raw_request_traits, sip_ua_raw_start_line, sip_ua_raw_stats, sip_ua_raw_would_begin,
 };
 pub use typed::TypedOutput;
 pub use values::{
-    Address, Asked, Configuration, Datagram, Due, EventId, HeaderLengths, Resumed, StartLine,
-    Stats, TextLength, Told,
+    Address, Asked, Configuration, Datagram, Due, EventId, HeaderLengths, RequestTraits, Resumed,
+    StartLine, Stats, TextLength, Told,
 };

@@ -1,15 +1,19 @@
 //! The functions by which C asks for the id of an event, for what an agent holds, and for what a
 //! datagram says.
 
-ghost use Rattle.std.specs.Prelude.{◌≡◌, ◌⊎◌, ◌+◌, ◌≤◌, IfSome, None, Some, false, length};
+ghost use Rattle.std.specs.Prelude.{◌≡◌, ◌⊎◌, ◌+◌, ◌≤◌, IfSome, None, Option, Some, false, length};
 ghost use Rattle.sip_host.specs.Hosting.{HoldsSo, TellsIfItBegins, last_id_of};
 ghost use Rattle.sip_host.specs.declared.holdings.Holdings.{Holdings as AHoldings};
 ghost use Rattle.sip_c.specs.Status as spec;
-ghost use Rattle.sip_c.specs.Called.{TellsDatagram, TellsLine, TellsLines, TellsNothing, TellsOrNot, TellsStart, TellsValue, TellsValues, datagram_of, header_lengths_of, id_of, length_of, start_line_of, stats_of};
+ghost use Rattle.sip_host.specs.RequestTraits.{TellsTraitsAt};
+ghost use Rattle.sip_host.specs.declared.request_traits.RequestTraits.{RequestTraits as TheTraits};
+ghost use Rattle.sip_c.specs.Called.{TellsDatagram, TellsLine, TellsLines, TellsNothing, TellsOrNot, TellsStart, TellsValue, TellsValues, datagram_of, traits_given, header_lengths_of, id_of, length_of, start_line_of, stats_of};
 
 use crate::handle::Handle;
 use crate::status::{NO_AGENT, NO_MEMORY, NO_ROOM, OK, room_answer};
-use crate::values::{self, Datagram, EventId, HeaderLengths, StartLine, Stats, TextLength};
+use crate::values::{
+    self, Datagram, EventId, HeaderLengths, RequestTraits, StartLine, Stats, TextLength,
+};
 use std::alloc::Global;
 
 /// The id of the event that was given last, if the next round has one.
@@ -98,6 +102,36 @@ pub extern "C" fn sip_ua_raw_datagram_at(
     *told = values::datagram_of(host.datagram_at(place, buffer));
     handle.put(host);
     room_answer(told.len, room)
+}
+
+/// What the request that came in at a place of the last round says of itself.
+#[unsafe(no_mangle)]
+pub extern "C" fn sip_ua_raw_request_traits(
+    alloc: Global,
+    handle: &mut Handle,
+    place: u32,
+    traits: &mut RequestTraits,
+) -> u32
+    ensures same { handle.new.owned.host ≡ handle.old.owned.host }
+    ensures none { handle.old.owned.host ≡ None → (result ≡ 1) × (traits.new ≡ traits_given None) }
+    ensures told { IfSome handle.old.owned.host (λ host.
+        ((told : Option TheTraits) × (result ≡ 0) × TellsTraitsAt host place told
+        × (traits.new ≡ traits_given told))
+        ⊎ ((result ≡ 10) × (traits.new ≡ traits_given None))) }
+{
+    *traits = values::traits_given(None);
+    let Some(host) = handle.take(alloc) else {
+        return NO_AGENT;
+    };
+    let answer = host.request_traits(place);
+    handle.put(host);
+    match answer {
+        Ok(told) => {
+            *traits = values::traits_given(told);
+            OK
+        }
+        Err(_) => NO_MEMORY,
+    }
 }
 
 /// What the start line of the datagram that came in at a place of the last round says.

@@ -5,7 +5,10 @@ ghost use Rattle.sip_c.specs.Called as spec;
 ghost use Rattle.sip_c.specs.Journal as journal;
 
 use crate::status::number_of_field;
-use sip_host::{Holdings, HostFault, LineLength, NextOutput, ResumeFault, StartLength};
+use sip_host::{
+    Holdings, HostFault, LineLength, NextOutput, RequestTraits as HostTraits, ResumeFault,
+    StartLength,
+};
 use sip_journal::LinesFault;
 use sip_message::{Addr, Id};
 use sip_round::Config;
@@ -371,6 +374,37 @@ pub(crate) fn start_line_of(start: Option<StartLength>) -> StartLine
             status: u32::from(status),
             method_len: 0,
             len: reason,
+        },
+    }
+}
+
+/// What a request says of itself, if there is one: whether it is in a dialog, and whether `100rel`
+/// is in its Supported or its Require, or in its Require.
+#[repr(C)]
+#[derive(Clone, Copy)]
+pub struct RequestTraits {
+    pub is_there: bool,
+    pub is_in_dialog: bool,
+    pub supports_100rel: bool,
+    pub requires_100rel: bool,
+}
+
+/// The traits, or no if there are none.
+pub(crate) fn traits_given(traits: Option<HostTraits>) -> RequestTraits
+    ensures { result ≡ spec.traits_given traits }
+{
+    match traits {
+        None => RequestTraits {
+            is_there: false,
+            is_in_dialog: false,
+            supports_100rel: false,
+            requires_100rel: false,
+        },
+        Some(traits) => RequestTraits {
+            is_there: true,
+            is_in_dialog: traits.is_in_dialog,
+            supports_100rel: traits.supports_100rel,
+            requires_100rel: traits.requires_100rel,
         },
     }
 }

@@ -1,3 +1,4 @@
 pub mod Failures
+pub mod RequestTraits
 pub mod SaidHeaders
 pub mod WouldBegin

@@ -14,6 +14,8 @@ use Rattle.sip_files.specs.Written.{header_text}
 use Rattle.sip_files.specs.declared.given_header.GivenHeader.{GivenHeader}
 use Rattle.sip_host.specs.Absolute.{is_absolute}
 use Rattle.sip_host.specs.Hosting.{Answer, with_events}
+use Rattle.sip_host.specs.declared.fields.AbandonDialogFields.{AbandonDialogFields}
+use Rattle.sip_host.specs.declared.fields.AbandonRequestFields.{AbandonRequestFields}
 use Rattle.sip_host.specs.declared.fields.BodyFields.{BodyFields}
 use Rattle.sip_host.specs.declared.fields.CancelFields.{CancelFields}
 use Rattle.sip_host.specs.declared.fields.InviteFields.{InviteFields}
@@ -92,6 +94,17 @@ prack_of fields = command.Prack (body_of fields)
 
 abbrev pub cancel_of : CancelFields → UserCommand
 cancel_of fields = command.Cancel (record { call_id = fields.call_id.now; id = fields.id })
+
+abbrev pub abandon_request_of : AbandonRequestFields → UserCommand
+abandon_request_of fields =
+    command.AbandonRequest (record { call_id = fields.call_id.now; id = fields.id })
+
+abbrev pub abandon_dialog_of : AbandonDialogFields → UserCommand
+abandon_dialog_of fields = command.AbandonDialog (record {
+  call_id = fields.call_id.now;
+  local_tag = tag_of fields.local_tag.now;
+  remote_tag = tag_of fields.remote_tag.now;
+})
 
 -- ---- the rules of the fields
 

@@ -2,4 +2,5 @@ pub mod Absolute
 pub mod Asking
 pub mod Handing
 pub mod Hosting
+pub mod RequestTraits
 pub mod Resuming

@@ -9,13 +9,17 @@ ghost use Rattle.sip_host.specs.declared.host_fault.HostFault.TheVariants as fau
 use crate::absolute::is_absolute;
 use crate::field::Field;
 use crate::fields::{
-    BodyFields, CancelFields, InviteFields, PlainFields, RequestFields, RespondFields,
+    AbandonDialogFields, AbandonRequestFields, BodyFields, CancelFields, InviteFields, PlainFields,
+    RequestFields, RespondFields,
 };
 use crate::host_fault::HostFault;
 use sip_grammar::{has_no_line_byte, is_word};
 use sip_message::{CallId, Content, Reason, Token, Uri};
 use sip_text::{Series, Text, is_token};
-use sip_user::{Cancel, DialogBody, DialogRequest, Invite, Plain, Respond, UserCommand};
+use sip_user::{
+    AbandonDialog, AbandonRequest, Cancel, DialogBody, DialogRequest, Invite, Plain, Respond,
+    UserCommand,
+};
 use std::alloc::{AllocError, Global};
 
 /// The lowest and the highest status of a response that the user can send.
@@ -172,6 +176,45 @@ pub(crate) fn cancel_command(
     Ok(UserCommand::Cancel(Cancel {
         call_id: CallId::copy_of(alloc, fields.call_id)?,
         id: fields.id,
+    }))
+}
+
+/// The command that gives a request up.
+///
+/// # Errors
+///
+/// As for [`invite_command`].
+pub(crate) fn abandon_request_command(
+    alloc: Global,
+    fields: &AbandonRequestFields<'_>,
+) -> Result<UserCommand, HostFault>
+    ensures { asking.Makes (asking.abandon_request_of fields.now) result }
+{
+    keep(Field::CallId, is_word(fields.call_id))?;
+    Ok(UserCommand::AbandonRequest(AbandonRequest {
+        call_id: CallId::copy_of(alloc, fields.call_id)?,
+        id: fields.id,
+    }))
+}
+
+/// The command that gives a dialog up.
+///
+/// # Errors
+///
+/// As for [`invite_command`].
+pub(crate) fn abandon_dialog_command(
+    alloc: Global,
+    fields: &AbandonDialogFields<'_>,
+) -> Result<UserCommand, HostFault>
+    ensures { asking.Makes (asking.abandon_dialog_of fields.now) result }
+{
+    keep(Field::CallId, is_word(fields.call_id))?;
+    keep(Field::LocalTag, is_tag(fields.local_tag))?;
+    keep(Field::RemoteTag, is_tag(fields.remote_tag))?;
+    Ok(UserCommand::AbandonDialog(AbandonDialog {
+        call_id: CallId::copy_of(alloc, fields.call_id)?,
+        local_tag: tag(alloc, fields.local_tag)?,
+        remote_tag: tag(alloc, fields.remote_tag)?,
     }))
 }
 

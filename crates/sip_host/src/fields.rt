@@ -58,6 +58,22 @@ pub struct BodyFields<'a> {
     pub body: &'a [u8],
 }
 
+/// The fields of a command that gives a request up.
+#[derive(Clone, Copy)]
+pub struct AbandonRequestFields<'a> {
+    pub call_id: &'a [u8],
+    /// The request that is given up.
+    pub id: Id,
+}
+
+/// The fields of a command that gives a dialog up. An absent tag is empty.
+#[derive(Clone, Copy)]
+pub struct AbandonDialogFields<'a> {
+    pub call_id: &'a [u8],
+    pub local_tag: &'a [u8],
+    pub remote_tag: &'a [u8],
+}
+
 /// The fields of a CANCEL.
 #[derive(Clone, Copy)]
 pub struct CancelFields<'a> {

@@ -17,10 +17,11 @@ ghost use Rattle.sip_reader.specs.declared.untyped_line.HeaderLine.{HeaderLine a
 ghost use Rattle.sip_user.specs.declared.command.UserCommand.{UserCommand as AUserCommand};
 ghost use Rattle.sip_files.specs.Given.{with_given};
 ghost use Rattle.sip_round.specs.declared.round.Event.TheVariants.{Command};
-ghost use Rattle.sip_host.specs.Asking.{Makes, TakesCommand, TakesHeader, ack_of, cancel_of, invite_of, plain_of, prack_of, request_of, respond_of, without_headers};
+ghost use Rattle.sip_host.specs.Asking.{Makes, TakesCommand, TakesHeader, abandon_dialog_of, abandon_request_of, ack_of, cancel_of, invite_of, plain_of, prack_of, request_of, respond_of, without_headers};
 ghost use Rattle.sip_host.specs.Handing.{datagram_in, head_of, length_of_line, line_text, lines_text, put_if, put_in, start_of, start_text, text_of, values_text};
 ghost use Rattle.sip_host.specs.Hosting.{Begins, BeginsAt, HasLinesAt, HasValuesAt, HoldsSo, RunsRound, TakesDatagram, TakesFailure, TakesLine, TakesLines, TellsIfItBegins, after_one, after_taking, last_events, last_id_of, output_at, shard_of, with_events};
 ghost use Rattle.sip_files.specs.Written.{IsSessionRound};
+ghost use Rattle.sip_host.specs.RequestTraits.{TellsTraitsAt};
 ghost use Rattle.sip_host.specs.Resuming.{GoesOn, Resumes, is_idle, text_of_round};
 ghost use Rattle.sip_journal.specs.Rounds.{SpellsRound};
 ghost use Rattle.sip_round.specs.AgentState.{refusal_of};
@@ -29,12 +30,13 @@ ghost use Rattle.sip_host.specs.declared.field.Field.TheVariants as field;
 ghost use Rattle.sip_host.specs.declared.host_fault.HostFault.TheVariants as fault;
 
 use crate::asking::{
-    ack_command, cancel_command, invite_command, plain_command, prack_command, request_command,
-    respond_command,
+    abandon_dialog_command, abandon_request_command, ack_command, cancel_command, invite_command,
+    plain_command, prack_command, request_command, respond_command,
 };
 use crate::field::Field;
 use crate::fields::{
-    BodyFields, CancelFields, InviteFields, PlainFields, RequestFields, RespondFields,
+    AbandonDialogFields, AbandonRequestFields, BodyFields, CancelFields, InviteFields, PlainFields,
+    RequestFields, RespondFields,
 };
 use crate::given::header_of;
 use crate::handing::{failure_of, put, put_line, put_output, put_start};
@@ -43,6 +45,7 @@ use crate::holdings::Holdings;
 use crate::host_fault::HostFault;
 use crate::line_length::LineLength;
 use crate::next_output::NextOutput;
+use crate::request_traits::{self, RequestTraits};
 use crate::resume_fault::ResumeFault;
 use crate::start_length::StartLength;
 use sip_files::{
@@ -254,6 +257,31 @@ impl Host {
         self.ask(made)
     }
 
+    /// Gives up a request that was sent: it is no longer held, and nothing more is sent or told of
+    /// it. Takes no headers.
+    ///
+    /// # Errors
+    ///
+    /// As for [`Host::invite`].
+    pub fn abandon_request(&mut self, fields: &AbandonRequestFields<'_>) -> Result<Id, HostFault>
+        ensures { TakesCommand (abandon_request_of fields.now) self.old self.new result }
+    {
+        let made = abandon_request_command(self.alloc, fields);
+        self.ask(made)
+    }
+
+    /// Gives up a dialog: it ends, and nothing is sent. Takes no headers.
+    ///
+    /// # Errors
+    ///
+    /// As for [`Host::invite`].
+    pub fn abandon_dialog(&mut self, fields: &AbandonDialogFields<'_>) -> Result<Id, HostFault>
+        ensures { TakesCommand (abandon_dialog_of fields.now) self.old self.new result }
+    {
+        let made = abandon_dialog_command(self.alloc, fields);
+        self.ask(made)
+    }
+
     /// The output with this index, from 0, of the last round is a send that failed. That is an
     /// event of the next round if the send belongs to a transaction.
     ///
@@ -432,6 +460,22 @@ impl Host {
     {
         match datagram_at(self.last_events(), place) {
             Some(bytes) => start_line(self.alloc, bytes.as_slice()),
+            None => Ok(None),
+        }
+    }
+
+    /// What the request that came in at this place of the last round says of itself, and its notice
+    /// doesn't: whether it is in a dialog, and its use of reliable provisional responses. None if no
+    /// request came in there.
+    ///
+    /// # Errors
+    ///
+    /// Memory ran out.
+    pub fn request_traits(&self, place: u32) -> Result<Option<RequestTraits>, AllocError>
+        ensures { IfOk result (TellsTraitsAt self.now place) }
+    {
+        match datagram_at(self.last_events(), place) {
+            Some(bytes) => request_traits::traits_in(self.alloc, bytes.as_slice()),
             None => Ok(None),
         }
     }

@@ -14,12 +14,14 @@ mod host;
 mod host_fault;
 mod line_length;
 mod next_output;
+mod request_traits;
 mod resume_fault;
 mod start_length;
 
 pub use field::Field;
 pub use fields::{
-    BodyFields, CancelFields, InviteFields, PlainFields, RequestFields, RespondFields,
+    AbandonDialogFields, AbandonRequestFields, BodyFields, CancelFields, InviteFields, PlainFields,
+    RequestFields, RespondFields,
 };
 pub use handing::put;
 pub use holdings::Holdings;
@@ -27,5 +29,6 @@ pub use host::Host;
 pub use host_fault::HostFault;
 pub use line_length::LineLength;
 pub use next_output::NextOutput;
+pub use request_traits::RequestTraits;
 pub use resume_fault::ResumeFault;
 pub use start_length::StartLength;
