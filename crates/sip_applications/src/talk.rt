@@ -14,8 +14,8 @@ use sip_message::{Addr, CallId, Uri, ip_text};
 use sip_round::Event;
 use sip_text::Text;
 use sip_udp::{
-    Admission, Bell, CountedSocket, Endpoint, Flags, Heard, Losses, MOST_COLLECTED, Record,
-    TimeLimit, Turns, UaFault, User, hear, system_drops,
+    Admission, Bell, CountedSocket, Endpoint, Flags, Heard, Losses, MOST_COLLECTED, Past, Record,
+    RecordFile, TimeLimit, Turns, UaFault, User, hear, system_drops,
 };
 use std::alloc::{AllocError, Global};
 use std::io::{self, BufRead, Write};
@@ -25,7 +25,7 @@ use std::snapshot::Snapshot;
 use std::sync::Arc;
 use std::sync::atomic::Ordering;
 use std::thread::{self, Promise, Threads};
-use std::time::{Clock, Duration};
+use std::time::{Clock, Duration, SystemTime};
 
 /// How long the listener waits for a datagram, in ms.
 const READ_TIMEOUT: u64 = 50;
@@ -66,7 +66,7 @@ pub fn listen<R: Threads + Clock + Files + Sync, W: Write>(
 /// # Errors
 ///
 /// The first fault. All threads are joined then, too.
-pub fn listen_at<R: Threads + Clock + Files + Sync, F: Write + Drop, W: Write, E: Write>(
+pub fn listen_at<R: Threads + Clock + Files + Sync, F: RecordFile, W: Write, E: Write>(
     rt: &R,
     alloc: Global,
     endpoint: Endpoint<F>,
@@ -111,7 +111,7 @@ pub fn call<R: Threads + Clock + Files + Sync, W: Write>(
 /// # Errors
 ///
 /// The first fault. All threads are joined then, too.
-pub fn call_from<R: Threads + Clock + Files + Sync, F: Write + Drop, W: Write, E: Write>(
+pub fn call_from<R: Threads + Clock + Files + Sync, F: RecordFile, W: Write, E: Write>(
     rt: &R,
     alloc: Global,
     endpoint: Endpoint<F>,
@@ -135,7 +135,7 @@ pub fn call_from<R: Threads + Clock + Files + Sync, F: Write + Drop, W: Write, E
 /// The first fault. The input may not have ended then.
 pub fn agent<
     R: Threads + Clock + Files + Net + Sync,
-    F: Write + Drop,
+    F: RecordFile,
     I: BufRead + Send + Drop + 'static,
     W: Write,
     E: Write,
@@ -244,20 +244,22 @@ impl Ears {
     }
 }
 
-// The turns at an endpoint, and its socket.
-fn turns_at<R: Clock, U: User, F: Write + Drop, E: Write>(
+// The turns at an endpoint, its socket, and what there is of its journal.
+fn turns_at<R: Clock, U: User, F: RecordFile, E: Write>(
     rt: &R,
     alloc: Global,
     endpoint: Endpoint<F>,
     user: U,
     bell: Option<Arc<Bell>>,
     errors: &mut E,
-) -> Result<(Turns<U, F>, UdpSocket), UaFault> {
+) -> Result<(Turns<U, F>, UdpSocket, Option<Past>), UaFault> {
     let Endpoint {
         socket,
         config,
         division,
         record,
+        keeping,
+        past,
         kind,
         is_counted,
         is_announced: _,
@@ -266,19 +268,33 @@ fn turns_at<R: Clock, U: User, F: Write + Drop, E: Write>(
         held_limit,
         input,
     } = endpoint;
-    let record = Record::new(kind, record);
+    let (base, record) = match &past {
+        Some(past) => (since_1970(rt)?, Record::journal(record, keeping, past)),
+        None => (0, Record::new(kind, record)),
+    };
     let limit = TimeLimit::new(seconds, input);
     let admission = Admission::new(held_limit);
     let drops = tells_drops || user.is_eager();
     let turns = Turns::new(
-        rt, alloc, config, division, record, limit, admission, drops, is_counted, user, bell,
-        errors,
+        rt, alloc, config, division, record, base, kind, limit, admission, drops, is_counted, user,
+        bell, errors,
     )?;
-    Ok((turns, socket))
+    Ok((turns, socket, past))
+}
+
+// The ms since 1970.
+fn since_1970<R: Clock>(rt: &R) -> Result<u64, UaFault> {
+    let Ok(now) = SystemTime::now(rt) else {
+        return Err(UaFault::Socket);
+    };
+    match now.duration_since(SystemTime::UNIX_EPOCH) {
+        Ok(passed) => Ok(u64::try_from(passed.as_millis()).unwrap_or(u64::MAX)),
+        Err(_) => Err(UaFault::Socket),
+    }
 }
 
 // Starts the listener, takes the turns, and joins and settles the listener.
-fn talk<R: Threads + Clock + Files + Sync, U: User, F: Write + Drop, W: Write, E: Write>(
+fn talk<R: Threads + Clock + Files + Sync, U: User, F: RecordFile, W: Write, E: Write>(
     rt: &R,
     alloc: Global,
     endpoint: Endpoint<F>,
@@ -292,7 +308,10 @@ fn talk<R: Threads + Clock + Files + Sync, U: User, F: Write + Drop, W: Write, E
     let is_announced = endpoint.is_announced;
     let flags = flags_with(alloc, bell.clone()?)?;
     let (mut desk, ears) = Ears::open(alloc, &endpoint.socket, &flags)?;
-    let (mut own, socket) = turns_at(rt, alloc, endpoint, user, bell, errors)?;
+    let (mut own, socket, past) = turns_at(rt, alloc, endpoint, user, bell, errors)?;
+    if let Some(past) = past {
+        own.resume(rt, past, notices, errors)?;
+    }
     let of_line = OfLine(Snapshot::of(&ears.line));
     let Ok(listener) = thread::spawn_with(rt, of_line, move || {
         let Ears {

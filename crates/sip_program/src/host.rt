@@ -15,6 +15,9 @@ pub trait Host: Clock + Net + RandomSource + Files + Sync {
 
     /// Whether the pipe is a terminal.
     fn is_on_terminal(&self) -> bool;
+
+    /// Whether this process has the file for itself from now on: no other one has it.
+    fn has_alone(&self, file: &Self::File) -> bool;
 }
 
 /// The pipe is standard input.
@@ -27,5 +30,9 @@ impl Host for HostRuntime {
 
     fn is_on_terminal(&self) -> bool {
         self.stdin().is_terminal()
+    }
+
+    fn has_alone(&self, file: &Self::File) -> bool {
+        file.try_lock().is_ok()
     }
 }

@@ -116,9 +116,10 @@ fn talk_status(fault: TalkFault) -> u8
 {
     match fault {
         TalkFault::BadArgument => BAD_WORDS,
-        TalkFault::Random | TalkFault::Ua(UaFault::Input | UaFault::Socket | UaFault::Output) => {
-            FAILED_DEVICE
-        }
+        TalkFault::Random
+        | TalkFault::Ua(UaFault::Input | UaFault::Socket | UaFault::Output | UaFault::Journal) =>
+            FAILED_DEVICE,
+        TalkFault::Ua(UaFault::NoJournal | UaFault::JournalLines { .. }) => BAD_EVENTS,
         TalkFault::Ua(UaFault::NotAnswered) => NOT_ANSWERED,
         TalkFault::Ua(UaFault::NoMemory) => NO_MEMORY,
         TalkFault::Ua(UaFault::Round { fault, .. }) => match fault {

@@ -5,20 +5,21 @@ ghost use Rattle.std.specs.List.{list_all};
 ghost use Rattle.sip_message.specs.Addr.{addr_text};
 ghost use Rattle.sip_program.specs.Scheme.{is_scheme, is_scheme_byte};
 
+use crate::data_file::DataFile;
 use crate::failure::{Cause, Failure};
 use crate::host::Host;
 use crate::talk_fault::TalkFault;
 use crate::words::{
-    AgentWords, CallWords, LengthWords, ListenWords, OwnWords, agent_words, call_words,
-    listen_words,
+    AgentWords, CallWords, JournalWords, LengthWords, ListenWords, OwnWords, agent_words,
+    call_words, listen_words,
 };
 use clap::ArgMatches;
 use sip_applications::{AnswerBody, CallPlan, ListenPlan, agent, call_from, listen_at};
 use sip_message::{Addr, CallId, Uri};
 use sip_text::Text;
-use sip_udp::{Endpoint, InputEnd, QueuedWriter, UaFault, Written};
+use sip_udp::{Endpoint, InputEnd, Keeping, Past, QueuedWriter, UaFault, Written};
 use std::alloc::{AllocError, Global};
-use std::fs::{self, File};
+use std::fs::{self, File, OpenOptions};
 use std::io::{self, Write};
 use std::net::{Ipv4Addr, Net, SocketAddrV4, UdpSocket};
 use std::random::RandomSource;
@@ -300,7 +301,7 @@ fn endpoint_of_turns<'a, T: Threads + Host>(
     own: OwnWords<'a>,
     length: LengthWords,
     tells_drops: bool,
-) -> Result<Endpoint<T::File>, Failure<'a>> {
+) -> Result<Endpoint<DataFile<T::File>>, Failure<'a>> {
     let mut endpoint = endpoint_of(rt, alloc, own)?;
     endpoint.tells_drops = tells_drops;
     endpoint.seconds = length.seconds;
@@ -313,7 +314,7 @@ fn endpoint_of<'a, T: Host>(
     rt: &T,
     alloc: Global,
     own: OwnWords<'a>,
-) -> Result<Endpoint<T::File>, Failure<'a>> {
+) -> Result<Endpoint<DataFile<T::File>>, Failure<'a>> {
     let local = address_of(alloc, "--local", own.local)?;
     let seed = random_seed(rt)?;
     let (socket, local) = match bound(rt, local) {
@@ -327,16 +328,73 @@ fn endpoint_of<'a, T: Host>(
     let record = record_at(rt, own.record)?;
     let mut endpoint = Endpoint::new(socket, local, seed, record);
     endpoint.is_counted = own.stats;
+    match own.journal {
+        Some(words) => with_journal(rt, alloc, endpoint, words, own.local),
+        None => Ok(endpoint),
+    }
+}
+
+// The endpoint with its journal. What the journal's head says is its configuration.
+fn with_journal<'a, T: Host>(
+    rt: &T,
+    alloc: Global,
+    mut endpoint: Endpoint<DataFile<T::File>>,
+    words: JournalWords<'a>,
+    local: &'a str,
+) -> Result<Endpoint<DataFile<T::File>>, Failure<'a>> {
+    let mut file = journal_at(rt, words)?;
+    let mut past = Past::new(alloc);
+    match past.head(&mut file) {
+        Ok(Some(config)) if config.local == endpoint.config.local => endpoint.config = config,
+        Ok(Some(_)) => return Err(bad_word("--local", local, "not the address of the journal")),
+        Ok(None) => {}
+        Err(fault) => {
+            let cause = Cause::Word {
+                option: "--journal",
+                word: words.path,
+                wanted: "not read",
+            };
+            return Err(Failure::new(TalkFault::Ua(fault), cause));
+        }
+    }
+    endpoint.record = Some(file);
+    endpoint.past = Some(past);
+    if !words.may_fail {
+        endpoint.keeping = Keeping::Needed;
+    }
     Ok(endpoint)
 }
 
+// The file of a journal, which no other process has.
+fn journal_at<'a, T: Host>(
+    rt: &T,
+    words: JournalWords<'a>,
+) -> Result<DataFile<T::File>, Failure<'a>> {
+    let JournalWords {
+        path,
+        is_synced,
+        ..
+    } = words;
+    let mut options = OpenOptions::new();
+    options.read(true).append(true).create(true);
+    match options.open(rt, path) {
+        Ok(file) if rt.has_alone(&file) => Ok(DataFile { file, is_synced }),
+        Ok(_) => Err(bad_word("--journal", path, "another process has it")),
+        Err(error) => Err(bad_file(UaFault::Journal, "--journal", path, error)),
+    }
+}
+
 // A new file for the record, if one is asked for.
-fn record_at<'a, T: Files>(rt: &T, path: Option<&'a str>) -> Result<Option<T::File>, Failure<'a>> {
+fn record_at<'a, T: Files>(
+    rt: &T,
+    path: Option<&'a str>,
+) -> Result<Option<DataFile<T::File>>, Failure<'a>> {
     let Some(path) = path else {
         return Ok(None);
     };
+    let is_synced = false;
     match File::create(rt, path) {
-        Ok(file) => Ok(Some(file)),
+        Ok(file) => Ok(Some(DataFile { file, is_synced })),
         Err(error) => Err(bad_file(UaFault::Output, "--record", path, error)),
     }
 }

@@ -97,7 +97,16 @@ pub(crate) struct ReplayWords {
 pub(crate) struct OwnWords<'a> {
     pub local: &'a str,
     pub record: Option<&'a str>,
+    pub journal: Option<JournalWords<'a>>,
     pub stats: bool,
+}
+
+/// The words about a journal.
+#[derive(Clone, Copy)]
+pub(crate) struct JournalWords<'a> {
+    pub path: &'a str,
+    pub is_synced: bool,
+    pub may_fail: bool,
 }
 
 /// How long `ua listen` or `ua call` goes on.
@@ -317,7 +326,16 @@ fn own_words<'a>(matches: &ArgMatches<'a>) -> Option<OwnWords<'a>> {
     Some(OwnWords {
         local: matches.get_str("local")?,
         record: matches.get_str("record"),
+        journal: journal_words(matches),
         stats: matches.get_flag("stats"),
+    })
+}
+
+fn journal_words<'a>(matches: &ArgMatches<'a>) -> Option<JournalWords<'a>> {
+    Some(JournalWords {
+        path: matches.get_str("journal")?,
+        is_synced: matches.get_flag("sync"),
+        may_fail: matches.get_flag("journal-may-fail"),
     })
 }
 
@@ -418,6 +436,9 @@ fn listen_command<'a>(alloc: Global) -> Result<Command<'a>, AllocError> {
         must_answer_calls_argument(alloc),
         drops_argument(alloc),
         record_argument(alloc),
+        journal_argument(alloc)?,
+        sync_argument(alloc)?,
+        journal_may_fail_argument(alloc)?,
         stats_argument(alloc),
     ]?;
     Command::new(alloc, "listen")
@@ -511,6 +532,9 @@ fn call_command<'a>(alloc: Global) -> Result<Command<'a>, AllocError> {
         body_argument(alloc, "The body of the INVITE, an SDP text"),
         drops_argument(alloc),
         record_argument(alloc),
+        journal_argument(alloc)?,
+        sync_argument(alloc)?,
+        journal_may_fail_argument(alloc)?,
         stats_argument(alloc),
     ]?;
     Command::new(alloc, "call")
@@ -593,6 +617,9 @@ fn agent_command<'a>(alloc: Global) -> Result<Command<'a>, AllocError> {
         workers_argument(alloc, "2"),
         headers_argument(alloc),
         record_argument(alloc),
+        journal_argument(alloc)?,
+        sync_argument(alloc)?,
+        journal_may_fail_argument(alloc)?,
         stats_argument(alloc),
     ]?;
     Command::new(alloc, "agent")
@@ -653,6 +680,34 @@ fn record_argument<'a>(alloc: Global) -> Arg<'a> {
         .long("record")
         .value_name("FILE")
         .help("Write the run to FILE as an event file, for `ua replay`; FILE is overwritten")
+}
+
+fn journal_argument<'a>(alloc: Global) -> Result<Arg<'a>, AllocError> {
+    let argument = Arg::new(alloc, "journal")
+        .long("journal")
+        .value_name("FILE")
+        .help(
+            "Write each round to FILE, a session file, before anything of it is sent. If FILE has \
+            rounds already, first run them again, silently, and go on from there: a process that \
+            died is continued by the same command",
+        );
+    argument.conflicts_with("record")
+}
+
+fn sync_argument<'a>(alloc: Global) -> Result<Arg<'a>, AllocError> {
+    let argument = Arg::new(alloc, "sync")
+        .long("sync")
+        .action(ArgAction::SetTrue)
+        .help("Wait for the disk after each round of --journal, so that a power cut loses none");
+    argument.requires_arg("journal")
+}
+
+fn journal_may_fail_argument<'a>(alloc: Global) -> Result<Arg<'a>, AllocError> {
+    let argument = Arg::new(alloc, "journal-may-fail")
+        .long("journal-may-fail")
+        .action(ArgAction::SetTrue)
+        .help("If --journal can't be written, go on without it; by default that is the end");
+    argument.requires_arg("journal")
 }
 
 fn local_argument<'a>(alloc: Global) -> Arg<'a> {

@@ -2,6 +2,8 @@
 
 use crate::division::Division;
 use crate::input_end::InputEnd;
+use crate::past::Past;
+use crate::record::Keeping;
 use sip_files::FileKind;
 use sip_message::Addr;
 use sip_round::Config;
@@ -17,8 +19,13 @@ pub struct Endpoint<F> {
     pub division: Division,
     /// Where the run is recorded, if it is.
     pub record: Option<F>,
+    /// Whether the run ends if the record can't be written.
+    pub keeping: Keeping,
+    /// What there is of a journal, if the record is one: its moments are in ms since 1970, and the
+    /// run goes on from its rounds. Its head was read if it isn't new.
+    pub past: Option<Past>,
     /// The kind of file whose lines a pipe has and a record gets. In a session commands may have
-    /// header lines.
+    /// header lines. A journal is a session.
     pub kind: FileKind,
     /// Whether the counts are written at the end.
     pub is_counted: bool,
@@ -48,6 +55,8 @@ impl<F> Endpoint<F> {
             },
             division: Division::USUAL,
             record,
+            keeping: Keeping::MayFail,
+            past: None,
             kind: FileKind::Events,
             is_counted: false,
             is_announced: false,

@@ -2,6 +2,7 @@
 
 ghost use Rattle.std.specs.Prelude.{◌≡◌};
 
+use sip_journal::LinesFault;
 use sip_round::RoundFault;
 use std::alloc::AllocError;
 use thiserror::Error;
@@ -21,6 +22,15 @@ pub enum UaFault {
     /// The round with this number was refused.
     #[error("round {number}: {fault}")]
     Round { number: u64, fault: RoundFault },
+    /// The journal can't be read, written or cut. What it doesn't have isn't sent.
+    #[error("journal failed")]
+    Journal,
+    /// The file of the journal begins with something else.
+    #[error("not a journal")]
+    NoJournal,
+    /// The lines of the round with this number, in the journal, aren't those of a round.
+    #[error("journal round {number}: {fault}")]
+    JournalLines { number: u64, fault: LinesFault },
     /// No 2xx came to a call that had to be answered.
     #[error("not answered")]
     NotAnswered,

@@ -1,45 +1,108 @@
-//! Records a run: the event file or the session file of its rounds.
+//! Records a run: the event file or the session file of its rounds, or its journal.
 
-ghost use Rattle.std.specs.Prelude.{List, ℕ, OnOk, Option, IfSome};
-ghost use Rattle.sip_udp.specs.Recording.{Records};
+ghost use Rattle.std.specs.Prelude.{◌≡◌, List, ℕ, OnOk, Option, IfSome, false};
+ghost use Rattle.sip_udp.specs.Recording.{KeepsIfNeeded, Records};
 ghost use Rattle.sip_files.specs.Written.{file_head, round_in};
 
+use crate::fault::UaFault;
 use crate::notices::put;
+use crate::past::Past;
+use crate::record_file::RecordFile;
 use sip_files::{FileKind, write_file_head, write_file_round};
 use sip_round::{Config, Round};
-use std::alloc::{AllocError, Global};
+use std::alloc::Global;
 use std::io::Write;
+
+/// What becomes of a run whose record can't be written.
+#[derive(Clone, Copy, PartialEq, Eq)]
+pub enum Keeping {
+    /// It goes on without its record.
+    MayFail,
+    /// It ends: nothing is sent or told that isn't recorded.
+    Needed,
+}
 
 /// Where a run is recorded, as long as no write fails.
 #[derive(Drop)]
 pub struct Record<F> {
     file: Option<F>,
-    pub kind: FileKind,
+    kind: FileKind,
+    keeping: Keeping,
+    // Whether it is a journal, and whether the file has its head.
+    is_journal: bool,
+    has_head: bool,
 }
 
-impl<F: Write + Drop> Record<F> {
+impl<F: RecordFile> Record<F> {
     /// A record in this kind of file, if there is a file.
     pub fn new(kind: FileKind, file: Option<F>) -> Record<F> {
-        Record { file, kind }
+        Record {
+            file,
+            kind,
+            keeping: Keeping::MayFail,
+            is_journal: false,
+            has_head: false,
+        }
     }
 
-    /// Records the head.
+    /// A journal, of which this much was read.
+    pub fn journal(file: Option<F>, keeping: Keeping, past: &Past) -> Record<F> {
+        Record {
+            file,
+            kind: FileKind::Session,
+            keeping,
+            is_journal: true,
+            has_head: !past.is_empty(),
+        }
+    }
+
+    /// Whether it is a journal.
+    pub(crate) fn is_journal(&self) -> bool {
+        self.is_journal
+    }
+
+    /// The next lines of a journal; none at its end.
     ///
     /// # Errors
     ///
-    /// Memory ran out.
+    /// `Journal` if the file can't be read, or `NoMemory`.
+    pub(crate) fn next_lines(&mut self, past: &mut Past) -> Result<Option<Vec<u8>>, UaFault> {
+        match &mut self.file {
+            Some(file) => past.next_lines(file),
+            None => Ok(None),
+        }
+    }
+
+    /// Leaves only so many bytes, the first ones.
+    ///
+    /// # Errors
+    ///
+    /// `Journal`.
+    pub(crate) fn cut(&mut self, len: u64) -> Result<(), UaFault> {
+        match &mut self.file {
+            Some(file) => file.cut(len).map_err(|_| UaFault::Journal),
+            None => Ok(()),
+        }
+    }
+
+    /// Records the head, if the file doesn't have it.
+    ///
+    /// # Errors
+    ///
+    /// `Journal` if the record is needed and can't be written, or `NoMemory`.
     pub fn begin<E: Write>(
         &mut self,
         alloc: Global,
         config: &Config,
         errors: &mut E,
-    ) -> Result<(), AllocError>
-        ensures { OnOk result (Records F.contents self.old.file self.new.file
-            (file_head self.old.kind config.now)) }
+    ) -> Result<(), UaFault>
+        ensures text { self.old.has_head ≡ false → OnOk result (Records F.contents
+            self.old.file self.new.file (file_head self.old.kind config.now)) }
+        ensures kept { OnOk result (KeepsIfNeeded self.old self.new) }
     {
-        if self.file.is_some() {
+        if self.file.is_some() && !self.has_head {
             let text = write_file_head(alloc, self.kind, config)?;
-            self.write(&text, errors);
+            self.write(&text, errors)?;
         }
         Ok(())
     }
@@ -48,35 +111,45 @@ impl<F: Write + Drop> Record<F> {
     ///
     /// # Errors
     ///
-    /// Memory ran out.
+    /// `Journal` if the record is needed and can't be written, or `NoMemory`.
     pub fn add<E: Write>(
         &mut self,
         alloc: Global,
         round: &Round,
         errors: &mut E,
-    ) -> Result<(), AllocError>
-        ensures { OnOk result (Records F.contents self.old.file self.new.file
+    ) -> Result<(), UaFault>
+        ensures text { OnOk result (Records F.contents self.old.file self.new.file
             (round_in self.old.kind round.now)) }
+        ensures kept { OnOk result (KeepsIfNeeded self.old self.new) }
     {
         if self.file.is_some() {
             let text = write_file_round(alloc, self.kind, round)?;
-            self.write(&text, errors);
+            self.write(&text, errors)?;
         }
         Ok(())
     }
 
-    // Writes the text. If that fails, it says so and gives up recording.
-    fn write<E: Write>(&mut self, text: &[u8], errors: &mut E)
-        ensures { Records F.contents self.old.file self.new.file text.now }
+    // Writes the text. If that fails, it says so, and gives up recording or the run.
+    fn write<E: Write>(&mut self, text: &[u8], errors: &mut E) -> Result<(), UaFault>
+        ensures text { OnOk result (Records F.contents self.old.file self.new.file text.now) }
+        ensures kept { OnOk result (KeepsIfNeeded self.old self.new) }
     {
         let Some(mut file) = self.file.take() else {
-            return;
+            return Ok(());
         };
-        match put(&mut file, text) {
-            Ok(()) => self.file = Some(file),
-            Err(error) => {
+        match (put(&mut file, text), self.keeping) {
+            (Ok(()), _) => {
+                self.file = Some(file);
+                Ok(())
+            }
+            (Err(error), Keeping::MayFail) => {
                 let _ = writeln!(errors, "ua: record failed");
                 let _ = writeln!(errors, "ua: --record: {error}");
+                Ok(())
+            }
+            (Err(error), Keeping::Needed) => {
+                let _ = writeln!(errors, "ua: --journal: {error}");
+                Err(UaFault::Journal)
             }
         }
     }

@@ -10,13 +10,17 @@ use crate::bell::Bell;
 use crate::counts::{Counts, Losses};
 use crate::division::Division;
 use crate::fault::{UaFault, refused_round};
-use crate::notices::{Telling, write_notices};
+use crate::notices::{Telling, put, write_notices};
 use crate::outlet::Outlet;
+use crate::past::Past;
 use crate::record::Record;
+use crate::record_file::RecordFile;
 use crate::sending::send_all;
-use crate::time_limit::TimeLimit;
+use crate::time_limit::{TimeLeft, TimeLimit};
 use crate::user::User;
 use sip_desk::Desk;
+use sip_files::FileKind;
+use sip_journal::{LinesFault, read_round};
 use sip_message::Spread;
 use sip_round::{Agent, Config, Event, MAX_EVENTS_OF_ROUND, OpenGate, Output, PlacedOutput, Round};
 use sip_text::Series;
@@ -44,28 +48,35 @@ pub struct Turns<U, F> {
     bell: Option<Arc<Bell>>,
     division: Division,
     record: Record<F>,
+    // The kind of file whose lines tell the notices.
+    kind: FileKind,
     limit: TimeLimit,
     admission: Admission,
     // Whether drops are told.
     drops: bool,
     // The counts, if they are told at the end.
     counts: Option<Counts>,
+    // When the turns began, and the moment of that, in ms.
     start: Instant,
-    // The moment of the last round, in ms since the start, and the number of the next round.
+    base: u64,
+    // The moment of the last round, in ms, and the number of the next round.
     moment: u64,
     number: u64,
     // The events of the next rounds.
     waiting: Vec<Event>,
 }
 
-impl<U: User, F: Write + Drop> Turns<U, F> {
-    /// The turns before the first one. The head of the record is written.
+impl<U: User, F: RecordFile> Turns<U, F> {
+    /// The turns before the first one, at the moment `base`. The head of a record that is new is
+    /// written.
     pub fn new<R: Clock, E: Write>(
         rt: &R,
         alloc: Global,
         config: Config,
         division: Division,
         mut record: Record<F>,
+        base: u64,
+        kind: FileKind,
         limit: TimeLimit,
         admission: Admission,
         drops: bool,
@@ -88,15 +99,129 @@ impl<U: User, F: Write + Drop> Turns<U, F> {
             bell,
             division,
             record,
+            kind,
             limit,
             admission,
             drops,
             counts: is_counted.then(|| Counts::new(alloc, config.local)),
             start,
+            base,
             moment: 0,
             number: config.first,
             waiting,
         })
+    }
+
+    /// Runs the rounds of the journal again, without sending what they give. The notices of the last
+    /// one are told again, after a line that says so. What isn't whole at the end is cut off.
+    ///
+    /// # Errors
+    ///
+    /// `JournalLines` for the lines of another round than the last; `Round` for a round that the
+    /// agent refuses; `Journal`, `Output` or `NoMemory`.
+    pub fn resume<R: Threads + Clock + Sync, W: Write, E: Write>(
+        &mut self,
+        rt: &R,
+        mut past: Past,
+        notices: &mut W,
+        errors: &mut E,
+    ) -> Result<(), UaFault> {
+        let mut last = None;
+        let mut whole = past.given();
+        for _ in 0..u64::MAX {
+            let Some(outcome) = self.run_next(rt, &mut past, errors)? else {
+                break;
+            };
+            last = Some(outcome);
+            whole = past.given();
+        }
+        let left_out = past.read().saturating_sub(whole);
+        if left_out > 0 {
+            self.record.cut(whole)?;
+            let _ = writeln!(
+                errors,
+                "ua: {left_out} bytes at the end of the journal left out"
+            );
+        }
+        self.base = self.base.max(self.moment);
+        match last {
+            Some((round, outputs)) => self.tell_again(&round, &outputs, notices),
+            None => Ok(()),
+        }
+    }
+
+    // Runs the next round of the journal again, and gives it with its outputs. None at the end, or
+    // if the last round isn't whole.
+    fn run_next<R: Threads + Clock + Sync, E: Write>(
+        &mut self,
+        rt: &R,
+        past: &mut Past,
+        errors: &mut E,
+    ) -> Result<Option<(Round, Vec<PlacedOutput>)>, UaFault> {
+        let Some(lines) = self.record.next_lines(past)? else {
+            return Ok(None);
+        };
+        match read_round(self.alloc, &lines) {
+            Ok(round) => Ok(Some(self.run_again(rt, round, errors)?)),
+            Err(LinesFault::NoMemory) => Err(UaFault::NoMemory),
+            Err(_) if past.is_over() => Ok(None),
+            Err(fault) => Err(UaFault::JournalLines {
+                number: self.number,
+                fault,
+            }),
+        }
+    }
+
+    // Runs a past round again. What the user asked for in it was asked for then.
+    fn run_again<R: Threads + Clock + Sync, E: Write>(
+        &mut self,
+        rt: &R,
+        round: Round,
+        errors: &mut E,
+    ) -> Result<(Round, Vec<PlacedOutput>), UaFault> {
+        if !self.user.is_eager() {
+            let (now, left) = (round.moment, TimeLeft::More);
+            self.user
+                .turn(self.alloc, now, left, &mut self.waiting, errors)?;
+        }
+        let asked = commands_in(round.events.as_slice()).min(self.waiting.len());
+        self.waiting = self.waiting.split_off(asked)?;
+        let workers = self.division.workers_of(round.events.len());
+        match self
+            .agent
+            .run_round_with_places(rt, &round, workers, &OpenGate)
+        {
+            Ok(outputs) => {
+                self.moment = round.moment;
+                self.number = self.number.saturating_add(1);
+                self.tell_user(&outputs)?;
+                Ok((round, outputs))
+            }
+            Err(fault) => Err(refused_round(self.number, fault)),
+        }
+    }
+
+    // Tells the notices of the last round of a journal, after the line `resumed` with its number.
+    fn tell_again<W: Write>(
+        &self,
+        round: &Round,
+        outputs: &[PlacedOutput],
+        notices: &mut W,
+    ) -> Result<(), UaFault> {
+        let number = self.number.saturating_sub(1);
+        let line = format!(in self.alloc; "resumed {number}\n")?;
+        put(notices, line.as_bytes()).map_err(|_| UaFault::Output)?;
+        let telling = Telling {
+            kind: self.kind,
+            drops: None,
+        };
+        write_notices(
+            self.alloc,
+            notices,
+            telling,
+            round.events.as_slice(),
+            outputs,
+        )
     }
 
     /// Takes `turns` turns, or fewer if the time is over, the user wants no more, or the listener
@@ -119,7 +244,7 @@ impl<U: User, F: Write + Drop> Turns<U, F> {
             }
             self.gather(rt, turns_left, desk, errors)?;
             let now = self.moment_now(rt)?;
-            if self.limit.is_past(now) || self.user.is_over(now, self.holds()) {
+            if self.limit.is_past(self.passed_at(now)) || self.user.is_over(now, self.holds()) {
                 break;
             }
             if self.is_due(now) {
@@ -168,8 +293,9 @@ impl<U: User, F: Write + Drop> Turns<U, F> {
         ensures { KeepsLines desk.old desk.new }
     {
         let now = self.moment_now(rt)?;
-        self.limit.look(now);
-        let left = self.limit.left(now, turns_left);
+        let passed = self.passed_at(now);
+        self.limit.look(passed);
+        let left = self.limit.left(passed, turns_left);
         self.user
             .turn(self.alloc, now, left, &mut self.waiting, errors)?;
         self.collect(desk)
@@ -180,14 +306,14 @@ impl<U: User, F: Write + Drop> Turns<U, F> {
         !self.waiting.is_empty() || self.agent.live() != (0, 0)
     }
 
-    // Whether a round is run now. For an eager user that is only if it may give or change
-    // something.
+    // Whether a round is run now. For an eager user, and with a journal, that is only if it may give
+    // or change something.
     fn is_due(&self, now: u64) -> bool {
         let has_cause = match self.agent.next_due() {
             Some(due) if due <= now => true,
             _ => !self.waiting.is_empty(),
         };
-        has_cause || !self.user.is_eager()
+        has_cause || !(self.user.is_eager() || self.record.is_journal())
     }
 
     // A round, whose outputs are sent and told.
@@ -204,7 +330,7 @@ impl<U: User, F: Write + Drop> Turns<U, F> {
         self.send(outlet, &outputs)?;
         self.tell_user(&outputs)?;
         let telling = Telling {
-            kind: self.record.kind,
+            kind: self.kind,
             drops: self.drops.then_some(number),
         };
         let events = round.events.as_slice();
@@ -291,13 +417,19 @@ impl<U: User, F: Write + Drop> Turns<U, F> {
         Ok(Series::from_vec(events))
     }
 
-    // The ms since the start, by the clock. They don't go back.
+    // The moment by the clock, in ms. It doesn't go back.
     fn moment_now<R: Clock>(&self, rt: &R) -> Result<u64, UaFault> {
         let Ok(now) = Instant::now(rt) else {
             return Err(UaFault::Socket);
         };
         let passed = now.duration_since(self.start).as_millis();
-        Ok(u64::try_from(passed).unwrap_or(u64::MAX).max(self.moment))
+        let passed = u64::try_from(passed).unwrap_or(u64::MAX);
+        Ok(self.base.saturating_add(passed).max(self.moment))
+    }
+
+    // The ms from the start to this moment.
+    fn passed_at(&self, now: u64) -> u64 {
+        now.saturating_sub(self.base)
     }
 
     fn tell_user(&mut self, outputs: &[PlacedOutput]) -> Result<(), AllocError> {
@@ -309,4 +441,12 @@ impl<U: User, F: Write + Drop> Turns<U, F> {
         }
         Ok(())
     }
+}
+
+// How many of the events are commands.
+fn commands_in(events: &[Event]) -> usize {
+    events
+        .iter()
+        .filter(|event| matches!(event, Event::Command(_)))
+        .count()
 }
