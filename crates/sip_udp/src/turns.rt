@@ -143,7 +143,11 @@ impl<U: User, F: RecordFile> Turns<U, F> {
                 "ua: {left_out} bytes at the end of the journal left out"
             );
         }
-        self.base = self.base.max(self.moment);
+        self.base = self.moment_now(rt)?;
+        let Ok(start) = Instant::now(rt) else {
+            return Err(UaFault::Socket);
+        };
+        self.start = start;
         match last {
             Some((round, outputs)) => self.tell_again(&round, &outputs, notices),
             None => Ok(()),
