@@ -73,6 +73,10 @@ def command_of(line: str, headers: List[Tuple[str, str]]) -> Optional[sip_ua.Com
         return answer if 101 <= status <= 699 else None
     if keyword == "cancel":
         return sip_ua.Cancel(call_id, id_of(fields[1]))
+    if keyword == "abandon" and len(fields) == 2:
+        return sip_ua.AbandonRequest(call_id, id_of(fields[1]))
+    if keyword == "abandon":
+        return sip_ua.AbandonDialog(call_id, *texts)
     body = unspelled_word(fields[-1])
     if keyword == "invite":
         _, request_uri, from_uri, to_uri, support, _ = texts
