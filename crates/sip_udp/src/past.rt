@@ -2,10 +2,10 @@
 
 use crate::fault::UaFault;
 use crate::record_file::RecordFile;
-use sip_files::{EventsFault, FileKind, read_file};
+use sip_files::{EventsFault, FileKind, read_file, write_file_head};
 use sip_journal::first_round_of;
 use sip_round::Config;
-use std::alloc::Global;
+use std::alloc::{AllocError, Global};
 
 /// How many bytes are read at once.
 const CHUNK: usize = 65_536;
@@ -44,7 +44,7 @@ impl Past {
     ///
     /// # Errors
     ///
-    /// `NoJournal` if the file doesn't begin with the head of a session; `Journal` if it can't be
+    /// `NoJournal` if the file doesn't begin with a head as it is written; `Journal` if it can't be
     /// read; or `NoMemory`.
     pub fn head<F: RecordFile>(&mut self, file: &mut F) -> Result<Option<Config>, UaFault> {
         let Some(lines) = self.next_lines(file)? else {
@@ -55,10 +55,16 @@ impl Past {
             };
         };
         match read_file(self.alloc, FileKind::Session, &lines) {
-            Ok((config, _)) => Ok(Some(config)),
+            Ok((config, _)) if self.is_head(&config, &lines)? => Ok(Some(config)),
             Err(EventsFault::NoMemory) => Err(UaFault::NoMemory),
-            Err(_) => Err(UaFault::NoJournal),
+            Ok(_) | Err(_) => Err(UaFault::NoJournal),
         }
+    }
+
+    // Whether these lines are the head as it is written, which has all that a session may leave out.
+    fn is_head(&self, config: &Config, lines: &[u8]) -> Result<bool, AllocError> {
+        let head = write_file_head(self.alloc, FileKind::Session, config)?;
+        Ok(head.as_slice() == lines)
     }
 
     /// The next lines; none at the end.
