@@ -65,6 +65,28 @@ static void typed(sip::Agent &agent) {
     expect(sip_ua_cancel(&none, &given, nullptr) == SIP_UA_NO_AGENT, "no agent");
 }
 
+// Addresses in the values of headers.
+static void addresses() {
+    const auto party = sip::party_in("\"Bob \\\"B\\\"\" <sip:b@192.0.2.9>;tag=t1;x", "TAG");
+    expect(party && party->display == "Bob \"B\"" && party->uri == "sip:b@192.0.2.9"
+               && party->value == "t1", "a party with its tag");
+    const auto other = sip::party_in("Mr. B, the second <sip:b@192.0.2.9>", "tag");
+    expect(other && other->display == "Mr. B, the second" && !other->value, "a party without a tag");
+    const char *contacts = "<sip:a,b>, \"x,y\" <sip:c;p>;q=\"0.5\";empty";
+    const auto second = sip::address_in(contacts, "q", 1);
+    expect(second && second->display == "x,y" && second->uri == "sip:c;p" && second->value == "0.5",
+           "the second address of a list");
+    expect(sip::address_in(contacts, "empty", 1)->value == "", "a parameter without a value");
+    expect(!sip::address_in(contacts, "q", 2), "no third address");
+    expect(!sip::address_in("<sip:a", "q"), "no address");
+    sip_ua_address_lengths told;
+    uint8_t room[4];
+    expect(sip_ua_party_in(sip_ua_string("<sip:b@h>;tag=t"), "tag", &told, room, 4)
+               == SIP_UA_NO_ROOM && told.uri_len == 7 && told.value_len == 1, "no room");
+    expect(sip_ua_party_in(sip_ua_string("<sip:b@h>"), nullptr, &told, nullptr, 0)
+               == SIP_UA_NO_ROOM && !told.has_parameter, "no parameter is asked for");
+}
+
 // A datagram whose 100 is too long for UDP: it comes whole, fails, and the agent goes on.
 static void long_sends(sip::Agent &agent) {
     std::string invite = "INVITE sip:a@192.0.2.1 SIP/2.0\r\nVia: SIP/2.0/UDP h;branch=z9hG4bKx";
@@ -108,6 +130,7 @@ static void many_headers(sip::Agent &agent) {
 }
 
 int main() {
+    addresses();
     const sip::Configuration configuration = {{{192, 0, 2, 1}, 5060}, {}, 0};
     const sip::Address from = {{192, 0, 2, 9}, 5060};
     const std::string options = "OPTIONS sip:a@192.0.2.1 SIP/2.0\r\n"

@@ -122,6 +122,53 @@ struct StartLine {
     std::string reason;
 };
 
+/// An address in the value of a header: its display text and the value of one of its parameters,
+/// without quotes, and its URI.
+struct HeaderAddress {
+    std::string display;
+    std::string uri;
+    std::optional<std::string> value;
+};
+
+/// A text without its quotes, if it is a quoted string.
+inline std::string unquoted(std::string text) {
+    text.resize(sip_ua_unquote(reinterpret_cast<std::uint8_t *>(text.data()), text.size()));
+    return text;
+}
+
+template <class Call> std::optional<HeaderAddress> header_address(std::size_t length, Call call) {
+    std::string text(length + 1, '\0');
+    sip_ua_address_lengths told{};
+    const auto status =
+        call(&told, reinterpret_cast<std::uint8_t *>(text.data()), text.size());
+    if (status != SIP_UA_OK)
+        throw Error(status);
+    if (!told.is_there)
+        return std::nullopt;
+    HeaderAddress address{unquoted(text.substr(0, told.display_len)),
+                          text.substr(told.display_len, told.uri_len), std::nullopt};
+    if (told.has_parameter)
+        address.value =
+            unquoted(text.substr(told.display_len + told.uri_len, told.value_len));
+    return address;
+}
+
+/// The address with this number, from 0, in the value of a Contact, a Route, a Record-Route or a
+/// header of their form, such as Refer-To, and the value of one of its parameters.
+inline std::optional<HeaderAddress> address_in(std::string_view value, const char *parameter = "",
+                                               std::size_t number = 0) {
+    return header_address(value.size(), [&](auto *told, auto *room, std::size_t size) {
+        return sip_ua_address_in({value.data(), value.size()}, number, parameter, told, room, size);
+    });
+}
+
+/// The same of the value of a From or a To, which is one address.
+inline std::optional<HeaderAddress> party_in(std::string_view value, const char *parameter = "") {
+    return header_address(value.size(), [&](auto *told, auto *room, std::size_t size) {
+        return sip_ua_party_in({value.data(), value.size()}, parameter, told, room, size);
+    });
+}
+
 class Agent {
 public:
     explicit Agent(const Configuration &configuration, std::size_t shards = 1)

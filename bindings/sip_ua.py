@@ -20,9 +20,8 @@ returns datagrams to send, and notices:
         agent.datagram(source, data)
 
 The commands are Invite, Plain, Request, Response, Ack, Prack, Cancel, AbandonRequest and
-AbandonDialog. A round gives outputs: a
-Send, a Drop, or a Notice of one of eleven types. sip_ua_udp.py runs this loop on asyncio, and
-sip_ua_calls.py has calls as objects over that.
+AbandonDialog. A round gives outputs: a Send, a Drop, or a Notice of one of eleven types.
+sip_ua_udp.py runs this loop on asyncio, and sip_ua_calls.py has calls as objects over that.
 
 Texts are str, in UTF-8 on the wire. Bytes that aren't UTF-8 pass through unchanged
 (surrogateescape). Bodies and datagrams are bytes. Moments are times in ms from any starting point,
@@ -33,6 +32,7 @@ and never go back. One thread at a time uses an agent. The library is libsip_ua.
 import ctypes
 import enum
 import ipaddress
+import re
 from dataclasses import dataclass
 from typing import Any, ClassVar, List, NamedTuple, Optional, Sequence, Tuple, Union
 
@@ -41,7 +41,8 @@ __all__ = (
     "Command Invite Plain Request Response Ack Prack Cancel AbandonRequest AbandonDialog "
     "Output Send Line Drop DropReason Notice RequestNotice ResponseNotice AckNotice PrackNotice "
     "TimeoutNotice FailedNotice NoAckNotice NoPrackNotice CancelNotice EndedNotice RefusedNotice "
-    "Refusal Stats StartLine RequestTraits Datagram Message"
+    "Refusal Stats StartLine RequestTraits HeaderAddress Datagram "
+    "Message"
 ).split()
 
 # The most bytes that a UDP datagram carries over IPv4.
@@ -478,6 +479,15 @@ class RequestTraits(NamedTuple):
     requires_100rel: bool
 
 
+class HeaderAddress(NamedTuple):
+    """An address in the value of a header: its display text without quotes, its URI, and the value
+    of the parameter that was asked for, without quotes, or None if there is none."""
+
+    display: str
+    uri: str
+    value: Optional[str]
+
+
 class Datagram(NamedTuple):
     """A received datagram."""
 
@@ -629,6 +639,16 @@ class _RequestTraits(ctypes.Structure):
     ]
 
 
+class _AddressLengths(ctypes.Structure):
+    _fields_ = [
+        ("is_there", ctypes.c_bool),
+        ("has_parameter", ctypes.c_bool),
+        ("display_len", ctypes.c_size_t),
+        ("uri_len", ctypes.c_size_t),
+        ("value_len", ctypes.c_size_t),
+    ]
+
+
 class _Start(ctypes.Structure):
     _fields_ = [
         ("kind", ctypes.c_uint32),
@@ -682,6 +702,11 @@ _FUNCTIONS = {
     "resume": _text + (_at(_Resumed),),
     "free": (),
 }
+# Those that need no agent.
+_PLAIN_FUNCTIONS = {
+    "address": _text + (_size,) + _text + (_at(_AddressLengths),) + _room,
+    "party": _text * 2 + (_at(_AddressLengths),) + _room,
+}
 _SEND = 1
 _DROP = 3
 _REQUEST = 1
@@ -710,7 +735,18 @@ def _functions(path: str) -> ctypes.CDLL:
         function = getattr(library, "sip_ua_raw_" + name)
         function.argtypes = (_at(_Agent),) + kinds
         function.restype = ctypes.c_uint32
+    for name, kinds in _PLAIN_FUNCTIONS.items():
+        function = getattr(library, "sip_ua_raw_" + name)
+        function.argtypes = kinds
+        function.restype = ctypes.c_uint32
     return library
+
+
+def _unquoted(text: str) -> str:
+    """A quoted string without its quotes and its backslashes (RFC 3261, section 25.1)."""
+    if len(text) < 2 or text[0] != '"' or text[-1] != '"':
+        return text
+    return re.sub(r"\\(.)", r"\1", text[1:-1], flags=re.DOTALL)
 
 
 def _address(address: Address) -> _Address:
@@ -994,6 +1030,39 @@ class Agent:
         words = (_number(place, 32), _number(number, 64))
         name, value = self._texts("header_line", told, *words)
         return (_decoded(name), _decoded(value)) if told.is_there else None
+
+    def address_in(
+        self, value: str, parameter: str = "", number: int = 0
+    ) -> Optional[HeaderAddress]:
+        """The address with this number, from 0, in the value of a Contact, a Route, a Record-Route or
+        a header of their form, such as Refer-To, and the value of one of its parameters."""
+        return self._header_address("address", value, (_number(number, 64),), parameter)
+
+    def party_in(self, value: str, parameter: str = "") -> Optional[HeaderAddress]:
+        """The same of the value of a From or a To, which is one address."""
+        return self._header_address("party", value, (), parameter)
+
+    def _header_address(
+        self, name: str, value: str, words: Tuple[object, ...], parameter: str
+    ) -> Optional[HeaderAddress]:
+        told = _AddressLengths()
+        room = ctypes.create_string_buffer(max(len(_encoded(value)), 1))
+        function = getattr(self._library, "sip_ua_raw_" + name)
+        passed = _passed((value, *words, parameter, told))
+        status = function(*passed, room, len(room))
+        if status != 0:
+            raise Error(status)
+        if not told.is_there:
+            return None
+        text = room.raw
+        uri_at = told.display_len
+        value_at = uri_at + told.uri_len
+        found = _unquoted(_decoded(text[value_at : value_at + told.value_len]))
+        return HeaderAddress(
+            _unquoted(_decoded(text[:uri_at])),
+            _decoded(text[uri_at:value_at]),
+            found if told.has_parameter else None,
+        )
 
     def message_at(self, place: int, body: bytes = b"") -> Optional[Message]:
         """Its start line and all its header lines, with the body that the notice has, if it is a

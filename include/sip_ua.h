@@ -353,6 +353,16 @@ typedef struct sip_ua_request_traits {
     bool requires_100rel;  /* each provisional response, but 100, is sent reliably */
 } sip_ua_request_traits;
 
+/* An address in the value of a header, or none. Its texts stand one after another: the display text
+ * as it is written, with its quotes, the URI, and the value of the parameter that was asked for. */
+typedef struct sip_ua_address_lengths {
+    bool is_there;
+    bool has_parameter;
+    size_t display_len;
+    size_t uri_len;
+    size_t value_len;
+} sip_ua_address_lengths;
+
 /* A datagram that was received, or none. */
 typedef struct sip_ua_arrival {
     bool is_there;
@@ -557,6 +567,12 @@ uint32_t sip_ua_raw_would_begin(sip_ua *agent, const uint8_t *bytes, size_t len,
 uint32_t sip_ua_raw_datagram_at(sip_ua *agent, uint32_t place, sip_ua_arrival *arrival,
                                 uint8_t *buffer, size_t room);
 uint32_t sip_ua_raw_request_traits(sip_ua *agent, uint32_t place, sip_ua_request_traits *traits);
+uint32_t sip_ua_raw_address(const uint8_t *value, size_t value_len, size_t number,
+                            const uint8_t *parameter, size_t parameter_len,
+                            sip_ua_address_lengths *lengths, uint8_t *buffer, size_t room);
+uint32_t sip_ua_raw_party(const uint8_t *value, size_t value_len, const uint8_t *parameter,
+                          size_t parameter_len, sip_ua_address_lengths *lengths, uint8_t *buffer,
+                          size_t room);
 uint32_t sip_ua_raw_start_line(sip_ua *agent, uint32_t place, sip_ua_start *start, uint8_t *buffer,
                                size_t room);
 uint32_t sip_ua_raw_header_value(sip_ua *agent, uint32_t place, const uint8_t *name,
@@ -1048,6 +1064,51 @@ static inline uint32_t sip_ua_header_lines(sip_ua *agent, uint32_t place, size_t
     if (agent == NULL || len == NULL || (buffer == NULL && room != 0))
         return SIP_UA_NULL;
     return sip_ua_raw_header_lines(agent, place, len, sip_ua_raw_room(buffer, &otherwise), room);
+}
+
+/* The address with this number, from 0, in the value of a Contact, a Route, a Record-Route or a header
+ * of their form, such as Refer-To, and the value of its parameter with this name, in any case (may
+ * be NULL). `is_there` is false if the value has no such form or address. The texts are written to
+ * the buffer. Faults: SIP_UA_NO_ROOM, if the lengths together are more than `room`;
+ * SIP_UA_NO_MEMORY. */
+static inline uint32_t sip_ua_address_in(sip_ua_bytes value, size_t number, const char *parameter,
+                                         sip_ua_address_lengths *lengths, uint8_t *buffer,
+                                         size_t room)
+{
+    uint8_t otherwise = 0;
+    sip_ua_bytes name = sip_ua_string(parameter);
+    if (!sip_ua_raw_is_there(value) || lengths == NULL || (buffer == NULL && room != 0))
+        return SIP_UA_NULL;
+    return sip_ua_raw_address(sip_ua_raw_at(value), value.len, number, sip_ua_raw_at(name),
+                              name.len, lengths, sip_ua_raw_room(buffer, &otherwise), room);
+}
+
+/* The same of the value of a From or a To, which is one address. */
+static inline uint32_t sip_ua_party_in(sip_ua_bytes value, const char *parameter,
+                                       sip_ua_address_lengths *lengths, uint8_t *buffer,
+                                       size_t room)
+{
+    uint8_t otherwise = 0;
+    sip_ua_bytes name = sip_ua_string(parameter);
+    if (!sip_ua_raw_is_there(value) || lengths == NULL || (buffer == NULL && room != 0))
+        return SIP_UA_NULL;
+    return sip_ua_raw_party(sip_ua_raw_at(value), value.len, sip_ua_raw_at(name), name.len, lengths,
+                            sip_ua_raw_room(buffer, &otherwise), room);
+}
+
+/* Takes the quotes of a quoted string away, in place, and each backslash before another character
+ * (RFC 3261, section 25.1); any other text stays as it is. Gives the new length. */
+static inline size_t sip_ua_unquote(uint8_t *text, size_t len)
+{
+    size_t kept = 0;
+    if (len < 2 || text[0] != '"' || text[len - 1] != '"')
+        return len;
+    for (size_t at = 1; at + 1 < len; at++) {
+        if (text[at] == '\\' && at + 2 < len)
+            at++;
+        text[kept++] = text[at];
+    }
+    return kept;
 }
 
 /* The lines of the last round, as a session file has them behind its head (docs/FORMATS.md); none

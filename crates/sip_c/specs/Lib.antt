@@ -1,3 +1,4 @@
+pub mod Addressing
 pub mod Called
 pub mod Journal
 pub mod Owned

@@ -1,6 +1,7 @@
 //! A host's agent, as a static library for C. `include/sip_ua.h` says how to call it.
 #![tactic(auto)]
 
+mod addresses;
 mod commands;
 mod exports;
 mod handle;
@@ -11,6 +12,7 @@ mod status;
 mod typed;
 mod values;
 
+pub use addresses::{sip_ua_raw_address, sip_ua_raw_party};
 pub use commands::{
     sip_ua_raw_abandon_dialog, sip_ua_raw_abandon_request, sip_ua_raw_ack, sip_ua_raw_cancel,
     sip_ua_raw_header, sip_ua_raw_invite, sip_ua_raw_plain, sip_ua_raw_prack, sip_ua_raw_request,
@@ -30,6 +32,6 @@ pub use questions::{
 };
 pub use typed::TypedOutput;
 pub use values::{
-    Address, Asked, Configuration, Datagram, Due, EventId, HeaderLengths, RequestTraits, Resumed,
-    StartLine, Stats, TextLength, Told,
+    Address, AddressLengths, Asked, Configuration, Datagram, Due, EventId, HeaderLengths,
+    RequestTraits, Resumed, StartLine, Stats, TextLength, Told,
 };

@@ -1,13 +1,14 @@
 //! The values that pass between C and this library.
 
 ghost use Rattle.std.specs.Prelude.{◌≡◌};
+ghost use Rattle.sip_c.specs.Addressing as addressing;
 ghost use Rattle.sip_c.specs.Called as spec;
 ghost use Rattle.sip_c.specs.Journal as journal;
 
 use crate::status::number_of_field;
 use sip_host::{
-    Holdings, HostFault, LineLength, NextOutput, RequestTraits as HostTraits, ResumeFault,
-    StartLength,
+    AddressLength, Holdings, HostFault, LineLength, NextOutput, RequestTraits as HostTraits,
+    ResumeFault, StartLength,
 };
 use sip_journal::LinesFault;
 use sip_message::{Addr, Id};
@@ -374,6 +375,40 @@ pub(crate) fn start_line_of(start: Option<StartLength>) -> StartLine
             status: u32::from(status),
             method_len: 0,
             len: reason,
+        },
+    }
+}
+
+/// How long the texts of an address are, in bytes, if there is one, and whether it has the parameter
+/// that was asked for.
+#[repr(C)]
+#[derive(Clone, Copy)]
+pub struct AddressLengths {
+    pub is_there: bool,
+    pub has_parameter: bool,
+    pub display_len: usize,
+    pub uri_len: usize,
+    pub value_len: usize,
+}
+
+/// The lengths of an address, or zeros if there is none.
+pub(crate) fn address_lengths_of(told: Option<AddressLength>) -> AddressLengths
+    ensures { result ≡ addressing.address_lengths_of told }
+{
+    match told {
+        None => AddressLengths {
+            is_there: false,
+            has_parameter: false,
+            display_len: 0,
+            uri_len: 0,
+            value_len: 0,
+        },
+        Some(told) => AddressLengths {
+            is_there: true,
+            has_parameter: told.value.is_some(),
+            display_len: told.display,
+            uri_len: told.uri,
+            value_len: told.value.unwrap_or(0),
         },
     }
 }

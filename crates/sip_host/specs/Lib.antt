@@ -1,4 +1,5 @@
 pub mod Absolute
+pub mod Addresses
 pub mod Asking
 pub mod Handing
 pub mod Hosting

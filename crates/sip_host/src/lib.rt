@@ -3,6 +3,7 @@
 #![tactic(auto)]
 
 mod absolute;
+mod addresses;
 mod asking;
 mod field;
 mod fields;
@@ -18,6 +19,7 @@ mod request_traits;
 mod resume_fault;
 mod start_length;
 
+pub use addresses::{AddressLength, address_at, party_in};
 pub use field::Field;
 pub use fields::{
     AbandonDialogFields, AbandonRequestFields, BodyFields, CancelFields, InviteFields, PlainFields,
