@@ -264,6 +264,7 @@ fn turns_at<R: Clock, U: User, F: RecordFile, E: Write>(
         is_counted,
         is_announced: _,
         tells_drops,
+        tells_ids,
         seconds,
         held_limit,
         input,
@@ -276,8 +277,8 @@ fn turns_at<R: Clock, U: User, F: RecordFile, E: Write>(
     let admission = Admission::new(held_limit);
     let drops = tells_drops || user.is_eager();
     let turns = Turns::new(
-        rt, alloc, config, division, record, base, kind, limit, admission, drops, is_counted, user,
-        bell, errors,
+        rt, alloc, config, division, record, base, kind, limit, admission, drops, tells_ids,
+        is_counted, user, bell, errors,
     )?;
     Ok((turns, socket, past))
 }

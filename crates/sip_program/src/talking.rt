@@ -224,6 +224,7 @@ fn agent_by<'a, T: Threads + Host, N: Write + Send + Drop + 'static, E: Write>(
     let mut endpoint = endpoint_of(rt, alloc, words.own)?;
     endpoint.division = words.division;
     endpoint.kind = words.kind;
+    endpoint.tells_ids = words.tells_ids;
     endpoint.is_announced = true;
     let pipe = rt.commands();
     let mut notices = notice_writer(rt, alloc, stream)?;

@@ -170,6 +170,7 @@ pub(crate) struct AgentWords<'a> {
     pub linger: u32,
     pub division: Division,
     pub kind: FileKind,
+    pub tells_ids: bool,
 }
 
 /// The words of the command line, without the program's own name.
@@ -393,6 +394,7 @@ pub(crate) fn agent_words<'a>(matches: &ArgMatches<'a>) -> Option<AgentWords<'a>
             workers: count(agent, "workers", MAX_WORKERS),
         },
         kind: kind_of(agent),
+        tells_ids: agent.get_flag("ids"),
     })
 }
 
@@ -616,6 +618,7 @@ fn agent_command<'a>(alloc: Global) -> Result<Command<'a>, AllocError> {
         shards_argument(alloc, "4"),
         workers_argument(alloc, "2"),
         headers_argument(alloc),
+        ids_argument(alloc),
         record_argument(alloc),
         journal_argument(alloc)?,
         sync_argument(alloc)?,
@@ -651,6 +654,16 @@ fn headers_argument<'a>(alloc: Global) -> Arg<'a> {
             "Take header lines before a command, each a space and `Name: value`, and print those \
             of a message before its notice. The record is then a session file, for `ua replay \
             --session`",
+        )
+}
+
+fn ids_argument<'a>(alloc: Global) -> Arg<'a> {
+    Arg::new(alloc, "ids")
+        .long("ids")
+        .action(ArgAction::SetTrue)
+        .help(
+            "Print a line `asked ID` for each command, before the notices of its round. Lines that \
+            are no command have none, but a message on standard error",
         )
 }
 

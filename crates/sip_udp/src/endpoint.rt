@@ -33,6 +33,8 @@ pub struct Endpoint<F> {
     pub is_announced: bool,
     /// Whether drops are told, too. A user on a pipe is always told of them.
     pub tells_drops: bool,
+    /// Whether the id of each command is told, before the notices of its round.
+    pub tells_ids: bool,
     /// After how many seconds the turns end, if at all.
     pub seconds: Option<u32>,
     /// How many transactions are to be held at most, if there is a limit. Above it requests are
@@ -61,6 +63,7 @@ impl<F> Endpoint<F> {
             is_counted: false,
             is_announced: false,
             tells_drops: false,
+            tells_ids: false,
             seconds: None,
             held_limit: None,
             input: None,

@@ -47,6 +47,24 @@ pub(crate) fn write_notices<W: Write>(
     Ok(())
 }
 
+/// Writes a line with the id of each command among the events of the round with this number.
+pub(crate) fn write_ids<W: Write>(
+    alloc: Global,
+    writer: &mut W,
+    round: u64,
+    events: &[Event],
+) -> Result<(), UaFault> {
+    let mut place = 0u32;
+    for event in events {
+        place = place.saturating_add(1);
+        if let Event::Command(_) = event {
+            let line = format!(in alloc; "asked {round}.{place}\n")?;
+            put_line(writer, line.as_bytes())?;
+        }
+    }
+    Ok(())
+}
+
 fn tell<W: Write>(
     alloc: Global,
     writer: &mut W,

@@ -10,7 +10,7 @@ use crate::bell::Bell;
 use crate::counts::{Counts, Losses};
 use crate::division::Division;
 use crate::fault::{UaFault, refused_round};
-use crate::notices::{Telling, put, write_notices};
+use crate::notices::{Telling, put, write_ids, write_notices};
 use crate::outlet::Outlet;
 use crate::past::Past;
 use crate::record::Record;
@@ -54,6 +54,8 @@ pub struct Turns<U, F> {
     admission: Admission,
     // Whether drops are told.
     drops: bool,
+    // Whether the id of each command is told.
+    tells_ids: bool,
     // The counts, if they are told at the end.
     counts: Option<Counts>,
     // When the turns began, and the moment of that, in ms.
@@ -80,6 +82,7 @@ impl<U: User, F: RecordFile> Turns<U, F> {
         limit: TimeLimit,
         admission: Admission,
         drops: bool,
+        tells_ids: bool,
         is_counted: bool,
         mut user: U,
         bell: Option<Arc<Bell>>,
@@ -103,6 +106,7 @@ impl<U: User, F: RecordFile> Turns<U, F> {
             limit,
             admission,
             drops,
+            tells_ids,
             counts: is_counted.then(|| Counts::new(alloc, config.local)),
             start,
             base,
@@ -338,6 +342,9 @@ impl<U: User, F: RecordFile> Turns<U, F> {
             drops: self.drops.then_some(number),
         };
         let events = round.events.as_slice();
+        if self.tells_ids {
+            write_ids(self.alloc, notices, number, events)?;
+        }
         write_notices(self.alloc, notices, telling, events, &outputs)
     }
 
