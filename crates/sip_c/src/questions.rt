@@ -5,7 +5,7 @@ ghost use Rattle.std.specs.Prelude.{◌≡◌, ◌⊎◌, ◌+◌, ◌≤◌, If
 ghost use Rattle.sip_host.specs.Hosting.{HoldsSo, TellsIfItBegins, last_id_of};
 ghost use Rattle.sip_host.specs.declared.holdings.Holdings.{Holdings as AHoldings};
 ghost use Rattle.sip_c.specs.Status as spec;
-ghost use Rattle.sip_host.specs.RequestTraits.{TellsTraitsAt};
+ghost use Rattle.sip_host.specs.Traits.{TellsTraitsAt};
 ghost use Rattle.sip_host.specs.declared.request_traits.RequestTraits.{RequestTraits as TheTraits};
 ghost use Rattle.sip_c.specs.Called.{TellsDatagram, TellsLine, TellsLines, TellsNothing, TellsOrNot, TellsStart, TellsValue, TellsValues, datagram_of, traits_given, header_lengths_of, id_of, length_of, start_line_of, stats_of};
 

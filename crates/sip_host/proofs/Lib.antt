@@ -1,4 +1,4 @@
 pub mod Failures
-pub mod RequestTraits
+pub mod TraitsRead
 pub mod SaidHeaders
 pub mod WouldBegin

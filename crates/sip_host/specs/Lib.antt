@@ -3,5 +3,5 @@ pub mod Addresses
 pub mod Asking
 pub mod Handing
 pub mod Hosting
-pub mod RequestTraits
+pub mod Traits
 pub mod Resuming

@@ -21,7 +21,7 @@ ghost use Rattle.sip_host.specs.Asking.{Makes, TakesCommand, TakesHeader, abando
 ghost use Rattle.sip_host.specs.Handing.{datagram_in, head_of, length_of_line, line_text, lines_text, put_if, put_in, start_of, start_text, text_of, values_text};
 ghost use Rattle.sip_host.specs.Hosting.{Begins, BeginsAt, HasLinesAt, HasValuesAt, HoldsSo, RunsRound, TakesDatagram, TakesFailure, TakesLine, TakesLines, TellsIfItBegins, after_one, after_taking, last_events, last_id_of, output_at, shard_of, with_events};
 ghost use Rattle.sip_files.specs.Written.{IsSessionRound};
-ghost use Rattle.sip_host.specs.RequestTraits.{TellsTraitsAt};
+ghost use Rattle.sip_host.specs.Traits.{TellsTraitsAt};
 ghost use Rattle.sip_host.specs.Resuming.{GoesOn, Resumes, is_idle, text_of_round};
 ghost use Rattle.sip_journal.specs.Rounds.{SpellsRound};
 ghost use Rattle.sip_round.specs.AgentState.{refusal_of};

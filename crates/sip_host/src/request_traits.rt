@@ -1,7 +1,7 @@
 //! What a request says of itself, and its notice doesn't.
 
 ghost use Rattle.std.specs.Prelude.{◌≡◌, Err, IfOk, None};
-ghost use Rattle.sip_host.specs.RequestTraits as spec;
+ghost use Rattle.sip_host.specs.Traits as spec;
 ghost use Rattle.sip_message.specs.declared.message.Message.{Message as AMessage};
 ghost use Rattle.sip_reader.specs.Spells.{Answers};
 

@@ -1,5 +1,5 @@
 -- `traits_in`: the traits of the message that the datagram spells.
-use Rattle.sip_host.proofs.RequestTraits.{fault_tells, read_tells}
+use Rattle.sip_host.proofs.TraitsRead.{fault_tells, read_tells}
 use Rattle.sip_host.proofs.request_traits.traits_in.Goals as goal
 
 pub returns-in-Ok : goal.returns-in-Ok

@@ -3,7 +3,7 @@ use Rattle.std.proofs.Common.{◌≡◌, List, ℕ, Result, Ok, Err, IfOk, None,
 use Rattle.sip_message.specs.declared.fault.ReadFault.{ReadFault}
 use Rattle.sip_message.specs.declared.message.Message.{Message}
 use Rattle.sip_reader.specs.Spells.{Answers, Spells}
-use Rattle.sip_host.specs.RequestTraits.{TellsTraits, traits_of}
+use Rattle.sip_host.specs.Traits.{TellsTraits, traits_of}
 use Rattle.sip_host.specs.declared.request_traits.RequestTraits.{RequestTraits}
 
 -- the traits of the message that was read
