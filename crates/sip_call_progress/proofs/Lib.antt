@@ -1,0 +1,15 @@
+pub mod Arrived
+pub mod AtRest
+pub mod CallBounds
+pub mod ClientBounds
+pub mod Commanded
+pub mod Differ
+pub mod Ended
+pub mod Fewer
+pub mod InTime
+pub mod Outcomes
+pub mod Rejected
+pub mod ServedBounds
+pub mod ServedSteps
+pub mod Told
+pub mod Waits

@@ -1,0 +1,9 @@
+-- The law `told_in_time`: a tick tells that no ACK or no PRACK came.
+use Rattle.sip_call_progress.proofs.InTime.{no_ack_told, no_prack_told}
+use Rattle.sip_call_progress.proofs.laws.told_in_time.Goals as goal
+
+pub returns-clause-ack : goal.returns-clause-ack
+returns-clause-ack c = no_ack_told
+
+pub returns-clause-prack : goal.returns-clause-prack
+returns-clause-prack c = no_prack_told

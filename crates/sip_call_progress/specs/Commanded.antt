@@ -1,0 +1,82 @@
+-- What each command of the user gives: a refusal alone, or what it asks for, once.
+use Rattle.std.specs.Prelude.{◌≡◌, ◌⊎◌, ℕ, Bool, true, false, not, List, [], ◌∷◌, Option, Some, codes, filter}
+use Rattle.std.specs.Option.{option_and_then}
+use Rattle.sip_message.specs.declared.addr.Addr.{Addr}
+use Rattle.sip_message.specs.declared.id.Id.{Id}
+use Rattle.sip_transactions.specs.declared.input.Command.{Command as Order}
+use Rattle.sip_transactions.specs.declared.input.Command.TheVariants as order
+use Rattle.sip_user.specs.Command.{call_of_command}
+use Rattle.sip_user.specs.declared.command.UserCommand.{UserCommand}
+use Rattle.sip_user.specs.declared.command.UserCommand.TheVariants.{Invite, Plain, Request, Respond, Ack, Prack, Cancel, AbandonRequest, AbandonDialog}
+use Rattle.sip_user.specs.declared.item.CallOut.{CallOut}
+use Rattle.sip_user.specs.declared.item.CallOut.TheVariants.{Command, Direct, Notice}
+use Rattle.sip_user.specs.declared.item.Item.TheVariants.{User}
+use Rattle.sip_user.specs.declared.refusal.Refusal.{Refusal}
+use Rattle.sip_user.specs.Notices.{refused}
+use Rattle.sip_held_dialogs.specs.Requests.{is_method}
+use Rattle.sip_calls.specs.declared.call.Call.{Call}
+use Rattle.sip_calls.specs.declared.calls.Calls.{Calls}
+use Rattle.sip_calls.specs.Call.{Taken, call_step, kept_call}
+
+-- ---- what goes out
+
+abbrev pub is_notice : CallOut → Bool
+is_notice (Notice notice) = true
+is_notice (Command id order) = false
+is_notice (Direct to bytes) = false
+
+-- all outputs but what the user is told
+abbrev pub goes_out : List CallOut → List CallOut
+goes_out outs = filter (λ out. not (is_notice out)) outs
+
+-- a transaction starts with a request of this method
+abbrev pub starts : List ℕ → Order → Bool
+starts method (order.Start key call_id request to) = is_method method request
+starts method (order.Answer key response) = false
+starts method (order.Abandon key) = false
+
+abbrev pub answers : Order → Bool
+answers (order.Start key call_id request to) = false
+answers (order.Answer key response) = true
+answers (order.Abandon key) = false
+
+abbrev pub abandons : Order → Bool
+abandons (order.Start key call_id request to) = false
+abandons (order.Answer key response) = false
+abandons (order.Abandon key) = true
+
+-- only one command to a transaction, of this kind
+abbrev pub OneCommand : (Order → Bool) → List CallOut → Type 0
+OneCommand is_it outs = (id : Id) × (order : Order) × (goes_out outs ≡ Command id order ∷ [])
+    × (is_it order ≡ true)
+
+-- only one message without a transaction: an ACK (RFC 3261, section 13.2.2.4)
+abbrev pub OneAck : List CallOut → Type 0
+OneAck outs = (to : Addr) × (bytes : List ℕ) × (goes_out outs ≡ Direct to bytes ∷ [])
+
+-- ---- the law
+
+-- The request, the PRACK, the ACK or the response goes out once, a reliable response too. A CANCEL
+-- goes out, waits for a provisional response, or was asked for before; if it doesn't go out, nothing
+-- is given (RFC 3261, section 9.1). To give up sends nothing.
+abbrev pub GivesOne : UserCommand → List CallOut → Type 0
+GivesOne (Invite invite) outs = OneCommand (starts (codes "INVITE")) outs
+GivesOne (Plain plain) outs = OneCommand (starts plain.method) outs
+GivesOne (Request request) outs = OneCommand (starts request.method) outs
+GivesOne (Respond respond) outs = OneCommand answers outs
+GivesOne (Ack ack) outs = OneAck outs
+GivesOne (Prack prack) outs = OneCommand (starts (codes "PRACK")) outs
+GivesOne (Cancel cancel) outs = OneCommand (starts (codes "CANCEL")) outs ⊎ (outs ≡ [])
+GivesOne (AbandonRequest abandon) outs = OneCommand abandons outs
+GivesOne (AbandonDialog abandon) outs = goes_out outs ≡ []
+
+-- only the refusal is given, and what is held doesn't change
+abbrev pub IsRefused : Option Call → Id → UserCommand → Taken → Type 0
+IsRefused state event command taken = (refusal : Refusal)
+    × (taken ≡ (option_and_then kept_call state, refused event (call_of_command command) refusal))
+
+-- whatever is held, each command of the user is refused, or gives what it asks for
+abbrev pub EachCommandIsAnswered : Type 0
+EachCommandIsAnswered = (calls : Calls) (state : Option Call) (event : Id) (command : UserCommand)
+    (now : ℕ) → let taken = call_step calls state (Some (event, User command)) now in
+    IsRefused state event command taken ⊎ GivesOne command taken.1

@@ -1,0 +1,9 @@
+pub mod Arrived
+pub mod Commanded
+pub mod Ending
+pub mod InTime
+pub mod Outcomes
+pub mod Rejections
+pub mod Rest
+pub mod Told
+pub mod Waiting
