@@ -1,5 +1,5 @@
 -- What C is told of an address.
-use Rattle.std.specs.Prelude.{◌≡◌, ◌⊎◌, ◌+◌, ℕ, List, false, true, Option, None, Some, Result, Ok, Err, length, option_map, unwrap_or, is_some}
+use Rattle.std.specs.Prelude.{◌≡◌, ◌⊎◌, ◌+◌, ℕ, List, false, true, Option, None, Some, Result, Ok, Err, length, unwrap_or, is_some}
 use Rattle.sip_host.specs.Addresses.{AddressParts, TellsAddress}
 use Rattle.sip_host.specs.declared.addresses.AddressLength.{AddressLength}
 use Rattle.sip_c.specs.Status.{room_answer}

@@ -1,5 +1,5 @@
 -- The addresses in the values of headers (RFC 3261, sections 20.10, 20.20, 20.30, 20.34 and 20.39).
-use Rattle.std.specs.Prelude.{◌≡◌, ℕ, List, ◌++◌, Option, None, Some, length, option_map, option_and_then}
+use Rattle.std.specs.Prelude.{◌≡◌, ℕ, List, ◌++◌, Option, Some, length, option_map, option_and_then}
 use Rattle.std.specs.List.{slice_get}
 use Rattle.sip_grammar.specs.Parameters.{parameter_named, value_named, value_or_nothing}
 use Rattle.sip_grammar.specs.declared.parameter.Parameter.{Parameter}

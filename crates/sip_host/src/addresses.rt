@@ -8,6 +8,7 @@ ghost use Rattle.sip_host.specs.Handing.{put_in};
 use crate::handing::put;
 use sip_grammar::Parameters;
 use sip_header_values::{AddressListRow, PartyRow, Row};
+use sip_text::ParameterText;
 use std::alloc::{AllocError, Global};
 
 /// How long the texts of an address are, in bytes.
@@ -110,7 +111,13 @@ fn value_length(parameters: &Parameters, name: &[u8]) -> Option<usize>
     ensures { result ≡ spec.value_length name.now parameters.now }
 {
     match parameters.named(name) {
-        Some(_) => Some(parameters.value_named(name).len()),
+        Some(
+            ParameterText {
+                value: Some(value),
+                ..
+            },
+        ) => Some(value.len()),
+        Some(_) => Some(0),
         None => None,
     }
 }

@@ -1,7 +1,5 @@
 //! The file to which a run is written.
 
-ghost use Rattle.std.specs.Prelude.{◌≡◌, List, Option, ℕ};
-
 use sip_udp::RecordFile;
 use std::fs::OpenFile;
 use std::io::{self, Read, Write};
