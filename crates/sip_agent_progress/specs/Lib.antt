@@ -1,0 +1,3 @@
+pub mod AtRest
+pub mod NothingLeft
+pub mod Open

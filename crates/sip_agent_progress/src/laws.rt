@@ -1,0 +1,32 @@
+//! Laws of progress of a whole agent.
+
+ghost use Rattle.sip_agent_progress.specs.AtRest.{EachAgentComesToRest, EachCallComesToRest};
+ghost use Rattle.sip_agent_progress.specs.NothingLeft.{NothingStays};
+ghost use Rattle.sip_agent_progress.specs.Open.{EachOpenIsHeld};
+
+/// After any rounds, each transaction that has no final response belongs to a call: the call of its
+/// Call-ID holds its request, under its id, without a final response. So a server transaction waits
+/// for the user, and so does the client of an INVITE after a provisional response (RFC 3261,
+/// sections 17.1.1.2, 17.2.1 and 17.2.2).
+pub fn each_open_transaction_is_held()
+    ensures { EachOpenIsHeld }
+{}
+
+/// Whatever came in rounds up to a moment: after rounds without events, of which one is 64*T1 later
+/// or later still, nothing of any call is due, and no request in it has a final response.
+pub fn each_call_comes_to_rest()
+    ensures { EachCallComesToRest }
+{}
+
+/// After a second time of 64*T1 without events each transaction is gone, or waits without a timer,
+/// and nothing in the agent is due at any moment. A host needn't run a round again until something
+/// comes.
+pub fn each_agent_comes_to_rest()
+    ensures { EachAgentComesToRest }
+{}
+
+/// If nothing waits for the user in any call, and no request of the agent for its transaction, then
+/// after twice 64*T1 without events the agent holds nothing: no transaction and no call.
+pub fn nothing_stays()
+    ensures { NothingStays }
+{}
