@@ -57,7 +57,7 @@ use Rattle.sip_agent_progress.proofs.SecondPhase.{CallItems, CallStates, orders,
 -- ---- what comes up
 
 -- at most that a transaction timed out
-abbrev IsReport : Out → Type 0
+abbrev pub IsReport : Out → Type 0
 IsReport (out.Up up) = up.kind ≡ kind.Timeout
 IsReport (out.Send key to bytes) = Unit {0}
 IsReport (out.Dropped place why) = Unit {0}
@@ -68,13 +68,13 @@ quiet_reports (out.Up up ∷ outs) all = (all.0, quiet_reports outs all.1)
 quiet_reports (out.Send key to bytes ∷ outs) all = (tt, quiet_reports outs all.1)
 quiet_reports (out.Dropped place why ∷ outs) all = (tt, quiet_reports outs all.1)
 
-tick_reports : (key : Key) (held : Option Life) (now : ℕ)
+pub tick_reports : (key : Key) (held : Option Life) (now : ℕ)
     → AllByRecursion IsReport (adds transaction_machine key held (tick_at now))
 tick_reports key held now =
     quiet_reports (adds transaction_machine key held (tick_at now))
     (at_steps TicksAreQuiet ticks.ticks_are_quiet key held now)
 
-all_joined : (P : Out → Type 0) (f : Key → List Out) (keys : List Key)
+pub all_joined : (P : Out → Type 0) (f : Key → List Out) (keys : List Key)
     → ((key : Key) → AllByRecursion P (f key))
     → AllByRecursion P (joined (map (λ key. (key, f key)) keys))
 all_joined P f [] each = tt
@@ -165,7 +165,7 @@ all_own {K} {I} cmp P (item ∷ items) q all =
       | false ↦ all_own cmp P items q all.1
     ]
 
-report_inside : (input : Option CallItem) → ReportsTimeout input → is_from_outside input ≡ false
+pub report_inside : (input : Option CallItem) → ReportsTimeout input → is_from_outside input ≡ false
 report_inside None is = absurd is
 report_inside (Some (id, Up up)) is = ap is_message is
 report_inside (Some (id, User command)) is = absurd is

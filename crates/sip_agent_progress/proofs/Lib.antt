@@ -16,3 +16,4 @@ pub mod OpenHeld
 pub mod Idle
 pub mod RestFrom
 pub mod NothingLeft
+pub mod UserEnds

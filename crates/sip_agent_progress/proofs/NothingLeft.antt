@@ -2,7 +2,7 @@
 use Rattle.std.proofs.Common.{◌≡◌, ℕ, suc, ◌+◌, Bool, true, false, cond, ◌||◌, List, [], ◌∷◌, ◌++◌, length, refl, sym, ap, ◌∙◌, subst, arith}
 use Rattle.std.specs.Prelude.{not, Option, None, Some, count_by, is_some}
 use Rattle.std.specs.List.{AllByRecursion, list_any}
-use Rattle.std.specs.Map.{values_of}
+use Rattle.std.specs.Map.{remove_entry, values_of}
 use Rattle.std.proofs.lemmas.Bool.{false≢true}
 use Rattle.std.proofs.lemmas.List.Sums.{sum_by-cons}
 use Rattle.sip_message.specs.Key.{key_cmp}
@@ -23,7 +23,7 @@ use Rattle.sip_transactions.specs.Steps.Input.{role_of}
 use Rattle.sip_transaction_progress.specs.Timers.{is_gone_or_waits, waits}
 use Rattle.sip_user.specs.declared.item.Item.TheVariants.{Up, User}
 use Rattle.sip_held_dialogs.specs.Ids.{is_id}
-use Rattle.sip_held_dialogs.proofs.Each.{EachValue, each_but_one, each_left}
+use Rattle.sip_held_dialogs.proofs.Each.{filtered}
 use Rattle.sip_clients.specs.declared.client.Client.{Client}
 use Rattle.sip_clients.specs.Client.{Clients, Side}
 use Rattle.sip_clients.specs.Rules.Ends.{client_tick, is_over, request_is_lost}
@@ -58,8 +58,9 @@ use Rattle.sip_agent_progress.proofs.RestFrom.{at_rest, calls_longer}
 
 -- ---- the client requests of a call after a tick or a report
 
-abbrev AreInvites : Clients → Type 0
-AreInvites clients = EachValue (λ (client : Client). is_invite_kind client.kind ≡ true) clients
+abbrev pub AreInvites : Clients → Type 0
+AreInvites clients =
+    AllByRecursion (λ (entry : Id × Client). is_invite_kind entry.1.kind ≡ true) clients
 
 none_awaited : (clients : Clients)
     → list_any (λ (client : Client). not (is_invite_kind client.kind)) (values_of clients) ≡ false
@@ -77,60 +78,76 @@ none_awaited (entry ∷ clients) none =
     by_kind true is none rest = (is, rest none)
     by_kind false is none rest = absurd (false≢true (sym none))
 
-invites_alone : (clients : Clients) → AreInvites clients
+pub invites_alone : (clients : Clients) → AreInvites clients
     → list_any (λ (client : Client). not (is_invite_kind client.kind)) (values_of clients) ≡ false
 invites_alone [] all = refl
 invites_alone (entry ∷ clients) all =
     ap (λ b. not b || list_any (λ (client : Client). not (is_invite_kind client.kind))
     (values_of clients)) all.0 ∙ invites_alone clients all.1
 
-abbrev InvitesIn : Option Call → Type 0
-InvitesIn call = AreInvites (side_held call).clients
+-- what is true of all of them stays so, since ticks and reports only remove some
+module _ (P : Id × Client → Type 0) where
+  abbrev pub AllAre : Option Call → Type 0
+  AllAre call = AllByRecursion P (side_held call).clients
 
-lost_invites : (id : Id) (timed_out : Bool) (side : Side) → AreInvites side.clients
-    → AreInvites ((request_is_lost id timed_out side).0).clients
-unfolding request_is_lost
-lost_invites id timed_out side all =
-    each_but_one (λ (client : Client). is_invite_kind client.kind ≡ true) (is_id id) side.clients
-    all
+  all_but_one : (id : Id) (clients : Clients) → AllByRecursion P clients
+      → AllByRecursion P (remove_entry (is_id id) clients)
+  all_but_one id [] all = tt
+  all_but_one id (entry ∷ clients) all =
+      elim (is_id id entry.0) as (λ b. AllByRecursion P
+      (cond b clients (entry ∷ remove_entry (is_id id) clients))) [
+        | true ↦ all.1
+        | false ↦ (all.0, all_but_one id clients all.1)
+      ]
 
-tick_invites : (side : Side) (now : ℕ) → AreInvites side.clients
-    → AreInvites ((client_tick side now).0).clients
-unfolding client_tick
-tick_invites side now all =
-    each_left (λ (client : Client). is_invite_kind client.kind ≡ true)
-    (λ entry. not (is_over now entry.1)) side.clients all
+  lost_keeps : (id : Id) (timed_out : Bool) (side : Side) → AllByRecursion P side.clients
+      → AllByRecursion P ((request_is_lost id timed_out side).0).clients
+  unfolding request_is_lost
+  lost_keeps id timed_out side all = all_but_one id side.clients all
 
-up_invites : (calls : Calls) (call : Call) (event : Id) (now : ℕ) (up : AnUp) (k : UpKind)
-    → is_message k ≡ false → AreInvites call.clients
-    → AreInvites ((received call (event_of calls event now) up k).0).clients
-up_invites calls call event now up (kind.Request request reply_to) inside all = all
-up_invites calls call event now up (kind.Ack ack) inside all = all
-up_invites calls call event now up (kind.Response response) inside all =
-    absurd (false≢true (sym inside))
-up_invites calls call event now up kind.Timeout inside all =
-    lost_invites up.id true (side_of call) all
-up_invites calls call event now up kind.Failed inside all =
-    lost_invites up.id false (side_of call) all
+  tick_keeps : (side : Side) (now : ℕ) → AllByRecursion P side.clients
+      → AllByRecursion P ((client_tick side now).0).clients
+  unfolding client_tick
+  tick_keeps side now all =
+      filtered P (λ (entry : Id × Client). not (is_over now entry.1)) side.clients all
 
-kept_invites : (call : Call) → AreInvites call.clients → InvitesIn (kept_call call)
-kept_invites call all =
-    subst (λ (side : Side). AreInvites side.clients) (sym (kept_side call)) all
+  up_keeps : (calls : Calls) (call : Call) (event : Id) (now : ℕ) (up : AnUp) (k : UpKind)
+      → is_message k ≡ false → AllByRecursion P call.clients
+      → AllByRecursion P ((received call (event_of calls event now) up k).0).clients
+  up_keeps calls call event now up (kind.Request request reply_to) inside all = all
+  up_keeps calls call event now up (kind.Ack ack) inside all = all
+  up_keeps calls call event now up (kind.Response response) inside all =
+      absurd (false≢true (sym inside))
+  up_keeps calls call event now up kind.Timeout inside all =
+      lost_keeps up.id true (side_of call) all
+  up_keeps calls call event now up kind.Failed inside all =
+      lost_keeps up.id false (side_of call) all
 
-step_invites : (calls : Calls) (call : Option Call) (input : Option CallItem) (now : ℕ)
-    → is_from_outside input ≡ false → InvitesIn call
-    → InvitesIn (call_step calls call input now).0
-step_invites calls None None now inside all = tt
-step_invites calls (Some call) None now inside all =
-    kept_invites (call_tick call now).0 (tick_invites _ now all)
-step_invites calls None (Some (event, Up up)) now inside all =
-    kept_invites (item_of_call false (new_call calls.local) (event_of calls event now) (Up up)).0
-    (up_invites calls (new_call calls.local) event now up up.kind inside tt)
-step_invites calls (Some call) (Some (event, Up up)) now inside all =
-    kept_invites (item_of_call true call (event_of calls event now) (Up up)).0
-    (up_invites calls call event now up up.kind inside all)
-step_invites calls call (Some (event, User c)) now inside all =
-    absurd (false≢true (sym inside))
+  pub kept_all : (call : Call) → AllByRecursion P call.clients → AllAre (kept_call call)
+  kept_all call all =
+      subst (λ (side : Side). AllByRecursion P side.clients) (sym (kept_side call)) all
+
+  pub step_keeps : (calls : Calls) (call : Option Call) (input : Option CallItem) (now : ℕ)
+      → is_from_outside input ≡ false → AllAre call → AllAre (call_step calls call input now).0
+  step_keeps calls None None now inside all = tt
+  step_keeps calls (Some call) None now inside all =
+      kept_all (call_tick call now).0 (tick_keeps _ now all)
+  step_keeps calls None (Some (event, Up up)) now inside all =
+      kept_all (item_of_call false (new_call calls.local) (event_of calls event now) (Up up)).0
+      (up_keeps calls (new_call calls.local) event now up up.kind inside tt)
+  step_keeps calls (Some call) (Some (event, Up up)) now inside all =
+      kept_all (item_of_call true call (event_of calls event now) (Up up)).0
+      (up_keeps calls call event now up up.kind inside all)
+  step_keeps calls call (Some (event, User c)) now inside all =
+      absurd (false≢true (sym inside))
+
+  pub all_keep : (calls : Calls) (inputs : List (Timed CallItem)) (call : Option Call)
+      → AllByRecursion (λ (timed : Timed CallItem). is_from_outside timed.input ≡ false) inputs
+      → AllAre call → AllAre (call_from calls call inputs)
+  all_keep calls [] call inside all = all
+  all_keep calls (input ∷ inputs) call inside all =
+      all_keep calls inputs (call_step calls call input.input input.moment).0 inside.1
+      (step_keeps calls call input.input input.moment inside.0 all)
 
 -- ---- a call after ticks and reports
 
@@ -143,7 +160,8 @@ step_settled calls call input now inside settled = record {
       ∙ others_add_nothing calls call input now inside one waits)))
       (λ none. none);
   transaction = invites_alone (side_held (call_step calls call input now).0).clients
-      (step_invites calls call input now inside
+      (step_keeps (λ (entry : Id × Client). is_invite_kind entry.1.kind ≡ true) calls call input
+      now inside
       (none_awaited (side_held call).clients settled.transaction));
 }
 

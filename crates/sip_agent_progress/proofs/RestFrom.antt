@@ -57,7 +57,7 @@ any_right p (x ∷ xs) ys is =
     by_bool (p x) (λ hit. ap (λ b. b || list_any p (xs ++ ys)) hit)
     (λ miss. ap (λ b. b || list_any p (xs ++ ys)) miss ∙ any_right p xs ys is)
 
-all_goes : {X : Type 0} {P Q : X → Type 0} → ((x : X) → P x → Q x) → (xs : List X)
+pub all_goes : {X : Type 0} {P Q : X → Type 0} → ((x : X) → P x → Q x) → (xs : List X)
     → AllByRecursion P xs → AllByRecursion Q xs
 all_goes goes [] all = tt
 all_goes goes (x ∷ xs) all = (goes x all.0, all_goes goes xs all.1)

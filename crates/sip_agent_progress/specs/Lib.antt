@@ -1,3 +1,4 @@
 pub mod AtRest
 pub mod NothingLeft
 pub mod Open
+pub mod UserEnds

@@ -3,6 +3,7 @@
 ghost use Rattle.sip_agent_progress.specs.AtRest.{EachAgentComesToRest, EachCallComesToRest};
 ghost use Rattle.sip_agent_progress.specs.NothingLeft.{NothingStays};
 ghost use Rattle.sip_agent_progress.specs.Open.{EachOpenIsHeld};
+ghost use Rattle.sip_agent_progress.specs.UserEnds.{UserEndsAgent};
 
 /// After any rounds, each transaction that has no final response belongs to a call: the call of its
 /// Call-ID holds its request, under its id, without a final response. So a server transaction waits
@@ -29,4 +30,11 @@ pub fn each_agent_comes_to_rest()
 /// after twice 64*T1 without events the agent holds nothing: no transaction and no call.
 pub fn nothing_stays()
     ensures { NothingStays }
+{}
+
+/// Whatever the peers did, the user can end all: after one round that rejects each request of the
+/// peer that has no final response, and gives up each INVITE of the agent, each other request of
+/// it and each dialog, and then twice 64*T1 without events, the agent holds nothing.
+pub fn the_user_ends_all()
+    ensures { UserEndsAgent }
 {}
