@@ -1,9 +1,10 @@
 #!/usr/bin/env python3
 """Brings agents into random states, and then ends all that they hold.
 
-ends.py LIBRARY [TRIALS]: random datagrams, commands, failed sends and times. Then each request that
+ends.py LIBRARY [TRIALS [SESSION..]]: random datagrams, commands, failed sends and times. Then each request that
 came up gets a 486, each request that was sent and each dialog is given up, and time passes. After
-that an agent has to hold nothing: no transaction, no call, no timer. The status is 0 if that is so.
+that an agent has to hold nothing: no transaction, no call, no timer. Nor may it at the end of the session
+files that are named, 64 s after their last round. The status is 0 if that is so.
 """
 
 import random
@@ -135,6 +136,31 @@ class Trial:
         return f"{stats.transactions} transactions, {stats.calls} calls, due {due}"
 
 
+def is_ended(library: str, path: str) -> bool:
+    """Whether an agent holds nothing 64 s after the last round of a session file."""
+    agent = ua.Agent(library, LOCAL, bytes(32))
+    moment: Optional[int] = None
+    headers = ""
+    with open(path, encoding="latin-1") as file:
+        for line in file.read().splitlines():
+            word = line.split(" ")[0]
+            if word == "round":
+                if moment is not None:
+                    agent.run(moment)
+                moment = int(line.split(" ")[1])
+            elif line.startswith(" "):
+                headers += line + "\n"
+            elif moment is not None:
+                agent.event_lines(headers + line)
+                headers = ""
+    for wait in (0, LIFETIME_MS, LIFETIME_MS):
+        agent.run((moment or 0) + wait)
+        moment = (moment or 0) + wait
+    stats = agent.stats()
+    agent.close()
+    return (stats.transactions, stats.calls) == (0, 0)
+
+
 def main() -> int:
     library = sys.argv[1]
     trials = int(sys.argv[2]) if len(sys.argv) > 2 else 1000
@@ -151,6 +177,10 @@ def main() -> int:
             left += 1
             print(f"trial {seed}: {end}")
     print(f"{trials} agents ended, {left} of them hold something")
+    for path in sys.argv[3:]:
+        if not is_ended(library, path):
+            left += 1
+            print(f"{path}: something is held at its end")
     return 0 if left == 0 else 1
 
 
