@@ -1,10 +1,13 @@
 -- What is told of a datagram that spells a message, and of one that doesn't.
-use Rattle.std.proofs.Common.{◌≡◌, List, ℕ, Result, Ok, Err, IfOk, None, Option, IsSome, subst, ap, ◌∙◌}
+use Rattle.std.proofs.Common.{◌≡◌, true, false, List, ℕ, Result, Ok, Err, IfOk, None, Option, IsSome, subst, ap, ◌∙◌}
 use Rattle.sip_message.specs.declared.fault.ReadFault.{ReadFault}
 use Rattle.sip_message.specs.declared.message.Message.{Message}
 use Rattle.sip_reader.specs.Spells.{Answers, Spells}
 use Rattle.sip_host.specs.Traits.{TellsTraits, traits_of}
 use Rattle.sip_host.specs.declared.request_traits.RequestTraits.{RequestTraits}
+
+differ : false ≡ true → ⊥
+differ e = cc
 
 -- the traits of the message that was read
 pub read_tells : (bytes : List ℕ) (read : Message) (traits : Option RequestTraits)
@@ -25,6 +28,6 @@ pub fault_tells : {E : Type 0} (bytes : List ℕ) (fault : ReadFault)
     → IfOk answer (TellsTraits bytes)
 fault_tells bytes fault (Ok traits) only unread = record {
   told = λ message spells. absurd (unread.1 message (only message spells));
-  message = λ some. absurd (subst IsSome unread.0 some);
+  message = λ some. absurd (differ (subst IsSome unread.0 some));
 }
 fault_tells bytes fault (Err memory) only unread = tt
