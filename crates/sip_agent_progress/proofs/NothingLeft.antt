@@ -1,8 +1,8 @@
 -- If nothing waits in any call, nothing is held in the end.
-use Rattle.std.proofs.Common.{◌≡◌, ℕ, suc, ◌+◌, Bool, true, false, cond, ◌||◌, List, [], ◌∷◌, ◌++◌, length, refl, sym, ap, ◌∙◌, subst, arith}
-use Rattle.std.specs.Prelude.{not, Option, None, Some, count_by, is_some}
+use Rattle.std.proofs.Common.{◌≡◌, ◌⊎◌, inl, inr, ℕ, suc, ◌+◌, Bool, true, false, cond, ◌||◌, List, [], ◌∷◌, ◌++◌, length, refl, sym, ap, ◌∙◌, subst, arith}
+use Rattle.std.specs.Prelude.{◌&&◌, not, Option, None, Some, count_by, is_none, is_some}
 use Rattle.std.specs.List.{AllByRecursion, list_any}
-use Rattle.std.specs.Map.{remove_entry, values_of}
+use Rattle.std.specs.Map.{lookup, remove_entry, values_of}
 use Rattle.std.proofs.lemmas.Bool.{false≢true}
 use Rattle.std.proofs.lemmas.List.Sums.{sum_by-cons}
 use Rattle.sip_message.specs.Key.{key_cmp}
@@ -32,12 +32,14 @@ use Rattle.sip_calls.specs.declared.call.Call.{Call}
 use Rattle.sip_calls.specs.declared.calls.Calls.{Calls}
 use Rattle.sip_calls.specs.Call.{CallItem, call_step, call_tick, event_of, item_of_call, kept_call, new_call, received}
 use Rattle.sip_calls.specs.CallShard.{call_cmp}
+use Rattle.sip_served.specs.State.{has_id}
+use Rattle.sip_calls.specs.HeldRequests.{requests_held}
 use Rattle.sip_calls.specs.Histories.{call_from}
 use Rattle.sip_calls.specs.Provisionals.{side_held}
 use Rattle.sip_calls.specs.Sides.{side_of}
 use Rattle.sip_calls.proofs.KeptSides.{kept_side}
 use Rattle.sip_call_progress.specs.Rest.{is_from_outside, is_message}
-use Rattle.sip_call_progress.specs.Waiting.{NothingWaits, Waiting, awaits_report}
+use Rattle.sip_call_progress.specs.Waiting.{NothingWaits, OfPeer, OurInvite, Waiting, awaits_report, lacks_final, lacks_response}
 use Rattle.sip_call_progress.specs.Waiting as call_waits
 use Rattle.sip_call_progress.proofs.AtRest.{nothing_left}
 use Rattle.sip_call_progress.proofs.Waits.{others_add_nothing}
@@ -48,11 +50,12 @@ use Rattle.sip_round.specs.CallsHeld.{call_after}
 use Rattle.sip_round.specs.Live.{live_of}
 use Rattle.sip_round.proofs.Runs.{past_from-append}
 use Rattle.sip_agent_progress.specs.AtRest.{AreWithoutEvents}
-use Rattle.sip_agent_progress.specs.NothingLeft.{IsSettled, NothingStays}
-use Rattle.sip_agent_progress.specs.Open.{HoldsOpen, is_open, life_after}
+use Rattle.sip_agent_progress.specs.NothingLeft.{IsSettled, NoTransactionStays, NothingStays}
+use Rattle.sip_agent_progress.specs.Open.{HoldsInvite, HoldsOfPeer, HoldsOpen, is_open, life_after}
 use Rattle.sip_agent_progress.proofs.Idle.{inside_only}
 use Rattle.sip_agent_progress.proofs.Linked.{calls_in}
 use Rattle.sip_agent_progress.proofs.LinkedRounds.{given_to, own, same_call}
+use Rattle.sip_agent_progress.proofs.Lists.{Among, found_among, found_passes, same_some}
 use Rattle.sip_agent_progress.proofs.OpenHeld.{each_open_is_held}
 use Rattle.sip_agent_progress.proofs.RestFrom.{at_rest, calls_longer}
 
@@ -306,3 +309,135 @@ nothing_stays config first second rounds idle later settled one two =
     (all_settled config rounds idle one.none settled) call_id in
     nothing_left (call_after config all call_id) (rest.calls call_id) end.user end.transaction)
     rest.transactions
+
+-- ---- transactions alone
+
+any_among : {X : Type 0} (test : X → Bool) (xs : List X) (x : X) → Among xs x → test x ≡ true
+    → list_any test xs ≡ true
+any_among test [] x among is = absurd among
+any_among test (y ∷ xs) x (inl same) is =
+    ap (λ b. b || list_any test xs) (ap test same ∙ is)
+any_among test (y ∷ xs) x (inr later) is =
+    by_bool (test y) (λ hit. ap (λ b. b || list_any test xs) hit)
+    (λ miss. ap (λ b. b || list_any test xs) miss ∙ any_among test xs x later is)
+
+both_true : (a b : Bool) → a ≡ true → b ≡ true → (a && b) ≡ true
+both_true a b one other = ap (λ c. c && b) one ∙ other
+
+peer_waits : (call : Option Call) (key : Key) (id : Id) → HoldsOfPeer call key id
+    → call_waits.waits (OfPeer id) call ≡ true
+peer_waits call key id holds =
+    any_among (λ held. has_id id held && lacks_final held) (requests_held call) holds.held
+    (found_among (has_id id) (requests_held call) holds.held holds.found)
+    (both_true (has_id id holds.held) (lacks_final holds.held)
+    (found_passes (has_id id) (requests_held call) holds.held holds.found)
+    (ap is_none holds.unanswered))
+
+looked_up : (id : Id) (clients : Clients) (client : Client)
+    → lookup (is_id id) clients ≡ Some client → lacks_response client ≡ true
+    → list_any (λ (entry : Id × Client). is_id id entry.0 && lacks_response entry.1) clients
+    ≡ true
+looked_up id [] client found lacks = absurd (nothing_found client found)
+looked_up id (entry ∷ clients) client found lacks =
+    by_hit (is_id id entry.0) found (λ more. looked_up id clients client more lacks)
+  where
+    by_hit : (b : Bool) → cond b (Some entry.1) (lookup (is_id id) clients) ≡ Some client
+        → (lookup (is_id id) clients ≡ Some client → list_any (λ (entry : Id × Client).
+        is_id id entry.0 && lacks_response entry.1) clients ≡ true)
+        → ((b && lacks_response entry.1) || list_any (λ (entry : Id × Client).
+        is_id id entry.0 && lacks_response entry.1) clients) ≡ true
+    by_hit true same more =
+        ap (λ c. c || list_any (λ (entry : Id × Client).
+        is_id id entry.0 && lacks_response entry.1) clients)
+        (ap lacks_response (same_some entry.1 client same) ∙ lacks)
+    by_hit false other more = more other
+
+invite_waits : (call : Option Call) (key : Key) (id : Id) → HoldsInvite call key id
+    → call_waits.waits (OurInvite id) call ≡ true
+invite_waits call key id holds =
+    looked_up id (side_held call).clients holds.client holds.found
+    (both_true (is_invite_kind holds.client.kind) (is_none holds.client.removal) holds.invites
+    (ap is_none holds.unanswered))
+
+-- what waits for the user belongs to a call in which something waits
+open_waits : (r : Role) (state : State) (call : Option Call) (key : Key) (id : Id)
+    → waits r state ≡ true → HoldsOpen r call key id → NothingWaits call → ⊥
+open_waits role.InviteClient state call key id is holds none =
+    false≢true (sym (none (OurInvite id)) ∙ invite_waits call key id holds)
+open_waits role.Client state call key id is holds none = client_not state is
+open_waits role.InviteServer state call key id is holds none =
+    false≢true (sym (none (OfPeer id)) ∙ peer_waits call key id holds)
+open_waits role.Server state call key id is holds none =
+    false≢true (sym (none (OfPeer id)) ∙ peer_waits call key id holds)
+
+step_nothing : (calls : Calls) (inputs : List (Timed CallItem)) (call : Option Call)
+    → AllByRecursion (λ (timed : Timed CallItem). is_from_outside timed.input ≡ false) inputs
+    → NothingWaits call → NothingWaits (call_from calls call inputs)
+step_nothing calls [] call inside none = none
+step_nothing calls (input ∷ inputs) call inside none =
+    step_nothing calls inputs (call_step calls call input.input input.moment).0 inside.1
+    (λ one. by_bool (call_waits.waits one (call_step calls call input.input input.moment).0)
+    (λ waits. absurd (false≢true (sym (none one)
+    ∙ others_add_nothing calls call input.input input.moment inside.0 one waits)))
+    (λ no. no))
+
+module _ (config : Config) where
+  round_nothing : (number : ℕ) (past : Past) (round : Round) → round.events ≡ []
+      → (q : List ℕ) → NothingWaits (calls_in config past q)
+      → NothingWaits (calls_in config (past_after config number past round) q)
+  round_nothing number past round none q settled =
+      let calls = calls_of config in
+      let before = given_to past.calls q in
+      let after = own config number past round q in
+      subst NothingWaits
+      (sym (call_on calls None before after)
+      ∙ (ap (call_from calls None) (sym (calls_longer config number past round q))
+      ∙ same_call calls q None (given_to (past_after config number past round).calls q)))
+      (step_nothing calls after (call_from calls None before)
+      (refl, inside_only config number past round none q)
+      (subst NothingWaits (sym (same_call calls q None before)) settled))
+
+  rounds_nothing : (rounds : List Round) (number : ℕ) (past : Past) → AreWithoutEvents rounds
+      → ((q : List ℕ) → NothingWaits (calls_in config past q))
+      → (q : List ℕ) → NothingWaits (calls_in config (past_from config number past rounds) q)
+  rounds_nothing [] number past none settled = settled
+  rounds_nothing (round ∷ rounds) number past none settled =
+      rounds_nothing rounds (suc number) (past_after config number past round) none.1
+      (λ q. round_nothing number past round none.0 q (settled q))
+
+  all_nothing : (rounds idle : List Round) → AreWithoutEvents idle
+      → ((q : List ℕ) → NothingWaits (call_after config rounds q))
+      → (q : List ℕ) → NothingWaits (call_after config (rounds ++ idle) q)
+  unfolding past_of
+  all_nothing rounds idle none settled q =
+      subst (λ past. NothingWaits (calls_in config past q))
+      (sym (past_from-append config config.first no_past rounds idle))
+      (rounds_nothing idle (config.first + length rounds)
+      (past_from config config.first no_past rounds) none settled q)
+
+  module _ (rounds : List Round)
+      (none : (call_id : List ℕ) → NothingWaits (call_after config rounds call_id))
+      (lives : (key : Key) → is_gone_or_waits (role_of key) (life_after config rounds key) ≡ true)
+    where
+      life_gone : (key : Key) (held : Option Life) → life_after config rounds key ≡ held
+          → is_gone_or_waits (role_of key) held ≡ true → held ≡ None
+      life_gone key None is gone = refl
+      life_gone key (Some life) is waiting =
+          absurd (open_waits (role_of key) life.state
+          (call_after config rounds life.context.call_id) key life.context.id waiting
+          (each_open_is_held config rounds key life is
+          (waits_open (role_of key) life.state waiting))
+          (none life.context.call_id))
+
+      no_transaction : (live_of config (past_of config rounds)).0 ≡ 0
+      no_transaction =
+          counts_none (λ key. is_some (life_after config rounds key))
+          (keys_of_phases key_cmp (past_of config rounds).transactions)
+          (λ key. ap is_some (life_gone key (life_after config rounds key) refl (lives key)))
+
+pub no_transaction_stays : NoTransactionStays
+no_transaction_stays config first second rounds idle later settled one two =
+    no_transaction config ((rounds ++ idle) ++ later)
+    (all_nothing config (rounds ++ idle) later two.none
+    (all_nothing config rounds idle one.none settled))
+    (at_rest config first second rounds idle later one two).transactions

@@ -1,6 +1,6 @@
 -- The user ends all that an agent holds, in one round.
-use Rattle.std.proofs.Common.{◌≡◌, ◌⊎◌, inl, inr, ⊎_elim, ℕ, suc, ◌+◌, Bool, true, false, cond, ◌&&◌, ◌||◌, List, [], ◌∷◌, ◌++◌, length, map, refl, sym, ap, ◌∙◌, append-nil, append_assoc, subst}
-use Rattle.std.specs.Prelude.{not, Option, None, Some, filter, filter_map}
+use Rattle.std.proofs.Common.{◌≡◌, ◌⊎◌, inl, inr, ℕ, suc, ◌+◌, Bool, true, false, cond, List, [], ◌∷◌, ◌++◌, length, map, refl, sym, ap, ◌∙◌, append-nil, append_assoc, subst}
+use Rattle.std.specs.Prelude.{Option, None, Some, filter, filter_map}
 use Rattle.std.specs.BTreeMap.{is_at}
 use Rattle.std.specs.List.{AllByRecursion, IsDistinct, flat_map}
 use Rattle.std.specs.Map.{keys_of, lookup, remove_entry}
@@ -11,7 +11,6 @@ use Rattle.std.proofs.lemmas.Map.Keys.{IsDistinct-cons, IsDistinct-head, IsDisti
 use Rattle.sip_message.specs.Key.{key_cmp}
 use Rattle.sip_message.specs.declared.addr.Addr.{Addr}
 use Rattle.sip_message.specs.declared.id.Id.{Id}
-use Rattle.sip_message.specs.declared.key.Key.{Key}
 use Rattle.keyed_machine.specs.declared.item.Item as model
 use Rattle.keyed_machine.specs.Groups.{speaks}
 use Rattle.keyed_machine.specs.Machine.{Timed, adds, given_at, tick_at}
@@ -25,7 +24,6 @@ use Rattle.sip_user.specs.declared.command.AbandonDialog.{AbandonDialog}
 use Rattle.sip_user.specs.declared.command.AbandonRequest.{AbandonRequest}
 use Rattle.sip_user.specs.declared.command.UserCommand.{UserCommand}
 use Rattle.sip_user.specs.declared.command.UserCommand.TheVariants as user
-use Rattle.sip_user.specs.declared.item.CallOut.{CallOut}
 use Rattle.sip_user.specs.declared.item.Item.{Item}
 use Rattle.sip_user.specs.declared.item.Item.TheVariants.{Up, User}
 use Rattle.sip_user.specs.declared.refusal.Refusal.TheVariants.{NoSuchDialog, NoSuchRequest}
@@ -41,13 +39,12 @@ use Rattle.sip_clients.specs.Rules.Requests.{is_invite_kind, refuse}
 use Rattle.sip_clients.proofs.FirstInvite.{id_exact}
 use Rattle.sip_calls.specs.declared.call.Call.{Call}
 use Rattle.sip_calls.specs.declared.calls.Calls.{Calls}
-use Rattle.sip_calls.specs.Call.{CallItem, call_step, event_of, item_of_call, kept_call, new_call}
+use Rattle.sip_calls.specs.Call.{CallItem, call_step, event_of, item_of_call, new_call}
 use Rattle.sip_calls.specs.CallShard.{call_cmp}
 use Rattle.sip_calls.specs.HeldRequests.{RequestsDiffer, request_brought}
 use Rattle.sip_calls.specs.Histories.{call_from}
 use Rattle.sip_calls.specs.Provisionals.{side_held}
 use Rattle.sip_calls.specs.Sides.{side_of}
-use Rattle.sip_calls.proofs.KeptSides.{kept_side}
 use Rattle.sip_call_progress.specs.Ending.{Ends, IsEndOf, SomeEnds, dialog_named}
 use Rattle.sip_call_progress.specs.Rest.{is_from_outside}
 use Rattle.sip_call_progress.specs.Waiting.{InDialog, NothingWaits, OfPeer, OurInvite, Waiting, waits}
@@ -59,19 +56,18 @@ use Rattle.sip_round.specs.declared.config.Config.{Config}
 use Rattle.sip_round.specs.declared.round.Event.{Event}
 use Rattle.sip_round.specs.declared.round.Event.TheVariants as event
 use Rattle.sip_round.specs.declared.round.Round.{Round}
-use Rattle.sip_round.specs.Answers.{Past, calls_of, items_of_round, no_past, past_after, past_from, past_of}
+use Rattle.sip_round.specs.Answers.{Past, calls_of, items_of_round, no_past, past_of}
 use Rattle.sip_round.specs.CallsHeld.{call_after}
-use Rattle.sip_round.specs.Laws.{call_inputs_of}
 use Rattle.sip_round.specs.Outputs.{joined, outs_of, raised_of, said_at, user_items}
 use Rattle.sip_round.specs.Phases.{call_items}
 use Rattle.sip_round.proofs.RequestsDiffer.{requests_differ}
 use Rattle.sip_round.proofs.Runs.{past_from-append}
 use Rattle.sip_agent_progress.specs.NothingLeft.{IsSettled}
 use Rattle.sip_agent_progress.specs.UserEnds.{EndsAll, GivesUp, IsEnding, SomeCommand, UserEndsAgent}
-use Rattle.sip_agent_progress.proofs.Idle.{IsReport, ReportsTimeout, all_joined, report_inside, tick_reports}
-use Rattle.sip_agent_progress.proofs.Linked.{calls_in, first_ticks, first_told, items_are, lives_in}
-use Rattle.sip_agent_progress.proofs.LinkedRounds.{given_to, own, same_call}
-use Rattle.sip_agent_progress.proofs.Lists.{both, by_found, front_of, same_some}
+use Rattle.sip_agent_progress.proofs.Idle.{IsReport, all_joined, report_inside, tick_reports}
+use Rattle.sip_agent_progress.proofs.Linked.{first_ticks, first_told, items_are, lives_in}
+use Rattle.sip_agent_progress.proofs.LinkedRounds.{given_to, same_call}
+use Rattle.sip_agent_progress.proofs.Lists.{by_found, front_of, same_some}
 use Rattle.sip_agent_progress.proofs.NothingLeft.{AreInvites, all_keep, call_on, invites_alone, kept_all, nothing_stays}
 use Rattle.sip_agent_progress.proofs.RestFrom.{all_goes, calls_longer}
 use Rattle.sip_agent_progress.proofs.Sound.{one_more}

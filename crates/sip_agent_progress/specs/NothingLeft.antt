@@ -15,6 +15,14 @@ pub record IsSettled (call : Option Call) : Type 0 where
   pub user : NothingWaits call
   pub transaction : awaits_report call ≡ false
 
+-- If nothing waits for the user in any call, then after rounds without events, for 64*T1 and again
+-- for 64*T1, no transaction is held.
+abbrev pub NoTransactionStays : Type 0
+NoTransactionStays = (config : Config) (first second : ℕ) (rounds idle later : List Round)
+    → ((call_id : List ℕ) → NothingWaits (call_after config rounds call_id))
+    → IsQuietSince first rounds idle → IsQuietSince second (rounds ++ idle) later
+    → (live_of config (past_of config ((rounds ++ idle) ++ later))).0 ≡ 0
+
 -- Nothing stays. If nothing waits in any call, then after rounds without events, for 64*T1 and again
 -- for 64*T1, no transaction and no call is held.
 abbrev pub NothingStays : Type 0

@@ -1,7 +1,7 @@
 //! Laws of progress of a whole agent.
 
 ghost use Rattle.sip_agent_progress.specs.AtRest.{EachAgentComesToRest, EachCallComesToRest};
-ghost use Rattle.sip_agent_progress.specs.NothingLeft.{NothingStays};
+ghost use Rattle.sip_agent_progress.specs.NothingLeft.{NoTransactionStays, NothingStays};
 ghost use Rattle.sip_agent_progress.specs.Open.{EachOpenIsHeld};
 ghost use Rattle.sip_agent_progress.specs.UserEnds.{UserEndsAgent};
 
@@ -26,10 +26,12 @@ pub fn each_agent_comes_to_rest()
     ensures { EachAgentComesToRest }
 {}
 
-/// If nothing waits for the user in any call, and no request of the agent for its transaction, then
-/// after twice 64*T1 without events the agent holds nothing: no transaction and no call.
+/// If nothing waits for the user in any call, then after twice 64*T1 without events no transaction
+/// is held. If no request of the agent waits for its transaction either, then nothing is held: no
+/// transaction and no call.
 pub fn nothing_stays()
-    ensures { NothingStays }
+    ensures transactions { NoTransactionStays }
+    ensures all { NothingStays }
 {}
 
 /// Whatever the peers did, the user can end all: after one round that rejects each request of the

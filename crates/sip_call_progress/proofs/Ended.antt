@@ -74,7 +74,7 @@ others_closed k id (held ∷ requests) same apart =
     (λ i. (other i && is_none held.removal) || list_any (is_open id) requests)
     ∙ others_closed k id requests same apart.1
 
--- only the one of the id may be lacks
+-- only the one of the id may lack its final response
 one_open : (id : Id) (requests : List HeldRequest) (held : HeldRequest)
     → IsDistinct is_id (ids_of requests) → find (has_id id) requests ≡ Some held
     → list_any (is_open id) requests ≡ is_none held.removal

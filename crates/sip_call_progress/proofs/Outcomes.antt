@@ -3,7 +3,7 @@ use Rattle.std.proofs.Common.{◌≡◌, ℕ, Bool, true, false, not, ◌&&◌, 
 use Rattle.std.specs.Prelude.{Option, None, Some, fold, is_none, is_some, if◌then◌else◌}
 use Rattle.std.specs.List.{list_any}
 use Rattle.std.specs.Map.{remove_entry, set_value}
-use Rattle.std.specs.Option.{option_map_or}
+use Rattle.std.specs.Option.{option_map, option_map_or}
 use Rattle.std.proofs.lemmas.Bool.{false≢true}
 use Rattle.sip_message.specs.declared.id.Id.{Id}
 use Rattle.sip_message.specs.declared.message.Message.{Message}
@@ -11,11 +11,13 @@ use Rattle.sip_message.specs.Party.{tag_of}
 use Rattle.sip_transactions.specs.declared.output.Up.{Up as AnUp}
 use Rattle.sip_transactions.specs.declared.output.UpKind.{UpKind}
 use Rattle.sip_transactions.specs.declared.output.UpKind.TheVariants as kind
+use Rattle.sip_user.specs.declared.command.Cancel.{Cancel as ACancel}
 use Rattle.sip_user.specs.declared.item.CallOut.{CallOut}
 use Rattle.sip_user.specs.declared.item.Item.TheVariants.{Up}
 use Rattle.sip_user.specs.declared.refusal.Refusal.TheVariants.{NoSuchRequest}
 use Rattle.sip_held_dialogs.specs.Ids.{is_id}
 use Rattle.sip_held_dialogs.specs.Requests.{dialog_id_of_tags, is_final, is_success}
+use Rattle.sip_held_dialogs.proofs.Entries as entries
 use Rattle.sip_held_dialogs.proofs.Heard.{id_laws}
 use Rattle.sip_clients.specs.declared.client.Cancelling.TheVariants.{NotAsked, Sent, Waits}
 use Rattle.sip_clients.specs.declared.client.Client.{Client}
@@ -33,7 +35,8 @@ use Rattle.sip_calls.specs.Histories.{call_from}
 use Rattle.sip_calls.specs.Provisionals.{side_held}
 use Rattle.sip_calls.specs.Sides.{CallTaken, by_clients, side_of}
 use Rattle.sip_calls.proofs.KeptSides.{kept_side}
-use Rattle.sip_call_progress.specs.Outcomes.{CancelGoesOut, IsClosed, OutcomeCloses, WaitingGoesOut, cancel_out, is_outcome, tells_outcome}
+use Rattle.sip_call_progress.specs.Outcomes.{CancelGoesOut, CancelWaits, IsClosed, OutcomeCloses, WaitingGoesOut, cancel_out, is_outcome, tells_outcome}
+use Rattle.sip_call_progress.specs.Waiting.{lacks_response}
 use Rattle.sip_call_progress.proofs.Differ.{clients_sound}
 use Rattle.sip_call_progress.proofs.Ended.{gone_at}
 
@@ -148,6 +151,35 @@ cancel_goes_out calls call event command now invite found lacks =
     (refuse ev command.call_id side NoSuchRequest)).1) found
     ∙ (rw (parts.0, parts.1) (cancel_by invite.provisional (is_asked invite.cancel)
     (cancel_out event invite) _ _ side))
+
+-- the INVITE after the command, if no provisional response came
+asked_clients : (event : Event) (command : ACancel) (side : Side) (invite : Client)
+    → lacks_response invite ≡ true → invite.provisional ≡ false → is_asked invite.cancel ≡ false
+    → ((cancel_of_request event command side invite).0).clients
+    ≡ set_value (is_id command.id) side.clients (record invite { cancel = Waits event.id })
+asked_clients event command side invite lacks none fresh =
+    let parts = lacking_invite (is_invite_kind invite.kind) invite.removal lacks in
+    rw (parts.0, parts.1, none, fresh) refl
+
+pub cancel_waits : CancelWaits
+unfolding cancel_command
+cancel_waits calls call event command now invite found lacks none fresh =
+    let ev = event_of calls event now in
+    let side = side_of call in
+    let taken = by_clients call (cancel_command ev command side) in
+    let waiting = λ (client : Client). record client { cancel = Waits event } in
+    let read = λ (o : Option Client). option_map (λ (client : Client). client.cancel) o in
+    ap (λ (side : Side). read (client_at command.id side.clients)) (kept_side taken.0)
+    ∙ ap (λ (o : Option Client). read (client_at command.id ((option_map_or
+    (cancel_of_request ev command side) o (refuse ev command.call_id side NoSuchRequest)).0).clients))
+    found
+    ∙ ap (λ clients. read (client_at command.id clients))
+    (asked_clients ev command side invite lacks none fresh)
+    ∙ ap read (ap (λ (o : Option Client). client_at command.id (option_map_or
+    (λ client. set_value (is_id command.id) side.clients (waiting client)) o side.clients))
+    (sym found)
+    ∙ entries.found_changed id_laws command.id command.id waiting side.clients
+    ∙ (λ i. cond (id_laws.refl command.id i) (option_map waiting (found i)) (found i)))
 
 -- ---- a CANCEL that waits
 

@@ -2,7 +2,7 @@
 -- 3261, sections 8.1.3.1, 9.1 and 17.1).
 use Rattle.std.specs.Prelude.{◌≡◌, ℕ, Bool, true, false, not, ◌&&◌, List, [], ◌∷◌, ◌++◌, None, Some, if◌then◌else◌}
 use Rattle.std.specs.List.{list_any}
-use Rattle.std.specs.Option.{option_map_or}
+use Rattle.std.specs.Option.{option_map, option_map_or}
 use Rattle.keyed_machine.specs.Machine.{Timed}
 use Rattle.sip_message.specs.declared.id.Id.{Id}
 use Rattle.sip_message.specs.declared.message.Message.{Message}
@@ -84,6 +84,16 @@ CancelGoesOut = (calls : Calls) (call : Call) (event : Id) (command : ACancel) (
     → (call_step calls (Some call) (Some (event, User (Cancel command))) now).1
     ≡ (if invite.provisional && not (is_asked invite.cancel) then cancel_out event invite ∷ []
     else [])
+
+-- if no provisional response came, the CANCEL waits then, under the id of the event
+abbrev pub CancelWaits : Type 0
+CancelWaits = (calls : Calls) (call : Call) (event : Id) (command : ACancel) (now : ℕ)
+    (invite : Client) → client_at command.id call.clients ≡ Some invite
+    → lacks_response invite ≡ true → invite.provisional ≡ false
+    → is_asked invite.cancel ≡ false
+    → option_map (λ client. client.cancel) (client_at command.id (side_held
+    (call_step calls (Some call) (Some (event, User (Cancel command))) now).0).clients)
+    ≡ Some (Waits event)
 
 -- a CANCEL that waits goes out last by the first provisional response
 abbrev pub WaitingGoesOut : Type 0

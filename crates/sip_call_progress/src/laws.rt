@@ -4,7 +4,7 @@ ghost use Rattle.sip_call_progress.specs.Arrived.{OwnAnswered, ToldOrAnswered};
 ghost use Rattle.sip_call_progress.specs.Commanded.{EachCommandIsAnswered};
 ghost use Rattle.sip_call_progress.specs.Ending.{DialogGivenUp, EndingAddsNothing, EndingEnds, OthersAddNothing, RequestGivenUp, UserEndsAll};
 ghost use Rattle.sip_call_progress.specs.InTime.{ClientsRemoved, NoAckTold, NoPrackTold, RequestsRemoved};
-ghost use Rattle.sip_call_progress.specs.Outcomes.{CancelGoesOut, OutcomeCloses, WaitingGoesOut};
+ghost use Rattle.sip_call_progress.specs.Outcomes.{CancelGoesOut, CancelWaits, OutcomeCloses, WaitingGoesOut};
 ghost use Rattle.sip_call_progress.specs.Rejections.{RejectionsAreAccepted};
 ghost use Rattle.sip_call_progress.specs.Rest.{AtRestAfterAll, NothingLeft};
 ghost use Rattle.sip_call_progress.specs.Told.{ItemsOnlyAnswer, TicksOnlyAnswer, ToldAsTheyCome};
@@ -95,9 +95,10 @@ pub fn an_outcome_closes_its_request()
 {}
 
 /// Whatever is held under a Call-ID: the CANCEL of an INVITE without a final response goes out by
-/// the first command to cancel it, if a provisional response came before. Otherwise it goes out by
-/// the first provisional response (RFC 3261, section 9.1).
+/// the first command to cancel it, if a provisional response came before. Otherwise it waits, and
+/// goes out by the first provisional response (RFC 3261, section 9.1).
 pub fn a_cancel_goes_out()
     ensures asked { CancelGoesOut }
+    ensures waits { CancelWaits }
     ensures waiting { WaitingGoesOut }
 {}
