@@ -197,7 +197,9 @@ module _ (now : ℕ) where
       let a = came.0 in
       let raw_place : raw.0.place ≡ place =
       ap (λ (i : model.Item Key (Timed Input)). i.place) raw.2 ∙ item.2 in
-      let outs = at_place place a raw.0 came.2 raw_place (said_at told) in
+      let own = outs_of (said_at told) a.0 a.1 in
+      let same : own ≡ said_at told place =
+      at_place place a raw.0 came.2 raw_place (said_at told) in
       let here : Among (said_at told place) (out.Up up) =
       among_flat (λ (said : (ℕ × Key) × List Out). said.1)
       (filter (λ (said : (ℕ × Key) × List Out). nat_eq (said.0).0 place) items) group.0 (out.Up up)
@@ -205,7 +207,7 @@ module _ (now : ℕ) where
       (same_place place place refl)) group.2 in
       let raised : Among (flat_map (raised_of a.0) (outs_of (said_at told) a.0 a.1)) (a.0, Up up) =
       among_flat (raised_of a.0) (outs_of (said_at told) a.0 a.1) (out.Up up) (a.0, Up up)
-      (subst (λ outs. Among outs (out.Up up)) (sym outs) here) (inl refl) in (
+      (subst (λ outs. Among outs (out.Up up)) {y = own} (sym {a = own} same) here) (inl refl) in (
         a.0,
         among_right (flat_map (raised_of zero) (joined ticks)) _ (a.0, Up up)
             (among_flat (λ (a : Id × Arrival). flat_map (raised_of a.0)

@@ -63,12 +63,12 @@ use Rattle.sip_round.specs.Phases.{call_items}
 use Rattle.sip_round.proofs.RequestsDiffer.{requests_differ}
 use Rattle.sip_round.proofs.Runs.{past_from-append}
 use Rattle.sip_agent_progress.specs.NothingLeft.{IsSettled}
-use Rattle.sip_agent_progress.specs.UserEnds.{EndsAll, GivesUp, IsEnding, SomeCommand, UserEndsAgent}
+use Rattle.sip_agent_progress.specs.UserEnds.{EndsWhatWaits, GivesUp, IsEnding, SomeCommand, UserEndsAgent, UserEndsTransactions}
 use Rattle.sip_agent_progress.proofs.Idle.{IsReport, all_joined, report_inside, tick_reports}
 use Rattle.sip_agent_progress.proofs.Linked.{first_ticks, first_told, items_are, lives_in}
 use Rattle.sip_agent_progress.proofs.LinkedRounds.{given_to, same_call}
 use Rattle.sip_agent_progress.proofs.Lists.{by_found, front_of, same_some}
-use Rattle.sip_agent_progress.proofs.NothingLeft.{AreInvites, all_keep, call_on, invites_alone, kept_all, nothing_stays}
+use Rattle.sip_agent_progress.proofs.NothingLeft.{AreInvites, all_keep, call_on, invites_alone, kept_all, no_transaction_stays, nothing_stays}
 use Rattle.sip_agent_progress.proofs.RestFrom.{all_goes, calls_longer}
 use Rattle.sip_agent_progress.proofs.Sound.{one_more}
 use Rattle.sip_agent_progress.proofs.ClientsHeld.{id_itself}
@@ -444,7 +444,7 @@ first_differ one other differ =
     (filter_map-append (λ (timed : Timed CallItem). request_brought timed.input) one other) differ)
 
 module _ (config : Config) (rounds : List Round) (round : Round)
-    (ends : EndsAll config rounds round) (q : List ℕ) where
+    (ends : EndsWhatWaits config rounds round) (q : List ℕ) where
   abbrev past : Past
   past = past_of config rounds
 
@@ -525,34 +525,49 @@ module _ (config : Config) (rounds : List Round) (round : Round)
   nothing_waits =
       user_ends_all (calls_of config) before commands differ ending
       (λ one is. some_ends one commands (in_picked now q (Ends one) place 1 round.events
-      (ends.waiting q one (waited (calls_of config) (tick_at now ∷ picked now q reported)
+      (ends.each q one (waited (calls_of config) (tick_at now ∷ picked now q reported)
       (call_after config rounds q) one inside
       (ap (waits one) (sym after_reports) ∙ is)))))
 
-  all_given : AreGivenUp commands (side_held (call_from (calls_of config) None before)).clients
-  all_given =
-      subst (λ (call : Option Call). AreGivenUp commands (side_held call).clients)
-      (sym after_reports)
-      (all_keep (λ (entry : Id × Client). is_invite_kind entry.1.kind ≡ false
-      → SomeInput (GivesUp entry.0) commands) (calls_of config)
-      (tick_at now ∷ picked now q reported) (call_after config rounds q) inside
-      (all_goes (λ entry given other. in_picked now q (GivesUp entry.0) place 1 round.events
-      (given other)) (side_held (call_after config rounds q)).clients (ends.others q)))
-
-  pub settled : IsSettled (call_after config (rounds ++ round ∷ []) q)
-  settled =
-      subst IsSettled
-      (ap (call_from (calls_of config) None) (sym inputs_are)
+  whole : call_from (calls_of config) None (before ++ commands)
+      ≡ call_after config (rounds ++ round ∷ []) q
+  whole =
+      ap (call_from (calls_of config) None) (sym inputs_are)
       ∙ same_call (calls_of config) q None
-      (given_to (past_of config (rounds ++ round ∷ [])).calls q))
-      (record {
-        user = nothing_waits;
-        transaction = invites_alone
-            (side_held (call_from (calls_of config) None (before ++ commands))).clients
-            (commands_end (calls_of config) commands before ending all_given);
-      })
+      (given_to (past_of config (rounds ++ round ∷ [])).calls q)
+
+  pub user_done : NothingWaits (call_after config (rounds ++ round ∷ []) q)
+  user_done = subst NothingWaits whole nothing_waits
+
+  module _ (others : AllByRecursion (λ (entry : Id × Client).
+      is_invite_kind entry.1.kind ≡ false → SomeCommand q (GivesUp entry.0) round.events)
+      (side_held (call_after config rounds q)).clients) where
+    all_given : AreGivenUp commands (side_held (call_from (calls_of config) None before)).clients
+    all_given =
+        subst (λ (call : Option Call). AreGivenUp commands (side_held call).clients)
+        (sym after_reports)
+        (all_keep (λ (entry : Id × Client). is_invite_kind entry.1.kind ≡ false
+        → SomeInput (GivesUp entry.0) commands) (calls_of config)
+        (tick_at now ∷ picked now q reported) (call_after config rounds q) inside
+        (all_goes (λ entry given other. in_picked now q (GivesUp entry.0) place 1 round.events
+        (given other)) (side_held (call_after config rounds q)).clients others))
+
+    pub settled : IsSettled (call_after config (rounds ++ round ∷ []) q)
+    settled =
+        subst IsSettled whole
+        (record {
+          user = nothing_waits;
+          transaction = invites_alone
+              (side_held (call_from (calls_of config) None (before ++ commands))).clients
+              (commands_end (calls_of config) commands before ending all_given);
+        })
+
+pub user_ends_transactions : UserEndsTransactions
+user_ends_transactions config first second rounds round idle later ends one two =
+    no_transaction_stays config first second (rounds ++ round ∷ []) idle later
+    (λ q. user_done config rounds round ends q) one two
 
 pub user_ends_agent : UserEndsAgent
 user_ends_agent config first second rounds round idle later ends one two =
     nothing_stays config first second (rounds ++ round ∷ []) idle later
-    (λ q. settled config rounds round ends q) one two
+    (λ q. settled config rounds round ends.waiting q (ends.others q)) one two

@@ -39,19 +39,31 @@ GivesUp id (AbandonRequest abandon) = abandon.id ≡ id
 GivesUp id _ = ⊥
 
 -- After these rounds, the events of the next are such commands: one for each thing that waits for
--- the user in any call, and one for each other request of the agent.
-pub record EndsAll (config : Config) (rounds : List Round) (round : Round) : Type 0 where
+-- the user in any call.
+pub record EndsWhatWaits (config : Config) (rounds : List Round) (round : Round) : Type 0 where
   pub only : AllByRecursion IsEnding round.events
-  pub waiting : (call_id : List ℕ) (one : Waiting)
+  pub each : (call_id : List ℕ) (one : Waiting)
       → waits one (call_after config rounds call_id) ≡ true
       → SomeCommand call_id (Ends one) round.events
+
+-- and one for each request of the agent other than an INVITE
+pub record EndsAll (config : Config) (rounds : List Round) (round : Round) : Type 0 where
+  pub waiting : EndsWhatWaits config rounds round
   pub others : (call_id : List ℕ)
       → AllByRecursion (λ (entry : Id × Client). is_invite_kind entry.1.kind ≡ false
       → SomeCommand call_id (GivesUp entry.0) round.events)
       (side_held (call_after config rounds call_id)).clients
 
--- Whatever the peers did: after such a round, and rounds without events for 64*T1 and again for
--- 64*T1, no transaction and no call is held.
+-- Whatever the peers did: after a round that ends what waits, and rounds without events for 64*T1
+-- and again for 64*T1, no transaction is held.
+abbrev pub UserEndsTransactions : Type 0
+UserEndsTransactions = (config : Config) (first second : ℕ) (rounds : List Round) (round : Round)
+    (idle later : List Round) → EndsWhatWaits config rounds round
+    → IsQuietSince first (rounds ++ round ∷ []) idle
+    → IsQuietSince second ((rounds ++ round ∷ []) ++ idle) later
+    → (live_of config (past_of config (((rounds ++ round ∷ []) ++ idle) ++ later))).0 ≡ 0
+
+-- After a round that ends all of it no call is held either.
 abbrev pub UserEndsAgent : Type 0
 UserEndsAgent = (config : Config) (first second : ℕ) (rounds : List Round) (round : Round)
     (idle later : List Round) → EndsAll config rounds round

@@ -3,7 +3,7 @@
 ghost use Rattle.sip_agent_progress.specs.AtRest.{EachAgentComesToRest, EachCallComesToRest};
 ghost use Rattle.sip_agent_progress.specs.NothingLeft.{NoTransactionStays, NothingStays};
 ghost use Rattle.sip_agent_progress.specs.Open.{EachOpenIsHeld};
-ghost use Rattle.sip_agent_progress.specs.UserEnds.{UserEndsAgent};
+ghost use Rattle.sip_agent_progress.specs.UserEnds.{UserEndsAgent, UserEndsTransactions};
 
 /// After any rounds, each transaction that has no final response belongs to a call: the call of its
 /// Call-ID holds its request, under its id, without a final response. So a server transaction waits
@@ -35,8 +35,10 @@ pub fn nothing_stays()
 {}
 
 /// Whatever the peers did, the user can end all: after one round that rejects each request of the
-/// peer that has no final response, and gives up each INVITE of the agent, each other request of
-/// it and each dialog, and then twice 64*T1 without events, the agent holds nothing.
+/// peer that has no final response, and gives up each INVITE of the agent and each dialog, and then
+/// twice 64*T1 without events, no transaction is held. If the round gives up each other request of
+/// the agent too, no call is held either.
 pub fn the_user_ends_all()
-    ensures { UserEndsAgent }
+    ensures transactions { UserEndsTransactions }
+    ensures all { UserEndsAgent }
 {}

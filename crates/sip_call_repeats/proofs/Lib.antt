@@ -1,0 +1,5 @@
+pub mod Later
+pub mod Next
+pub mod Repeats
+pub mod Stories
+pub mod Unrepeated

@@ -1,0 +1,4 @@
+pub mod Later
+pub mod Next
+pub mod Repeats
+pub mod Stories
