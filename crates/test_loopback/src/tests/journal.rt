@@ -50,11 +50,7 @@ impl Write for &mut Journal {
 
 impl RecordFile for &mut Journal {
     fn read_past(&mut self, buffer: &mut [u8]) -> io::Result<usize> {
-        let left = self.bytes.get(self.read..).unwrap_or(&[]);
-        let count = left.len().min(buffer.len());
-        if let (Some(into), Some(from)) = (buffer.get_mut(..count), left.get(..count)) {
-            into.copy_from_slice(from);
-        }
+        let count = put_left(self, buffer);
         self.read += count;
         Ok(count)
     }
@@ -64,6 +60,16 @@ impl RecordFile for &mut Journal {
             .truncate(usize::try_from(len).unwrap_or(usize::MAX));
         Ok(())
     }
+}
+
+// Puts what of the journal wasn't read into the buffer, as far as it fits. Gives how much that is.
+fn put_left(journal: &Journal, buffer: &mut [u8]) -> usize {
+    let left = journal.bytes.get(journal.read..).unwrap_or(&[]);
+    let count = left.len().min(buffer.len());
+    if let (Some(into), Some(from)) = (buffer.get_mut(..count), left.get(..count)) {
+        into.copy_from_slice(from);
+    }
+    count
 }
 
 /// What an agent on a pipe told, and how it ended.
