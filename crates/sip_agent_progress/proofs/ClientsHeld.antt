@@ -52,13 +52,13 @@ use Rattle.sip_clients.specs.declared.answers.SentAck.{SentAck}
 use Rattle.sip_clients.specs.declared.client.Cancelling.{Cancelling}
 use Rattle.sip_clients.specs.declared.client.Cancelling.TheVariants.{NotAsked, Sent, Waits}
 use Rattle.sip_clients.specs.declared.client.Client.{Client}
-use Rattle.sip_clients.specs.declared.client.RequestKind.TheVariants.{InDialog, ReInvite}
+use Rattle.sip_clients.specs.declared.client.RequestKind.TheVariants.{InDialog, ReInvite, OutOfDialog}
 use Rattle.sip_clients.specs.declared.event.Event.{Event}
 use Rattle.sip_clients.specs.declared.reply.ReceivedResponse.{ReceivedResponse as Reply}
-use Rattle.sip_clients.specs.Client.{ClientTaken, Clients, Side}
+use Rattle.sip_clients.specs.Client.{ClientTaken, Clients, Side, client_for}
 use Rattle.sip_clients.specs.Rules.Abandon.{abandon_dialog_command, abandon_of_dialog, abandon_of_request, abandon_request_command}
 use Rattle.sip_clients.specs.Rules.Ends.{client_tick, is_over, request_is_lost, request_over}
-use Rattle.sip_clients.specs.Rules.Requests.{PendingOutcome, ack_command, ack_kept, cancel_command, cancel_of_request, cancel_request, dialog_of_kind, has_command, invite_command, is_asked, is_invite_kind, is_same_pending, method_of, oldest_pending, pending_by_user, pending_command, pending_outcome, pending_sent, pending_unsent, pending_with, plain_command, prack_command, refusals_in, refuse, request_command, request_in_dialog, request_with_next_number, start, with_100rel, with_number}
+use Rattle.sip_clients.specs.Rules.Requests.{PendingOutcome, ack_command, ack_kept, cancel_command, cancel_of_request, cancel_request, dialog_of_kind, has_command, invite_command, is_asked, is_invite_kind, is_same_pending, method_of, oldest_pending, pending_by_user, pending_command, pending_outcome, pending_sent, pending_unsent, pending_with, plain_command, prack_command, refusals_in, refuse, request_command, request_in_dialog, request_outside, request_with_next_number, start, with_100rel, with_number}
 use Rattle.sip_clients.specs.Rules.Responses.{Outcome, accepted, asks_for, dialog_made_by, dialog_response, first_success, has_dialog, is_initial, kept, last_response, notice_of, outcome_of, reliable_response, response_received, response_to, status_of, success_again, success_in, waiting_cancel}
 use Rattle.sip_clients.proofs.FirstInvite.{id_exact}
 use Rattle.sip_agent_progress.proofs.Commands.{IsAbandonOf, IsStartOf}
@@ -432,10 +432,15 @@ module _ (k : Key) (id : Id) where
     plain_goes of event command clients is =
         let first = has_command command.method in
         let second = bytes_eq command.method (codes "INVITE") in
+        let request = request_outside event command.call_id command.method command.request_uri
+        command.from command.to command.routes in
+        let client = client_for event.id OutOfDialog (with_content_of request command.content)
+        command.address in
         by_if (λ (done : Clients × List CallOut). Goes of clients done.0 done.1)
-        (first || second || bytes_eq command.method (codes "BYE")) _ _
+        (first || second || bytes_eq command.method (codes "BYE"))
+        (clients, refused event.id command.call_id BadMethod) (start (clients, []) client)
         (λ bad. calm_goes of clients clients _ (silent clients clients _ refl (λ ours. ours)))
-        (λ good. start_goes of clients _ (record {
+        (λ good. start_goes of clients client (record {
           kind = λ method. absurd (false≢true
               (sym (or_false first second
               (or_false (first || second) (bytes_eq command.method (codes "BYE")) good).0).1

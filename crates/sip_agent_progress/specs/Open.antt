@@ -67,8 +67,8 @@ HoldsOpen Client call key id = Unit {0}
 HoldsOpen InviteServer call key id = HoldsOfPeer call key id
 HoldsOpen Server call key id = HoldsOfPeer call key id
 
--- After any rounds: the request of a transaction without a final response is held by the call of
--- its Call-ID, under its id, without a final response.
+-- After any rounds: the request of a server transaction, or of the client of an INVITE, without a
+-- final response is held by the call of its Call-ID, under its id, without a final response.
 abbrev pub EachOpenIsHeld : Type 0
 EachOpenIsHeld = (config : Config) (rounds : List Round) (key : Key) (life : Life)
     → life_after config rounds key ≡ Some life → is_open (role_of key) life.state ≡ true

@@ -5,10 +5,10 @@ ghost use Rattle.sip_agent_progress.specs.NothingLeft.{NoTransactionStays, Nothi
 ghost use Rattle.sip_agent_progress.specs.Open.{EachOpenIsHeld};
 ghost use Rattle.sip_agent_progress.specs.UserEnds.{UserEndsAgent, UserEndsTransactions};
 
-/// After any rounds, each transaction that has no final response belongs to a call: the call of its
-/// Call-ID holds its request, under its id, without a final response. So a server transaction waits
-/// for the user, and so does the client of an INVITE after a provisional response (RFC 3261,
-/// sections 17.1.1.2, 17.2.1 and 17.2.2).
+/// After any rounds, each server transaction, and each client of an INVITE, that has no final
+/// response belongs to a call: the call of its Call-ID holds its request, under its id, without a
+/// final response. So what waits without a timer waits for the user (RFC 3261, sections 17.1.1.2,
+/// 17.2.1 and 17.2.2).
 pub fn each_open_transaction_is_held()
     ensures { EachOpenIsHeld }
 {}

@@ -1,0 +1,4 @@
+pub mod ClientRequests
+pub mod DirectSends
+pub mod HeldDialogs
+pub mod OneAck
