@@ -51,7 +51,7 @@ impl Write for &mut Journal {
 impl RecordFile for &mut Journal {
     fn read_past(&mut self, buffer: &mut [u8]) -> io::Result<usize> {
         let count = put_left(self, buffer);
-        self.read += count;
+        self.read = self.read.saturating_add(count);
         Ok(count)
     }
 
