@@ -178,7 +178,7 @@ class Replay:
         if command is not None:
             agent.ask(command)
             self.asked += 1
-        elif self.headers:
+        elif self.headers or line.startswith("abandon "):
             agent.event_lines(self.headers + line)
         else:
             agent.event_line(line)
