@@ -127,24 +127,6 @@ fn an_agent_goes_on_from_its_journal(rt: HostRuntime) -> Result<(), Fail> {
 }
 
 #[test]
-fn a_torn_line_of_a_journal_is_cut_off(rt: HostRuntime) -> Result<(), Fail> {
-    let alloc = rt.alloc();
-    let mut first = Journal::of(alloc, b"", MANY_WRITES)?;
-    let told = go_on(&rt, alloc, &mut first, OPTIONS)?;
-    assert!(rt; told.ended == Ok(()));
-    let Some((_, torn)) = first.bytes.split_last() else {
-        return Err(Fail::from("an empty journal"));
-    };
-    let whole = first.bytes.len() - OPTIONS.len();
-    let mut second = Journal::of(alloc, torn, MANY_WRITES)?;
-    let told = go_on(&rt, alloc, &mut second, b"")?;
-    assert!(rt; told.ended == Ok(()));
-    assert!(rt; told.notices.as_slice() == b"resumed 0\n".as_slice());
-    assert!(rt; Some(second.bytes.as_slice()) == first.bytes.get(..whole));
-    Ok(())
-}
-
-#[test]
 fn what_is_not_in_the_journal_ends_the_run(rt: HostRuntime) -> Result<(), Fail> {
     let alloc = rt.alloc();
     let mut journal = Journal::of(alloc, b"", 1)?;
