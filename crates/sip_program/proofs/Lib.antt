@@ -3,4 +3,5 @@ pub mod LastHeaders
 pub mod NoFile
 pub mod Repairs
 pub mod SessionOption
+pub mod StreamEnd
 pub mod WholeLines

@@ -132,7 +132,7 @@ impl<F: RecordFile> Record<F> {
         if self.file.is_some() {
             let text = write_file_round(alloc, self.kind, round)?;
             if self.is_journal && text.len() > MAX_LINES {
-                return self.give_up("round too long", errors);
+                return self.give_up(&"round too long", errors);
             }
             self.write(&text, errors)?;
         }
@@ -152,12 +152,12 @@ impl<F: RecordFile> Record<F> {
                 self.file = Some(file);
                 Ok(())
             }
-            Err(error) => self.give_up(error, errors),
+            Err(error) => self.give_up(&error, errors),
         }
     }
 
     // Says why, and gives up recording, or the run if it needs its record.
-    fn give_up<D: Display, E: Write>(&mut self, why: D, errors: &mut E) -> Result<(), UaFault>
+    fn give_up<D: Display, E: Write>(&mut self, why: &D, errors: &mut E) -> Result<(), UaFault>
         ensures gone { self.new.file ≡ None }
         ensures kept { OnOk result (self.old.keeping ≡ MayFail) }
     {

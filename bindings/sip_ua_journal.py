@@ -1,0 +1,158 @@
+"""Journals: the rounds of an agent, from which another process goes on when this one has died.
+
+    endpoint = await open_endpoint(.., journal=FileJournal("calls.journal"))
+
+Each round stands in the journal before one of its datagrams is sent or one of its notices told. A
+process that opens an endpoint with the journal of one that died holds what that one held. The
+notices of the last round are told again, since they may not have been acted upon; what that round
+sent may be lost, and retransmissions mend it. A journal is a session file, as `ua --journal` writes
+it (docs/FORMATS.md). It has the agent's seed: keep it secret.
+"""
+
+import errno
+import fcntl
+import os
+import re
+from typing import List, NamedTuple, Optional, Protocol
+
+from sip_ua import Address, Agent, Error, Output, Status
+
+__all__ = ["FileJournal", "Journal", "JournalError", "Resumed", "resumed"]
+
+_HEAD = re.compile(rb"sip-session 1\nlocal (\S+)\nseed ([0-9a-f]{64})\nfirst (\d+)\n")
+_ROUND = re.compile(rb"^round (\d+)\n", re.MULTILINE)
+
+
+class JournalError(Exception):
+    """The journal is none, is of another agent, or has a bad round before its last one."""
+
+
+class Journal(Protocol):
+    """Where the rounds of an agent are kept. `append` keeps a text as a whole, or raises an OSError:
+    then nothing of the round goes out, and the endpoint is closed."""
+
+    def read(self) -> bytes: ...
+
+    def append(self, text: bytes) -> None: ...
+
+    def cut(self, length: int) -> None: ...
+
+
+class FileJournal:
+    """A journal in a file. Another process that has it open is an OSError. With `is_synced`, each
+    round waits for the disk: then a power cut loses nothing, either."""
+
+    def __init__(self, path: str, is_synced: bool = False):
+        self._is_synced = is_synced
+        self._file = os.open(path, os.O_RDWR | os.O_CREAT | os.O_APPEND, 0o600)
+        try:
+            fcntl.flock(self._file, fcntl.LOCK_EX | fcntl.LOCK_NB)
+        except OSError:
+            os.close(self._file)
+            raise
+
+    def read(self) -> bytes:
+        parts: List[bytes] = []
+        while True:
+            part = os.pread(self._file, 1 << 20, sum(map(len, parts)))
+            if not part:
+                return b"".join(parts)
+            parts.append(part)
+
+    def append(self, text: bytes) -> None:
+        if os.write(self._file, text) < len(text):
+            raise OSError(errno.ENOSPC, "a round wasn't written whole")
+        if self._is_synced:
+            os.fsync(self._file)
+
+    def cut(self, length: int) -> None:
+        os.ftruncate(self._file, length)
+
+    def close(self) -> None:
+        os.close(self._file)
+
+
+class Resumed(NamedTuple):
+    """An agent that goes on. `outputs` are those of its last round, at `moment`; None if it has had
+    no round."""
+
+    agent: Agent
+    moment: Optional[int]
+    outputs: List[Output]
+
+
+def resumed(
+    library: str, local: Address, seed: Optional[bytes], journal: Journal
+) -> Resumed:
+    """The agent of a journal; a new one, if the journal is empty."""
+    text = journal.read()
+    if not text:
+        own = os.urandom(32) if seed is None else seed
+        agent = Agent(library, local, own)
+        journal.append(_head(local, own))
+        return Resumed(agent, None, [])
+    head = _HEAD.match(text)
+    if head is None:
+        raise JournalError("not a journal")
+    if head[1] != _address(local):
+        raise JournalError(f"the journal is of {head[1].decode()}")
+    own, first = bytes.fromhex(head[2].decode()), int(head[3])
+    agent = Agent(library, local, own, first)
+    try:
+        return _last_round(agent, journal, text, head.end())
+    except BaseException:
+        agent.close()
+        raise
+
+
+def _address(address: Address) -> bytes:
+    return b"%s:%d" % (address[0].encode(), address[1])
+
+
+def _head(local: Address, seed: bytes) -> bytes:
+    lines = [b"sip-session 1", b"local " + _address(local), b"seed " + seed.hex().encode(), b"first 0"]
+    return b"".join(line + b"\n" for line in lines)
+
+
+def _last_round(agent: Agent, journal: Journal, text: bytes, begin: int) -> Resumed:
+    """Runs all rounds but the last without outputs, and the last one for its outputs. What isn't
+    whole of it is cut off."""
+    rounds = list(_ROUND.finditer(text, begin))
+    if not rounds:
+        if text[begin:].strip():
+            raise JournalError("not a journal")
+        journal.cut(begin)
+        return Resumed(agent, None, [])
+    last = rounds[-1]
+    before = text[begin : last.start()]
+    try:
+        taken = agent.resume(before)
+    except Error as error:
+        raise JournalError(f"bad round: {error}") from None
+    if taken < len(before):
+        raise JournalError("bad round")
+    whole = last.end()
+    for event in _events(text[last.end() :]):
+        try:
+            agent.event_lines(event.decode("latin-1")[:-1])
+        except Error as error:
+            if error.status != Status.BAD_LINE:
+                raise
+            break
+        whole += len(event)
+    journal.cut(whole)
+    moment = int(last[1])
+    return Resumed(agent, moment, agent.run(moment))
+
+
+def _events(lines: bytes) -> List[bytes]:
+    """The lines of each event with their ends: header lines, which begin with a space, belong to
+    the command after them."""
+    events: List[bytes] = []
+    event = b""
+    for line in lines.split(b"\n")[:-1]:
+        event += line + b"\n"
+        if not line.startswith(b" "):
+            events.append(event)
+            event = b""
+    return events

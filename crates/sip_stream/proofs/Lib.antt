@@ -1,0 +1,5 @@
+pub mod Chunks
+pub mod Going
+pub mod Joined
+pub mod OneRound
+pub mod Written
