@@ -13,11 +13,12 @@ import errno
 import fcntl
 import os
 import re
-from typing import List, NamedTuple, Optional, Protocol
+from typing import List, NamedTuple, Optional, Protocol, Tuple
 
 from sip_ua import Address, Agent, Error, Output, Status
 
-__all__ = ["FileJournal", "Journal", "JournalError", "Resumed", "resumed"]
+__all__ = ["FileJournal", "Journal", "JournalError", "Resumed"]
+__all__ += ["agent_of", "head_of", "resumed", "run_again"]
 
 _HEAD = re.compile(rb"sip-session 1\nlocal (\S+)\nseed ([0-9a-f]{64})\nfirst (\d+)\n")
 _ROUND = re.compile(rb"^round (\d+)\n", re.MULTILINE)
@@ -89,17 +90,13 @@ def resumed(
     if not text:
         own = os.urandom(32) if seed is None else seed
         agent = Agent(library, local, own)
-        journal.append(_head(local, own))
+        journal.append(head_of(local, own))
         return Resumed(agent, None, [])
-    head = _HEAD.match(text)
-    if head is None:
-        raise JournalError("not a journal")
-    if head[1] != _address(local):
-        raise JournalError(f"the journal is of {head[1].decode()}")
-    own, first = bytes.fromhex(head[2].decode()), int(head[3])
-    agent = Agent(library, local, own, first)
+    agent = agent_of(library, local, text)
+    found = _HEAD.match(text)
+    assert found is not None
     try:
-        return _last_round(agent, journal, text, head.end())
+        return _last_round(agent, journal, text, found.end())
     except BaseException:
         agent.close()
         raise
@@ -109,30 +106,51 @@ def _address(address: Address) -> bytes:
     return b"%s:%d" % (address[0].encode(), address[1])
 
 
-def _head(local: Address, seed: bytes) -> bytes:
-    lines = [b"sip-session 1", b"local " + _address(local), b"seed " + seed.hex().encode(), b"first 0"]
-    return b"".join(line + b"\n" for line in lines)
+def head_of(local: Address, seed: bytes) -> bytes:
+    """The lines before the rounds of a journal."""
+    seed_line = b"seed " + seed.hex().encode()
+    return b"\n".join([b"sip-session 1", b"local " + _address(local), seed_line, b"first 0", b""])
+
+
+def agent_of(library: str, local: Address, head: bytes) -> Agent:
+    """A new agent with the configuration of a head."""
+    found = _HEAD.match(head)
+    if found is None:
+        raise JournalError("not a journal")
+    if found[1] != _address(local):
+        raise JournalError(f"the journal is of {found[1].decode()}")
+    return Agent(library, local, bytes.fromhex(found[2].decode()), int(found[3]))
 
 
 def _last_round(agent: Agent, journal: Journal, text: bytes, begin: int) -> Resumed:
     """Runs all rounds but the last without outputs, and the last one for its outputs. What isn't
     whole of it is cut off."""
-    rounds = list(_ROUND.finditer(text, begin))
-    if not rounds:
+    begins = [found.start() for found in _ROUND.finditer(text, begin)]
+    if not begins:
         if text[begin:].strip():
             raise JournalError("not a journal")
         journal.cut(begin)
         return Resumed(agent, None, [])
-    last = rounds[-1]
-    before = text[begin : last.start()]
+    before = text[begin : begins[-1]]
     try:
         taken = agent.resume(before)
     except Error as error:
         raise JournalError(f"bad round: {error}") from None
     if taken < len(before):
         raise JournalError("bad round")
-    whole = last.end()
-    for event in _events(text[last.end() :]):
+    moment, outputs, whole = run_again(agent, text[begins[-1] :])
+    journal.cut(begins[-1] + whole)
+    return Resumed(agent, moment, outputs)
+
+
+def run_again(agent: Agent, lines: bytes) -> Tuple[int, List[Output], int]:
+    """Runs a round with what is whole of its lines. Returns its moment, its outputs, and how many
+    bytes were whole. The outputs were taken care of before, or else may not have been."""
+    head = _ROUND.match(lines)
+    if head is None:
+        raise JournalError("bad round")
+    whole = head.end()
+    for event in _events(lines[whole:]):
         try:
             agent.event_lines(event.decode("latin-1")[:-1])
         except Error as error:
@@ -140,9 +158,8 @@ def _last_round(agent: Agent, journal: Journal, text: bytes, begin: int) -> Resu
                 raise
             break
         whole += len(event)
-    journal.cut(whole)
-    moment = int(last[1])
-    return Resumed(agent, moment, agent.run(moment))
+    moment = int(head[1])
+    return moment, agent.run(moment), whole
 
 
 def _events(lines: bytes) -> List[bytes]:

@@ -31,7 +31,7 @@ from sip_ua import (
 )
 from sip_ua_journal import FileJournal, Journal, Resumed, resumed
 
-__all__ = ["Endpoint", "MOST_TRANSACTIONS", "open_endpoint"]
+__all__ = ["Endpoint", "MOST_TRANSACTIONS", "open_endpoint", "open_resumed"]
 
 # How many transactions are held at one time: those of some 3,000 requests a second.
 MOST_TRANSACTIONS = 100000
@@ -196,26 +196,57 @@ async def open_endpoint(
     are ignored, except in calls; while twice as many are, these too. With a journal, or the path of
     one, it goes on where another process ended (sip_ua_journal.py): the notices of the last round
     are then told again, soon after it is open."""
+    udp = _bound(address)
+    try:
+        own = local or udp.getsockname()
+        kept = FileJournal(journal) if isinstance(journal, str) else journal
+        if kept is None:
+            begun = Resumed(Agent(library, own, os.urandom(32) if seed is None else seed), None, [])
+        else:
+            begun = resumed(library, own, seed, kept)
+    except BaseException:
+        udp.close()
+        raise
+    return await _open(udp, own, on_told, begun, most_transactions, kept)
+
+
+async def open_resumed(
+    address: Address,
+    local: Address,
+    on_told: OnTold,
+    begun: Resumed,
+    journal: Journal,
+    most_transactions: int = MOST_TRANSACTIONS,
+) -> Endpoint:
+    """Opens an endpoint for an agent that has had the rounds of a journal, as a standby has."""
+    return await _open(_bound(address), local, on_told, begun, most_transactions, journal)
+
+
+def _bound(address: Address) -> socket.socket:
     udp = socket.socket(socket.AF_INET, socket.SOCK_DGRAM)
     try:
         udp.setblocking(False)
         udp.bind(address)
-        own = local or udp.getsockname()
-        kept = FileJournal(journal) if isinstance(journal, str) else journal
-        if kept is None:
-            begun = Resumed(Agent(library, own, os.urandom(32) if seed is None else seed), 0, [])
-            moment = 0
-        else:
-            begun = resumed(library, own, seed, kept)
-            # Time goes on while no process runs, and never back.
-            moment = max(int(time.time() * 1000), begun.moment or 0)
     except BaseException:
         udp.close()
         raise
+    return udp
+
+
+async def _open(
+    udp: socket.socket,
+    local: Address,
+    on_told: OnTold,
+    begun: Resumed,
+    most_transactions: int,
+    journal: Optional[Journal],
+) -> Endpoint:
+    # With a journal, time goes on while no process runs, and never back.
+    moment = 0 if journal is None else max(int(time.time() * 1000), begun.moment or 0)
     loop = asyncio.get_running_loop()
     _, endpoint = await loop.create_datagram_endpoint(
-        lambda: Endpoint(begun.agent, own, on_told, most_transactions, kept, moment), sock=udp
+        lambda: Endpoint(begun.agent, local, on_told, most_transactions, journal, moment), sock=udp
     )
-    if kept is not None and begun.moment is not None:
+    if begun.moment is not None:
         loop.call_soon(endpoint.tell, begun.outputs)
     return endpoint

@@ -1,7 +1,7 @@
 //! Reads a file by the lines of its rounds.
 
 ghost use Rattle.std.specs.Prelude.{◌≡◌, ◌⊎◌, ◌≤◌, [], false, drop, length, take, IfErr, IfOk, IfSome, OnOk};
-ghost use Rattle.std.specs.Io.KnownBytes.{Consumes, IsAtEnd, prepend_known};
+ghost use Rattle.std.specs.Io.KnownBytes.{Consumes, IsAtEnd, Keeps, prepend_known};
 ghost use Rattle.sip_stream.specs.Streams.{IsNext};
 ghost use Rattle.sip_stream.specs.declared.stream_fault.StreamFault.TheVariants as stream_fault;
 
@@ -76,9 +76,9 @@ impl RoundReader {
 
     // Reads as much again as there is, and at least once. Gives whether there may be more.
     fn read_more<R: CountedRead>(&mut self, reader: &mut R) -> Result<bool, StreamFault>
-        ensures same { OnOk result (Consumes
+        ensures same { OnOk result (Keeps
             (prepend_known self.old.text.items (R.remaining reader.old))
-            (prepend_known self.new.text.items (R.remaining reader.new)) []) }
+            (prepend_known self.new.text.items (R.remaining reader.new))) }
         ensures end { IfOk result
             (λ has_more. has_more ≡ false → IsAtEnd (R.remaining reader.new)) }
         ensures fault { IfErr result (λ fault.
