@@ -1,5 +1,6 @@
 pub mod Chunks
 pub mod Going
+pub mod Heads
 pub mod Joined
 pub mod OneRound
 pub mod Reading
