@@ -808,13 +808,14 @@ fn workers_argument<'a>(alloc: Global, usual: &'a str) -> Arg<'a> {
 }
 
 fn replay_command<'a>(alloc: Global) -> Result<Command<'a>, AllocError> {
+    let streamed = streamed_argument(alloc)?;
     let arguments = vec![in alloc;
         session_argument(alloc),
         shards_argument(alloc, "1"),
         workers_argument(alloc, "1"),
         cut_argument(alloc),
         repair_argument(alloc),
-        streamed_argument(alloc),
+        streamed,
     ]?;
     Command::new(alloc, "replay")
         .about(
@@ -846,15 +847,15 @@ fn repair_argument<'a>(alloc: Global) -> Arg<'a> {
         )
 }
 
-fn streamed_argument<'a>(alloc: Global) -> Arg<'a> {
-    Arg::new(alloc, "streamed")
+fn streamed_argument<'a>(alloc: Global) -> Result<Arg<'a>, AllocError> {
+    let argument = Arg::new(alloc, "streamed")
         .long("streamed")
         .action(ArgAction::SetTrue)
-        .conflicts_with("repair")
         .help(
             "Read, run and write round by round. The file may have any length, and what was \
             written before a fault stays written",
-        )
+        );
+    argument.conflicts_with("repair")
 }
 
 // The number of an option. `clap` has checked that it is in its range.

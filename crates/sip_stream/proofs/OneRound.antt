@@ -28,6 +28,9 @@ module _ {C : Type 0} (shard_of : C → List ℕ → ℕ → ℕ) where
       ∙ ap (λ m. round_fault m agent.next_round round) stands.moment
       ∙ ap (λ n. round_fault (last_moment_from 0 rounds) n round) stands.number
 
+  from_zero : (n : ℕ) → 0 + n ≡ n
+  from_zero n = omega arith
+
   -- of rounds that weren't refused, with one more
   refused_push : (agent : AgentState C) (config : Config) (rounds : List Round) (round : Round)
       → Stands shard_of agent config rounds
@@ -38,6 +41,7 @@ module _ {C : Type 0} (shard_of : C → List ℕ → ℕ → ℕ) where
       refused_from-push config.first 0 0 rounds round [] s.unrefused
       ∙ ap (λ f. refused_or f (0 + length rounds) None)
       (sym (same_fault agent config rounds round s.stands))
+      ∙ ap (λ n. refused_or (refusal_of agent round) n None) (from_zero (length rounds))
 
   -- the index of the next round
   pub index_is : (agent : AgentState C) (config : Config) (rounds : List Round) (first : ℕ)
@@ -103,7 +107,7 @@ module _ {C : Type 0} (shard_of : C → List ℕ → ℕ → ℕ) where
 
   -- ---- why
 
-  pub tells_refused : {T X : Type 0} (agent : AgentState C) (round : Round) (index : ℕ)
+  pub tells_refused : (T X : Type 0) (agent : AgentState C) (round : Round) (index : ℕ)
       (result : Result T RoundFault) (fault : RoundFault) → result ≡ Err fault
       → IfSome (refusal_of agent round) (λ f. (result ≡ Err f) × X)
       → (refusal_of agent round ≡ None → OnErr result ((result ≡ Err (round_fault.NoMemory false))
@@ -111,10 +115,10 @@ module _ {C : Type 0} (shard_of : C → List ℕ → ℕ → ℕ) where
       → (config : Config) (rounds : List Round) → Stands shard_of agent config rounds
       → index ≡ length rounds
       → TellsStep config rounds round (refused_as index fault)
-  tells_refused {T} {X} agent round index result fault is refuses memory config rounds s at =
+  tells_refused T X agent round index result fault is refuses memory config rounds s at =
       by_refusal (refusal_of agent round) refl refuses memory
     where
-      same_err : (f g : RoundFault) → Err {A = T} f ≡ Err g → f ≡ g
+      same_err : (f g : RoundFault) → ◌≡◌ {A = Result T RoundFault} (Err f) (Err g) → f ≡ g
       same_err f g e = cc
       from_memory : (broken : Bool) → fault ≡ round_fault.NoMemory broken
           → TellsStep config rounds round (refused_as index fault)
@@ -150,3 +154,7 @@ module _ {C : Type 0} (shard_of : C → List ℕ → ℕ → ℕ) where
           (same_err f fault (sym refuses.0 ∙ is))
           (told f (refused_push agent config rounds round s
           ∙ ap (λ r. refused_or r (length rounds) None) (sym found)))
+
+pub on_err : (T E : Type 0) (P : Type 0) (result : Result T E) → P → OnErr result P
+on_err T E P (Ok value) p = tt
+on_err T E P (Err fault) p = p

@@ -42,6 +42,13 @@ less_or_not (suc n) (suc m) = one_more (less_or_not n m)
     one_more (inl less) = inl (omega (arith, less))
     one_more (inr not) = inr (omega (arith, not))
 
+-- the first lines are in the text
+pub fits : (text slice first : List ℕ) → slice ≡ text → first ≡ first_round slice
+    → length first ≤ length text
+fits text slice first same is =
+    subst (λ (t : List ℕ). length t ≤ length text) (sym (is ∙ ap first_round same))
+    (no_longer text)
+
 -- the first round ends in the text, or nothing follows the text, or it is too long
 abbrev pub MayBeGiven : ℕ → List ℕ → Bool → Type 0
 MayBeGiven len text has_more =

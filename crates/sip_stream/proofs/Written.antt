@@ -1,7 +1,7 @@
 -- The output file of rounds, with one more round.
 use Rattle.std.proofs.Common.{◌≡◌, ℕ, suc, ◌+◌, codes, List, [], ◌∷◌, ◌++◌, length, map, refl, sym, ap, ◌∙◌, append_assoc, append-nil}
 use Rattle.std.specs.List.{flat_map, zip}
-use Rattle.std.proofs.lemmas.List.{length_map, map-append}
+use Rattle.std.proofs.lemmas.List.{length-map, map-append}
 use Rattle.std.proofs.lemmas.List.Concat.{flat_map-append}
 use Rattle.sip_files.specs.Outputs.{outputs_text, round_outputs_text, rounds_text}
 use Rattle.sip_files.specs.Replay.{answer_file}
@@ -30,7 +30,7 @@ file_push config rounds round outputs is =
     let moments = map (λ (r : Round). r.moment) rounds in
     let pairs = zip moments (answers config rounds) in
     let count : length moments ≡ length (answers config rounds) =
-    length_map (λ (r : Round). r.moment) rounds
+    length-map rounds (λ (r : Round). r.moment)
     ∙ sym (answers_count config config.first no_past rounds) in
     ap (λ (os : List (List Output)). outputs_text (zip (map (λ (r : Round). r.moment)
     (rounds ++ round ∷ [])) os)) is

@@ -55,7 +55,7 @@ impl RoundReader {
         for _ in 0..=MAX_EVENTS {
             let len = first_round_of(&self.text).len();
             if len < self.text.len() || !has_more || self.text.len() > MAX_EVENTS {
-                return self.take(len);
+                return Ok(self.take(len)?);
             }
             has_more = self.read_more(reader)?;
         }

@@ -19,6 +19,7 @@ use std::thread::Threads;
 pub(crate) const OUTPUTS_HEAD: &[u8] = b"sip-outputs 1\n";
 
 /// An agent, and how it is led through rounds.
+#[derive(Drop)]
 pub(crate) struct Streaming<C: Cut> {
     alloc: Global,
     agent: Agent<C>,
