@@ -1,5 +1,5 @@
 -- The first lines of what was read, and of all that is left.
-use Rattle.std.proofs.Common.{◌≡◌, ℕ, suc, ◌<◌, ◌≤◌, Bool, true, false, List, [], ◌∷◌, ◌++◌, length, take, drop, refl, sym, ap, ◌∙◌, append-nil, take-append-drop, arith, codes, inl}
+use Rattle.std.proofs.Common.{◌≡◌, ℕ, suc, ◌<◌, ◌≤◌, Bool, true, false, List, [], ◌∷◌, ◌++◌, length, take, refl, sym, ap, ◌∙◌, arith, codes}
 use Rattle.std.specs.Prelude.{◌&&◌, ◌==◌, if◌then◌else◌, nat_eq}
 use Rattle.std.specs.List.{starts_with}
 use Rattle.sip_journal.specs.Rounds.{begins_round, first_round}
@@ -48,8 +48,11 @@ has_prefix : (text prefix : List ℕ) → starts_with nat_eq text prefix ≡ tru
 has_prefix text [] is = omega arith
 has_prefix [] (p ∷ prefix) is = absurd cc
 has_prefix (b ∷ text) (p ∷ prefix) is =
-    omega (arith, has_prefix text prefix
-    (and_second (nat_eq p b) (starts_with nat_eq text prefix) is))
+    omega (
+      arith,
+      has_prefix text prefix
+          (and_second (nat_eq p b) (starts_with nat_eq text prefix) is),
+    )
 
 -- a round begins behind it, so there is room for that
 room : (text : List ℕ) → length (first_round text) < length text → 6 ≤ length text
@@ -62,8 +65,11 @@ room (b ∷ bytes) ends =
         → (length (first_round bytes) < length bytes → 6 ≤ length bytes)
         → suc (length (after_first stops bytes)) < suc (length bytes) → 6 ≤ suc (length bytes)
     by_end true is further ends =
-        omega (arith, has_prefix bytes (codes "round ")
-        (and_second (b == 10) (begins_round bytes) (sym is)))
+        omega (
+          arith,
+          has_prefix bytes (codes "round ")
+              (and_second (b == 10) (begins_round bytes) (sym is)),
+        )
     by_end false is further ends =
         let fewer : length (first_round bytes) < length bytes = omega (arith, ends) in
         omega (arith, further fewer)
@@ -83,6 +89,7 @@ same_first (b ∷ bytes) after ends =
     same_begin fits =
         ap (λ (begins : Bool). (b == 10) && begins)
         (begins_longer bytes (codes "round ") after fits)
+
     by_end : (stops : Bool) → stops ≡ ((b == 10) && begins_round bytes)
         → (length (first_round bytes) < length bytes
         → first_round (bytes ++ after) ≡ first_round bytes)

@@ -1,9 +1,9 @@
 -- A replay round by round in the middle of its file.
-use Rattle.std.proofs.Common.{◌≡◌, ℕ, ◌+◌, ◌-◌, ◌<◌, ◌^◌, List, [], ◌∷◌, ◌++◌, length, codes, refl, sym, ap, subst, ◌∙◌, append_assoc, append-nil, inl, inr}
-use Rattle.std.specs.Prelude.{IfSome, Option, None, Some, ◌⊎◌}
-use Rattle.std.specs.Io.KnownBytes.{Appends, Consumes, IsAtEnd}
-use Rattle.std.proofs.KnownBytes.{Appends-nil, Appends-trans, Consumes-trans, Consumes-whole}
-use Rattle.sip_files.specs.EventFile.{SpellsFile, TellsFault, version_line}
+use Rattle.std.proofs.Common.{◌≡◌, ℕ, ◌-◌, List, [], ◌∷◌, ◌++◌, length, codes, refl, sym, ap, subst, ◌∙◌, append_assoc, append-nil, inl, inr}
+use Rattle.std.specs.Prelude.{IfErr, IfSome, Option, None, Some, Result, Err, ◌⊎◌}
+use Rattle.std.specs.Io.KnownBytes.{Appends, Consumes, IsAtEnd, prepend_known}
+use Rattle.std.proofs.KnownBytes.{Appends-nil, Appends-trans, Consumes-trans, Consumes-whole, prepend_known-nil}
+use Rattle.sip_files.specs.EventFile.{SpellsFile, SpellsIn, version_line}
 use Rattle.sip_files.specs.Replay.{answer_file}
 use Rattle.sip_files.specs.Written.{head_in}
 use Rattle.sip_files.specs.declared.version.FileKind.{FileKind}
@@ -11,11 +11,10 @@ use Rattle.sip_files.specs.declared.version.Version.{Version}
 use Rattle.sip_files.proofs.FileLines.{first_line}
 use Rattle.sip_journal.specs.Rounds.{some_config}
 use Rattle.sip_round.specs.AgentState.{AgentState}
-use Rattle.sip_round.specs.Answers.{StandsFor, refused}
 use Rattle.sip_round.specs.declared.config.Config.{Config}
 use Rattle.sip_round.specs.declared.round.Round.{Round}
 use Rattle.sip_stream.specs.Steps.{GoesOn, SoFar, Stands, Stops, TellsHead, TellsRound, TellsStep}
-use Rattle.sip_stream.specs.Streams.{Begins, HasBadHead, HasBadRound, IsFront, IsNext, RefusesLast, Streams, StreamsAll, StreamsFront, TellsLines, TellsStream}
+use Rattle.sip_stream.specs.Streams.{Begins, IsNext, StreamsAll, StreamsFront, TellsStream}
 use Rattle.sip_stream.specs.declared.stream_fault.StreamFault.{StreamFault}
 use Rattle.sip_stream.specs.declared.stream_fault.StreamFault.TheVariants as fault
 use Rattle.sip_stream.proofs.Joined.{joined}
@@ -34,6 +33,29 @@ from_front (Some whole) (Some left) front P consumed f = f whole left consumed r
 known_next : (pending : Option (List ℕ)) (left lines : List ℕ) → pending ≡ Some left
     → IfSome pending (IsNext lines) → IsNext lines left
 known_next pending left lines is next = subst (λ p. IfSome p (IsNext lines)) is next
+
+-- the reader has given nothing yet
+pub from_start : (input next : Option (List ℕ)) (text lines : List ℕ) → text ≡ []
+    → Consumes (prepend_known text input) next lines → Consumes input next lines
+from_start input next text lines none consumed =
+    subst (λ known. Consumes known next lines) (prepend_known-nil input)
+    (subst (λ (t : List ℕ). Consumes (prepend_known t input) next lines) none consumed)
+
+-- the same texts by other names
+pub read_as : (kind : FileKind) (round : Round) (own_head own_lines head lines : List ℕ)
+    → own_head ≡ head → own_lines ≡ lines
+    → ((config : Config) × SpellsFile kind config (round ∷ []) (own_head ++ own_lines))
+    → (config : Config) × SpellsFile kind config (round ∷ []) (head ++ lines)
+read_as kind round own_head own_lines head lines same_head same_lines read = (
+  read.0,
+  subst (λ (l : List ℕ). SpellsFile kind read.0 (round ∷ []) (head ++ l)) same_lines
+      (subst (λ (h : List ℕ). SpellsFile kind read.0 (round ∷ []) (h ++ own_lines)) same_head
+      read.1),
+)
+
+pub err_told : (T E : Type 0) (P : E → Type 0) (result : Result T E) (given : E)
+    → result ≡ Err given → P given → IfErr result P
+err_told T E P result given is p = subst (λ r. IfErr r P) (sym is) p
 
 -- ---- faults of the device
 
@@ -156,8 +178,7 @@ module _ {C : Type 0} (shard_of : C → List ℕ → ℕ → ℕ) (kind : FileKi
         ap (λ (l : List ℕ). s.file ++ l) none ∙ append-nil s.file in
         Consumes-whole input next s.file (StreamsAll kind before after)
         (subst (λ (f : List ℕ). Consumes input next f) file
-        (Consumes-trans input pending next s.file lines s.consumed consumed)) ended
-        (
+        (Consumes-trans input pending next s.file lines s.consumed consumed)) ended (
           answer_file s.config s.rounds,
           record {
             config = s.config;
@@ -211,17 +232,18 @@ module _ {C : Type 0} (shard_of : C → List ℕ → ℕ → ℕ) (kind : FileKi
     module _ (next : Option (List ℕ)) (lines : List ℕ) (round : Round)
         (consumed : Consumes pending next lines)
         (read : (config : Config) × SpellsFile kind config (round ∷ []) (head ++ lines)) where
-      spelled_on : SpellsFile kind s.config (s.rounds ++ round ∷ []) (s.file ++ lines)
-      spelled_on =
-          joined kind s.config read.0 s.rounds (round ∷ []) s.file lines s.spelled
+      spelled_in : SpellsIn (s.spelled).0 s.config (s.rounds ++ round ∷ []) (s.file ++ lines)
+      spelled_in =
+          joined kind (s.spelled).0 s.config read.0 s.rounds (round ∷ []) s.file lines
+          (s.spelled).2
           (subst (λ (h : List ℕ). SpellsFile kind read.0 (round ∷ []) (h ++ lines)) s.headed
           read.1)
 
+      abbrev spelled_on : SpellsFile kind s.config (s.rounds ++ round ∷ []) (s.file ++ lines)
+      spelled_on = ((s.spelled).0, (s.spelled).1, spelled_in)
+
       consumed_on : Consumes input next (s.file ++ lines)
       consumed_on = Consumes-trans input pending next s.file lines s.consumed consumed
-
-      same_version : (spelled_on).0 ≡ (s.spelled).0
-      same_version = refl
 
       pub one_more : (agent_now : AgentState C) (first_now : ℕ) (now : Option (List ℕ))
           → first_now ≡ first

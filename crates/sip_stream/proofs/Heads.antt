@@ -1,5 +1,5 @@
 -- A head of the version that the first line of a file names.
-use Rattle.std.proofs.Common.{◌≡◌, ℕ, List, [], ◌∷◌, ◌++◌, map, Option, Some, None, refl, sym, ap, ◌∙◌, append_assoc}
+use Rattle.std.proofs.Common.{◌≡◌, ℕ, List, [], ◌∷◌, ◌++◌, Option, Some, None, sym, ap, ◌∙◌, append_assoc}
 use Rattle.std.proofs.lemmas.Option.{some_pair_parts}
 use Rattle.sip_text.proofs.Cuts.{cut_again}
 use Rattle.sip_text.specs.Cut.{cut_at}
@@ -12,7 +12,7 @@ use Rattle.sip_files.proofs.FileLines.{version_no}
 use Rattle.sip_files.proofs.WrittenLaws.{head_is, text_of, whole_head}
 use Rattle.sip_journal.specs.Rounds.{some_config}
 
-others : List ℕ
+pub others : List ℕ
 others = text_of (head_lines (whole_head some_config))
 
 in_parts : (version : Version) → head_in version some_config ≡ version_line version ++ 10 ∷ others

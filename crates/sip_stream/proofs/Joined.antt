@@ -1,5 +1,5 @@
 -- The lines of a round behind a head: behind other rounds they say the same.
-use Rattle.std.proofs.Common.{◌≡◌, ℕ, List, [], ◌∷◌, ◌++◌, map, Option, Some, None, refl, sym, ap, subst, ◌∙◌, append_assoc, append-nil, arith}
+use Rattle.std.proofs.Common.{◌≡◌, ℕ, List, [], ◌∷◌, ◌++◌, map, Option, Some, None, refl, sym, ap, subst, ◌∙◌, append_assoc}
 use Rattle.std.specs.List.{flat_map, AllZip}
 use Rattle.std.proofs.lemmas.List.Concat.{flat_map-append}
 use Rattle.sip_text.proofs.Options.{same_some}
@@ -14,13 +14,13 @@ use Rattle.sip_files.specs.declared.event_line.EventLine.TheVariants as line
 use Rattle.sip_files.specs.declared.given_header.GivenHeader.{GivenHeader}
 use Rattle.sip_files.specs.declared.version.FileKind.{FileKind}
 use Rattle.sip_files.specs.declared.version.Version.{Version}
-use Rattle.sip_files.specs.EventFile.{Head, HeadedLine, SaysHeaded, SpellsFile, SpellsIn, file_lines, head_lines, headed_lines, round_lines, version_line, with_ends}
+use Rattle.sip_files.specs.EventFile.{HeadedLine, SaysHeaded, SpellsFile, SpellsIn, file_lines, head_lines, headed_lines, round_lines, version_line, with_ends}
 use Rattle.sip_files.specs.Events.{SpellsLine}
 use Rattle.sip_files.specs.Given.{with_given, with_headers}
 use Rattle.sip_files.specs.Written.{head_in, line_text}
 use Rattle.sip_files.proofs.CommandLines.{mapped}
-use Rattle.sip_files.proofs.FileLines.{SayAll, each_one, in_version, same_front}
-use Rattle.sip_files.proofs.OneFile.{after_version, further_of, lines_of, said_by}
+use Rattle.sip_files.proofs.FileLines.{each_one, in_version, same_front}
+use Rattle.sip_files.proofs.OneFile.{after_version, further_of, lines_of}
 use Rattle.sip_files.proofs.WrittenLaws.{head_is, head_spelled, whole_head}
 use Rattle.sip_journal.specs.Rounds.{some_config}
 use Rattle.sip_journal.proofs.HeadLines.{is_config}
@@ -234,10 +234,10 @@ joined_in version config rounds more file text s m = record {
 }
 
 -- a file goes on with the lines of a round that is spelled behind a head of its version
-pub joined : (kind : FileKind) (config other : Config) (rounds more : List Round)
-    (file text : List ℕ) → (s : SpellsFile kind config rounds file)
-    → SpellsFile kind other more (head_in s.0 some_config ++ text)
-    → SpellsFile kind config (rounds ++ more) (file ++ text)
-joined kind config other rounds more file text s spells =
-    (s.0, s.1, joined_in s.0 config rounds more file text s.2
-    (says_rounds kind s.0 other more text spells))
+pub joined : (kind : FileKind) (version : Version) (config other : Config)
+    (rounds more : List Round) (file text : List ℕ) → SpellsIn version config rounds file
+    → SpellsFile kind other more (head_in version some_config ++ text)
+    → SpellsIn version config (rounds ++ more) (file ++ text)
+joined kind version config other rounds more file text s spells =
+    joined_in version config rounds more file text s
+    (says_rounds kind version other more text spells)

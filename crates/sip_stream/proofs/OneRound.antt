@@ -1,5 +1,5 @@
 -- One more round: it is refused, or its outputs are written.
-use Rattle.std.proofs.Common.{◌≡◌, ◌≢◌, ℕ, ◌+◌, ◌-◌, List, [], ◌∷◌, ◌++◌, length, refl, sym, ap, subst, ◌∙◌, arith, inl, inr, if◌then◌else◌}
+use Rattle.std.proofs.Common.{◌≡◌, ℕ, ◌+◌, ◌-◌, List, [], ◌∷◌, ◌++◌, length, refl, sym, ap, subst, ◌∙◌, arith, inl, inr, if◌then◌else◌}
 use Rattle.std.specs.Prelude.{IfSome, OnErr, Option, None, Some, Result, Ok, Err, Bool, false, true, is_some, ◌⊎◌}
 use Rattle.std.specs.Io.KnownBytes.{Appends}
 use Rattle.std.proofs.KnownBytes.{Appends-nil}
@@ -120,10 +120,12 @@ module _ {C : Type 0} (shard_of : C → List ℕ → ℕ → ℕ) where
     where
       same_err : (f g : RoundFault) → ◌≡◌ {A = Result T RoundFault} (Err f) (Err g) → f ≡ g
       same_err f g e = cc
+
       from_memory : (broken : Bool) → fault ≡ round_fault.NoMemory broken
           → TellsStep config rounds round (refused_as index fault)
       from_memory broken e =
           subst (λ f. TellsStep config rounds round (refused_as index f)) (sym e) tt
+
       told : (f : RoundFault) → refused config (rounds ++ round ∷ []) ≡ Some (length rounds, f)
           → TellsStep config rounds round (refused_as index f)
       told round_fault.Broken e = e ∙ ap (λ i. Some (i, round_fault.Broken)) (sym at)
@@ -136,11 +138,13 @@ module _ {C : Type 0} (shard_of : C → List ℕ → ℕ → ℕ) where
       told round_fault.RoundsUsedUp e =
           e ∙ ap (λ i. Some (i, round_fault.RoundsUsedUp)) (sym at)
       told (round_fault.NoMemory broken) e = tt
+
       by_either : ((result ≡ Err (round_fault.NoMemory false))
           ⊎ (result ≡ Err (round_fault.NoMemory true)))
           → TellsStep config rounds round (refused_as index fault)
       by_either (inl e) = from_memory false (same_err fault _ (sym is ∙ e))
       by_either (inr e) = from_memory true (same_err fault _ (sym is ∙ e))
+
       by_refusal : (refusal : Option RoundFault) → refusal ≡ refusal_of agent round
           → IfSome refusal (λ f. (result ≡ Err f) × X)
           → (refusal ≡ None → OnErr result ((result ≡ Err (round_fault.NoMemory false))
@@ -158,3 +162,9 @@ module _ {C : Type 0} (shard_of : C → List ℕ → ℕ → ℕ) where
 pub on_err : (T E : Type 0) (P : Type 0) (result : Result T E) → P → OnErr result P
 on_err T E P (Ok value) p = tt
 on_err T E P (Err fault) p = p
+
+-- before the first round
+pub stands_first : {C : Type 0} (shard_of : C → List ℕ → ℕ → ℕ) (agent : AgentState C)
+    (config : Config) → StandsFor shard_of agent config [] → Stands shard_of agent config []
+unfolding refused
+stands_first shard_of agent config stands = record { stands = stands; unrefused = refl }

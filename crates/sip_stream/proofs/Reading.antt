@@ -1,5 +1,5 @@
 -- What was read and what is left to read, where that is known.
-use Rattle.std.proofs.Common.{◌≡◌, ℕ, zero, suc, ◌<◌, ◌≤◌, ◌^◌, Bool, true, false, List, [], ◌∷◌, ◌++◌, length, take, drop, refl, sym, ap, subst, ◌∙◌, append_assoc, append-nil, take-append-drop, arith, inl, inr}
+use Rattle.std.proofs.Common.{◌≡◌, ℕ, zero, suc, ◌<◌, ◌≤◌, ◌^◌, Bool, false, List, [], ◌∷◌, ◌++◌, length, take, drop, refl, sym, ap, subst, ◌∙◌, append_assoc, append-nil, take-append-drop, arith, inl, inr}
 use Rattle.std.specs.Prelude.{IfSome, Option, None, Some, ◌⊎◌}
 use Rattle.std.specs.Io.KnownBytes.{Consumes, IsAtEnd, Keeps, prepend_known}
 use Rattle.std.proofs.lemmas.List.{drop_all, take_all}
@@ -112,6 +112,7 @@ module _ (text first rest : List ℕ) (len : ℕ) (is_len : len ≡ length (firs
     where
       short : (t : List ℕ) → t ≡ [] → length t ≡ 0
       short t is = ap length is
+
       by_cause : MayBeGiven len text has_more → text ≡ [] → IsAtEnd left
       by_cause (inl ends) empty = absurd (omega (arith, ends, short text empty))
       by_cause (inr (inl none)) empty = over none

@@ -1,9 +1,9 @@
 -- The output file of rounds, with one more round.
-use Rattle.std.proofs.Common.{◌≡◌, ℕ, suc, ◌+◌, codes, List, [], ◌∷◌, ◌++◌, length, map, refl, sym, ap, ◌∙◌, append_assoc, append-nil}
-use Rattle.std.specs.List.{flat_map, zip}
+use Rattle.std.proofs.Common.{◌≡◌, ℕ, ◌+◌, ◌≤◌, arith, codes, drop, length-append, Global, Vec, List, [], ◌∷◌, ◌++◌, length, map, refl, sym, ap, ◌∙◌, append_assoc, append-nil}
+use Rattle.std.specs.List.{zip}
 use Rattle.std.proofs.lemmas.List.{length-map, map-append}
 use Rattle.std.proofs.lemmas.List.Concat.{flat_map-append}
-use Rattle.sip_files.specs.Outputs.{outputs_text, round_outputs_text, rounds_text}
+use Rattle.sip_files.specs.Outputs.{outputs_text, round_outputs_text, rounds_text, told}
 use Rattle.sip_files.specs.Replay.{answer_file}
 use Rattle.sip_round.specs.declared.config.Config.{Config}
 use Rattle.sip_round.specs.declared.output.Output.{Output}
@@ -56,3 +56,22 @@ answered_more config rounds round =
 pub file_of_none : (config : Config) → answer_file config [] ≡ codes "sip-outputs 1\n"
 unfolding answer_file outputs_text answers
 file_of_none config = append-nil (codes "sip-outputs 1\n")
+
+-- the text of one round, behind the first line
+pub text_alone : (file : List ℕ) (rounds : List (ℕ × Vec Output Global)) (moment : ℕ)
+    (outputs : Vec Output Global) → rounds ≡ (moment, outputs) ∷ [] → file ≡ outputs_text (told rounds)
+    → file ≡ codes "sip-outputs 1\n" ++ round_outputs_text moment outputs.items
+unfolding outputs_text
+text_alone file rounds moment outputs one is =
+    is ∙ ap (λ (rs : List (ℕ × Vec Output Global)). outputs_text (told rs)) one
+    ∙ ap (λ (t : List ℕ). codes "sip-outputs 1\n" ++ t)
+    (append-nil (round_outputs_text moment outputs.items))
+
+pub behind_line : (file text : List ℕ) → file ≡ codes "sip-outputs 1\n" ++ text
+    → drop 14 file ≡ text
+behind_line file text is = ap (λ (t : List ℕ). drop 14 t) is
+
+pub long_enough : (file text : List ℕ) → file ≡ codes "sip-outputs 1\n" ++ text
+    → 14 ≤ length file
+long_enough file text is =
+    omega (arith, ap length is, length-append (codes "sip-outputs 1\n") text)

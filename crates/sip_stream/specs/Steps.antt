@@ -1,5 +1,5 @@
 -- Steps of a replay round by round.
-use Rattle.std.specs.Prelude.{◌≡◌, ℕ, List, [], ◌∷◌, ◌++◌, Option, None, Some, Result, Ok, Err}
+use Rattle.std.specs.Prelude.{◌≡◌, ℕ, List, [], ◌∷◌, ◌++◌, Option, None, Some}
 use Rattle.std.specs.Io.KnownBytes.{Appends, Consumes}
 use Rattle.sip_files.specs.EventFile.{SpellsFile, TellsFault}
 use Rattle.sip_files.specs.Replay.{answer_file}

@@ -1,5 +1,5 @@
 -- What a replay round by round writes for what it reads, and what each of its faults tells.
-use Rattle.std.specs.Prelude.{◌≡◌, ◌≢◌, ◌⊎◌, ℕ, ◌<◌, ◌^◌, ◌-◌, List, [], ◌∷◌, ◌++◌, length, replicate, Option, None, Some}
+use Rattle.std.specs.Prelude.{◌≡◌, ◌≢◌, ◌⊎◌, ℕ, ◌<◌, ◌^◌, ◌-◌, List, [], ◌++◌, length, Option, None, Some}
 use Rattle.std.specs.Io.KnownBytes.{Appends}
 use Rattle.sip_files.specs.EventFile.{IsBadLine, SpellsFile, TellsFault}
 use Rattle.sip_files.specs.Replay.{answer_file}

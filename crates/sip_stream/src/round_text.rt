@@ -28,7 +28,10 @@ pub(crate) fn head_like(alloc: Global, file: &[u8]) -> Result<Vec<u8>, AllocErro
         → head.items ≡ head_in version some_config) }
 {
     let written = write_file_head(alloc, FileKind::Events, &some_config())?;
-    let (Some((line, _)), Some((_, others))) = (cut(b'\n', file), cut(b'\n', &written)) else {
+    let Some((line, _)) = cut(b'\n', file) else {
+        return Ok(written);
+    };
+    let Some((_, others)) = cut(b'\n', &written) else {
         return Ok(written);
     };
     let mut head = Vec::from_slice(alloc, line)?;

@@ -123,5 +123,5 @@ fn round_text(alloc: Global, moment: u64, outputs: Vec<Output>) -> Result<Vec<u8
     let mut rounds = Vec::with_capacity(alloc, 1)?;
     rounds.push((moment, outputs))?;
     let mut file = write_outputs(alloc, &rounds)?;
-    file.split_off(OUTPUTS_HEAD.len())
+    Ok(file.split_off(OUTPUTS_HEAD.len())?)
 }
