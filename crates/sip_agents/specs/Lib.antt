@@ -1,0 +1,5 @@
+pub mod AgentsState
+pub mod Answers
+pub mod Destination
+pub mod Parts
+pub mod Steps
