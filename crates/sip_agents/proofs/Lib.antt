@@ -1,3 +1,4 @@
 pub mod Cutting
+pub mod Ends
 pub mod Joining
 pub mod Turns

@@ -252,3 +252,29 @@ all_run {P} {D} {E} shard_of agent part after outputs pieces dones agents news p
       new_are = apart.agents_are ∙ turns.4;
       joined_are = apart.joined_are ∙ ap (joined_from 0 parts) turns.5;
     }
+
+-- ---- before the first round
+
+-- one more agent that stands for its own parts
+pub stands_more : {C : Type 0} (shard_of : C → List ℕ → ℕ → ℕ) (destination : Event → Destination)
+    (config : Config) (rounds : List Round) (number own : ℕ) (agents : List (AgentState C))
+    (agent : AgentState C) → own ≡ number + length agents
+    → EachStands destination config rounds shard_of number agents
+    → StandsFor shard_of agent (config_of config own) (own_rounds destination rounds own)
+    → EachStands destination config rounds shard_of number (agents ++ agent ∷ [])
+stands_more shard_of destination config rounds number own [] agent at stand stands = (
+  subst (λ n. StandsFor shard_of agent (config_of config n) (own_rounds destination rounds n))
+      (at ∙ at_first number) stands,
+  tt,
+)
+  where
+    at_first : (n : ℕ) → n + 0 ≡ n
+    at_first n = omega arith
+stands_more shard_of destination config rounds number own (first ∷ agents) agent at stand stands = (
+  stand.0,
+  stands_more shard_of destination config rounds (suc number) own agents agent
+      (at ∙ later number (length agents)) stand.1 stands,
+)
+  where
+    later : (n k : ℕ) → n + suc k ≡ suc n + k
+    later n k = omega arith

@@ -1,5 +1,5 @@
 -- What several agents show between rounds, and when they refuse a round before anything is done.
-use Rattle.std.specs.Prelude.{◌≡◌, ℕ, ◌^◌, nat_le, nat_lt, true, List, Option, None, Some, IfSome, Result, Err, OnErr, length, is_some, if◌then◌else◌}
+use Rattle.std.specs.Prelude.{◌≡◌, ℕ, ◌^◌, nat_le, nat_lt, Bool, true, List, Option, None, Some, IfSome, Result, Err, OnErr, length, is_some, if◌then◌else◌}
 use Rattle.std.specs.List.{list_any}
 use Rattle.sip_round.specs.AgentState.{AgentState}
 use Rattle.sip_round.specs.declared.round.Event.{Event}
@@ -23,14 +23,25 @@ abbrev pub destination_by : {A C : Type 0} → (A → List ℕ → ℕ → ℕ) 
     → Destination
 destination_by shard_of agents = destination (agent_of (shard_of agents.cut) agents.count)
 
+-- the moment of a part is before this one
+abbrev pub is_any_before : ℕ → List Part → Bool
+is_any_before moment parts = list_any (λ part. nat_lt part.round.moment moment) parts
+
+-- the moment of a part is after this one
+abbrev pub is_any_after : ℕ → List Part → Bool
+is_any_after moment parts = list_any (λ part. nat_lt moment part.round.moment) parts
+
+-- a part has more than so many events
+abbrev pub has_any_more_events : ℕ → List Part → Bool
+has_any_more_events most parts = list_any (λ part. nat_lt most (length part.round.events)) parts
+
 -- why these parts of a round are refused: the first fault that fits; moments are at most 2^62, and
 -- each agent has 2^58 numbers for its rounds
 abbrev pub parts_fault : ℕ → ℕ → List Part → Option RoundFault
 parts_fault last number parts =
-    if list_any (λ part. nat_lt part.round.moment last) parts then Some MomentBackwards
-    else if list_any (λ part. nat_lt (2 ^ 62) part.round.moment) parts then Some MomentTooLarge
-    else if list_any (λ part. nat_lt 65536 (length part.round.events)) parts
-    then Some TooManyEvents
+    if is_any_before last parts then Some MomentBackwards
+    else if is_any_after (2 ^ 62) parts then Some MomentTooLarge
+    else if has_any_more_events 65536 parts then Some TooManyEvents
     else if nat_le (2 ^ 58) number then Some RoundsUsedUp
     else None
 

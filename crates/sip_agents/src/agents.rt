@@ -4,6 +4,7 @@ ghost use Rattle.std.specs.Prelude.{◌≡◌, ◌<◌, ◌≤◌, ◌^◌, [], 
 ghost use Rattle.sip_workers.specs.Ran.{IsNumbered};
 ghost use Rattle.sip_round.specs.declared.round.Event.{Event as AnEvent};
 ghost use Rattle.sip_agents.specs.declared.destination.Destination.{Destination as ADestination};
+ghost use Rattle.sip_agents.specs.AgentsState as state;
 ghost use Rattle.sip_agents.specs.Answers as spec;
 ghost use Rattle.sip_agents.specs.Steps.Ran.{AllRun, IsApart};
 
@@ -82,7 +83,7 @@ impl<A: Cut + Drop, C: Cut + Drop> Drop for Agents<A, C> {
 }
 
 impl<A: Cut + Drop, C: Cut + Copy> Agents<A, C> {
-    ghost use Rattle.std.specs.Prelude.{◌≡◌, ◌<◌, ◌≤◌, ◌^◌, ◌+◌, [], ◌∷◌, ◌++◌, IfErr, IfOk, OnErr, OnOk, Err, None, Some, List, length};
+    ghost use Rattle.std.specs.Prelude.{◌≡◌, ◌<◌, ◌≤◌, ◌^◌, ◌+◌, [], ◌∷◌, ◌++◌, true, IfErr, IfOk, IsOk, OnErr, OnOk, Err, None, Some, List, length};
     ghost use Rattle.sip_agents.specs.AgentsState.{EndsRound, destination_by, refusal_of};
     ghost use Rattle.sip_agents.specs.Answers.{StandFor, answer};
     ghost use Rattle.sip_agents.specs.Parts.{parts_of};
@@ -220,22 +221,8 @@ impl<A: Cut + Drop, C: Cut + Copy> Agents<A, C> {
     {
         if self.agents.is_none() {
             Some(RoundFault::Broken)
-        } else if parts
-            .iter()
-            .any(|part| part.round.moment < self.last_moment)
-        {
-            Some(RoundFault::MomentBackwards)
-        } else if parts.iter().any(|part| part.round.moment > MAX_MOMENT) {
-            Some(RoundFault::MomentTooLarge)
-        } else if parts
-            .iter()
-            .any(|part| part.round.events.len() > MAX_EVENTS_OF_ROUND)
-        {
-            Some(RoundFault::TooManyEvents)
-        } else if self.next_round >= STRIPE {
-            Some(RoundFault::RoundsUsedUp)
         } else {
-            None
+            parts_fault(self.last_moment, self.next_round, parts)
         }
     }
 
@@ -273,7 +260,7 @@ impl<A: Cut + Drop, C: Cut + Copy> Agents<A, C> {
               last_moment = moment_of self.old.last_moment parts.now;
               agents = Some ran.0.items;
             }))) }
-        ensures only { OnOk result (OnOk ran (Unit {0})) }
+        ensures only { OnOk result (IsOk ran) }
     {
         let Ok((agents, outputs)) = ran else {
             return Err(RoundFault::NoMemory { broken: true });
@@ -285,6 +272,44 @@ impl<A: Cut + Drop, C: Cut + Copy> Agents<A, C> {
         }
         Ok(outputs)
     }
+}
+
+// Why these parts of a round are refused, after a round at the moment `last`.
+fn parts_fault(last: u64, number: u64, parts: &[Part]) -> Option<RoundFault>
+    ensures { result ≡ state.parts_fault last number parts.now }
+{
+    if is_any_before(last, parts) {
+        Some(RoundFault::MomentBackwards)
+    } else if is_any_after(MAX_MOMENT, parts) {
+        Some(RoundFault::MomentTooLarge)
+    } else if has_any_more_events(MAX_EVENTS_OF_ROUND, parts) {
+        Some(RoundFault::TooManyEvents)
+    } else if number >= STRIPE {
+        Some(RoundFault::RoundsUsedUp)
+    } else {
+        None
+    }
+}
+
+// Whether the moment of a part is before this one.
+fn is_any_before(moment: u64, parts: &[Part]) -> bool
+    ensures { result ≡ state.is_any_before moment parts.now }
+{
+    parts.iter().any(|part| part.round.moment < moment)
+}
+
+// Whether the moment of a part is after this one.
+fn is_any_after(moment: u64, parts: &[Part]) -> bool
+    ensures { result ≡ state.is_any_after moment parts.now }
+{
+    parts.iter().any(|part| part.round.moment > moment)
+}
+
+// Whether a part has more than so many events.
+fn has_any_more_events(most: usize, parts: &[Part]) -> bool
+    ensures { result ≡ state.has_any_more_events most parts.now }
+{
+    parts.iter().any(|part| part.round.events.len() > most)
 }
 
 // So many agents before their first round, each with numbers of its own for its rounds.
