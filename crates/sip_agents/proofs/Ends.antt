@@ -31,29 +31,31 @@ module _ {A C : Type 0} (old mid new : AgentsState A C) (parts : List Part)
       → IfOk r (λ outputs. IfOk ran (λ both. (given_of outputs ≡ outputs_of both.1)
       × IsBack (agents_of both.0)))
       → OnOk r (IsOk ran) → EndsRound old new parts r
-  ends agents_of outputs_of given_of (Err fault) ran none memory lost back only = record {
-    refused = subst (λ f. IfSome f (λ fault'. (Err fault ≡ Err fault') × (new ≡ old))) (sym none)
-        tt;
-    memory = λ unrefused. (
-      memory,
-      ap (λ (a : AgentsState A C). a.agents) lost
-          ∙ ap (λ (a : AgentsState A C). a.agents) mid_is,
-    );
-    cut = ap (λ (a : AgentsState A C). a.cut) lost ∙ ap (λ (a : AgentsState A C). a.cut) mid_is;
-    count = ap (λ (a : AgentsState A C). a.count) lost
-        ∙ ap (λ (a : AgentsState A C). a.count) mid_is;
-  }
-  ends agents_of outputs_of given_of (Ok outputs) (Err e) none memory lost back only =
+  ends {O} agents_of outputs_of given_of (Err fault) ran none memory lost back only =
+      let r : Result O RoundFault = Err fault in record {
+        refused = subst (λ f. IfSome f (λ fault'. (r ≡ Err fault') × (new ≡ old))) (sym none)
+            tt;
+        memory = λ unrefused. (
+          memory,
+          ap (λ (a : AgentsState A C). a.agents) lost
+              ∙ ap (λ (a : AgentsState A C). a.agents) mid_is,
+        );
+        cut = ap (λ (a : AgentsState A C). a.cut) lost ∙ ap (λ (a : AgentsState A C). a.cut) mid_is;
+        count = ap (λ (a : AgentsState A C). a.count) lost
+            ∙ ap (λ (a : AgentsState A C). a.count) mid_is;
+      }
+  ends {O} agents_of outputs_of given_of (Ok outputs) (Err e) none memory lost back only =
       let wrong : false ≡ true = only in absurd cc
-  ends agents_of outputs_of given_of (Ok outputs) (Ok both) none memory lost back only = record {
-    refused = subst (λ f. IfSome f (λ fault'. (Ok outputs ≡ Err fault') × (new ≡ old))) (sym none)
-        tt;
-    memory = λ unrefused. tt;
-    cut = ap (λ (a : AgentsState A C). a.cut) back.1
-        ∙ ap (λ (a : AgentsState A C). a.cut) mid_is;
-    count = ap (λ (a : AgentsState A C). a.count) back.1
-        ∙ ap (λ (a : AgentsState A C). a.count) mid_is;
-  }
+  ends {O} agents_of outputs_of given_of (Ok outputs) (Ok both) none memory lost back only =
+      let r : Result O RoundFault = Ok outputs in record {
+        refused = subst (λ f. IfSome f (λ fault'. (r ≡ Err fault') × (new ≡ old))) (sym none)
+            tt;
+        memory = λ unrefused. tt;
+        cut = ap (λ (a : AgentsState A C). a.cut) back.1
+            ∙ ap (λ (a : AgentsState A C). a.cut) mid_is;
+        count = ap (λ (a : AgentsState A C). a.count) back.1
+            ∙ ap (λ (a : AgentsState A C). a.count) mid_is;
+      }
 
   pub answers : {O V W E : Type 0} (agent_of : A → List ℕ → ℕ → ℕ)
       (shard_of : C → List ℕ → ℕ → ℕ) (agents_of : V → List (AgentState C))
