@@ -1,5 +1,5 @@
 -- The turns of all agents in a round.
-use Rattle.std.proofs.Common.{◌≡◌, ℕ, zero, suc, ◌+◌, ◌*◌, ◌^◌, ◌<◌, List, [], ◌∷◌, ◌++◌, length, map, refl, sym, ◌∙◌, ap, subst, arith}
+use Rattle.std.proofs.Common.{◌≡◌, ℕ, zero, suc, ◌+◌, ◌*◌, ◌^◌, ◌<◌, List, [], ◌∷◌, ◌++◌, get_or, length, map, refl, sym, ◌∙◌, ap, subst, arith}
 use Rattle.std.proofs.lemmas.List.{length_push, length-map, map-append}
 use Rattle.std.specs.List.{AllByRecursion, AllZip}
 use Rattle.std.specs.Prelude.{Err, IfOk, None, Ok, Result, Some}
@@ -278,3 +278,25 @@ stands_more shard_of destination config rounds number own (first ∷ agents) age
   where
     later : (n k : ℕ) → n + suc k ≡ suc n + k
     later n k = omega arith
+
+-- ---- one of the agents
+
+-- the agent at an index stands for its own parts
+pub stands_at : {C : Type 0} (shard_of : C → List ℕ → ℕ → ℕ) (destination : Event → Destination)
+    (config : Config) (rounds : List Round) (number own k : ℕ) (agents : List (AgentState C))
+    (agent : AgentState C) → own ≡ number + k → k < length agents → agent ≡ get_or agents k agent
+    → EachStands destination config rounds shard_of number agents
+    → StandsFor shard_of agent (config_of config own) (own_rounds destination rounds own)
+stands_at shard_of destination config rounds number own k [] agent at inside is stand =
+    absurd (omega (arith, inside))
+stands_at shard_of destination config rounds number own zero (first ∷ agents) agent at inside is
+    stand =
+    let same : number ≡ own = omega (arith, at) in
+    subst (λ a. StandsFor shard_of a (config_of config own) (own_rounds destination rounds own))
+    (sym is)
+    (subst (λ n. StandsFor shard_of first (config_of config n) (own_rounds destination rounds n))
+    same stand.0)
+stands_at shard_of destination config rounds number own (suc k) (first ∷ agents) agent at inside is
+    stand =
+    stands_at shard_of destination config rounds (suc number) own k agents agent
+    (omega (arith, at)) (omega (arith, inside)) is stand.1

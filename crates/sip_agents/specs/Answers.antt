@@ -1,9 +1,10 @@
 -- The answers of several agents: each answers its own part of each round, and their outputs come
 -- one agent after another.
-use Rattle.std.specs.Prelude.{◌≡◌, ℕ, zero, suc, ◌+◌, ◌*◌, ◌^◌, List, [], ◌∷◌, ◌++◌, length, map, Some, unwrap_or}
+use Rattle.std.specs.Prelude.{◌≡◌, ◌⊎◌, ℕ, zero, suc, ◌+◌, ◌*◌, ◌^◌, List, [], ◌∷◌, ◌++◌, length, map, Some, unwrap_or}
 use Rattle.std.specs.List.{slice_get}
 use Rattle.sip_round.specs.AgentState.{AgentState}
 use Rattle.sip_round.specs.Answers.{StandsFor, last_moment, past_of, placed_answer}
+use Rattle.sip_round.specs.NextDue.{IsDueAfter, IsQuietAfter}
 use Rattle.sip_round.specs.declared.config.Config.{Config}
 use Rattle.sip_round.specs.declared.output.PlacedOutput.{PlacedOutput}
 use Rattle.sip_round.specs.declared.round.Event.{Event}
@@ -62,6 +63,21 @@ module _ (destination : Event → Destination) (config : Config) (rounds : List 
   EachStands shard_of number (agent ∷ agents) =
       StandsFor shard_of agent (config_of config number) (own_rounds destination rounds number)
       × EachStands shard_of (suc number) agents
+
+  -- none of so many agents, numbered upwards from this number, would do anything in a round without
+  -- events at this moment
+  abbrev pub AllAreQuiet : ℕ → ℕ → ℕ → Type 0
+  AllAreQuiet moment number zero = Unit {0}
+  AllAreQuiet moment number (suc count) =
+      IsQuietAfter (config_of config number) (own_rounds destination rounds number) moment
+      × AllAreQuiet moment (suc number) count
+
+  -- one of them holds something that is due at this moment
+  abbrev pub SomeIsDue : ℕ → ℕ → ℕ → Type 0
+  SomeIsDue moment number zero = ⊥
+  SomeIsDue moment number (suc count) =
+      IsDueAfter (config_of config number) (own_rounds destination rounds number) moment
+      ⊎ SomeIsDue moment (suc number) count
 
 -- the agents aren't broken, are at the round number and moment after these rounds, and each stands
 -- for its own parts of them

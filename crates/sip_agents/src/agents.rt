@@ -1,6 +1,9 @@
 //! Several agents, led through the rounds of one user agent.
 
-ghost use Rattle.std.specs.Prelude.{◌≡◌, ◌<◌, ◌≤◌, ◌^◌, [], IfOk, length, map};
+ghost use Rattle.std.specs.Prelude.{◌≡◌, ◌<◌, ◌≤◌, ◌^◌, ℕ, false, List, [], None, IfOk, IfSome, length, map};
+ghost use Rattle.sip_timers.specs.Queue.{is_due};
+ghost use Rattle.sip_round.specs.declared.config.Config.{Config as AConfig};
+ghost use Rattle.sip_round.specs.declared.round.Round.{Round as ARound};
 ghost use Rattle.sip_workers.specs.Ran.{IsNumbered};
 ghost use Rattle.sip_round.specs.declared.round.Event.{Event as AnEvent};
 ghost use Rattle.sip_agents.specs.declared.destination.Destination.{Destination as ADestination};
@@ -11,8 +14,9 @@ ghost use Rattle.sip_agents.specs.Steps.Ran.{AllRun, IsApart};
 use crate::agent_output::{AgentOutput, add_outputs};
 use crate::agent_work::{AgentDone, AgentWork};
 use crate::part::{Part, cut_round};
-use sip_message::Cut;
+use sip_message::{Cut, Message};
 use sip_round::{Agent, Config, MAX_EVENTS_OF_ROUND, MAX_MOMENT, NoMemory, Round, RoundFault};
+use sip_timers::earlier;
 use sip_workers::{OpenGate, Piece, dones_in_order, gather, run_alone, run_pieces};
 use std::alloc::{AllocError, Global};
 use std::marker::Model;
@@ -83,9 +87,12 @@ impl<A: Cut + Drop, C: Cut + Drop> Drop for Agents<A, C> {
 }
 
 impl<A: Cut + Drop, C: Cut + Copy> Agents<A, C> {
-    ghost use Rattle.std.specs.Prelude.{◌≡◌, ◌<◌, ◌≤◌, ◌^◌, ◌+◌, [], ◌∷◌, ◌++◌, true, IfErr, IfOk, IsOk, OnErr, OnOk, Err, None, Some, List, length};
+    ghost use Rattle.std.specs.Prelude.{◌≡◌, ◌<◌, ◌≤◌, ◌^◌, ◌+◌, [], ◌∷◌, ◌++◌, ℕ, false, true, IfErr, IfOk, IfSome, IsOk, OnErr, OnOk, Err, None, Some, List, length, unwrap_or};
     ghost use Rattle.sip_agents.specs.AgentsState.{EndsRound, destination_by, refusal_of};
-    ghost use Rattle.sip_agents.specs.Answers.{StandFor, answer};
+    ghost use Rattle.sip_agents.specs.Answers.{AllAreQuiet, EachStands, SomeIsDue, StandFor, answer, config_of, own_rounds};
+    ghost use Rattle.sip_agents.specs.Destination.{agent_of};
+    ghost use Rattle.sip_round.specs.NewTransactions.{would_begin};
+    ghost use Rattle.sip_timers.specs.Queue.{is_due};
     ghost use Rattle.sip_agents.specs.Parts.{parts_of};
     ghost use Rattle.sip_agents.specs.Steps.Ran.{moment_of};
     ghost use Rattle.sip_round.specs.declared.config.Config.{Config};
@@ -139,6 +146,62 @@ impl<A: Cut + Drop, C: Cut + Copy> Agents<A, C> {
         ensures { result ≡ self.now.next_round }
     {
         self.next_round
+    }
+
+    /// The agents in order; none if they are broken. Takes no memory.
+    pub fn agents(&self) -> &[Agent<C>]
+        ensures agents { result.now ≡ unwrap_or self.now.agents [] }
+
+        // Each is an agent that got nothing but its own parts of the rounds.
+        ensures each { (config : Config) (rounds : List Round)
+            → StandFor A.shard_of C.shard_of self.now config rounds
+            → EachStands (destination_by A.shard_of self.now) config rounds C.shard_of 0
+            result.now }
+    {
+        match &self.agents {
+            None => &[],
+            Some(agents) => agents.as_slice(),
+        }
+    }
+
+    /// The first moment, in ms, at which an agent holds something that is due, if there is one.
+    /// Until then a host may sleep. Takes no memory.
+    pub fn next_due(&self) -> Option<u64>
+        ensures broken { self.now.agents ≡ None → result ≡ None }
+
+        // At an earlier moment a round without events gives nothing, and changes nothing that is
+        // held; at this moment something is due.
+        ensures before { (config : Config) (rounds : List Round)
+            → StandFor A.shard_of C.shard_of self.now config rounds
+            → (moment : ℕ) → is_due moment result ≡ false
+            → AllAreQuiet (destination_by A.shard_of self.now) config rounds moment 0
+            self.now.count }
+        ensures due { IfSome result (λ due. (config : Config) (rounds : List Round)
+            → StandFor A.shard_of C.shard_of self.now config rounds
+            → SomeIsDue (destination_by A.shard_of self.now) config rounds due 0 self.now.count) }
+    {
+        first_due(self.agents())
+    }
+
+    /// Whether a request would begin a transaction with the agent of its Call-ID, if it came in the
+    /// next round (RFC 3261, section 17.2.3).
+    ///
+    /// # Errors
+    ///
+    /// Memory ran out.
+    pub fn would_begin(&self, message: &Message) -> Result<bool, AllocError>
+        ensures broken { self.now.agents ≡ None → IfOk result (λ begins. begins ≡ false) }
+        ensures begins { IfOk result (λ begins. (config : Config) (rounds : List Round)
+            → StandFor A.shard_of C.shard_of self.now config rounds
+            → let number = agent_of (A.shard_of self.now.cut) self.now.count message.now.call_id in
+            begins ≡ would_begin (config_of config number)
+            (own_rounds (destination_by A.shard_of self.now) rounds number) message.now) }
+    {
+        let number = self.cut.shard(message.call_id.as_slice(), self.count);
+        match self.agents().get(number) {
+            None => Ok(false),
+            Some(agent) => agent.would_begin(message),
+        }
     }
 
     /// The parts of a round, one for each agent.
@@ -271,6 +334,25 @@ impl<A: Cut + Drop, C: Cut + Copy> Agents<A, C> {
             self.last_moment = part.round.moment;
         }
         Ok(outputs)
+    }
+}
+
+// The first moment at which one of these agents holds something that is due.
+fn first_due<C: Cut + Drop>(agents: &[Agent<C>]) -> Option<u64>
+    ensures none { agents.now ≡ [] → result ≡ None }
+    ensures before { (destination : AnEvent → ADestination) (config : AConfig)
+        (rounds : List ARound) (number moment : ℕ)
+        → spec.EachStands destination config rounds C.shard_of number agents.now
+        → is_due moment result ≡ false
+        → spec.AllAreQuiet destination config rounds moment number (length agents.now) }
+    ensures due { IfSome result (λ due. (destination : AnEvent → ADestination) (config : AConfig)
+        (rounds : List ARound) (number : ℕ)
+        → spec.EachStands destination config rounds C.shard_of number agents.now
+        → spec.SomeIsDue destination config rounds due number (length agents.now)) }
+{
+    match agents {
+        [] => None,
+        [agent, others @ ..] => earlier(agent.next_due(), first_due(others)),
     }
 }
 
