@@ -14,7 +14,7 @@ returns-in-Some-clause-begins g c =
     let number = c.shard-number.result in
     let own = cut all.cut call_id all.count in
     let number_is : number ≡ own = c.shard-number.ensures
-    ∙ ap (λ name. cut c.self.inside.cut name c.self.inside.count) c.as_slice.ensures
+    ∙ ap (λ name. cut c.self.inside.cut name c.self.inside.count) c.as_slice.ensures.value
     ∙ ap (λ (a : AgentsState _ _). cut a.cut call_id a.count) c.self.view_is in
     let at : own ≡ 0 + number = omega (arith, number_is) in
     IfOk-weaker c.would_begin.result _ _
