@@ -1,6 +1,6 @@
 -- How a round of several agents ends.
 use Rattle.std.proofs.Common.{◌≡◌, ℕ, ◌+◌, ◌<◌, false, true, List, [], ◌∷◌, ◌++◌, ap, sym, subst, ◌∙◌}
-use Rattle.std.specs.Prelude.{Err, IfOk, IfSome, IsOk, None, Ok, OnErr, OnOk, Option, Result, Some}
+use Rattle.std.specs.Prelude.{Err, IfOk, IfSome, IsOk, None, Ok, OnErr, OnOk, Result, Some}
 use Rattle.sip_round.specs.AgentState.{AgentState}
 use Rattle.sip_round.specs.declared.config.Config.{Config}
 use Rattle.sip_round.specs.declared.round.Round.{Round}

@@ -1,7 +1,7 @@
 -- Outputs of agents that are joined, one agent after another.
 use Rattle.std.proofs.Common.{◌≡◌, ℕ, zero, suc, ◌+◌, ◌<◌, List, [], ◌∷◌, ◌++◌, length, map, get_or, refl, sym, ◌∙◌, ap, arith, append_assoc, append-nil}
 use Rattle.std.proofs.lemmas.List.{map-append}
-use Rattle.std.specs.Prelude.{Err, Ok, Result}
+use Rattle.std.specs.Prelude.{Ok, Result}
 use Rattle.sip_round.specs.declared.output.PlacedOutput.{PlacedOutput}
 use Rattle.sip_agents.specs.declared.agent_output.AgentOutput.{AgentOutput}
 use Rattle.sip_agents.specs.declared.part.Part.{Part}

@@ -1,5 +1,5 @@
 -- `agent_of_datagram` takes the first value of the header.
-use Rattle.std.proofs.Common.{◌≡◌, ℕ, List, Option, None, Some, drop, refl, ap, sym, ◌∙◌}
+use Rattle.std.proofs.Common.{◌≡◌, ℕ, List, drop, refl, ap, sym, ◌∙◌}
 use Rattle.std.specs.Prelude.{codes}
 use Rattle.std.specs.List.{slice_get}
 use Rattle.std.specs.Option.{option_copied, option_map_or}

@@ -1,5 +1,5 @@
 -- `put` puts the event into the parts for which it is.
-use Rattle.std.proofs.Common.{◌≡◌, ◌<◌, ◌∙◌, sym, ap, subst, arith, length, slice_set, vec_len}
+use Rattle.std.proofs.Common.{◌<◌, ◌∙◌, sym, ap, subst, arith, length, slice_set, vec_len}
 use Rattle.sip_agents.specs.Steps.Put.{IsWithin, with_event, with_event_in}
 use Rattle.sip_agents.proofs.Cutting.{on_ok, put_at, put_in_each}
 use Rattle.sip_agents.proofs.part.put.Goals as goal

@@ -1,5 +1,5 @@
 -- `Agents::would_begin` asks the agent of the Call-ID.
-use Rattle.std.proofs.Common.{◌≡◌, ◌+◌, ◌∙◌, ap, sym, arith}
+use Rattle.std.proofs.Common.{◌≡◌, ◌+◌, ◌∙◌, ap, arith}
 use Rattle.std.proofs.lemmas.Result.{IfOk-weaker}
 use Rattle.sip_agents.specs.AgentsState.{AgentsState, destination_by}
 use Rattle.sip_agents.specs.Answers.{config_of, own_rounds}
