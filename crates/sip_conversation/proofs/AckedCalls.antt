@@ -1,5 +1,5 @@
 -- Each ACK that a call sends as a text is in the dialog of a 2xx, of which the user is told at one
--- of the call's inputs.
+-- of the call's inputs, and has a branch that an event of the call made.
 use Rattle.std.proofs.Common.{◌≡◌, ℕ, Bool, true, false, List, [], ◌∷◌, ◌++◌, refl, sym, ap, ◌∙◌, subst}
 use Rattle.std.specs.Prelude.{Contains, IfSome, Option, None, Some, codes, unwrap_or, if◌then◌else◌}
 use Rattle.std.specs.List.{AllByRecursion, list_any}
@@ -9,6 +9,7 @@ use Rattle.sip_message.specs.Content.{Content, with_content_of}
 use Rattle.sip_message.specs.Addr.{IsAddr}
 use Rattle.sip_message.specs.Message.{is_request_message}
 use Rattle.sip_message.specs.Party.{tag_of}
+use Rattle.sip_message.specs.TopVia.{top_branch}
 use Rattle.sip_message.specs.declared.id.Id.{Id}
 use Rattle.sip_message.specs.declared.message.Message.{Message}
 use Rattle.keyed_machine.specs.Machine.{Timed, outputs_from}
@@ -44,13 +45,14 @@ use Rattle.sip_clients.specs.declared.event.Event.{Event}
 use Rattle.sip_calls.specs.Call.{CallItem, call_machine, call_step, event_of, received}
 use Rattle.sip_calls.specs.Histories.{call_from}
 use Rattle.sip_calls.specs.OwnCall.{AreSidesOf, IsCallOf, IsInputOf}
-use Rattle.sip_calls.specs.Provisionals.{EventsDiffer, side_held}
+use Rattle.sip_calls.specs.Provisionals.{EventsDiffer, event_in, event_of_kind, side_held}
 use Rattle.sip_calls.specs.Sides.{side_of}
 use Rattle.sip_calls.specs.declared.call.Call.{Call}
 use Rattle.sip_calls.specs.declared.calls.Calls.{Calls}
 use Rattle.sip_calls.proofs.Owing.{owes_as_told}
 use Rattle.sip_calls.proofs.OwnCall.{each_notice_is_own}
-use Rattle.sip_conversation.proofs.Branches.{either}
+use Rattle.sip_conversation.proofs.Branches.{HasBranch, agent_branch, either, made_branch}
+use Rattle.sip_conversation.proofs.CallBranches.{AnyCancel}
 use Rattle.sip_conversation.proofs.DialogOfReply.{Reply, dialog_named, has_so, name_so}
 use Rattle.sip_conversation.proofs.HeardReplies.{WasHeard}
 use Rattle.sip_conversation.proofs.KeepsRules.{KeepsInput, KeepsRulesWith}
@@ -138,27 +140,32 @@ held_of calls call_id state (timed ∷ inputs) its of =
 
 -- ---- the ACKs of a call
 
-module _ (calls : Calls) (call_id : List ℕ) (all : List (Timed CallItem)) where
-  -- an ACK of this Call-ID; at one of the call's inputs the user is told of a 2xx in its dialog, to
-  -- an INVITE with its number
+module _ (calls : Calls) (call_id : List ℕ) (all : List (Timed CallItem)) (Came : Id → Type 0)
+  where
+  -- an ACK of this Call-ID, with the branch of an event; at one of the call's inputs the user is
+  -- told of a 2xx in its dialog, to an INVITE with its number
   pub record IsAckOf (ack : Message) : Type 0 where
     pub is_request : is_request_message ack ≡ true
     pub method : ack.cseq.method ≡ codes "ACK"
     pub call_id_is : ack.call_id ≡ call_id
+    pub branch : HasBranch calls.seed call_id Came AnyCancel (top_branch ack)
     pub heard : WasHeard Is2xx calls all (dialog_id_of_tags (tag_of ack.from) (tag_of ack.to))
         ack.cseq.number
 
   made_so : (dialog : Dialog) (number : ℕ) → dialog.call_id ≡ call_id
-      → WasHeard Is2xx calls all (name_of_dialog dialog) number → (event : Event)
-      (content : Content)
-      → IsAckOf (request_in dialog (codes "ACK") number content (branch_of event) event.local)
+      → WasHeard Is2xx calls all (name_of_dialog dialog) number → (id : Id) (now : ℕ) → Came id
+      → (content : Content)
+      → IsAckOf (request_in dialog (codes "ACK") number content
+      (branch_of (event_of calls id now)) calls.local)
   unfolding with_content_of
-  made_so dialog number its heard event content = record {
+  made_so dialog number its heard id now came content =
+      let event = event_of calls id now in record {
     is_request = refl;
     method = refl;
     call_id_is = its;
+    branch = (id, came, agent_branch calls.local (branch_of event) ∙ made_branch event);
     heard = subst (λ name. WasHeard Is2xx calls all name number)
-        (sym (request_named dialog (codes "ACK") number content (branch_of event) event.local))
+        (sym (request_named dialog (codes "ACK") number content (branch_of event) calls.local))
         heard;
   }
 
@@ -174,9 +181,10 @@ module _ (calls : Calls) (call_id : List ℕ) (all : List (Timed CallItem)) wher
         (found_one (IsDialogOf call_id) (is_dialog_id name) (side_of call).dialogs
         (of.state).dialogs)
 
-    owed_pays : all ≡ front ++ rest → PaysIn IsAckOf (side_of call)
-    owed_pays are name dialog at (Prack rseq number) among = tt
-    owed_pays are name dialog at (Ack invite number) among =
+    owed_pays : (id : Id) (now : ℕ) → Came id → all ≡ front ++ rest
+        → PaysIn IsAckOf (event_of calls id now) (side_of call)
+    owed_pays id now came are name dialog at (Prack rseq number) among = tt
+    owed_pays id now came are name dialog at (Ack invite number) among =
         let owed = owes_as_told calls front differ name dialog
         (ap (λ o. dialog_at name (side_held o).dialogs) held ∙ at) in
         let own = same_name name (name_of_dialog dialog.dialog)
@@ -187,7 +195,7 @@ module _ (calls : Calls) (call_id : List ℕ) (all : List (Timed CallItem)) wher
         (asked_heard Is2xx calls front rest name (Ack invite number) number
         (λ status client response asks. ack_asked status client response invite number asks)
         (owed_was_asked calls name front (Ack invite number)
-        (subst (λ pending. Contains pending (Ack invite number)) owed among)))))
+        (subst (λ pending. Contains pending (Ack invite number)) owed among))))) id now came
 
     request_of : (id : Id) (client : Client) → lookup (is_id id) call.clients ≡ Some client
         → IsRequestOf call_id client
@@ -204,8 +212,9 @@ module _ (calls : Calls) (call_id : List ℕ) (all : List (Timed CallItem)) wher
 
     hears_pays : (id : Id) (now : ℕ) (up : AnUp)
         → all ≡ front ++ record { moment = now; input = Some (id, Up up) } ∷ rest → (k : UpKind)
-        → up.kind ≡ k → KindPays IsAckOf call (event_of calls id now) up k
-    hears_pays id now up are (kind.Response response) is =
+        → up.kind ≡ k → IfSome (event_of_kind id k) Came
+        → KindPays IsAckOf call (event_of calls id now) up k
+    hears_pays id now up are (kind.Response response) is came =
         λ status status_is client found success has told.
         let dialogs = (side_of call).dialogs in
         let reply = reply_for (event_of calls id now) up.id up.call_id response status client in
@@ -248,31 +257,36 @@ module _ (calls : Calls) (call_id : List ℕ) (all : List (Timed CallItem)) wher
         made_so (success_dialog reply client dialogs).dialog client.request.cseq.number
         its.call_id_is
         (subst (λ name. WasHeard Is2xx calls all name client.request.cseq.number)
-        (sym own ∙ its.named) heard)
-    hears_pays id now up are (kind.Request request reply_to) is = tt
-    hears_pays id now up are (kind.Ack ack) is = tt
-    hears_pays id now up are kind.Timeout is = tt
-    hears_pays id now up are kind.Failed is = tt
+        (sym own ∙ its.named) heard) id now came
+    hears_pays id now up are (kind.Request request reply_to) is came = tt
+    hears_pays id now up are (kind.Ack ack) is came = tt
+    hears_pays id now up are kind.Timeout is came = tt
+    hears_pays id now up are kind.Failed is came = tt
 
   input_pays : (front rest : List (Timed CallItem)) (state : Option Call)
       → call_from calls None front ≡ state → (now : ℕ) (input : Option CallItem)
       → all ≡ front ++ record { moment = now; input = input } ∷ rest → EventsDiffer front
-      → IsCallOf call_id state → InputPays IsAckOf calls state input now
-  input_pays front rest None held now input are differ of = tt
-  input_pays front rest (Some call) held now None are differ of = tt
-  input_pays front rest (Some call) held now (Some (id, Up up)) are differ of =
-      hears_pays front rest call held differ of id now up are up.kind refl
-  input_pays front rest (Some call) held now (Some (id, User command)) are differ of = (
+      → IsCallOf call_id state → IfSome (event_in input) Came → InputPays IsAckOf calls state input now
+  input_pays front rest None held now input are differ of came = tt
+  input_pays front rest (Some call) held now None are differ of came = tt
+  input_pays front rest (Some call) held now (Some (id, Up up)) are differ of came =
+      hears_pays front rest call held differ of id now up are up.kind refl came
+  input_pays front rest (Some call) held now (Some (id, User command)) are differ of came = (
     owed_pays front (record { moment = now; input = Some (id, User command) } ∷ rest) call held
-        differ of are,
+        differ of id now came are,
     named_so calls front differ call held,
   )
 
   -- ---- all inputs
 
+  abbrev AllCome : List (Timed CallItem) → Type 0
+  AllCome inputs = AllByRecursion (λ timed. IfSome (event_in timed.input) Came) inputs
+
   all_pay : EventsDiffer all → AllByRecursion (λ timed. IsInputOf call_id timed.input) all
-      → AllPay IsAckOf calls all
-  all_pay differ its before timed after are =
+      → AllCome all → AllPay IsAckOf calls all
+  all_pay differ its come before timed after are =
+      let came = all_of_parts (λ (timed : Timed CallItem). IfSome (event_in timed.input) Came)
+      before (timed ∷ after) (subst AllCome are come) in
       let state = call_from calls None before in
       let early = all_of_parts (λ (timed : Timed CallItem). IsInputOf call_id timed.input) before
       (timed ∷ after)
@@ -280,12 +294,12 @@ module _ (calls : Calls) (call_id : List ℕ) (all : List (Timed CallItem)) wher
       its) in
       input_pays before after state refl timed.moment timed.input are
       (front_differ before (timed ∷ after) (subst EventsDiffer are differ))
-      (held_of calls call_id None before early.0 tt)
+      (held_of calls call_id None before early.0 tt) (came.1).0
 
   -- each text that the call sends is that of such an ACK, which keeps the rules
   pub all_acked : (key : List ℕ) → IsAddr calls.local → EventsDiffer all
-      → AllByRecursion (λ timed. IsInputOf call_id timed.input) all
+      → AllByRecursion (λ timed. IsInputOf call_id timed.input) all → AllCome all
       → AllByRecursion (λ timed. KeepsInput timed.input) all
       → AllByRecursion (KeepsRulesWith IsAckOf) (outputs_from (call_machine calls) key None all)
-  all_acked key address differ its keep =
-      call_keeps IsAckOf calls address key all (all_pay differ its) keep
+  all_acked key address differ its come keep =
+      call_keeps IsAckOf calls address key all (all_pay differ its come) keep
