@@ -138,49 +138,49 @@ module _ (configs : Side → Config) (fair : IsFair configs) (before : List Turn
     (carried : Carried configs before) (keep : CallsKeepRules configs before)
     (carried_so : Carried configs (before ++ turn ∷ []))
     (keep_so : CallsKeepRules configs (before ++ turn ∷ [])) (types : CommandsKeepTypes before)
-    where
-  abbrev front : List Turn
-  front = before ++ turn ∷ []
+  where
+    abbrev front : List Turn
+    front = before ++ turn ∷ []
 
-  abbrev other : Side
-  other = peer turn.side
+    abbrev other : Side
+    other = peer turn.side
 
-  -- the other side had said it before the turn
-  said_before : (message : Message) → (came : ComesUnchanged configs front turn.side message)
-      → IsSaid (configs other) (rounds_of other before) came.original
-  said_before message came =
-      subst (λ rounds. IsSaid (configs other) rounds came.original) (peer_rounds before turn)
-      came.said
+    -- the other side had said it before the turn
+    said_before : (message : Message) → (came : ComesUnchanged configs front turn.side message)
+        → IsSaid (configs other) (rounds_of other before) came.original
+    said_before message came =
+        subst (λ rounds. IsSaid (configs other) rounds came.original) (peer_rounds before turn)
+        came.said
 
-  -- it comes up under the Call-ID of a request with its branch; one event made both
-  its_call : (call_id : List ℕ) (ack : Message) → is_request_message ack ≡ true
-      → AckUp configs fair before turn call_id ack
-      → (came : ComesUnchanged configs front turn.side ack)
-      → IsSaid (configs other) (rounds_of other before) came.original
-      → AreCounted (configs other) (rounds_of other before) → (came.original).call_id ≡ call_id
-  its_call call_id ack asks up came said few =
-      let here = configs turn.side in
-      let there = configs other in
-      let known = ack_first here (rounds_of turn.side front) fair.transactions
-      (fair.calls turn.side) call_id up.up up.comes ack asks up.kind_is in
-      let first = known.first in
-      let first_came = messages_unchanged fair.transactions configs fair.addresses front carried_so
-      keep_so turn.side (up.up).key known.id first known.reply_to known.given in
-      let same = came_same there.local ack came.original came.same asks in
-      let first_same = came_same there.local first first_came.original first_came.same known.asks
-      in
-      let of : (message : Message) → IsSaid there (rounds_of other before) message
-      → IsMessage message → length (written message) ≤ 65535
-      → is_request_message message ≡ true
-      → IsOfCall there (rounds_of other before) (fair.calls other) message =
-      said_of configs fair before carried keep types other in
-      one_call_id there (rounds_of other before) (fair.calls other) few came.original
-      first_came.original (of came.original said came.rules came.short same.asks)
-      (of first_came.original (said_before first first_came) first_came.rules first_came.short
-      first_same.asks)
-      (ap lower (sym same.branch) ∙ (sym known.branch ∙ (known.first_branch
-      ∙ ap lower first_same.branch)))
-      ∙ (sym first_same.call ∙ (known.call ∙ up.call_is))
+    -- it comes up under the Call-ID of a request with its branch; one event made both
+    its_call : (call_id : List ℕ) (ack : Message) → is_request_message ack ≡ true
+        → AckUp configs fair before turn call_id ack
+        → (came : ComesUnchanged configs front turn.side ack)
+        → IsSaid (configs other) (rounds_of other before) came.original
+        → AreCounted (configs other) (rounds_of other before) → (came.original).call_id ≡ call_id
+    its_call call_id ack asks up came said few =
+        let here = configs turn.side in
+        let there = configs other in
+        let known = ack_first here (rounds_of turn.side front) fair.transactions
+        (fair.calls turn.side) call_id up.up up.comes ack asks up.kind_is in
+        let first = known.first in
+        let first_came = messages_unchanged fair.transactions configs fair.addresses front carried_so
+        keep_so turn.side (up.up).key known.id first known.reply_to known.given in
+        let same = came_same there.local ack came.original came.same asks in
+        let first_same = came_same there.local first first_came.original first_came.same known.asks
+        in
+        let of : (message : Message) → IsSaid there (rounds_of other before) message
+        → IsMessage message → length (written message) ≤ 65535
+        → is_request_message message ≡ true
+        → IsOfCall there (rounds_of other before) (fair.calls other) message =
+        said_of configs fair before carried keep types other in
+        one_call_id there (rounds_of other before) (fair.calls other) few came.original
+        first_came.original (of came.original said came.rules came.short same.asks)
+        (of first_came.original (said_before first first_came) first_came.rules first_came.short
+        first_same.asks)
+        (ap lower (sym same.branch) ∙ (sym known.branch ∙ (known.first_branch
+        ∙ ap lower first_same.branch)))
+        ∙ (sym first_same.call ∙ (known.call ∙ up.call_is))
 
 pub acks_told_said : (configs : Side → Config) → IsFair configs → (turns : List Turn)
     → Carried configs turns → CommandsKeepTypes turns → AcksToldWereSaid configs turns
