@@ -1,6 +1,6 @@
 -- A request that an agent says is an ACK, or one for which its user asked; a PRACK may also be the
 -- agent's own, without a body.
-use Rattle.std.proofs.Common.{◌≡◌, ℕ, true, false, List, [], ◌∷◌, ◌++◌, refl, sym, ap, ◌∙◌, subst, append_assoc}
+use Rattle.std.proofs.Common.{◌≡◌, ◌⊎◌, inl, inr, ⊎_elim, ℕ, true, false, List, [], ◌∷◌, ◌++◌, refl, sym, ap, ◌∙◌, subst, append_assoc}
 use Rattle.std.specs.Prelude.{Contains, IfSome, None, Option, Some, codes}
 use Rattle.std.specs.List.{AllByRecursion}
 use Rattle.std.specs.Map.{lookup}
@@ -18,6 +18,7 @@ use Rattle.keyed_machine.specs.Laws.{EachKeyAlone}
 use Rattle.keyed_machine.specs.Machine.{Timed, given_at, outputs_from, tick_at}
 use Rattle.sip_transactions.specs.declared.input.Command.TheVariants as order
 use Rattle.sip_user.specs.declared.command.Cancel.{Cancel}
+use Rattle.sip_user.specs.declared.command.DialogBody.{DialogBody}
 use Rattle.sip_user.specs.declared.command.UserCommand.{UserCommand}
 use Rattle.sip_user.specs.declared.command.UserCommand.TheVariants as user
 use Rattle.sip_user.specs.declared.item.CallOut.{CallOut}
@@ -67,11 +68,19 @@ module _ (config : Config) (rounds : List Round)
         (given_at now (event, User command))
     pub asks : request_asked_by command ≡ Some (method, body)
 
-  abbrev Pracked : List ℕ → List ℕ → Type 0
-  Pracked call_id = IsPracked config rounds call_id
+  -- the user gave the command Prack with this body, by this event; or there is no body
+  record GavePrack (call_id : List ℕ) (event : Id) (body : List ℕ) : Type 0 where
+    pub now : ℕ
+    pub command : DialogBody
+    pub gave : Contains (call_inputs_of config rounds call_id)
+        (given_at now (event, User (user.Prack command)))
+    pub body_is : command.content.body ≡ body
 
-  empty : (call_id : List ℕ) → Pracked call_id []
-  empty call_id = ByAgent refl
+  abbrev Pracked : List ℕ → Id → List ℕ → Type 0
+  Pracked call_id event body = GavePrack call_id event body ⊎ (body ≡ [])
+
+  empty : (call_id : List ℕ) (event : Id) → Pracked call_id event []
+  empty call_id event = inr refl
 
   module _ (call_id : List ℕ) where
     abbrev OutIsAsked : CallOut → Type 0
@@ -102,7 +111,7 @@ module _ (config : Config) (rounds : List Round)
         asked now event (user.Respond respond) among
     input_asks now (Some (event, User (user.Ack ack))) among = asked now event (user.Ack ack) among
     input_asks now (Some (event, User (user.Prack prack))) among =
-        ByUser record { event = event; now = now; command = prack; gave = among; body_is = refl }
+        inl record { now = now; command = prack; gave = among; body_is = refl }
     input_asks now (Some (event, User (user.Cancel cancel))) among =
         asked now event (user.Cancel cancel) among
     input_asks now (Some (event, User (user.AbandonRequest abandon))) among =
@@ -260,11 +269,25 @@ module _ (config : Config) (rounds : List Round)
 
   started_pracked : (id : Id) (key : Key) (of : List ℕ) (request : Message) (to : Addr)
       → CallSays config rounds (call_out.Command id (order.Start key of request to))
-      → request.cseq.method ≡ codes "PRACK" → Pracked request.call_id request.body
+      → request.cseq.method ≡ codes "PRACK" → IsPracked config rounds request
   started_pracked id key of request to says is =
       let out = call_out.Command id (order.Start key of request to) in
-      subst (λ call_id. Pracked call_id request.body) (sym (out_own out says).own.call)
-      ((out_asks out says).pracks is)
+      let own = out_own out says in
+      ⊎_elim
+      (λ gave. ByUser record {
+        event = id;
+        now = gave.now;
+        command = gave.command;
+        gave = subst (λ call_id. Contains (call_inputs_of config rounds call_id)
+            (given_at gave.now (id, User (user.Prack gave.command)))) (sym own.own.call)
+            gave.gave;
+        body_is = gave.body_is;
+        key = key;
+        to = to;
+        starts = subst (λ call_id. CallSays config rounds
+            (call_out.Command id (order.Start key call_id request to))) own.of_is says;
+      })
+      (λ none. ByAgent none) ((out_asks out says).pracks is)
 
   no_request : (message : Message) → is_request_message message ≡ true
       → is_request_message message ≡ false → ⊥
@@ -300,9 +323,9 @@ module _ (config : Config) (rounds : List Round)
 
   pub user_pracked : (message : Message) → IsSaid config rounds message → IsMessage message
       → is_request_message message ≡ true → message.cseq.method ≡ codes "PRACK"
-      → Pracked message.call_id message.body
+      → IsPracked config rounds message
   user_pracked message (Asked id (order.Start key of request to) says same) rules is prack =
-      subst (λ (m : Message). Pracked m.call_id m.body) same
+      subst (IsPracked config rounds) same
       (started_pracked id key of request to says
       (ap (λ (m : Message). m.cseq.method) same ∙ prack))
   user_pracked message (Asked id (order.Answer key response) says same) rules is prack =

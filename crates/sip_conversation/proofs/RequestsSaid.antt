@@ -58,7 +58,7 @@ use Rattle.sip_conversation.specs.Replies.{AreCounted}
 use Rattle.sip_conversation.specs.Conversation.{Carried, Side, Turn, given_by, peer, rounds_of}
 use Rattle.sip_conversation.specs.Messages.{CallsKeepRules, ComesUp, IsSaid, come_from}
 use Rattle.sip_conversation.specs.Requests.{RequestsToldWereAskedFor, SaidRequest}
-use Rattle.sip_conversation.specs.ToldPracks.{IsPracked, PracksToldWereSaid, SaidPrackOf}
+use Rattle.sip_conversation.specs.ToldPracks.{PracksToldWereSaid, SaidPrackOf}
 use Rattle.sip_conversation.proofs.Along.{along, among_after, given_after}
 use Rattle.sip_conversation.proofs.Among.{each_of}
 use Rattle.sip_transactions.proofs.RowFacts.{and-left}
@@ -309,11 +309,8 @@ module _ (configs : Side → Config) (fair : IsFair configs) (before : List Turn
           has_rack = same.rack ∙ of.has_rack;
           rseq_is = refl;
           body_is = same.body;
-          by = subst (λ of. IsPracked (configs other) (rounds_of other before) of request.body)
-              call (subst (IsPracked (configs other) (rounds_of other before)
-              comes.original.call_id)
-              same.body (user_pracked (configs other) (rounds_of other before)
-              (fair.calls other) comes.original said comes.rules same.is_request method));
+          by = user_pracked (configs other) (rounds_of other before) (fair.calls other)
+              comes.original said comes.rules same.is_request method;
         }
 
   -- ---- one call

@@ -198,7 +198,8 @@ pub fn acks_told_were_said(one: Config, other: Config)
 /// In such a conversation, for each PRACK that a user is told of in a turn, the other side said a
 /// PRACK of that Call-ID in the turns before, with that body, and with the RSeq that is told in
 /// RAck (RFC 3262, section 7.2). Its user gave the command Prack under that Call-ID with that body,
-/// or there is no body: such a PRACK may be the agent's own.
+/// and a transaction was started with the PRACK under the id of that command. Or there is no body:
+/// such a PRACK may be the agent's own.
 pub fn pracks_told_were_said(one: Config, other: Config)
     ensures { (turns : List Turn) → Carried (of_sides one other) turns
         → CommandsKeepTypes turns
