@@ -1,54 +1,47 @@
 -- Of all that a call gives at one input, only the first can be the notice of a response. So such a
 -- notice stands before what goes out with it.
-use Rattle.std.proofs.Common.{◌≡◌, ℕ, Bool, true, false, cond, List, [], ◌∷◌, ◌++◌, refl, sym, subst}
-use Rattle.std.specs.Prelude.{Option, None, Some}
+use Rattle.std.proofs.Common.{◌≡◌, ℕ, ◌+◌, Bool, true, false, ◌||◌, ◌&&◌, List, [], ◌∷◌, ◌++◌, refl, sym, subst}
+use Rattle.std.specs.Prelude.{Option, None, Some, ◌==◌, fold, is_some, length, not, unwrap_or, if◌then◌else◌}
 use Rattle.std.specs.List.{AllByRecursion}
-use Rattle.std.specs.Map.{set_value}
-use Rattle.std.specs.Option.{option_map, option_map_or}
+use Rattle.std.specs.Map.{lookup, remove_entry, set_value}
+use Rattle.std.specs.Option.{option_map_or}
+use Rattle.sip_message.specs.Content.{Content, content_of_body}
 use Rattle.sip_message.specs.declared.id.Id.{Id}
 use Rattle.sip_message.specs.declared.message.Message.{Message}
 use Rattle.sip_transactions.specs.declared.output.UpKind.{UpKind}
 use Rattle.sip_transactions.specs.declared.output.UpKind.TheVariants as kind
 use Rattle.sip_transactions.specs.declared.output.Up.{Up as AnUp}
-use Rattle.sip_held_dialogs.specs.Dialogs.{Dialogs, dialog_at, early_ended, ended_at, lives}
+use Rattle.sip_held_dialogs.specs.Dialogs.{Dialogs, early_ended, ended_at, is_dialog_id, lives}
 use Rattle.sip_held_dialogs.specs.Ids.{is_id}
-use Rattle.sip_held_dialogs.specs.Requests.{is_final}
+use Rattle.sip_held_dialogs.specs.Requests.{has_to_tag, is_final, is_success, requires_100rel}
 use Rattle.sip_held_dialogs.specs.declared.held_dialog.DialogId.{DialogId}
 use Rattle.sip_held_dialogs.specs.declared.held_dialog.HeldDialog.{HeldDialog}
+use Rattle.sip_held_dialogs.specs.declared.pending_request.PendingRequest.{PendingRequest}
+use Rattle.sip_held_dialogs.specs.declared.pending_request.PendingRequest.TheVariants.{Ack, Prack}
 use Rattle.sip_held_dialogs.proofs.Each.{both}
+use Rattle.sip_user.specs.Refusal.{first_refusal}
 use Rattle.sip_user.specs.declared.item.CallOut.{CallOut}
 use Rattle.sip_user.specs.declared.item.CallOut.TheVariants as out
 use Rattle.sip_user.specs.declared.item.Item.TheVariants.{Up, User}
 use Rattle.sip_user.specs.declared.notice.Notice.TheVariants as notice
-use Rattle.sip_clients.specs.Answers.{ack_of}
-use Rattle.sip_clients.specs.Cancel.{after_response, cancel_client, freed_by, sent_beside}
-use Rattle.sip_clients.specs.Client.{Clients, Side, client_at}
-use Rattle.sip_clients.specs.Clients.{found_taken, reply_name, reply_of, reply_settled, response_taken, settled, status_of}
-use Rattle.sip_clients.specs.Dialogs.{accepted, dialog_for_provisional, ended_with, own_ended}
-use Rattle.sip_clients.specs.Outputs.{ack_said, direct, request_said, start_command}
+use Rattle.sip_clients.specs.Client.{Clients, Side}
+use Rattle.sip_clients.specs.Outputs.{start_command}
 use Rattle.sip_clients.specs.Provisionals.{is_response}
-use Rattle.sip_clients.specs.ReceivedResponse.{is_last, reply_case}
-use Rattle.sip_clients.specs.Replied.{Replied, ack_owed, after_dialog, by_reply_case, ends_dialog, prack_owed, replied_in, reply_taken, request_over}
+use Rattle.sip_clients.specs.Rules.Ends.{request_over}
+use Rattle.sip_clients.specs.Rules.Requests.{PendingOutcome, cancel_request, dialog_of_kind, is_invite_kind, method_of, pending_outcome, pending_sent, pending_with, refusals_in, start}
+use Rattle.sip_clients.specs.Rules.Responses.{Outcome, accepted, asks_for, dialog_made_by, dialog_response, first_success, has_dialog, is_initial, kept, last_response, notice_of, outcome_of, reliable_response, response_received, response_to, status_of, success_again, success_in, waiting_cancel}
 use Rattle.sip_clients.specs.declared.answers.SentAck.{SentAck}
+use Rattle.sip_clients.specs.declared.client.Cancelling.TheVariants.{NotAsked, Sent}
 use Rattle.sip_clients.specs.declared.client.Client.{Client}
-use Rattle.sip_clients.specs.declared.client.RequestKind.{RequestKind}
-use Rattle.sip_clients.specs.declared.client.RequestKind.TheVariants as asks
 use Rattle.sip_clients.specs.declared.event.Event.{Event}
-use Rattle.sip_clients.specs.declared.outputs.ClientChange.{ClientChange}
-use Rattle.sip_clients.specs.declared.outputs.ClientChange.TheVariants as change
-use Rattle.sip_clients.specs.declared.reply.ReceivedResponse.{ReceivedResponse}
-use Rattle.sip_clients.specs.declared.reply.ReplyCase.{ReplyCase}
-use Rattle.sip_clients.specs.declared.reply.ReplyCase.TheVariants as reply
-use Rattle.sip_clients.specs.declared.send_outcome.SendOutcome.{SendOutcome}
-use Rattle.sip_clients.specs.declared.send_outcome.SendOutcome.TheVariants.{Sent, Waits, Refused}
 use Rattle.sip_clients.proofs.ClientOuts.{Allows, early, end_told}
-use Rattle.sip_calls.specs.Call.{CallItem, Taken, call_step, event_of, new_call}
+use Rattle.sip_calls.specs.Call.{CallItem, Taken, call_step, event_of, new_call, received}
 use Rattle.sip_calls.specs.Sides.{side_of}
-use Rattle.sip_calls.specs.Steps.Call.{step_taken, up_taken}
 use Rattle.sip_calls.specs.declared.call.Call.{Call}
 use Rattle.sip_calls.specs.declared.calls.Calls.{Calls}
-use Rattle.sip_calls.proofs.SameSteps.{same_step}
+use Rattle.sip_conversation.proofs.Branches.{either, found_or}
 use Rattle.sip_conversation.proofs.CallOuts.{KindTells, OutFits, step_fits}
+use Rattle.sip_conversation.proofs.SoundReplies.{reply_for}
 
 -- ---- lists
 
@@ -87,112 +80,153 @@ allows = record {
   started = started_quiet;
 }
 
-request_quiet : (event : Event) (call_id : List ℕ) (name : DialogId) (outcome : SendOutcome)
-    → Quiet (request_said event call_id name outcome).0
-request_quiet event call_id name (Sent sending) = tt
-request_quiet event call_id name Waits = tt
-request_quiet event call_id name (Refused refusal) = (refl, tt)
-
-ack_quiet : (event : Event) (call_id : List ℕ) (outcome : SendOutcome)
-    → Quiet (ack_said event call_id outcome).0
-ack_quiet event call_id (Sent sending) = (refl, tt)
-ack_quiet event call_id Waits = tt
-ack_quiet event call_id (Refused refusal) = (refl, tt)
-
-at_or : (b : Bool) (name : DialogId) (dialogs : Dialogs)
-    → Quiet (cond {A = Dialogs × List CallOut} b (ended_at name dialogs) (dialogs, [])).1
-at_or false name dialogs = tt
-at_or true name dialogs = end_told IsQuiet allows name dialogs
-
-own_quiet : (k : RequestKind) (over : Bool) (dialogs : Dialogs)
-    → Quiet (own_ended k over dialogs).1
-own_quiet asks.InitialInvite over dialogs = tt
-own_quiet (asks.ReInvite life) true dialogs = at_or (lives dialogs life) life.name dialogs
-own_quiet (asks.ReInvite life) false dialogs = tt
-own_quiet (asks.InDialog life) true dialogs = at_or (lives dialogs life) life.name dialogs
-own_quiet (asks.InDialog life) false dialogs = tt
-own_quiet asks.OutOfDialog over dialogs = tt
-
-ended_quiet : (client : Client) (over : Bool) (dialogs : Dialogs)
-    → Quiet (ended_with client over dialogs).1
-ended_quiet client over dialogs =
+over_quiet : (client : Client) (ends : Bool) (dialogs : Dialogs)
+    → Quiet (request_over client ends dialogs).1
+over_quiet client ends dialogs =
     let first = early_ended client.id dialogs in
-    both IsQuiet first.1 (own_ended client.kind over first.0).1
-    (early IsQuiet allows client.id dialogs) (own_quiet client.kind over first.0)
+    let QuietEnd : Dialogs × List CallOut → Type 0 = λ ended. Quiet ended.1 in
+    both IsQuiet first.1 _ (early IsQuiet allows client.id dialogs)
+    (found_or QuietEnd (λ reference. if ends && lives first.0 reference
+    then ended_at reference.name first.0 else (first.0, []))
+    (dialog_of_kind client.kind) (first.0, [])
+    (λ reference is. either QuietEnd (ends && lives first.0 reference)
+    (ended_at reference.name first.0) (first.0, [])
+    (λ over. end_told IsQuiet allows reference.name first.0) (λ lives. tt))
+    (λ none. tt))
 
-settled_quiet : (event : Event) (id : Id) (c : ClientChange) (clients : Clients)
-    → Quiet (settled event id c clients).1
-settled_quiet event id change.Stays clients = tt
-settled_quiet event id change.Over clients = tt
-settled_quiet event id (change.Starts client) clients = (started_quiet event.id client, tt)
+sent_quiet : (event : Event) (name : DialogId) (pending : PendingRequest) (content : Content)
+    (held : HeldDialog) → Quiet (pending_sent event name pending content held).outs
+sent_quiet event name (Ack invite number) content held = (refl, tt)
+sent_quiet event name (Prack rseq number) content held = tt
+
+outcome_quiet : (event : Event) (call_id : List ℕ) (name : DialogId) (pending : PendingRequest)
+    (content : Option Content) (without_it with_it : HeldDialog)
+    → Quiet (pending_outcome event call_id name pending content without_it with_it).outs
+outcome_quiet event call_id name pending content without_it with_it =
+    let QuietDone : PendingOutcome → Type 0 = λ done. Quiet done.outs in
+    found_or QuietDone (pending_with event call_id name pending without_it with_it) content _
+    (λ content is. found_or QuietDone _
+    (first_refusal (refusals_in without_it.dialog (method_of pending)) None) _
+    (λ refusal refused. (refl, tt))
+    (λ none. sent_quiet event name pending content without_it))
+    (λ none. tt)
+
+starts_first : (clients : List Client) (done : Clients × List CallOut) → TellsFirst done.1
+    → TellsFirst (fold start done clients).1
+starts_first [] done first = first
+starts_first (client ∷ clients) done first =
+    starts_first clients (start done client) (first_more done.1 _ first (refl, tt))
 
 -- ---- a response
 
-again_first : (o : Option SentAck) → TellsFirst (option_map_or (λ ack. direct ack ∷ []) o [])
-again_first None = tt
-again_first (Some ack) = tt
+-- the type of what a response is with all that comes up with it
+abbrev Domain : {A B : Type 0} → (A → B) → Type 0
+Domain {A} f = A
 
-case_first : (case : ReplyCase) (client : Client) (found : Option HeldDialog)
-    (answer : ReceivedResponse) → TellsFirst (by_reply_case case client found answer).2
-unfolding ack_owed prack_owed
-case_first reply.Repeated client found answer = again_first (ack_of answer.name client.answers)
-case_first reply.Accepted client found answer =
-    ack_quiet answer.event answer.call_id
-    (ack_owed client (accepted client answer found) answer).1
-case_first reply.Late client found answer = tt
-case_first (reply.Reliable number) client found answer =
-    request_quiet answer.event answer.call_id answer.name
-    (prack_owed number client (dialog_for_provisional client answer found) answer).1
-case_first reply.Passed client found answer = tt
-case_first reply.Early client found answer = tt
-case_first reply.Told client found answer = tt
+abbrev Reply : Type 0
+Reply = Domain notice_of
 
-last_first : (last : Bool) (client : Client) (dialogs : Dialogs) (answer : ReceivedResponse)
-    → TellsFirst (cond {A = Replied} last (request_over client dialogs answer)
-    (after_dialog answer.name dialogs
-    (replied_in client (dialog_at answer.name dialogs) answer))).2
-last_first true client dialogs answer =
-    ended_quiet client (ends_dialog answer.status) dialogs
-last_first false client dialogs answer =
-    let found = dialog_at answer.name dialogs in
-    case_first (reply_case client found answer) client found answer
+abbrev First : Outcome → Type 0
+First done = TellsFirst done.outs
 
-beside_first : (freed : Option Id) (invite : Client) (done : Clients × List CallOut)
-    → TellsFirst done.1
-    → TellsFirst (sent_beside (option_map (λ id. cancel_client id invite) freed) done).1
-beside_first None invite done first = first
-beside_first (Some id) invite done first =
-    first_more done.1 (start_command id (cancel_client id invite) ∷ []) first
-    (started_quiet id (cancel_client id invite), tt)
+asks_first : (pending : PendingRequest) (reply : Reply) (client : Client)
+    (after : Option SentAck → Client) (held : HeldDialog) (dialogs : Dialogs)
+    → First (asks_for pending reply client after held dialogs)
+asks_first pending reply client after held dialogs =
+    outcome_quiet reply.event reply.call_id reply.name pending
+    (if not (length client.request.body == 0) || (length reply.response.body == 0)
+    then Some (content_of_body []) else None) held
+    (record held { pending_requests = held.pending_requests ++ pending ∷ [] })
 
-replied_first : (answer : ReceivedResponse) (client : Client) (side : Side)
-    → TellsFirst (reply_settled answer client side).1
-replied_first answer client side =
-    let final = is_final answer.status in
-    let after = after_response final client in
-    let done = reply_taken after side.dialogs answer in
-    let put = set_value (is_id answer.id) side.clients done.0 in
-    let rest = settled answer.event answer.id done.3 put in
-    beside_first (freed_by final client.cancel) client (rest.0, done.2 ++ rest.1)
-    (first_more done.2 rest.1
-    (last_first (is_last after.kind answer.status) after side.dialogs answer)
-    (settled_quiet answer.event answer.id done.3 put))
+reliable_first : (reply : Reply) (client : Client) (dialogs : Dialogs) (held : HeldDialog)
+    (rseq : ℕ) → First (reliable_response reply client dialogs held rseq)
+reliable_first reply client dialogs held rseq =
+    let initial = is_initial client in
+    let last = if initial then held.last_rseq else client.last_rseq in
+    let heard : Client = record client { last_rseq = Some rseq } in
+    let hears : HeldDialog = record held { last_rseq = Some rseq } in
+    let after : Option SentAck → Client = λ ack. if initial then client else heard in
+    let dialog : HeldDialog = if initial then hears else held in
+    let prack = Prack rseq client.request.cseq.number in
+    either First (not (option_map_or (λ last. rseq == last + 1) last true))
+    (kept client dialogs []) (asks_for prack reply client after dialog dialogs)
+    (λ passed. tt) (λ taken. asks_first prack reply client after dialog dialogs)
 
-found_first : (event : Event) (id : Id) (call_id : List ℕ) (response : Message)
-    (status : Option ℕ) (found : Option Client) (side : Side)
-    → TellsFirst (found_taken event id call_id response status found side).1
-found_first event id call_id response None found side = tt
-found_first event id call_id response (Some status) None side = tt
-found_first event id call_id response (Some status) (Some client) side =
-    replied_first
-    (reply_of event id call_id (reply_name client.kind client response) status response) client
-    side
+dialog_first : (reply : Reply) (client : Client) (dialogs : Dialogs)
+    → First (dialog_response reply client dialogs)
+dialog_first reply client dialogs =
+    let response = reply.response in
+    let held = unwrap_or (lookup (is_dialog_id reply.name) dialogs)
+    (dialog_made_by reply client) in
+    found_or First (reliable_response reply client dialogs held)
+    (if requires_100rel response then response.rseq else None) _
+    (λ rseq is. reliable_first reply client dialogs held rseq) (λ none. tt)
 
-response_first : (event : Event) (id : Id) (call_id : List ℕ) (response : Message)
-    (side : Side) → TellsFirst (response_taken event id call_id response side).1
-response_first event id call_id response side =
-    found_first event id call_id response (status_of response.start) (client_at id side.clients)
-    side
+again_first : (answer : Option (Option SentAck)) (client : Client) (dialogs : Dialogs)
+    → First (success_again answer client dialogs)
+again_first None client dialogs = tt
+again_first (Some None) client dialogs = tt
+again_first (Some (Some ack)) client dialogs = tt
+
+outcome_first : (reply : Reply) (client : Client) (dialogs : Dialogs)
+    → First (outcome_of reply client dialogs)
+outcome_first reply client dialogs =
+    let final = is_final reply.status in
+    let answer = lookup (is_dialog_id reply.name) client.answers in
+    let told : Outcome = kept client dialogs (notice_of reply ∷ []) in
+    let late : Outcome = kept (accepted reply client None) dialogs (notice_of reply ∷ []) in
+    let is_told = not (has_dialog client dialogs && not (reply.status == 100)
+    && has_to_tag reply.response) in
+    let fifth : Outcome = if is_told then told else dialog_response reply client dialogs in
+    let fourth : Outcome = if final then late else fifth in
+    let third : Outcome = if final && has_dialog client dialogs
+    then first_success reply client dialogs else fourth in
+    let second : Outcome = if final && is_some answer
+    then success_again answer client dialogs else third in
+    either First (final && not (is_invite_kind client.kind && is_success reply.status))
+    (last_response reply client dialogs) second
+    (λ last. over_quiet client ((reply.status == 481) || (reply.status == 408)) dialogs)
+    (λ more. either First (final && is_some answer) (success_again answer client dialogs) third
+    (λ again. again_first answer client dialogs)
+    (λ new. either First (final && has_dialog client dialogs)
+    (first_success reply client dialogs) fourth
+    (λ success. asks_first (Ack client.id client.request.cseq.number) reply client
+    (accepted reply client)
+    (option_map_or (success_in (is_initial client) reply.response)
+    (lookup (is_dialog_id reply.name) dialogs) (dialog_made_by reply client)) dialogs)
+    (λ none. either First final late fifth (λ over. tt)
+    (λ provisional. either First is_told told (dialog_response reply client dialogs)
+    (λ other. tt) (λ early. dialog_first reply client dialogs)))))
+
+replied_first : (event : Event) (id : Id) (of : List ℕ) (response : Message) (side : Side)
+    (status : ℕ) (client : Client)
+    → TellsFirst (response_to event id of response side status client).1
+replied_first event id of response side status client =
+    let final = is_final status in
+    let waiting = waiting_cancel client.cancel in
+    let cancels : List Client = if final then []
+    else option_map_or (λ asked_by. cancel_request asked_by client ∷ []) waiting [] in
+    let after : Client = record client {
+      provisional = client.provisional || not final;
+      cancel = option_map_or (λ asked_by. if final then NotAsked else Sent) waiting client.cancel;
+    } in
+    let reply = reply_for event id of response status client in
+    let done = outcome_of reply after side.dialogs in
+    let clients : Clients = option_map_or (set_value (is_id id) side.clients) done.request
+    (remove_entry (is_id id) side.clients) in
+    starts_first (done.prack ++ cancels) (clients, done.outs)
+    (outcome_first reply after side.dialogs)
+
+response_first : (event : Event) (id : Id) (of : List ℕ) (response : Message) (side : Side)
+    → TellsFirst (response_received event id of response side).1
+unfolding response_received
+response_first event id of response side =
+    let FirstTaken : Side × List CallOut → Type 0 = λ taken. TellsFirst taken.1 in
+    found_or FirstTaken _ (status_of response.start) (side, [])
+    (λ status is. found_or FirstTaken (response_to event id of response side status)
+    (lookup (is_id id) side.clients) (side, [])
+    (λ client found. replied_first event id of response side status client) (λ none. tt))
+    (λ none. tt)
 
 -- ---- one input
 
@@ -224,26 +258,22 @@ module _ (calls : Calls) (now : ℕ) where
   by_fits : (outs : List CallOut) → AllByRecursion (OutFits Never) outs → TellsFirst outs
   by_fits outs fit = first_of_quiet outs (all_quiet outs fit)
 
-  abbrev First : Taken → Type 0
-  First taken = TellsFirst taken.1
+  abbrev FirstOf : Taken → Type 0
+  FirstOf taken = TellsFirst taken.1
 
-  up_first : (state : Option Call) (event : Id) (up : AnUp) (response : Message)
+  by_response : (call : Call) (event : Id) (up : AnUp) (response : Message)
       → up.kind ≡ kind.Response response
-      → First (step_taken calls state (Some (event, Up up)) now)
-  up_first None event up response is =
-      let call = new_call calls.local in
-      subst (λ k. TellsFirst (up_taken call (event_of calls event now) up k).1) (sym is)
-      (response_first (event_of calls event now) up.id up.call_id response (side_of call))
-  up_first (Some call) event up response is =
-      subst (λ k. TellsFirst (up_taken call (event_of calls event now) up k).1) (sym is)
+      → TellsFirst (received call (event_of calls event now) up up.kind).1
+  by_response call event up response is =
+      subst (λ k. TellsFirst (received call (event_of calls event now) up k).1) (sym is)
       (response_first (event_of calls event now) up.id up.call_id response (side_of call))
 
   by_kind : (state : Option Call) (event : Id) (up : AnUp) (k : UpKind) → up.kind ≡ k
-      → First (call_step calls state (Some (event, Up up)) now)
-  by_kind state event up (kind.Response response) is =
-      subst (λ (taken : Taken). First taken)
-      (sym (same_step calls state (Some (event, Up up)) now))
-      (up_first state event up response is)
+      → FirstOf (call_step calls state (Some (event, Up up)) now)
+  by_kind None event up (kind.Response response) is =
+      by_response (new_call calls.local) event up response is
+  by_kind (Some call) event up (kind.Response response) is =
+      by_response call event up response is
   by_kind state event up (kind.Request request reply_to) is =
       by_fits _ (step_fits Never calls state (Some (event, Up up)) now
       (subst (KindTells Never up.call_id up.id) (sym is) tt))
