@@ -41,7 +41,6 @@ use Rattle.sip_clients.specs.Provisionals.{is_response, provisional_number}
 use Rattle.sip_clients.specs.ReceivedResponse.{has_dialog as has_dialog_of}
 use Rattle.sip_clients.specs.Rules.Responses.{dialog_made_by, is_initial, success_in}
 use Rattle.sip_clients.specs.declared.client.Client.{Client}
-use Rattle.sip_clients.specs.declared.event.Event.{Event}
 use Rattle.sip_calls.specs.Call.{CallItem, call_machine, call_step, event_of, received}
 use Rattle.sip_calls.specs.Histories.{call_from}
 use Rattle.sip_calls.specs.OwnCall.{AreSidesOf, IsCallOf, IsInputOf}

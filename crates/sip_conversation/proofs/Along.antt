@@ -1,5 +1,5 @@
 -- What is true of each input of a call, and of what the call gives at that input.
-use Rattle.std.proofs.Common.{◌≡◌, List, [], ◌∷◌, ◌++◌, refl, sym, ◌∙◌, subst, append_assoc}
+use Rattle.std.proofs.Common.{◌≡◌, List, [], ◌∷◌, ◌++◌, sym, ◌∙◌, subst, append_assoc}
 use Rattle.std.specs.Prelude.{Contains, Option, None}
 use Rattle.std.proofs.lemmas.List.Elements.{Contains-append_right}
 use Rattle.keyed_machine.specs.Machine.{Timed}

@@ -1,6 +1,6 @@
 -- The other side's user asked for each request and each CANCEL that a user is told of, and that
 -- side said each ACK and each PRACK.
-use Rattle.std.proofs.Common.{◌≡◌, ◌≤◌, ◌⊎◌, inl, inr, ℕ, Bool, true, false, ◌&&◌, ◌||◌, List, [], ◌∷◌, ◌++◌, length, refl, sym, ap, ◌∙◌, subst, arith}
+use Rattle.std.proofs.Common.{◌≡◌, ◌⊎◌, inl, inr, ℕ, Bool, true, false, ◌&&◌, ◌||◌, List, [], ◌∷◌, ◌++◌, length, refl, sym, ap, ◌∙◌, subst, arith}
 use Rattle.std.specs.Prelude.{◌==◌, Contains, IfSome, IsTrue, Option, None, Some, codes, is_none, if◌then◌else◌}
 use Rattle.std.specs.Option.{option_map_or}
 use Rattle.std.specs.Str.{bytes_eq, str_eq_ignore_ascii_case, str_to_ascii_lowercase}
@@ -21,9 +21,7 @@ use Rattle.sip_message.specs.declared.rack.RAck.{RAck}
 use Rattle.sip_message.specs.Response.{tagged}
 use Rattle.sip_message.specs.Message.{is_request_message}
 use Rattle.sip_message.specs.Party.{tag_of}
-use Rattle.sip_message.specs.Rules.{IsMessage}
 use Rattle.sip_message.specs.Source.{stamped}
-use Rattle.sip_message.specs.Written.{written}
 use Rattle.keyed_machine.specs.Machine.{Timed, given_at}
 use Rattle.keyed_machine.proofs.Ordered.{by_bool}
 use Rattle.sip_transactions.specs.declared.output.UpKind.{UpKind}

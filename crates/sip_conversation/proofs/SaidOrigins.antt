@@ -1,7 +1,6 @@
 -- Each request that a side says has the Call-ID of a call, and a branch that an event of that call
 -- made; so has an ACK, whoever made it.
-use Rattle.std.proofs.Common.{◌≡◌, ◌≤◌, ℕ, true, length, List, [], refl, sym, ap, ◌∙◌, subst}
-use Rattle.std.specs.List.{AllByRecursion}
+use Rattle.std.proofs.Common.{◌≡◌, ◌≤◌, ℕ, true, length, List, sym, ap, ◌∙◌, subst}
 use Rattle.std.proofs.lemmas.Bool.{false≢true}
 use Rattle.sip_message.specs.declared.addr.Addr.{Addr}
 use Rattle.sip_message.specs.declared.id.Id.{Id}

@@ -1,10 +1,9 @@
 -- Each text that a call of a side sends is that of an ACK of its own, whatever the inputs at which
 -- it does so.
-use Rattle.std.proofs.Common.{◌≡◌, ℕ, List, [], ◌∷◌, ◌++◌, sym, subst, append-nil}
-use Rattle.std.specs.Prelude.{Contains, IfSome, None}
+use Rattle.std.proofs.Common.{◌≡◌, ℕ, List, [], ◌++◌, sym, subst, append-nil}
+use Rattle.std.specs.Prelude.{IfSome, None}
 use Rattle.std.specs.List.{AllByRecursion}
 use Rattle.sip_message.specs.declared.addr.Addr.{Addr}
-use Rattle.sip_message.specs.declared.id.Id.{Id}
 use Rattle.sip_message.specs.declared.message.Message.{Message}
 use Rattle.keyed_machine.specs.Machine.{Timed, outputs_from}
 use Rattle.sip_user.specs.declared.item.CallOut.TheVariants as call_out
