@@ -88,7 +88,9 @@ pub(crate) fn finish<E: Write>(end: Result<(), ReplayFault>, errors: &mut E) -> 
 
 /// The same for a replay round by round.
 pub(crate) fn finish_stream<E: Write>(end: Result<(), StreamFault>, errors: &mut E) -> u8
-    ensures { MatchResult end (λ _. result ≡ 0) (λ fault. result ≡ stream_status fault) }
+    ensures status { MatchResult end (λ _. result ≡ 0)
+        (λ fault. result ≡ stream_status fault) }
+    ensures words { result ≢ 2 }
 {
     match end {
         Ok(()) => SUCCESS,
@@ -146,7 +148,8 @@ fn talk_status(fault: TalkFault) -> u8
 }
 
 fn stream_status(fault: StreamFault) -> u8
-    ensures { result ≡ stream_status fault }
+    ensures status { result ≡ stream_status fault }
+    ensures words { result ≢ 2 }
 {
     match fault {
         StreamFault::NoMemory

@@ -195,8 +195,10 @@ pub(crate) fn asks_help<S: AsStr>(words: &[S]) -> bool
 }
 
 /// Whether the command is `replay`, of a whole file.
+#[tactic(auto, using(crate::proofs::Help::not_streamed))]
 pub(crate) fn asks_replay<S: AsStr>(words: &[S]) -> bool
-    ensures { result ≡ spec.asks_replay (map S.text words.now) }
+    ensures asks { result ≡ spec.asks_replay (map S.text words.now) }
+    ensures no_stream { IsTrue result → IsFalse (spec.asks_stream (map S.text words.now)) }
 {
     !asks_help(words) && asks_command(words, "replay") && !asks_streamed(words)
 }
