@@ -3,5 +3,4 @@ pub mod LastHeaders
 pub mod NoFile
 pub mod Repairs
 pub mod SessionOption
-pub mod StreamEnd
 pub mod WholeLines
