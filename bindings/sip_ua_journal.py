@@ -29,8 +29,8 @@ class JournalError(Exception):
 
 
 class Journal(Protocol):
-    """Where the rounds of an agent are kept. `append` keeps a text as a whole, or raises an OSError:
-    then nothing of the round goes out, and the endpoint is closed."""
+    """Where the rounds of an agent are kept. `append` keeps a text as a whole, or raises an
+    OSError: then nothing of the round goes out, and the endpoint is closed."""
 
     def read(self) -> bytes: ...
 

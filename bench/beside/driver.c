@@ -37,7 +37,7 @@ static long long cpu_ns(void) {
     return at.tv_sec * 1000000000LL + at.tv_nsec;
 }
 
-/* The file's branch and Call-ID have a number of seven digits each, which is another one each time. */
+/* The file's branch and Call-ID have a number of seven digits each. It is another one each time. */
 void driver_begin(int count, char **words) {
     if (count != 4) {
         fprintf(stderr, "usage: %s FILE HELD TIMED\n", words[0]);
