@@ -143,14 +143,33 @@ static size_t add_events(const char *text, size_t at, size_t len)
     return begin;
 }
 
-/* Runs all rounds but the last one again. The outputs of the last one are left to `run`. Returns
- * whether there is one. `at` is where the rounds begin, with the line feed before them. */
-static bool go_on(char *text, size_t at, size_t len)
+/* Where the last round begins, at the line feed before it. */
+static size_t last_round(char *text, size_t at, size_t len)
 {
     size_t last = at;
     for (char *found = text + at; (found = memmem(found, len - (size_t)(found - text), ROUND, 7));
          found++)
         last = (size_t)(found - text);
+    return last;
+}
+
+/* How many bytes are left without a last round that ends within an event. It had no effect, and what
+ * it asked for is asked for again, since the requests of the round before are told again. */
+static size_t whole_rounds(char *text, size_t at, size_t len)
+{
+    size_t line = len - 1;
+    while (line > at && text[line - 1] != '\n')
+        line--;
+    bool ends = text[len - 1] == '\n' && text[line] != ' ';
+    return ends ? len : last_round(text, at, len) + 1;
+}
+
+/* Runs all rounds but the last one again. The outputs of the last one are left to `run`. Returns
+ * whether there is one. `at` is where the rounds begin, with the line feed before them. */
+static bool go_on(char *text, size_t at, size_t len)
+{
+    len = whole_rounds(text, at, len);
+    size_t last = last_round(text, at, len);
     while (at < last) {
         sip_ua_resumed resumed;
         must(sip_ua_resume(&agent, text + at + 1, last - at, &resumed), "sip_ua_resume");
