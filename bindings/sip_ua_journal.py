@@ -123,9 +123,12 @@ def agent_of(library: str, local: Address, head: bytes) -> Agent:
 
 
 def _last_round(agent: Agent, journal: Journal, text: bytes, begin: int) -> Resumed:
-    """Runs all rounds but the last without outputs, and the last one for its outputs. What isn't
-    whole of it is cut off."""
+    """Runs all rounds but the last without outputs, and the last one for its outputs. A round that
+    ends within an event had no effect, and is cut off: so the notices of the one before it are told
+    again, and what they asked for is asked for again."""
     begins = [found.start() for found in _ROUND.finditer(text, begin)]
+    if begins and not _is_whole(text[begins[-1] :]):
+        text = text[: begins.pop()]
     if not begins:
         if text[begin:].strip():
             raise JournalError("not a journal")
@@ -160,6 +163,11 @@ def run_again(agent: Agent, lines: bytes) -> Tuple[int, List[Output], int]:
         whole += len(event)
     moment = int(head[1])
     return moment, agent.run(moment), whole
+
+
+def _is_whole(lines: bytes) -> bool:
+    """Whether a text ends behind an event or the line of a round."""
+    return lines.endswith(b"\n") and not lines[:-1].rpartition(b"\n")[2].startswith(b" ")
 
 
 def _events(lines: bytes) -> List[bytes]:

@@ -87,9 +87,13 @@ class Stream:
         return bool(self._server.set(self._lease, self._own, nx=True, px=LEASE_MS))
 
     def keeps_lease(self) -> bool:
-        if self._server.get(self._lease) != self._own.encode():
+        try:
+            if self._server.get(self._lease) != self._own.encode():
+                return False
+            return bool(self._server.pexpire(self._lease, LEASE_MS))
+        except redis.RedisError as error:
+            print(f"no lease: {error}", file=sys.stderr)
             return False
-        return bool(self._server.pexpire(self._lease, LEASE_MS))
 
     def new_entries(self, patience_ms: Optional[int]) -> List[bytes]:
         """The texts behind those that were read; waits for one at most so long."""
