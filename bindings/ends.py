@@ -1,10 +1,11 @@
 #!/usr/bin/env python3
 """Brings agents into random states, and then ends all that they hold.
 
-ends.py LIBRARY [TRIALS [SESSION..]]: random datagrams, commands, failed sends and times. Then each request that
-came up gets a 486, each request that was sent and each dialog is given up, and time passes. After
-that an agent has to hold nothing: no transaction, no call, no timer. Nor may it at the end of the session
-files that are named, 64 s after their last round. The status is 0 if that is so.
+ends.py LIBRARY [TRIALS [SESSION..]]: random datagrams, commands, failed sends and times. Then each
+request that came up gets a 486, each request that was sent and each dialog is given up, and time
+passes. After that an agent has to hold nothing: no transaction, no call, no timer. Nor may it at
+the end of the session files that are named, 64 s after their last round. The status is 0 if that is
+so.
 """
 
 import random

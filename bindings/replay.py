@@ -246,7 +246,7 @@ def reads(library: str) -> bool:
 
 
 def reads_many(library: str) -> bool:
-    """All values of a header that stands in as many lines as a datagram holds: each is read once."""
+    """All values of a header in as many lines as a datagram holds: each is read once."""
     with Agent(library, ("192.0.2.1", 5060), bytes(32)) as agent:
         lines = 16000 * b"a:\r\n" + b"A: \r\n last\r\nb:x:y\r\n"
         agent.datagram(("192.0.2.9", 5060), b"INFO sip:a@b SIP/2.0\r\n" + lines + b"\r\n")
@@ -263,7 +263,7 @@ def reads_many(library: str) -> bool:
 
 
 def resumes(library: str) -> bool:
-    """An agent that goes on from the lines of another's rounds, of which the last isn't whole, gives
+    """An agent that goes on from the lines of another's rounds, the last one not whole, gives
     what that one gives. A journal may end at any byte: all whole rounds before it are taken."""
     source, journal = ("192.0.2.9", 5060), b""
     invite = (

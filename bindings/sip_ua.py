@@ -461,7 +461,8 @@ class Stats(NamedTuple):
 
 
 class StartLine(NamedTuple):
-    """A start line: method and Request-URI of a request, or status and reason of a response."""
+    """A start line: method and Request-URI of a request, or status and reason of a response; the
+    two others are None."""
 
     method: Optional[str]
     uri: Optional[str]
@@ -470,8 +471,8 @@ class StartLine(NamedTuple):
 
 
 class RequestTraits(NamedTuple):
-    """What a request says of itself. It is in a dialog if its To has a tag: an INVITE is a re-INVITE
-    then. With `100rel` supported a provisional response may be reliable, with `100rel` required
+    """What a request says of itself. It is in a dialog if its To has a tag: an INVITE is then a
+    re-INVITE. With `100rel` supported a provisional response may be reliable, with `100rel` required
     each but 100 is."""
 
     is_in_dialog: bool
@@ -503,6 +504,18 @@ class Message(NamedTuple):
     start: StartLine
     headers: Tuple[Tuple[str, str], ...]
     body: bytes
+
+    @property
+    def method(self) -> str:
+        """The method of a request, or of the request that a response answers, from its CSeq."""
+        if self.start.method is not None:
+            return self.start.method
+        return "".join(self.value("CSeq").split()[1:])
+
+    @property
+    def status(self) -> int:
+        """The status of a response; 0 for a request."""
+        return self.start.status or 0
 
     def values(self, name: str) -> List[str]:
         """The values of the header lines with this name, long or compact, in any case."""
@@ -1034,8 +1047,8 @@ class Agent:
     def address_in(
         self, value: str, parameter: str = "", number: int = 0
     ) -> Optional[HeaderAddress]:
-        """The address with this number, from 0, in the value of a Contact, a Route, a Record-Route or
-        a header of their form, such as Refer-To, and the value of one of its parameters."""
+        """The address with this number, from 0, in the value of a Contact, a Route, a Record-Route
+        or a header of their form, such as Refer-To, and the value of one of its parameters."""
         return self._header_address("address", value, (_number(number, 64),), parameter)
 
     def party_in(self, value: str, parameter: str = "") -> Optional[HeaderAddress]:

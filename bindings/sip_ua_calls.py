@@ -108,6 +108,7 @@ class FinalResponse(NamedTuple):
 
     @property
     def is_success(self) -> bool:
+        """Whether it is a 2xx."""
         return 200 <= self.status < 300
 
 
@@ -216,6 +217,7 @@ class Stream(Generic[_Item]):
         self._is_ended = False
 
     def put(self, item: _Item) -> None:
+        """Gives an item to the iterator, or refuses it."""
         if self._queue is None or self._queue.qsize() >= MOST_UNREAD:
             self._refuse(item)
         else:
@@ -230,6 +232,7 @@ class Stream(Generic[_Item]):
             self._queue.put_nowait(None)
 
     async def read(self) -> AsyncIterator[_Item]:
+        """The items from now on. The iterator that began before ends."""
         if self._is_ended:
             return
         if self._queue is not None:
@@ -605,6 +608,7 @@ class IncomingCall(Call):
             self._say_bye()
 
     def take_request(self, notice: RequestNotice, message: Message) -> None:
+        """A request of the peer in one of its dialogs."""
         super().take_request(notice, message)
         if notice.method == "BYE":
             # It ends the early dialog too (RFC 3261, section 15.1.2).
@@ -770,6 +774,7 @@ class UserAgent:
     # -- for calls, requests and registrations
 
     def ask(self, command: Command) -> Id:
+        """Gives a command to the agent. Its id names what it asks for."""
         return self.endpoint.ask(command)
 
     def handle(self, event: Id, handler: _Handler) -> None:
@@ -777,6 +782,7 @@ class UserAgent:
         self._handlers[event] = handler
 
     def forget(self, event: Id) -> None:
+        """Ends what `handle` began."""
         self._handlers.pop(event, None)
         if not self._handlers:
             self._is_idle.set()
@@ -804,6 +810,7 @@ class UserAgent:
         call.dialogs.clear()
 
     def authenticator(self) -> Optional[Authenticator]:
+        """What answers the challenges to one request, if there is a user name."""
         return Authenticator(*self._login) if self._login[0] else None
 
     def message(self, place: int, body: bytes = b"") -> Optional[Message]:

@@ -32,11 +32,17 @@ class Journal(Protocol):
     """Where the rounds of an agent are kept. `append` keeps a text as a whole, or raises an
     OSError: then nothing of the round goes out, and the endpoint is closed."""
 
-    def read(self) -> bytes: ...
+    def read(self) -> bytes:
+        """All that was kept."""
+        ...
 
-    def append(self, text: bytes) -> None: ...
+    def append(self, text: bytes) -> None:
+        """Keeps a text behind all that was kept."""
+        ...
 
-    def cut(self, length: int) -> None: ...
+    def cut(self, length: int) -> None:
+        """Leaves the first bytes alone, so many."""
+        ...
 
 
 class FileJournal:
@@ -53,6 +59,7 @@ class FileJournal:
             raise
 
     def read(self) -> bytes:
+        """All bytes of the file."""
         parts: List[bytes] = []
         while True:
             part = os.pread(self._file, 1 << 20, sum(map(len, parts)))
@@ -61,15 +68,18 @@ class FileJournal:
             parts.append(part)
 
     def append(self, text: bytes) -> None:
+        """Writes a text behind them by one write, or raises an OSError."""
         if os.write(self._file, text) < len(text):
             raise OSError(errno.ENOSPC, "a round wasn't written whole")
         if self._is_synced:
             os.fsync(self._file)
 
     def cut(self, length: int) -> None:
+        """Leaves the first bytes of the file, so many."""
         os.ftruncate(self._file, length)
 
     def close(self) -> None:
+        """Closes the file. Then another process can have it."""
         os.close(self._file)
 
 

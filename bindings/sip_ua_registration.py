@@ -84,6 +84,7 @@ class Registration:
 
     @property
     def is_registered(self) -> bool:
+        """Whether the registrar holds the registration."""
         return self.expires_s > 0
 
     def __aiter__(self) -> AsyncIterator[FinalResponse]:

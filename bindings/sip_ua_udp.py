@@ -90,9 +90,11 @@ class Endpoint(asyncio.DatagramProtocol):
             self._transport.close()
 
     def connection_made(self, transport: asyncio.BaseTransport) -> None:
+        """The socket is open: called by asyncio."""
         self._transport = cast(asyncio.DatagramTransport, transport)
 
     def datagram_received(self, data: bytes, addr: Address) -> None:
+        """A datagram came: called by asyncio."""
         if self.is_closed:
             return
         if self._is_shed(data):

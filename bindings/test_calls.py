@@ -92,10 +92,11 @@ class CallsTest(unittest.IsolatedAsyncioTestCase):
         told = asyncio.gather(events_of(outgoing), events_of(incoming))
         self.assertEqual(incoming.invite.body, OFFER)
         self.assertEqual(incoming.invite.values("s"), ["Lunch"])
-        self.assertEqual(incoming.invite.start.method, "INVITE")
+        self.assertEqual(incoming.invite.method, "INVITE")
         incoming.answer(ANSWER, [("X-C", "d")])
         answer = await soon(outgoing.answered())
-        self.assertEqual((answer.start.status, answer.body), (200, ANSWER))
+        self.assertEqual((answer.status, answer.body), (200, ANSWER))
+        self.assertEqual((answer.method, incoming.invite.status), ("INVITE", 0))
         self.assertEqual(answer.value("X-C"), "d")
         await soon(incoming.answered())
         self.assertTrue(outgoing.is_up and incoming.is_up)
@@ -116,7 +117,7 @@ class CallsTest(unittest.IsolatedAsyncioTestCase):
         incoming.hang_up()
         end = await soon(outgoing.ended())
         assert end.message is not None
-        self.assertEqual(end.message.start.method, "BYE")
+        self.assertEqual(end.message.method, "BYE")
         self.assertEqual(await soon(incoming.ended()), Ended())
         # The iterator of a call that has ended gives its end.
         self.assertEqual(await soon(events_of(outgoing)), [end])
@@ -141,7 +142,7 @@ class CallsTest(unittest.IsolatedAsyncioTestCase):
         self.assertEqual(failed.exception.response.status, 487)
         end = await soon(incoming.ended())
         assert end.response is not None and end.message is not None
-        self.assertEqual((end.response.status, end.message.start.method), (487, "CANCEL"))
+        self.assertEqual((end.response.status, end.message.method), (487, "CANCEL"))
         incoming.answer(ANSWER)
         with self.assertRaises(CallFailed):
             await soon(incoming.answered())
@@ -193,7 +194,7 @@ class CallsTest(unittest.IsolatedAsyncioTestCase):
             await soon(outgoing.answered())
         message = failed.exception.response.message
         assert message is not None
-        self.assertEqual((message.start.status, message.value("Retry-After")), (503, "5"))
+        self.assertEqual((message.status, message.value("Retry-After")), (503, "5"))
         await busy.close()
 
     async def test_progress(self) -> None:

@@ -107,7 +107,7 @@ class B2bua:
             body = response.message.body if response.message is not None else b""
             headers = headers_to_pass(response.message, response.status)
             other.reject(response.status, response.reason, body, headers)
-        elif event.message is not None and event.message.start.method == "BYE":
+        elif event.message is not None and event.message.method == "BYE":
             other.hang_up(event.message.body, headers_to_pass(event.message))
         else:
             other.hang_up()
