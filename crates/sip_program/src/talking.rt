@@ -17,7 +17,7 @@ use clap::ArgMatches;
 use sip_applications::{AnswerBody, CallPlan, ListenPlan, agent, call_from, listen_at};
 use sip_message::{Addr, CallId, Uri};
 use sip_text::Text;
-use sip_udp::{Endpoint, InputEnd, Keeping, Past, QueuedWriter, UaFault, Written};
+use sip_udp::{Division, Endpoint, InputEnd, Keeping, Past, QueuedWriter, UaFault, Written};
 use std::alloc::{AllocError, Global};
 use std::fs::{self, File, OpenOptions};
 use std::io::{self, Write};
@@ -57,6 +57,16 @@ fn listen_by<'a, T: Threads + Host, N: Write + Send + Drop + 'static, E: Write>(
     let plan = listen_plan(rt, alloc, words)?;
     let mut endpoint = endpoint_of_turns(rt, alloc, words.own, words.length, words.drops)?;
     endpoint.held_limit = words.held_limit;
+    let Division {
+        agents: _,
+        shards,
+        workers,
+    } = endpoint.division;
+    endpoint.division = Division {
+        agents: words.agents,
+        shards,
+        workers,
+    };
     let turns = words.length.turns();
     endpoint.is_announced = turns > 0;
     let mut notices = notice_writer(rt, alloc, stream)?;

@@ -18,6 +18,9 @@ const MAX_SHARDS: usize = 256;
 /// The maximum number of workers.
 const MAX_WORKERS: usize = 64;
 
+/// The maximum number of agents.
+const MAX_AGENTS: usize = 16;
+
 /// The text of `ua --version`.
 const VERSION: &str = "1.0";
 
@@ -142,9 +145,12 @@ pub(crate) struct ListenWords<'a> {
     pub contact: Option<&'a str>,
     pub body: Option<&'a str>,
     pub no_body: bool,
+    pub agents: usize,
     pub held_limit: Option<u32>,
     pub must_answer: u32,
     pub drops: bool,
+    ghost some_agent: { 0 < agents },
+    ghost most_agents: { agents ≤ 16 },
 }
 
 /// The words of `ua call`, as they were given.
@@ -387,6 +393,7 @@ pub(crate) fn listen_words<'a>(matches: &ArgMatches<'a>) -> Option<ListenWords<'
         contact: listen.get_str("contact"),
         body: listen.get_str("body"),
         no_body: listen.get_flag("no-body"),
+        agents: count(listen, "agents", MAX_AGENTS),
         held_limit: listen.get_one::<u32>("held"),
         must_answer: listen.get_one::<u32>("must-answer").unwrap_or(0),
         drops: listen.get_flag("drops"),
@@ -418,6 +425,7 @@ pub(crate) fn agent_words<'a>(matches: &ArgMatches<'a>) -> Option<AgentWords<'a>
         own: own_words(agent)?,
         linger: agent.get_one::<u32>("linger")?,
         division: Division {
+            agents: 1,
             shards: count(agent, "shards", MAX_SHARDS),
             workers: count(agent, "workers", MAX_WORKERS),
         },
@@ -462,6 +470,7 @@ fn listen_command<'a>(alloc: Global) -> Result<Command<'a>, AllocError> {
             since there is no media",
         ),
         no_body,
+        agents_argument(alloc)?,
         held_argument(alloc),
         must_answer_calls_argument(alloc),
         drops_argument(alloc),
@@ -526,6 +535,19 @@ fn no_body_argument<'a>(alloc: Global) -> Result<Arg<'a>, AllocError> {
         .action(ArgAction::SetTrue)
         .help("Send no body in a 2xx to an INVITE");
     argument.conflicts_with("body")
+}
+
+fn agents_argument<'a>(alloc: Global) -> Result<Arg<'a>, AllocError> {
+    let argument = Arg::new(alloc, "agents")
+        .long("agents")
+        .value_name("N")
+        .value_parser(value_parser!(usize).range(1..=16))
+        .default_value("1")
+        .help(
+            "Share the calls, by their Call-IDs, among N agents, each on a thread of its own, from \
+            1 to 16",
+        );
+    argument.conflicts_with("record")?.conflicts_with("journal")
 }
 
 fn held_argument<'a>(alloc: Global) -> Arg<'a> {
@@ -644,7 +666,7 @@ fn agent_command<'a>(alloc: Global) -> Result<Command<'a>, AllocError> {
         local_argument(alloc),
         linger_argument(alloc),
         shards_argument(alloc, "4"),
-        workers_argument(alloc, "2"),
+        workers_argument(alloc, "1"),
         headers_argument(alloc),
         ids_argument(alloc),
         record_argument(alloc),

@@ -10,6 +10,8 @@ ghost use Rattle.sip_round.specs.declared.round.Round.{Round as ARound};
 ghost use Rattle.sip_udp.specs.Admission as spec;
 ghost use Rattle.sip_udp.specs.Admission.{is_shed, shard_of};
 
+use crate::group::live_of;
+use sip_agents::{Agents, Destination, destination_of};
 use sip_message::{Message, ReadFault, Spread};
 use sip_reader::read;
 use sip_round::{Agent, Event};
@@ -75,6 +77,52 @@ impl Admission {
         let shed = count.saturating_sub(admitted.len()) as u64;
         self.shed = self.shed.saturating_add(shed);
         Ok(admitted)
+    }
+
+    /// The same with several agents, by what they hold together.
+    ///
+    /// # Errors
+    ///
+    /// Memory ran out. Then the events are lost.
+    pub(crate) fn admit_to_several(
+        &mut self,
+        alloc: Global,
+        agents: &Agents<Spread, Spread>,
+        events: Vec<Event>,
+    ) -> Result<Vec<Event>, AllocError>
+        ensures same { self.new.most ≡ self.old.most }
+    {
+        let load = load_of(self.most, live_of(agents.agents()).0);
+        if let Load::Low = load {
+            return Ok(events);
+        }
+        let count = events.len();
+        let mut admitted = Vec::with_capacity(alloc, count)?;
+        for event in events {
+            if !is_shed_by_its_agent(alloc, agents, load, &event)? {
+                admitted.push(event)?;
+            }
+        }
+        let shed = count.saturating_sub(admitted.len()) as u64;
+        self.shed = self.shed.saturating_add(shed);
+        Ok(admitted)
+    }
+}
+
+// Whether the agent that an event is for sheds it at this load.
+fn is_shed_by_its_agent(
+    alloc: Global,
+    agents: &Agents<Spread, Spread>,
+    load: Load,
+    event: &Event,
+) -> Result<bool, AllocError> {
+    let number = match destination_of(alloc, &Spread, agents.count(), event)? {
+        Destination::One(number) => number,
+        Destination::All => return Ok(false),
+    };
+    match agents.agents().get(number) {
+        Some(agent) => is_shed_at(alloc, agent, load, event),
+        None => Ok(false),
     }
 }
 

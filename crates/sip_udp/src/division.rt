@@ -2,15 +2,28 @@
 
 ghost use Rattle.std.specs.Prelude.{◌<◌, ◌≤◌};
 
+use sip_round::MAX_EVENTS_OF_ROUND;
+
 /// The fewest events of a round that several threads share. In smaller rounds, to start threads four
 /// times takes longer than what they save.
 const SHARED: usize = 2_000;
 
-/// How many shards transactions and calls are cut into, and how many threads work on a round.
+/// The most events of a round that one agent runs on one thread: its time for a transaction is the
+/// least with 10 to 100 events a round. Several threads need large rounds.
+const BEST: usize = 128;
+
+/// The fewest events of a round that several agents run at once.
+const SHARED_BY_AGENTS: usize = 32;
+
+/// How many agents share the calls, how many shards the transactions and calls of each are cut into,
+/// and how many threads work on a round of one agent.
 #[derive(Clone, Copy)]
 pub struct Division {
+    pub agents: usize,
     pub shards: usize,
     pub workers: usize,
+    ghost some_agent: { 0 < agents },
+    ghost most_agents: { agents ≤ 16 },
     ghost some_shard: { 0 < shards },
     ghost most_shards: { shards ≤ 256 },
     ghost some_worker: { 0 < workers },
@@ -18,11 +31,21 @@ pub struct Division {
 }
 
 impl Division {
-    /// 4 shards and 2 workers.
+    /// One agent, 4 shards and one worker.
     pub const USUAL: Division = Division {
+        agents: 1,
         shards: 4,
-        workers: 2,
+        workers: 1,
     };
+
+    /// How many events a round has at most.
+    pub(crate) fn most_events(self) -> usize {
+        if self.workers > 1 {
+            MAX_EVENTS_OF_ROUND
+        } else {
+            BEST * self.agents
+        }
+    }
 
     /// How many threads a round of so many events takes. To start one takes longer than to run a
     /// round of a few.
@@ -31,5 +54,17 @@ impl Division {
         ensures most { result ≤ 64 }
     {
         if events < SHARED { 1 } else { self.workers }
+    }
+
+    /// How many of several agents run at once in a round of so many events.
+    pub(crate) fn agents_at_once(self, events: usize) -> usize
+        ensures some { 0 < result }
+        ensures most { result ≤ 64 }
+    {
+        if events < SHARED_BY_AGENTS {
+            1
+        } else {
+            self.agents
+        }
     }
 }

@@ -45,7 +45,7 @@ pub struct Endpoint<F> {
 }
 
 impl<F> Endpoint<F> {
-    /// An endpoint at this address, with 4 shards and 2 workers. It begins with round 0, and is
+    /// An endpoint at this address, with one agent, of 4 shards, on one thread. It begins with round 0, and is
     /// recorded as an event file.
     pub fn new(socket: UdpSocket, local: Addr, seed: [u8; 32], record: Option<F>) -> Endpoint<F> {
         Endpoint {

@@ -9,6 +9,7 @@ mod division;
 mod dropped;
 mod endpoint;
 mod fault;
+mod group;
 mod inlet;
 mod input_end;
 mod line_end;

@@ -1,4 +1,4 @@
-//! The turns of a user agent. Each turn is a round.
+//! The turns of a user agent. Each turn is a round, or several while they are full.
 
 ghost use Rattle.std.specs.Prelude.{◌≡◌, ◌++◌, List, OnOk, map};
 ghost use Rattle.sip_desk.specs.Lines.{KeepsLines};
@@ -10,6 +10,7 @@ use crate::bell::Bell;
 use crate::counts::{Counts, Losses};
 use crate::division::Division;
 use crate::fault::{UaFault, refused_round};
+use crate::group::Group;
 use crate::notices::{Telling, put, write_ids, write_notices};
 use crate::outlet::Outlet;
 use crate::past::Past;
@@ -21,8 +22,7 @@ use crate::user::User;
 use sip_desk::Desk;
 use sip_files::FileKind;
 use sip_journal::{LinesFault, read_round};
-use sip_message::Spread;
-use sip_round::{Agent, Config, Event, MAX_EVENTS_OF_ROUND, OpenGate, Output, PlacedOutput, Round};
+use sip_round::{Config, Event, Output, PlacedOutput, Round};
 use sip_text::Series;
 use std::alloc::{AllocError, Global};
 use std::io::Write;
@@ -39,14 +39,28 @@ pub const MOST_COLLECTED: usize = 1024;
 /// longest that a pipe takes; the lines of a whole round can be read again up to 2^26 bytes.
 const MOST_JOURNALLED: usize = 63;
 
+/// How many rounds a turn has at most.
+const MOST_ROUNDS: u32 = 64;
+
 /// How long a turn takes at least, in ms; at its bell it waits at most that long.
 const PAUSE: u64 = 10;
 
-/// An agent between two turns.
+/// How a turn ends.
+#[derive(Clone, Copy)]
+enum TurnEnd {
+    /// The turns are over.
+    Over,
+    /// Nothing waits.
+    Done,
+    /// Its last round was full, so that more may wait.
+    Full,
+}
+
+/// The agents of an endpoint between two turns.
 #[derive(Drop)]
 pub struct Turns<U, F> {
     alloc: Global,
-    agent: Agent<Spread>,
+    group: Group,
     user: U,
     // Where the turns of an eager user wait for the first event.
     bell: Option<Arc<Bell>>,
@@ -92,7 +106,7 @@ impl<U: User, F: RecordFile> Turns<U, F> {
         bell: Option<Arc<Bell>>,
         errors: &mut E,
     ) -> Result<Turns<U, F>, UaFault> {
-        let agent = Agent::new(alloc, config, division.shards, Spread)?;
+        let group = Group::new(alloc, config, division)?;
         let mut waiting = Vec::new(alloc);
         user.begin(alloc, &mut waiting)?;
         let Ok(start) = Instant::now(rt) else {
@@ -101,7 +115,7 @@ impl<U: User, F: RecordFile> Turns<U, F> {
         record.begin(alloc, &config, errors)?;
         Ok(Turns {
             alloc,
-            agent,
+            group,
             user,
             bell,
             division,
@@ -198,12 +212,8 @@ impl<U: User, F: RecordFile> Turns<U, F> {
         }
         let asked = commands_in(round.events.as_slice()).min(self.waiting.len());
         self.waiting = self.waiting.split_off(asked)?;
-        let workers = self.division.workers_of(round.events.len());
-        match self
-            .agent
-            .run_round_with_places(rt, &round, workers, &OpenGate)
-        {
-            Ok(outputs) => {
+        match self.group.run(rt, self.alloc, round, self.division) {
+            Ok((round, outputs)) => {
                 self.moment = round.moment;
                 self.number = self.number.saturating_add(1);
                 self.tell_user(&outputs)?;
@@ -254,17 +264,40 @@ impl<U: User, F: RecordFile> Turns<U, F> {
             if listener_ended.load(Ordering::SeqCst) {
                 break;
             }
-            self.gather(rt, turns_left, desk, errors)?;
-            let now = self.moment_now(rt)?;
-            if self.limit.is_past(self.passed_at(now)) || self.user.is_over(now, self.holds()) {
-                break;
-            }
-            let is_full = self.is_due(now) && self.turn(rt, outlet, notices, errors)?;
-            if !is_full {
-                self.pause(rt, now)?;
+            let start = self.moment_now(rt)?;
+            match self.turn(rt, turns_left, desk, outlet, notices, errors)? {
+                TurnEnd::Over => break,
+                TurnEnd::Done => self.pause(rt, start)?,
+                TurnEnd::Full => {}
             }
         }
         Ok(())
+    }
+
+    // A turn: a round, and others while they are full.
+    fn turn<R: Threads + Clock + Sync, O: Outlet, W: Write, E: Write>(
+        &mut self,
+        rt: &R,
+        turns_left: u64,
+        desk: &mut Desk<Event>,
+        outlet: &mut O,
+        notices: &mut W,
+        errors: &mut E,
+    ) -> Result<TurnEnd, UaFault>
+        ensures { KeepsLines desk.old desk.new }
+    {
+        for _ in 0..MOST_ROUNDS {
+            self.gather(rt, turns_left, desk, errors)?;
+            let now = self.moment_now(rt)?;
+            if self.limit.is_past(self.passed_at(now)) || self.user.is_over(now, self.holds()) {
+                return Ok(TurnEnd::Over);
+            }
+            let is_full = self.is_due(now) && self.round(rt, outlet, notices, errors)?;
+            if !is_full {
+                return Ok(TurnEnd::Done);
+            }
+        }
+        Ok(TurnEnd::Full)
     }
 
     /// Whether the user got the least that it had to get.
@@ -315,13 +348,13 @@ impl<U: User, F: RecordFile> Turns<U, F> {
 
     // Whether an event waits, or anything is held.
     fn holds(&self) -> bool {
-        !self.waiting.is_empty() || self.agent.live() != (0, 0)
+        !self.waiting.is_empty() || self.group.live() != (0, 0)
     }
 
     // Whether a round is run now. For an eager user, and with a journal, that is only if it may give
     // or change something.
     fn is_due(&self, now: u64) -> bool {
-        let has_cause = match self.agent.next_due() {
+        let has_cause = match self.group.next_due() {
             Some(due) if due <= now => true,
             _ => !self.waiting.is_empty(),
         };
@@ -329,7 +362,7 @@ impl<U: User, F: RecordFile> Turns<U, F> {
     }
 
     // A round, whose outputs are sent and told. Gives whether it had as many events as it may have.
-    fn turn<R: Threads + Clock + Sync, O: Outlet, W: Write, E: Write>(
+    fn round<R: Threads + Clock + Sync, O: Outlet, W: Write, E: Write>(
         &mut self,
         rt: &R,
         outlet: &mut O,
@@ -380,7 +413,7 @@ impl<U: User, F: RecordFile> Turns<U, F> {
         if !self.waiting.is_empty() {
             return Ok(());
         }
-        let left = match self.agent.next_due() {
+        let left = match self.group.next_due() {
             Some(due) => due.saturating_sub(self.moment_now(rt)?).clamp(1, PAUSE),
             None => PAUSE,
         };
@@ -394,7 +427,7 @@ impl<U: User, F: RecordFile> Turns<U, F> {
     {
         let room = self.most_events().saturating_sub(self.waiting.len());
         let events = desk.collect(room.min(MOST_COLLECTED))?;
-        let mut events = self.admission.admit(self.alloc, &self.agent, events)?;
+        let mut events = self.group.admit(self.alloc, &mut self.admission, events)?;
         self.waiting.append(&mut events)?;
         Ok(())
     }
@@ -409,16 +442,12 @@ impl<U: User, F: RecordFile> Turns<U, F> {
         let moment = self.moment_now(rt)?;
         let events = self.events_of_round()?;
         let round = Round { moment, events };
-        let workers = self.division.workers_of(round.events.len());
-        match self
-            .agent
-            .run_round_with_places(rt, &round, workers, &OpenGate)
-        {
-            Ok(outputs) => {
+        match self.group.run(rt, self.alloc, round, self.division) {
+            Ok((round, outputs)) => {
                 self.moment = moment;
                 self.record.add(self.alloc, &round, errors)?;
                 if let Some(counts) = &mut self.counts {
-                    counts.add(self.number, &round, &outputs, self.agent.live())?;
+                    counts.add(self.number, &round, &outputs, self.group.live())?;
                 }
                 Ok((round, outputs))
             }
@@ -438,7 +467,7 @@ impl<U: User, F: RecordFile> Turns<U, F> {
         if self.record.is_journal() {
             MOST_JOURNALLED
         } else {
-            MAX_EVENTS_OF_ROUND
+            self.division.most_events()
         }
     }
 

@@ -3,6 +3,7 @@
 //! Each example ends as it should, or says that memory ran out and then left everything as it
 //! should be. If a call that ran out of memory changes nothing, the example makes it again.
 
+mod agents;
 mod calls;
 mod files;
 mod heads;
@@ -27,7 +28,7 @@ use test_examples::{
 use worked::{CONFIG, SEED};
 
 /// The names of the examples, in the order of their numbers.
-const NAMES: [&str; 49] = [
+const NAMES: [&str; 50] = [
     "unfold",
     "lines",
     "split_values",
@@ -77,6 +78,7 @@ const NAMES: [&str; 49] = [
     "header_values",
     "header_lines",
     "Host",
+    "Agents",
 ];
 
 // Runs the example with this number.
@@ -133,6 +135,7 @@ fn example<T: Threads + Sync>(threads: &T, alloc: Global, number: usize) -> Resu
         46 => heads::the_values_of_a_header(alloc),
         47 => heads::header_lines_in_order(alloc),
         48 => heads::a_host_reads_a_datagram(alloc),
+        49 => agents::each_call_has_its_agent(threads, alloc),
         _ => Err(Stop::Words),
     }
 }

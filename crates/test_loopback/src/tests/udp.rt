@@ -5,7 +5,7 @@ use sip_applications::{CallPlan, ListenPlan, call, call_from, listen, listen_at}
 use sip_desk::{Desk, NoMemory, Poster, open};
 use sip_message::Addr;
 use sip_round::Event;
-use sip_udp::{Endpoint, Flags, Inlet, InputEnd, Received, UaFault, drops_in, hear};
+use sip_udp::{Division, Endpoint, Flags, Inlet, InputEnd, Received, UaFault, drops_in, hear};
 use std::alloc::Global;
 use std::io::{self, PipeReader, PipeWriter};
 use std::net::{Ipv4Addr, SocketAddrV4, UdpSocket};
@@ -283,7 +283,8 @@ fn a_listener_whose_socket_fails_tells_so(rt: HostRuntime) -> Result<(), Fail> {
     Ok(())
 }
 
-// The notices of a listener, or of a caller with a plan, that goes on until its input ends.
+// The notices of a listener of three agents, or of a caller with a plan, that goes on until its
+// input ends.
 fn until_input_ends<T: Threads + Clock + Files + Sync>(
     rt: &T,
     alloc: Global,
@@ -300,6 +301,11 @@ fn until_input_ends<T: Threads + Clock + Files + Sync>(
     match plan {
         Some(plan) => call_from(rt, alloc, endpoint, plan, u64::MAX, &mut told, &mut errors)?,
         None => {
+            endpoint.division = Division {
+                agents: 3,
+                shards: 4,
+                workers: 2,
+            };
             let plan = ListenPlan::usual();
             listen_at(rt, alloc, endpoint, plan, u64::MAX, &mut told, &mut errors)?;
         }
