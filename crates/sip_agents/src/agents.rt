@@ -135,7 +135,9 @@ impl<A: Cut + Drop, C: Cut + Copy> Agents<A, C> {
 
     /// How many agents there are.
     pub fn count(&self) -> usize
-        ensures { result ≡ self.now.count }
+        ensures count { result ≡ self.now.count }
+        ensures some { 0 < result }
+        ensures most { result ≤ 16 }
     {
         self.count
     }
@@ -183,8 +185,8 @@ impl<A: Cut + Drop, C: Cut + Copy> Agents<A, C> {
         first_due(self.agents())
     }
 
-    /// Whether a request would begin a transaction with the agent of its Call-ID, if it came in the
-    /// next round (RFC 3261, section 17.2.3).
+    /// Whether it is a request other than ACK whose transaction the agent of its Call-ID doesn't hold
+    /// (RFC 3261, section 17.2.3): so it would begin one.
     ///
     /// # Errors
     ///

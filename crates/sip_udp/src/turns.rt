@@ -32,7 +32,7 @@ use std::sync::atomic::{AtomicBool, Ordering};
 use std::thread::{self, Threads};
 use std::time::{Clock, Duration, Instant};
 
-/// How many datagrams, or lines of a pipe, a turn takes at most.
+/// How many datagrams, or lines of a pipe, are collected at one time at most.
 pub const MOST_COLLECTED: usize = 1024;
 
 /// How many events a round of a journal has at most. Each is a line of at most 2^20 bytes, the
@@ -327,7 +327,7 @@ impl<U: User, F: RecordFile> Turns<U, F> {
         }
     }
 
-    // Gathers what the user asks for by itself, and what was posted.
+    // Gathers what the user asks for by itself, and what was posted, unless a full round waits.
     fn gather<R: Clock, E: Write>(
         &mut self,
         rt: &R,
@@ -340,6 +340,9 @@ impl<U: User, F: RecordFile> Turns<U, F> {
         let now = self.moment_now(rt)?;
         let passed = self.passed_at(now);
         self.limit.look(passed);
+        if self.waiting.len() >= self.most_events() {
+            return Ok(());
+        }
         let left = self.limit.left(passed, turns_left);
         self.user
             .turn(self.alloc, now, left, &mut self.waiting, errors)?;
@@ -421,12 +424,11 @@ impl<U: User, F: RecordFile> Turns<U, F> {
             .map_err(|_| UaFault::Socket)
     }
 
-    // Puts what was posted and is admitted behind what waits, as far as the next round has room.
+    // Puts what was posted and is admitted behind what waits.
     fn collect(&mut self, desk: &mut Desk<Event>) -> Result<(), UaFault>
         ensures { KeepsLines desk.old desk.new }
     {
-        let room = self.most_events().saturating_sub(self.waiting.len());
-        let events = desk.collect(room.min(MOST_COLLECTED))?;
+        let events = desk.collect(MOST_COLLECTED)?;
         let mut events = self.group.admit(self.alloc, &mut self.admission, events)?;
         self.waiting.append(&mut events)?;
         Ok(())
