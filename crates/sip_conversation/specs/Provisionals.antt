@@ -4,6 +4,7 @@ use Rattle.std.specs.Prelude.{◌≡◌, ◌≢◌, ◌<◌, ℕ, true, List, []
 use Rattle.std.specs.List.{AllByRecursion}
 use Rattle.sip_message.specs.Message.{is_request_message}
 use Rattle.sip_message.specs.Party.{tag_of}
+use Rattle.sip_message.specs.Written.{written}
 use Rattle.sip_message.specs.declared.message.Message.{Message}
 use Rattle.keyed_machine.specs.Machine.{Timed}
 use Rattle.sip_held_dialogs.specs.Requests.{dialog_id_of_tags}
@@ -21,7 +22,7 @@ use Rattle.sip_round.specs.declared.round.Round.{Round}
 use Rattle.sip_round.specs.Answers.{calls_of}
 use Rattle.sip_round.specs.Laws.{call_inputs_of}
 use Rattle.sip_conversation.specs.Answers.{RespondsTo}
-use Rattle.sip_conversation.specs.Conversation.{Side, Turn, peer, rounds_of}
+use Rattle.sip_conversation.specs.Conversation.{AgentSends, Side, Turn, peer, rounds_of}
 use Rattle.sip_conversation.specs.Messages.{IsSaid}
 use Rattle.sip_conversation.specs.Replies.{SaidResponse}
 
@@ -42,11 +43,12 @@ told_from calls invite life call (input ∷ inputs) =
 
 -- ---- what the other side said
 
--- in these rounds an agent said the PRACK of the response of RSeq 1 to the INVITE that this
+-- in these rounds an agent said and sent the PRACK of the response of RSeq 1 to the INVITE that this
 -- response answers, in the dialog of this response (RFC 3262, sections 4 and 7.2)
 pub record SaidPrack (config : Config) (rounds : List Round) (response : Message) : Type 0 where
   pub prack : Message
   pub said : IsSaid config rounds prack
+  pub sent : AgentSends config rounds (written prack)
   pub is_request : is_request_message prack ≡ true
   pub method : prack.cseq.method ≡ codes "PRACK"
   pub rack : prack.rack
