@@ -33,7 +33,6 @@ use Rattle.sip_round.proofs.GivenNotices.{notices_given}
 use Rattle.sip_round.proofs.Said.{call_alone}
 use Rattle.sip_conversation.specs.Conversation.{Carried, Side, Turn, peer, rounds_of}
 use Rattle.sip_conversation.specs.Messages.{CallsKeepRules, ComesUnchanged, IsSaid}
-use Rattle.sip_conversation.specs.Answers.{IsAnswered}
 pub use Rattle.sip_conversation.specs.Steps.Fair.{IsFair}
 use Rattle.sip_conversation.specs.Replies.{IsStartedFor, ResponsesToldWereSaid, SaidResponse, ToldResponse}
 use Rattle.sip_conversation.proofs.Among.{all_both, all_go, among_kept, each_of}
@@ -141,8 +140,7 @@ module _ (configs : Side → Config) (fair : IsFair configs) (before : List Turn
           to = ap (λ m. tag_of m.to) whole;
           body_is = ap (λ m. m.body) whole;
           request = answer.request;
-          answered = subst (IsAnswered (configs other) (rounds_of other before)
-              answer.request.request status) (ap (λ m. m.body) whole) answer.answered;
+          answered = answer.answered;
         };
         whole = whole;
       }

@@ -196,11 +196,11 @@ module _ (config : Config) (rounds : List Round) (invite : Message) where
       subst IsNone (sym same) (λ success. absurd cc)
   none_itself status is (OutOfOrder same why) = subst IsNone (sym same) (λ success. absurd cc)
 
-  user_accepts : (status : ℕ) (body : List ℕ) → is_invite invite ≡ true
-      → is_success status ≡ true → IsAnswered config rounds invite status body
-      → RespondsTo config rounds invite status body
-  user_accepts status body is success (ByUser responds) = responds
-  user_accepts status body is success (ByAgent why none) =
+  user_accepts : (status : ℕ) (response : Message) → is_invite invite ≡ true
+      → is_success status ≡ true → IsAnswered config rounds invite status response
+      → RespondsTo config rounds invite status response
+  user_accepts status response is success (ByUser responds) = responds
+  user_accepts status response is success (ByAgent why none) =
       absurd (none_itself status is why success)
 
 -- ---- what comes from the other side
@@ -388,7 +388,7 @@ module _ (configs : Side → Config) (fair : IsFair configs) (before : List Turn
           copies = answer.copies;
           status = success.1.status;
           success = success.1.success;
-          answered = user_accepts here rounds held.request success.1.status success.0.body
+          answered = user_accepts here rounds held.request success.1.status success.0
               parts.0 success.1.success answer.answered;
           dialog =
               let to = same_lower (tag_of ack.to) held.tag parts.2

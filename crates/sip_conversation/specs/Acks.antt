@@ -78,7 +78,7 @@ pub record IsForInvite (config : Config) (rounds : List Round) (call_id : List �
   pub copies : IsResponseTo invite response
   pub status : ℕ
   pub success : is_success status ≡ true
-  pub answered : RespondsTo config rounds invite status response.body
+  pub answered : RespondsTo config rounds invite status response
   pub dialog : dialog_id_of_tags (tag_of ack.to) (tag_of ack.from)
       ≡ dialog_id_of_tags (tag_of response.to) (tag_of response.from)
 

@@ -65,7 +65,7 @@ pub record SaidReliably (configs : Side → Config) (turns : List Turn) (side : 
   pub response : SaidResponse configs turns side status local_tag remote_tag body
   pub number : provisional_number (Some status) response.original ≡ Some rseq
   pub by_user : RespondsTo (configs (peer side)) (rounds_of (peer side) turns)
-      response.request.request status body
+      response.request.request status response.original
   pub pracked : 1 < rseq → SaidPrack (configs side) (rounds_of side turns) response.original
 
 -- it is the notice of a response, and the other side said that response

@@ -34,7 +34,7 @@ pub record SaidResponse (configs : Side → Config) (turns : List Turn) (side : 
   pub body_is : original.body ≡ body
   pub request : AnswersARequest (ComesUnchanged configs turns (peer side)) original
   pub answered : IsAnswered (configs (peer side)) (rounds_of (peer side) turns) request.request
-      status body
+      status original
 
 -- the rounds have numbers below 2 ^ 64, and fewer than 2 ^ 64 events each; a branch is made of 64
 -- bits of each number, so it tells these events apart
