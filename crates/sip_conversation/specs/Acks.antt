@@ -1,4 +1,4 @@
--- An ACK that a user is told of is one that the other side said before: a call of it, whose user
+-- An ACK that a user is told of is one that the other side sent before: a call of it, whose user
 -- was told of the 2xx that it acknowledges, or a transaction of it, for a response of 300 to 699.
 -- It fits the INVITE that is told with it, and the 2xx that the user gave to that INVITE.
 use Rattle.std.specs.Prelude.{◌≡◌, ◌⊎◌, ℕ, true, List, [], ◌∷◌, ◌++◌, Contains, codes}
@@ -83,9 +83,9 @@ pub record IsForInvite (config : Config) (rounds : List Round) (call_id : List �
       ≡ dialog_id_of_tags (tag_of response.to) (tag_of response.from)
 
 -- In the turns before the other side said and sent an ACK with this body. A call sent it for a 2xx,
--- or a transaction made it for a response of 300 to 699. It has this Call-ID, if the rounds of the other
--- side are counted. It is for the INVITE that came up to this side under this Call-ID and this id
--- up to the turn's end.
+-- or a transaction made it for a response of 300 to 699. It has this Call-ID, if the rounds of the
+-- other side are counted. It is for the INVITE that came up to this side under this Call-ID and
+-- this id up to the turn's end.
 pub record SaidAck (configs : Side → Config) (before : List Turn) (turn : Turn)
     (call_id : List ℕ) (id : Id) (body : List ℕ) : Type 0 where
   pub original : Message

@@ -48,9 +48,9 @@ pub record UserCancelled (config : Config) (rounds : List Round) (cancel : Messa
 
 -- In the turns before, the other side sent a CANCEL of this Call-ID, because its user asked for it.
 -- It came up to this side for an INVITE that came up under this Call-ID and this id up to the
--- turn's end: their transactions have one branch and one sent-by (section 9.2). If the rounds of the
--- other side are counted, that is the INVITE that its user's command names, with the stamp of its
--- source.
+-- turn's end: their transactions have one branch and one sent-by (section 9.2). If the rounds of
+-- the other side are counted, that is the INVITE that its user's command names, with the stamp of
+-- its source.
 pub record SaidCancel (configs : Side → Config) (before : List Turn) (turn : Turn)
     (call_id : List ℕ) (id : Id) : Type 0 where
   pub original : Message

@@ -45,7 +45,7 @@ abbrev pub rounds_of : Side → List Turn → List Round
 rounds_of side turns =
     map (λ turn. turn.round) (filter (λ turn. is_side side turn.side) turns)
 
--- in these rounds an agent sent these bytes: a Send of them stands among its outputs; the laws don't
+-- in these rounds an agent sent these bytes: a Send of them is among its outputs; the laws don't
 -- ask to which address
 abbrev pub AgentSends : Config → List Round → List ℕ → Type 0
 AgentSends config rounds bytes = (key : Option Key) × (to : Addr)

@@ -1,4 +1,4 @@
--- What a message that comes is: one that the other side said before.
+-- What a message that comes is: one that the other side sent before.
 use Rattle.std.specs.Prelude.{◌≡◌, ◌≤◌, ℕ, true, List, [], ◌∷◌, ◌++◌, Contains, Option, None, Some, IfSome, length, if◌then◌else◌}
 use Rattle.sip_message.specs.declared.addr.Addr.{Addr}
 use Rattle.sip_message.specs.declared.id.Id.{Id}

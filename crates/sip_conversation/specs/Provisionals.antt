@@ -1,5 +1,5 @@
 -- The reliable provisional responses that a user is told of have consecutive RSeqs, each is told
--- once, and the other side said each of them before (RFC 3262, section 4).
+-- once, and the other side sent each of them before (RFC 3262, section 4).
 use Rattle.std.specs.Prelude.{◌≡◌, ◌≢◌, ◌<◌, ℕ, true, List, [], ◌∷◌, ◌++◌, AllPairs, Option, None, Some, codes, filter, map}
 use Rattle.std.specs.List.{AllByRecursion}
 use Rattle.sip_message.specs.Message.{is_request_message}
@@ -43,8 +43,8 @@ told_from calls invite life call (input ∷ inputs) =
 
 -- ---- what the other side said
 
--- in these rounds an agent said and sent the PRACK of the response of RSeq 1 to the INVITE that this
--- response answers, in the dialog of this response (RFC 3262, sections 4 and 7.2)
+-- in these rounds an agent said and sent the PRACK of the response of RSeq 1 to the INVITE that
+-- this response answers, in the dialog of this response (RFC 3262, sections 4 and 7.2)
 pub record SaidPrack (config : Config) (rounds : List Round) (response : Message) : Type 0 where
   pub prack : Message
   pub said : IsSaid config rounds prack
@@ -57,9 +57,9 @@ pub record SaidPrack (config : Config) (rounds : List Round) (response : Message
   pub dialog : dialog_id_of_tags (tag_of prack.from) (tag_of prack.to)
       ≡ dialog_id_of_tags (tag_of response.from) (tag_of response.to)
 
--- In these turns the other side said such a response as a reliable provisional one, with this RSeq
--- and a tag in To, because its user answered the request that way. If the RSeq is above 1, this
--- side said the PRACK of the first in these turns.
+-- In these turns the other side said and sent such a response as a reliable provisional one, with
+-- this RSeq and a tag in To, because its user answered the request that way. If the RSeq is above
+-- 1, this side said and sent the PRACK of the first in these turns.
 pub record SaidReliably (configs : Side → Config) (turns : List Turn) (side : Side)
     (rseq status : ℕ) (local_tag remote_tag body : List ℕ) : Type 0 where
   pub response : SaidResponse configs turns side status local_tag remote_tag body

@@ -1,4 +1,4 @@
--- A response that a user is told of is one that the other side said before, to a request that came
+-- A response that a user is told of is one that the other side sent before, to a request that came
 -- to it.
 use Rattle.std.specs.Prelude.{◌≡◌, ◌≢◌, ◌<◌, ◌≤◌, ◌+◌, ◌^◌, ℕ, List, [], ◌∷◌, ◌++◌, Contains, Some, codes, length}
 use Rattle.std.specs.List.{AllByRecursion}
@@ -50,7 +50,7 @@ pub record IsStartedFor (config : Config) (rounds : List Round) (call_id : List 
   pub to : Addr
   pub given : IsGiven config rounds (key_of_message response) (Start id call_id request to)
 
--- The other side said such a response before a turn, and up to its end this side started a
+-- The other side sent such a response before a turn, and up to its end this side started a
 -- transaction for it, under the Call-ID and the id of the notice. If the rounds of this side are
 -- counted so, that is the Call-ID of the response; and unless the response is to a CANCEL, the
 -- request that it answers came from that transaction: it is the one that the id names.

@@ -1,4 +1,4 @@
--- A PRACK that a user is told of is one that the other side said before.
+-- A PRACK that a user is told of is one that the other side sent before.
 use Rattle.std.specs.Prelude.{◌≡◌, ℕ, true, List, [], ◌∷◌, ◌++◌, Contains, Some, codes}
 use Rattle.sip_message.specs.declared.addr.Addr.{Addr}
 use Rattle.sip_message.specs.declared.id.Id.{Id}
@@ -40,8 +40,8 @@ pub data IsPracked (config : Config) (rounds : List Round) (prack : Message) : T
   ByUser : UserPracked config rounds prack → IsPracked config rounds prack
   ByAgent : prack.body ≡ [] → IsPracked config rounds prack
 
--- In these turns the other side said and sent a PRACK with this Call-ID and this body, and with this
--- RSeq in RAck (RFC 3262, section 7.2): its user's or its own.
+-- In these turns the other side said and sent a PRACK with this Call-ID and this body, and with
+-- this RSeq in RAck (RFC 3262, section 7.2): its user's or its own.
 pub record SaidPrackOf (configs : Side → Config) (turns : List Turn) (side : Side)
     (call_id : List ℕ) (rseq : ℕ) (body : List ℕ) : Type 0 where
   pub original : Message
