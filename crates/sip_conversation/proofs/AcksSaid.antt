@@ -28,7 +28,7 @@ use Rattle.sip_conversation.proofs.Bridge.{same_text}
 use Rattle.sip_conversation.proofs.CallsKeep.{calls_keep_rules}
 use Rattle.sip_conversation.proofs.Carrying.{TurnHolds}
 use Rattle.sip_conversation.proofs.FirstTold.{LastTurn, last_rounds, last_turn}
-use Rattle.sip_conversation.proofs.Fronts.{carried_before, carried_to, keeps_before, keeps_to, peer_rounds}
+use Rattle.sip_conversation.proofs.Fronts.{carried_before, carried_to, keeps_before, keeps_to, peer_rounds, sent_before}
 use Rattle.sip_conversation.proofs.OneCallId.{lower, out_replies}
 use Rattle.sip_conversation.proofs.OutsInOrder.{between}
 use Rattle.sip_conversation.proofs.OneOrigin.{IsOfCall, one_call_id}
@@ -194,6 +194,7 @@ acks_told_said configs fair turns carried types before after turn same call_id i
     record {
       original = came.original;
       said = so.said;
+      sent = sent_before configs before turn (written came.original) came.sent;
       rules = came.rules;
       is_request = so.is_request;
       method_is = so.method_is;

@@ -94,7 +94,7 @@ module _ (config : Config) (rounds : List Round) (Came : Message → Type 0) whe
     pub is_request : is_request_message request ≡ true
     pub came : Came request
     pub copies : IsResponseTo request message
-    pub answered : IsAnswered config rounds request status message.body
+    pub answered : IsAnswered config rounds request status message
 
   abbrev pub AnswersTo : Arrival → Message → Type 0
   AnswersTo arrival message = (status : ℕ) → status_of message.start ≡ Some status
@@ -103,7 +103,7 @@ module _ (config : Config) (rounds : List Round) (Came : Message → Type 0) whe
   -- such an answer to some request
   pub record IsAnswer (message : Message) (status : ℕ) : Type 0 where
     pub request : AnswersARequest Came message
-    pub answered : IsAnswered config rounds request.request status message.body
+    pub answered : IsAnswered config rounds request.request status message
 
   abbrev pub Answers : Message → Type 0
   Answers message = (status : ℕ) → status_of message.start ≡ Some status
@@ -126,11 +126,11 @@ module _ (config : Config) (rounds : List Round) (Came : Message → Type 0) whe
   any_answer arrival message answers status is =
       to_one arrival.request message status (answers status is)
 
-  itself : (request : Message) (status other : ℕ) → Some status ≡ Some other
-      → AnswersItself config rounds request status
-      → IsAnswered config rounds request other []
-  itself request status other is why =
-      ByAgent (subst (AnswersItself config rounds request) (same_Some status other is) why) refl
+  itself : (request response : Message) (status other : ℕ) → Some status ≡ Some other
+      → AnswersItself config rounds request status → response.body ≡ []
+      → IsAnswered config rounds request other response
+  itself request response status other is why bare =
+      ByAgent (subst (AnswersItself config rounds request) (same_Some status other is) why) bare
 
   own_says : (status : ℕ) (reason : List ℕ) (request : Message) (tag : List ℕ) → Came request
       → is_request_message request ≡ true → AnswersItself config rounds request status
@@ -140,7 +140,7 @@ module _ (config : Config) (rounds : List Round) (Came : Message → Type 0) whe
     is_request = is_request;
     came = came;
     copies = made_copies request status reason tag;
-    answered = itself request status other is why;
+    answered = itself request (response_of request status reason tag) status other is why refl;
   }
 
   module _ (call_id : List ℕ) where
@@ -183,7 +183,7 @@ module _ (config : Config) (rounds : List Round) (Came : Message → Type 0) whe
           call_id = refl;
           cseq = refl;
         };
-        answered = itself arrival.request 420 other is (BadExtension refl unknown);
+        answered = itself arrival.request _ 420 other is (BadExtension refl unknown) refl;
       };
       no_dialog = λ arrival came is. own_reply 481 (codes "Call/Transaction Does Not Exist")
           arrival arrival.tag came (NoDialog refl is);
@@ -224,7 +224,6 @@ module _ (config : Config) (rounds : List Round) (Came : Message → Type 0) whe
           copies = (was_sent local held respond).copies;
           answered = ByUser record {
             respond = respond;
-            response = response;
             up = came.up;
             gave = subst (λ of. Responds config rounds of respond (came.up).key response)
                 (sym came.call_id_is)
@@ -235,7 +234,6 @@ module _ (config : Config) (rounds : List Round) (Came : Message → Type 0) whe
             status_is = same_Some respond.status status (sym (ap status_of start) ∙ is);
             body_is = sym (was_sent local held respond).body;
             sent_status = is;
-            sent_body = refl;
           };
         }
 

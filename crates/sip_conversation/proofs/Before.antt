@@ -5,6 +5,7 @@ use Rattle.std.proofs.lemmas.List.Elements.{Contains-push}
 use Rattle.sip_message.specs.declared.message.Message.{Message}
 use Rattle.sip_message.specs.Addr.{IsAddr}
 use Rattle.sip_message.specs.Key.{key_cmp}
+use Rattle.sip_message.specs.Written.{written}
 use Rattle.keyed_machine.specs.Laws.{EachKeyAlone}
 use Rattle.keyed_machine.specs.Machine.{tick_at}
 use Rattle.sip_transactions.specs.Machine.{transaction_machine}
@@ -14,7 +15,7 @@ use Rattle.sip_conversation.specs.Conversation as side
 use Rattle.sip_conversation.specs.Datagrams.{DatagramsAreTextsSaid}
 use Rattle.sip_conversation.specs.Messages.{CallsHearUnchanged, CallsKeepRules, ComesUnchanged, IsSaid, MessagesComeUnchanged, message_up}
 use Rattle.sip_conversation.proofs.Among.{among_kept, mapped_among}
-use Rattle.sip_conversation.proofs.Fronts.{carried_to, keeps_to, peer_rounds}
+use Rattle.sip_conversation.proofs.Fronts.{carried_to, keeps_to, peer_rounds, sent_before}
 use Rattle.sip_conversation.proofs.Unchanged.{calls_hear, datagrams_said, messages_unchanged}
 
 comes_before : (configs : Side → Config) (before : List Turn) (turn : Turn) (message : Message)
@@ -24,6 +25,7 @@ comes_before configs before turn message comes = record {
   original = comes.original;
   said = subst (λ rounds. IsSaid (configs (peer turn.side)) rounds comes.original)
       (peer_rounds before turn) comes.said;
+  sent = sent_before configs before turn (written comes.original) comes.sent;
   rules = comes.rules;
   short = comes.short;
   same = comes.same;

@@ -1,9 +1,9 @@
 -- A front of a carried conversation is carried, and its rounds are counted if all are; its last
 -- turn adds nothing to what the other side says.
-use Rattle.std.proofs.Common.{◌≡◌, ◌<◌, ◌^◌, false, cond, List, [], ◌∷◌, ◌++◌, length, map, refl, sym, ap, ◌∙◌, subst, append-nil, append_assoc, length-append, arith}
+use Rattle.std.proofs.Common.{◌≡◌, ℕ, ◌<◌, ◌^◌, false, cond, List, [], ◌∷◌, ◌++◌, length, map, refl, sym, ap, ◌∙◌, subst, append-nil, append_assoc, length-append, arith}
 use Rattle.sip_round.specs.declared.config.Config.{Config}
 use Rattle.sip_round.specs.declared.round.Round.{Round}
-use Rattle.sip_conversation.specs.Conversation.{Carried, CarriedAfter, Side, Turn, is_side, peer, rounds_of}
+use Rattle.sip_conversation.specs.Conversation.{AgentSends, Carried, CarriedAfter, Side, Turn, WasSent, is_side, peer, rounds_of}
 use Rattle.sip_conversation.specs.Conversation as side
 use Rattle.sip_conversation.specs.Messages.{CallSays, CallsKeepRules}
 use Rattle.sip_conversation.specs.Replies.{AreCounted}
@@ -95,3 +95,10 @@ peer_rounds before turn =
     ∙ (ap (λ own. rounds_of s before ++ map (λ (t : Turn). t.round) (cond own (turn ∷ []) []))
     (other_side turn.side)
     ∙ append-nil (rounds_of s before))
+
+-- so the other side had sent these bytes before the turn
+pub sent_before : (configs : Side → Config) (before : List Turn) (turn : Turn) (bytes : List ℕ)
+    → WasSent configs (before ++ turn ∷ []) turn.side bytes
+    → WasSent configs before turn.side bytes
+sent_before configs before turn bytes =
+    subst (λ rounds. AgentSends (configs (peer turn.side)) rounds bytes) (peer_rounds before turn)

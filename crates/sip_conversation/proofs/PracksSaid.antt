@@ -35,7 +35,7 @@ use Rattle.sip_round.specs.Answers.{calls_of, past_of}
 use Rattle.sip_round.specs.Laws.{call_inputs_of, said_of_call}
 use Rattle.sip_round.proofs.RequestsDiffer.{brought_rise}
 use Rattle.sip_round.proofs.Said.{call_alone}
-use Rattle.sip_conversation.specs.Conversation.{Side, Turn, peer, rounds_of}
+use Rattle.sip_conversation.specs.Conversation.{AgentSends, Side, Turn, peer, rounds_of}
 use Rattle.sip_conversation.specs.Messages.{CallSays, ComesUnchanged, IsSaid, come_from}
 use Rattle.sip_conversation.specs.Messages.IsSaid.{Acknowledges, Asked, Direct, Trying}
 use Rattle.sip_conversation.specs.Provisionals.{SaidPrack}
@@ -241,6 +241,8 @@ module _ (configs : Side → Config) (before : List Turn) (side : Side)
         prack = comes.original;
         said = subst (λ p. IsSaid (configs p) (rounds_of p before) comes.original)
             (peer_peer side) comes.said;
+        sent = subst (λ p. AgentSends (configs p) (rounds_of p before) (written comes.original))
+            (peer_peer side) comes.sent;
         is_request = sym alike.is_request ∙ ((its.brought).brought).2;
         method = sym (ap (λ (cseq : CSeq). cseq.method) alike.cseq) ∙ its.method;
         rack = sym alike.rack ∙ (its.rack ∙ ap (λ (cseq : CSeq).

@@ -90,12 +90,11 @@ module _ (config : Config) (rounds : List Round) (request response : Message) (r
       subst IsNone (sym is) (λ number. absurd cc)
   own_none status (OutOfOrder is why) = subst IsNone (sym is) (λ number. absurd cc)
 
-  by_user : (status : ℕ) (body : List ℕ)
-      → provisional_number (Some status) response ≡ Some rseq
-      → IsAnswered config rounds request status body
-      → RespondsTo config rounds request status body
-  by_user status body number (ByUser responds) = responds
-  by_user status body number (ByAgent why none) = absurd (own_none status why number)
+  by_user : (status : ℕ) → provisional_number (Some status) response ≡ Some rseq
+      → IsAnswered config rounds request status response
+      → RespondsTo config rounds request status response
+  by_user status number (ByUser responds) = responds
+  by_user status number (ByAgent why none) = absurd (own_none status why number)
 
 module _ (configs : Side → Config) (fair : IsFair configs) (before : List Turn) (turn : Turn)
     (carried : Carried configs before) (keep : CallsKeepRules configs before) where
@@ -127,7 +126,7 @@ module _ (configs : Side → Config) (fair : IsFair configs) (before : List Turn
           response = so.said;
           number = numbered;
           by_user = by_user (configs (peer turn.side)) (rounds_of (peer turn.side) before)
-              so.said.request.request response rseq status response.body here so.said.answered;
+              so.said.request.request so.said.original rseq status numbered so.said.answered;
           pracked = prack_said configs before turn.side (fair.calls (peer turn.side))
               (inputs_unchanged fair.transactions configs fair.addresses before carried keep
               (peer turn.side)) so.said.original so.said.said status rseq so.said.status_is

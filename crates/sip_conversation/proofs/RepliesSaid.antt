@@ -6,6 +6,7 @@ use Rattle.std.proofs.lemmas.Cmp.{nat_list_cmp_total}
 use Rattle.sip_message.specs.declared.id.Id.{Id}
 use Rattle.sip_message.specs.declared.message.Message.{Message}
 use Rattle.sip_message.specs.Party.{tag_of}
+use Rattle.sip_message.specs.Written.{written}
 use Rattle.keyed_machine.specs.Laws.{EachKeyAlone}
 use Rattle.keyed_machine.specs.Machine.{Timed, tick_at}
 use Rattle.keyed_machine.proofs.Ordered.{is_at_itself}
@@ -32,12 +33,11 @@ use Rattle.sip_round.proofs.GivenNotices.{notices_given}
 use Rattle.sip_round.proofs.Said.{call_alone}
 use Rattle.sip_conversation.specs.Conversation.{Carried, Side, Turn, peer, rounds_of}
 use Rattle.sip_conversation.specs.Messages.{CallsKeepRules, ComesUnchanged, IsSaid}
-use Rattle.sip_conversation.specs.Answers.{IsAnswered}
 pub use Rattle.sip_conversation.specs.Steps.Fair.{IsFair}
 use Rattle.sip_conversation.specs.Replies.{IsStartedFor, ResponsesToldWereSaid, SaidResponse, ToldResponse}
 use Rattle.sip_conversation.proofs.Among.{all_both, all_go, among_kept, each_of}
 use Rattle.sip_conversation.proofs.Answered.{AllCame, IsAnswer, answered}
-use Rattle.sip_conversation.proofs.Fronts.{carried_before, carried_to, keeps_before, keeps_to, peer_rounds}
+use Rattle.sip_conversation.proofs.Fronts.{carried_before, carried_to, keeps_before, keeps_to, peer_rounds, sent_before}
 use Rattle.sip_conversation.proofs.OneTransaction.{KindCame}
 use Rattle.sip_conversation.proofs.CallOuts.{InputFits, KindTells, NoticeTells, OutFits, all_fit}
 use Rattle.sip_conversation.proofs.ToldCallId.{own_reply}
@@ -133,14 +133,14 @@ module _ (configs : Side → Config) (fair : IsFair configs) (before : List Turn
         said = record {
           original = original;
           said = said;
+          sent = sent_before configs before turn (written original) comes.sent;
           rules = comes.rules;
           status_is = status_is;
           from = ap (λ m. tag_of m.from) whole;
           to = ap (λ m. tag_of m.to) whole;
           body_is = ap (λ m. m.body) whole;
           request = answer.request;
-          answered = subst (IsAnswered (configs other) (rounds_of other before)
-              answer.request.request status) (ap (λ m. m.body) whole) answer.answered;
+          answered = answer.answered;
         };
         whole = whole;
       }

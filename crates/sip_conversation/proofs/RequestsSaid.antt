@@ -22,6 +22,7 @@ use Rattle.sip_message.specs.Response.{tagged}
 use Rattle.sip_message.specs.Message.{is_request_message}
 use Rattle.sip_message.specs.Party.{tag_of}
 use Rattle.sip_message.specs.Source.{stamped}
+use Rattle.sip_message.specs.Written.{written}
 use Rattle.keyed_machine.specs.Machine.{Timed, given_at}
 use Rattle.keyed_machine.proofs.Ordered.{by_bool}
 use Rattle.sip_transactions.specs.declared.output.UpKind.{UpKind}
@@ -66,7 +67,7 @@ use Rattle.sip_conversation.proofs.OneCallId.{lower}
 use Rattle.sip_conversation.proofs.OneOrigin.{one_request, said_starts}
 use Rattle.sip_conversation.proofs.ToldCallId.{came_same as came_branch}
 use Rattle.sip_conversation.proofs.Answered.{AnswersTo, CameTo, own, request_came, user_answers}
-use Rattle.sip_conversation.proofs.Fronts.{carried_to, keeps_to, peer_rounds}
+use Rattle.sip_conversation.proofs.Fronts.{carried_to, keeps_to, peer_rounds, sent_before}
 use Rattle.sip_conversation.proofs.GivenTold.{OutTells, notice_given}
 use Rattle.sip_conversation.proofs.HeardUps.{Came, InputHeard, all_heard}
 use Rattle.sip_conversation.proofs.NoticesTold.{InputTells, all_tell}
@@ -195,11 +196,11 @@ module _ (config : Config) (rounds : List Round) (invite : Message) where
       subst IsNone (sym same) (λ success. absurd cc)
   none_itself status is (OutOfOrder same why) = subst IsNone (sym same) (λ success. absurd cc)
 
-  user_accepts : (status : ℕ) (body : List ℕ) → is_invite invite ≡ true
-      → is_success status ≡ true → IsAnswered config rounds invite status body
-      → RespondsTo config rounds invite status body
-  user_accepts status body is success (ByUser responds) = responds
-  user_accepts status body is success (ByAgent why none) =
+  user_accepts : (status : ℕ) (response : Message) → is_invite invite ≡ true
+      → is_success status ≡ true → IsAnswered config rounds invite status response
+      → RespondsTo config rounds invite status response
+  user_accepts status response is success (ByUser responds) = responds
+  user_accepts status response is success (ByAgent why none) =
       absurd (none_itself status is why success)
 
 -- ---- what comes from the other side
@@ -280,6 +281,7 @@ module _ (configs : Side → Config) (fair : IsFair configs) (before : List Turn
       asked = user_asked (configs other) (rounds_of other before) (fair.calls other)
           comes.original (said_before request comes) comes.rules same.is_request
           (ap has_command same.method ∙ other_kind request no_ack no_cancel no_prack);
+      sent = sent_before configs before turn (written comes.original) comes.sent;
       rules = comes.rules;
       call_id_is = same.call_id ∙ its;
       method_is = same.method;
@@ -299,6 +301,7 @@ module _ (configs : Side → Config) (fair : IsFair configs) (before : List Turn
         record {
           original = comes.original;
           said = said;
+          sent = sent_before configs before turn (written comes.original) comes.sent;
           rules = comes.rules;
           is_request = same.is_request;
           call_id_is = call;
@@ -385,7 +388,7 @@ module _ (configs : Side → Config) (fair : IsFair configs) (before : List Turn
           copies = answer.copies;
           status = success.1.status;
           success = success.1.success;
-          answered = user_accepts here rounds held.request success.1.status success.0.body
+          answered = user_accepts here rounds held.request success.1.status success.0
               parts.0 success.1.success answer.answered;
           dialog =
               let to = same_lower (tag_of ack.to) held.tag parts.2
@@ -500,6 +503,7 @@ module _ (configs : Side → Config) (fair : IsFair configs) (before : List Turn
         record {
           original = comes.original;
           asked = asked;
+          sent = sent_before configs before turn (written comes.original) comes.sent;
           rules = comes.rules;
           method_is = method;
           call_id_is = same.call_id ∙ brought.call_id_is;

@@ -39,7 +39,7 @@ use Rattle.sip_round.specs.Arrivals.{arrival_of}
 use Rattle.sip_round.specs.Laws.{call_inputs_of, inputs_of, said_of}
 use Rattle.sip_round.proofs.Said.{transaction_alone}
 use Rattle.sip_message.specs.Addr.{IsAddr}
-use Rattle.sip_conversation.specs.Conversation.{Carried, CarriedAfter, IsCarried, Side, Turn, given_by, peer, rounds_of}
+use Rattle.sip_conversation.specs.Conversation.{Carried, CarriedAfter, IsCarried, Side, Turn, WasSent, given_by, peer, rounds_of}
 use Rattle.sip_conversation.specs.Datagrams.{IsTextSaid}
 use Rattle.sip_conversation.specs.Messages.{CallSays, CallsKeepRules, ComesUnchanged, ComesUp, IsGiven, IsSaid, KeepsRules, come_from, message_up}
 use Rattle.sip_conversation.specs.Messages.IsSaid.{Acknowledges, Asked, Direct, Trying}
@@ -253,6 +253,7 @@ module _ (alone : EachKeyAlone key_cmp transaction_machine tick_at) where
         (λ short reply_to. record {
           original = text.0;
           said = (text.2).1;
+          sent = subst (WasSent configs turns s) text.1 carried.1;
           rules = (text.2).0;
           short = short;
           same = ap (λ source. come_from source text.0) carried.0;

@@ -1,4 +1,4 @@
--- An ACK that a user is told of is one that the other side said before: a call of it, whose user
+-- An ACK that a user is told of is one that the other side sent before: a call of it, whose user
 -- was told of the 2xx that it acknowledges, or a transaction of it, for a response of 300 to 699.
 -- It fits the INVITE that is told with it, and the 2xx that the user gave to that INVITE.
 use Rattle.std.specs.Prelude.{◌≡◌, ◌⊎◌, ℕ, true, List, [], ◌∷◌, ◌++◌, Contains, codes}
@@ -23,7 +23,7 @@ use Rattle.sip_round.specs.declared.output.Output.TheVariants.{Notice}
 use Rattle.sip_round.specs.declared.round.Round.{Round}
 use Rattle.sip_conversation.specs.AckedResponses.{FollowsSuccess}
 use Rattle.sip_conversation.specs.Answers.{IsHandedUp, IsResponseTo, RespondsTo}
-use Rattle.sip_conversation.specs.Conversation.{Side, Turn, given_by, peer, rounds_of}
+use Rattle.sip_conversation.specs.Conversation.{Side, Turn, WasSent, given_by, peer, rounds_of}
 use Rattle.sip_conversation.specs.Messages.{IsFailure, IsGiven, IsSaid}
 use Rattle.sip_conversation.specs.Replies.{AreCounted}
 
@@ -78,18 +78,19 @@ pub record IsForInvite (config : Config) (rounds : List Round) (call_id : List �
   pub copies : IsResponseTo invite response
   pub status : ℕ
   pub success : is_success status ≡ true
-  pub answered : RespondsTo config rounds invite status response.body
+  pub answered : RespondsTo config rounds invite status response
   pub dialog : dialog_id_of_tags (tag_of ack.to) (tag_of ack.from)
       ≡ dialog_id_of_tags (tag_of response.to) (tag_of response.from)
 
--- In the turns before the other side said an ACK with this body. A call sent it for a 2xx, or a
--- transaction made it for a response of 300 to 699. It has this Call-ID, if the rounds of the other
--- side are counted. It is for the INVITE that came up to this side under this Call-ID and this id
--- up to the turn's end.
+-- In the turns before the other side said and sent an ACK with this body. A call sent it for a 2xx,
+-- or a transaction made it for a response of 300 to 699. It has this Call-ID, if the rounds of the
+-- other side are counted. It is for the INVITE that came up to this side under this Call-ID and
+-- this id up to the turn's end.
 pub record SaidAck (configs : Side → Config) (before : List Turn) (turn : Turn)
     (call_id : List ℕ) (id : Id) (body : List ℕ) : Type 0 where
   pub original : Message
   pub said : IsSaid (configs (peer turn.side)) (rounds_of (peer turn.side) before) original
+  pub sent : WasSent configs before turn.side (written original)
   pub rules : IsMessage original
   pub is_request : is_request_message original ≡ true
   pub method_is : original.cseq.method ≡ codes "ACK"

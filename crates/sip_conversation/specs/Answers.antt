@@ -50,20 +50,18 @@ module _ (config : Config) (rounds : List Round) where
         (Some (event, User (user.Respond respond))) now).1
         (Command respond.id (Answer key response))
 
-  -- In these rounds the user answered this request with this status and this body: he gave its call
-  -- a command to respond with them, which names the request by the id under which it came up. At
-  -- once the call asked the transaction of the request to send such a response.
-  pub record RespondsTo (request : Message) (status : ℕ) (body : List ℕ) : Type 0 where
+  -- In these rounds the user answered this request with this response of this status: he gave its
+  -- call a command to respond with its status and body, which names the request by the id under
+  -- which it came up. At once the call asked the transaction of the request to send the response.
+  pub record RespondsTo (request : Message) (status : ℕ) (response : Message) : Type 0 where
     pub respond : Respond
     pub up : Up
-    pub response : Message
     pub gave : Responds request.call_id respond up.key response
     pub came : IsHandedUp request up
     pub names : respond.id ≡ up.id
     pub status_is : respond.status ≡ status
-    pub body_is : respond.content.body ≡ body
+    pub body_is : respond.content.body ≡ response.body
     pub sent_status : status_of response.start ≡ Some status
-    pub sent_body : response.body ≡ body
 
   -- ---- by the agent itself
 
@@ -98,11 +96,12 @@ module _ (config : Config) (rounds : List Round) where
         → AnswersItself request status
     OutOfOrder : status ≡ 500 → has_to_tag request ≡ true → AnswersItself request status
 
-  -- This request was answered with this status and this body: by the user in these rounds, or by
+  -- This request was answered with this response of this status: by the user in these rounds, or by
   -- the agent itself, without a body. So only the user gives a 2xx to an INVITE.
-  pub data IsAnswered (request : Message) (status : ℕ) (body : List ℕ) : Type 0 where
-    ByUser : RespondsTo request status body → IsAnswered request status body
-    ByAgent : AnswersItself request status → body ≡ [] → IsAnswered request status body
+  pub data IsAnswered (request : Message) (status : ℕ) (response : Message) : Type 0 where
+    ByUser : RespondsTo request status response → IsAnswered request status response
+    ByAgent : AnswersItself request status → response.body ≡ []
+        → IsAnswered request status response
 
 -- the response copies Via, From, Call-ID and CSeq of the request, and To if that has a tag (RFC
 -- 3261, section 8.2.6.2)

@@ -7,6 +7,7 @@ use Rattle.sip_message.specs.declared.key.Key.{Key}
 use Rattle.sip_message.specs.declared.message.Message.{Message}
 use Rattle.sip_message.specs.HopByHop.{cancel_of}
 use Rattle.sip_message.specs.Rules.{IsMessage}
+use Rattle.sip_message.specs.Written.{written}
 use Rattle.keyed_machine.specs.Machine.{given_at}
 use Rattle.sip_transactions.specs.declared.input.Command.TheVariants.{Start}
 use Rattle.sip_held_dialogs.specs.Requests.{is_invite}
@@ -20,7 +21,7 @@ use Rattle.sip_round.specs.declared.output.Output.TheVariants.{Notice}
 use Rattle.sip_round.specs.declared.round.Round.{Round}
 use Rattle.sip_round.specs.Laws.{call_inputs_of}
 use Rattle.sip_conversation.specs.Answers.{IsCancelled}
-use Rattle.sip_conversation.specs.Conversation.{Side, Turn, given_by, peer, rounds_of}
+use Rattle.sip_conversation.specs.Conversation.{Side, Turn, WasSent, given_by, peer, rounds_of}
 use Rattle.sip_conversation.specs.Messages.{CallSays, come_from}
 use Rattle.sip_conversation.specs.Replies.{AreCounted}
 
@@ -45,15 +46,16 @@ pub record UserCancelled (config : Config) (rounds : List Round) (cancel : Messa
       (Command command.id (Start invite_key invite_call invite invite_to))
   pub cancels : cancel ≡ cancel_of invite
 
--- In the turns before, the other side said a CANCEL of this Call-ID, because its user asked for it.
+-- In the turns before, the other side sent a CANCEL of this Call-ID, because its user asked for it.
 -- It came up to this side for an INVITE that came up under this Call-ID and this id up to the
--- turn's end: their transactions have one branch and one sent-by (section 9.2). If the rounds of the
--- other side are counted, that is the INVITE that its user's command names, with the stamp of its
--- source.
+-- turn's end: their transactions have one branch and one sent-by (section 9.2). If the rounds of
+-- the other side are counted, that is the INVITE that its user's command names, with the stamp of
+-- its source.
 pub record SaidCancel (configs : Side → Config) (before : List Turn) (turn : Turn)
     (call_id : List ℕ) (id : Id) : Type 0 where
   pub original : Message
   pub asked : UserCancelled (configs (peer turn.side)) (rounds_of (peer turn.side) before) original
+  pub sent : WasSent configs before turn.side (written original)
   pub rules : IsMessage original
   pub method_is : original.cseq.method ≡ codes "CANCEL"
   pub call_id_is : original.call_id ≡ call_id

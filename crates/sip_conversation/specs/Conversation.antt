@@ -45,15 +45,20 @@ abbrev pub rounds_of : Side → List Turn → List Round
 rounds_of side turns =
     map (λ turn. turn.round) (filter (λ turn. is_side side turn.side) turns)
 
+-- in these rounds an agent sent these bytes: a Send of them is among its outputs; the laws don't
+-- ask to which address
+abbrev pub AgentSends : Config → List Round → List ℕ → Type 0
+AgentSends config rounds bytes = (key : Option Key) × (to : Addr)
+    × Contains (all_given (answers config rounds)) (Send key to bytes)
+
 module _ (configs : Side → Config) where
   -- all that a side gives in its rounds, in order
   abbrev pub given_by : List Turn → Side → List Output
   given_by turns side = all_given (answers (configs side) (rounds_of side turns))
 
-  -- in these turns the other side sent these bytes; the laws don't ask to which address
+  -- in these turns the other side sent these bytes
   abbrev pub WasSent : List Turn → Side → List ℕ → Type 0
-  WasSent turns side bytes = (key : Option Key) × (to : Addr)
-      × Contains (given_by turns (peer side)) (Send key to bytes)
+  WasSent turns side = AgentSends (configs (peer side)) (rounds_of (peer side) turns)
 
   -- A datagram comes from the other side's address, and was sent from there in these turns. For a
   -- failed send and a command nothing is required.

@@ -1,4 +1,4 @@
--- What a message that comes is: one that the other side said before.
+-- What a message that comes is: one that the other side sent before.
 use Rattle.std.specs.Prelude.{◌≡◌, ◌≤◌, ℕ, true, List, [], ◌∷◌, ◌++◌, Contains, Option, None, Some, IfSome, length, if◌then◌else◌}
 use Rattle.sip_message.specs.declared.addr.Addr.{Addr}
 use Rattle.sip_message.specs.declared.id.Id.{Id}
@@ -25,7 +25,7 @@ use Rattle.sip_clients.specs.Clients.{status_of}
 use Rattle.sip_round.specs.declared.config.Config.{Config}
 use Rattle.sip_round.specs.declared.round.Round.{Round}
 use Rattle.sip_round.specs.Laws.{call_inputs_of, inputs_of, said_of_call}
-use Rattle.sip_conversation.specs.Conversation.{Side, Turn, peer, rounds_of}
+use Rattle.sip_conversation.specs.Conversation.{Side, Turn, WasSent, peer, rounds_of}
 
 -- a command asks a transaction to send this message
 abbrev pub Asks : Command → Message → Type 0
@@ -86,12 +86,13 @@ abbrev pub come_from : Addr → Message → Message
 come_from source message =
     if is_request_message message then stamped message source else message
 
--- the message is one that the other side said in these turns and that keeps the rules, except for
--- the stamp; a text of more than 65535 bytes isn't read
+-- The message is one that the other side said in these turns and that keeps the rules, except for
+-- the stamp. A datagram with its text went out there; a text of more than 65535 bytes isn't read.
 pub record ComesUnchanged (configs : Side → Config) (turns : List Turn) (side : Side)
     (message : Message) : Type 0 where
   pub original : Message
   pub said : IsSaid (configs (peer side)) (rounds_of (peer side) turns) original
+  pub sent : WasSent configs turns side (written original)
   pub rules : IsMessage original
   pub short : length (written original) ≤ 65535
   pub same : message ≡ come_from (configs (peer side)).local original

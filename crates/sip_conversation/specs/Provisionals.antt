@@ -1,9 +1,10 @@
 -- The reliable provisional responses that a user is told of have consecutive RSeqs, each is told
--- once, and the other side said each of them before (RFC 3262, section 4).
+-- once, and the other side sent each of them before (RFC 3262, section 4).
 use Rattle.std.specs.Prelude.{◌≡◌, ◌≢◌, ◌<◌, ℕ, true, List, [], ◌∷◌, ◌++◌, AllPairs, Option, None, Some, codes, filter, map}
 use Rattle.std.specs.List.{AllByRecursion}
 use Rattle.sip_message.specs.Message.{is_request_message}
 use Rattle.sip_message.specs.Party.{tag_of}
+use Rattle.sip_message.specs.Written.{written}
 use Rattle.sip_message.specs.declared.message.Message.{Message}
 use Rattle.keyed_machine.specs.Machine.{Timed}
 use Rattle.sip_held_dialogs.specs.Requests.{dialog_id_of_tags}
@@ -21,7 +22,7 @@ use Rattle.sip_round.specs.declared.round.Round.{Round}
 use Rattle.sip_round.specs.Answers.{calls_of}
 use Rattle.sip_round.specs.Laws.{call_inputs_of}
 use Rattle.sip_conversation.specs.Answers.{RespondsTo}
-use Rattle.sip_conversation.specs.Conversation.{Side, Turn, peer, rounds_of}
+use Rattle.sip_conversation.specs.Conversation.{AgentSends, Side, Turn, peer, rounds_of}
 use Rattle.sip_conversation.specs.Messages.{IsSaid}
 use Rattle.sip_conversation.specs.Replies.{SaidResponse}
 
@@ -42,11 +43,12 @@ told_from calls invite life call (input ∷ inputs) =
 
 -- ---- what the other side said
 
--- in these rounds an agent said the PRACK of the response of RSeq 1 to the INVITE that this
--- response answers, in the dialog of this response (RFC 3262, sections 4 and 7.2)
+-- in these rounds an agent said and sent the PRACK of the response of RSeq 1 to the INVITE that
+-- this response answers, in the dialog of this response (RFC 3262, sections 4 and 7.2)
 pub record SaidPrack (config : Config) (rounds : List Round) (response : Message) : Type 0 where
   pub prack : Message
   pub said : IsSaid config rounds prack
+  pub sent : AgentSends config rounds (written prack)
   pub is_request : is_request_message prack ≡ true
   pub method : prack.cseq.method ≡ codes "PRACK"
   pub rack : prack.rack
@@ -55,15 +57,15 @@ pub record SaidPrack (config : Config) (rounds : List Round) (response : Message
   pub dialog : dialog_id_of_tags (tag_of prack.from) (tag_of prack.to)
       ≡ dialog_id_of_tags (tag_of response.from) (tag_of response.to)
 
--- In these turns the other side said such a response as a reliable provisional one, with this RSeq
--- and a tag in To, because its user answered the request that way. If the RSeq is above 1, this
--- side said the PRACK of the first in these turns.
+-- In these turns the other side said and sent such a response as a reliable provisional one, with
+-- this RSeq and a tag in To, because its user answered the request that way. If the RSeq is above
+-- 1, this side said and sent the PRACK of the first in these turns.
 pub record SaidReliably (configs : Side → Config) (turns : List Turn) (side : Side)
     (rseq status : ℕ) (local_tag remote_tag body : List ℕ) : Type 0 where
   pub response : SaidResponse configs turns side status local_tag remote_tag body
   pub number : provisional_number (Some status) response.original ≡ Some rseq
   pub by_user : RespondsTo (configs (peer side)) (rounds_of (peer side) turns)
-      response.request.request status body
+      response.request.request status response.original
   pub pracked : 1 < rseq → SaidPrack (configs side) (rounds_of side turns) response.original
 
 -- it is the notice of a response, and the other side said that response

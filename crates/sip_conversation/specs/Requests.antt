@@ -6,6 +6,7 @@ use Rattle.sip_message.specs.declared.key.Key.{Key}
 use Rattle.sip_message.specs.declared.message.Message.{Message}
 use Rattle.sip_message.specs.Party.{tag_of}
 use Rattle.sip_message.specs.Rules.{IsMessage}
+use Rattle.sip_message.specs.Written.{written}
 use Rattle.keyed_machine.specs.Machine.{given_at}
 use Rattle.sip_transactions.specs.declared.input.Command.TheVariants.{Start}
 use Rattle.sip_user.specs.declared.command.UserCommand.{UserCommand}
@@ -17,7 +18,7 @@ use Rattle.sip_round.specs.declared.config.Config.{Config}
 use Rattle.sip_round.specs.declared.output.Output.TheVariants.{Notice}
 use Rattle.sip_round.specs.declared.round.Round.{Round}
 use Rattle.sip_round.specs.Laws.{call_inputs_of}
-use Rattle.sip_conversation.specs.Conversation.{Side, Turn, given_by, peer, rounds_of}
+use Rattle.sip_conversation.specs.Conversation.{Side, Turn, WasSent, given_by, peer, rounds_of}
 use Rattle.sip_conversation.specs.Messages.{CallSays}
 
 -- The method and the body of the request for which a command asks (RFC 3261, sections 8.1.1,
@@ -42,12 +43,13 @@ pub record UserAsked (config : Config) (rounds : List Round) (request : Message)
   pub to : Addr
   pub starts : CallSays config rounds (Command event (Start key request.call_id request to))
 
--- In these turns the other side said a request with this Call-ID, method and body, with the remote
+-- In these turns the other side sent a request with this Call-ID, method and body, with the remote
 -- tag in From, and with the local tag or none in To, because its user asked for it.
 pub record SaidRequest (configs : Side → Config) (turns : List Turn) (side : Side)
     (call_id method local_tag remote_tag body : List ℕ) : Type 0 where
   pub original : Message
   pub asked : UserAsked (configs (peer side)) (rounds_of (peer side) turns) original
+  pub sent : WasSent configs turns side (written original)
   pub rules : IsMessage original
   pub call_id_is : original.call_id ≡ call_id
   pub method_is : original.cseq.method ≡ method

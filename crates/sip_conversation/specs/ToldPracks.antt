@@ -1,4 +1,4 @@
--- A PRACK that a user is told of is one that the other side said before.
+-- A PRACK that a user is told of is one that the other side sent before.
 use Rattle.std.specs.Prelude.{◌≡◌, ℕ, true, List, [], ◌∷◌, ◌++◌, Contains, Some, codes}
 use Rattle.sip_message.specs.declared.addr.Addr.{Addr}
 use Rattle.sip_message.specs.declared.id.Id.{Id}
@@ -7,6 +7,7 @@ use Rattle.sip_message.specs.declared.message.Message.{Message}
 use Rattle.sip_message.specs.declared.rack.RAck.{RAck}
 use Rattle.sip_message.specs.Message.{is_request_message}
 use Rattle.sip_message.specs.Rules.{IsMessage}
+use Rattle.sip_message.specs.Written.{written}
 use Rattle.keyed_machine.specs.Machine.{given_at}
 use Rattle.sip_transactions.specs.declared.input.Command.TheVariants.{Start}
 use Rattle.sip_user.specs.declared.command.DialogBody.{DialogBody}
@@ -18,7 +19,7 @@ use Rattle.sip_round.specs.declared.config.Config.{Config}
 use Rattle.sip_round.specs.declared.output.Output.TheVariants.{Notice}
 use Rattle.sip_round.specs.declared.round.Round.{Round}
 use Rattle.sip_round.specs.Laws.{call_inputs_of}
-use Rattle.sip_conversation.specs.Conversation.{Side, Turn, given_by, peer, rounds_of}
+use Rattle.sip_conversation.specs.Conversation.{Side, Turn, WasSent, given_by, peer, rounds_of}
 use Rattle.sip_conversation.specs.Messages.{CallSays, IsSaid}
 
 -- In these rounds the user asked for this PRACK: an event was his command Prack under its Call-ID,
@@ -39,12 +40,13 @@ pub data IsPracked (config : Config) (rounds : List Round) (prack : Message) : T
   ByUser : UserPracked config rounds prack → IsPracked config rounds prack
   ByAgent : prack.body ≡ [] → IsPracked config rounds prack
 
--- In these turns the other side said a PRACK with this Call-ID and this body, and with this RSeq in
--- RAck (RFC 3262, section 7.2): its user's or its own.
+-- In these turns the other side said and sent a PRACK with this Call-ID and this body, and with
+-- this RSeq in RAck (RFC 3262, section 7.2): its user's or its own.
 pub record SaidPrackOf (configs : Side → Config) (turns : List Turn) (side : Side)
     (call_id : List ℕ) (rseq : ℕ) (body : List ℕ) : Type 0 where
   pub original : Message
   pub said : IsSaid (configs (peer side)) (rounds_of (peer side) turns) original
+  pub sent : WasSent configs turns side (written original)
   pub rules : IsMessage original
   pub is_request : is_request_message original ≡ true
   pub call_id_is : original.call_id ≡ call_id

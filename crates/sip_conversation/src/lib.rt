@@ -1,5 +1,5 @@
 //! Laws of two agents over a network: whatever comes to one side, and whatever its user is told of,
-//! the other side said.
+//! the other side sent.
 #![tactic(auto)]
 
 mod laws;
