@@ -74,8 +74,7 @@ impl Admission {
         let load = load_of(self.most, agent.live().0);
         let count = events.len();
         let admitted = admitted_by(alloc, agent, load, events)?;
-        let shed = count.saturating_sub(admitted.len()) as u64;
-        self.shed = self.shed.saturating_add(shed);
+        self.count_shed(count, admitted.len());
         Ok(admitted)
     }
 
@@ -91,22 +90,43 @@ impl Admission {
         events: Vec<Event>,
     ) -> Result<Vec<Event>, AllocError>
         ensures same { self.new.most ≡ self.old.most }
+        ensures count { IfOk result (λ admitted. self.new.shed
+            ≡ spec.shed_after self.old.shed (length events.items) (length admitted.items)) }
     {
         let load = load_of(self.most, live_of(agents.agents()).0);
-        if let Load::Low = load {
-            return Ok(events);
-        }
         let count = events.len();
-        let mut admitted = Vec::with_capacity(alloc, count)?;
-        for event in events {
-            if !is_shed_by_its_agent(alloc, agents, load, &event)? {
-                admitted.push(event)?;
-            }
-        }
-        let shed = count.saturating_sub(admitted.len()) as u64;
-        self.shed = self.shed.saturating_add(shed);
+        let admitted = admitted_to(alloc, agents, load, events)?;
+        self.count_shed(count, admitted.len());
         Ok(admitted)
     }
+
+    // Counts what was shed of so many events, of which so many were admitted.
+    fn count_shed(&mut self, given: usize, admitted: usize)
+        ensures same { self.new.most ≡ self.old.most }
+        ensures count { self.new.shed ≡ spec.shed_after self.old.shed given admitted }
+    {
+        let shed = given.saturating_sub(admitted) as u64;
+        self.shed = self.shed.saturating_add(shed);
+    }
+}
+
+// The events without the datagrams that are shed at this load by the agent that they are for.
+fn admitted_to(
+    alloc: Global,
+    agents: &Agents<Spread, Spread>,
+    load: Load,
+    events: Vec<Event>,
+) -> Result<Vec<Event>, AllocError> {
+    if let Load::Low = load {
+        return Ok(events);
+    }
+    let mut admitted = Vec::with_capacity(alloc, events.len())?;
+    for event in events {
+        if !is_shed_by_its_agent(alloc, agents, load, &event)? {
+            admitted.push(event)?;
+        }
+    }
+    Ok(admitted)
 }
 
 // Whether the agent that an event is for sheds it at this load.
