@@ -150,7 +150,8 @@ class Ended:
 
 class IncomingRequest:
     """A request of the peer: one in a call, such as INFO or a re-INVITE, or one outside of calls.
-    `respond` answers it; `is_answered` says whether it has its final response."""
+    `method` is its method, `message` has its headers and its body. `respond` answers it;
+    `is_answered` says whether it has its final response."""
 
     def __init__(self, agent: "UserAgent", notice: RequestNotice, message: Message):
         self.method = notice.method
@@ -197,7 +198,7 @@ class IncomingRequest:
             self.end()
 
     def end(self, ack: Optional[Message] = None) -> None:
-        """No ACK will come any more."""
+        """For this module: no ACK will come any more."""
         self._agent.forget(self._id)
         if not self._ack.done():
             self._ack.set_result(ack)
@@ -258,8 +259,8 @@ class Stream(Generic[_Item]):
 
 
 class Call:
-    """A call, incoming or outgoing. `async for` gives its events from then on, Ended last. While
-    nobody reads them, requests of the peer are refused."""
+    """A call, incoming or outgoing. `async for` gives its events from then on, Ended last; of a call
+    that has ended, Ended alone. While nobody reads them, requests of the peer are refused."""
 
     # The id of its INVITE.
     _id: Id
@@ -345,8 +346,9 @@ class Call:
 
     def hang_up(self, body: bytes = b"", headers: Headers = ()) -> None:
         """Ends the call: by BYE if it is up, else by CANCEL or 603. If it is answered anyway, or
-        its ACK hasn't come yet, its BYE follows then. The body and the headers are the BYE's. A
-        call that has ended, or is about to, stays as it is."""
+        its ACK hasn't come yet, its BYE follows then. If the ACK of its 2xx is still to be given by
+        `acknowledge`, one without a body goes out before the BYE. The body and the headers are the
+        BYE's. A call that has ended, or is about to, stays as it is."""
         if self._is_left or self._end.done():
             return
         self._is_left = True
@@ -399,11 +401,11 @@ class Call:
     # -- what the user agent says
 
     def abandon(self) -> None:
-        """The endpoint closes before this call has ended."""
+        """For this module: the endpoint closes before this call has ended."""
         self._finish(Ended(None if self.is_up else FinalResponse(408, "Request Timeout")))
 
     def take_request(self, notice: RequestNotice, message: Message) -> None:
-        """A request of the peer in a dialog of this call."""
+        """For this module: a request of the peer in a dialog of this call."""
         request = IncomingRequest(self._agent, notice, message)
         is_of_branch = self._tags not in (None, (notice.local_tag, notice.remote_tag))
         if notice.method == "BYE":
@@ -429,7 +431,7 @@ class Call:
             self._events.put(request)
 
     def dialog_ended(self, tags: Tuple[str, str]) -> None:
-        """A dialog of this call has ended."""
+        """For this module: a dialog of this call has ended."""
         if tags == self._tags:
             self._finish(Ended(message=self._bye))
 
@@ -608,7 +610,7 @@ class IncomingCall(Call):
             self._say_bye()
 
     def take_request(self, notice: RequestNotice, message: Message) -> None:
-        """A request of the peer in one of its dialogs."""
+        """For this module: a request of the peer in one of its dialogs."""
         super().take_request(notice, message)
         if notice.method == "BYE":
             # It ends the early dialog too (RFC 3261, section 15.1.2).
@@ -778,17 +780,18 @@ class UserAgent:
         return self.endpoint.ask(command)
 
     def handle(self, event: Id, handler: _Handler) -> None:
-        """Has notices about a request go to this handler, until `forget`."""
+        """For these modules: has notices about a request go to this handler, until `forget`."""
         self._handlers[event] = handler
 
     def forget(self, event: Id) -> None:
-        """Ends what `handle` began."""
+        """For these modules: ends what `handle` began."""
         self._handlers.pop(event, None)
         if not self._handlers:
             self._is_idle.set()
 
     def forget_later(self, event: Id) -> None:
-        """Forgets an INVITE that was answered once no other branch of a fork can answer."""
+        """For this module: forgets an INVITE that was answered once no other branch of a fork can
+        answer."""
         handler = self._handlers.get(event)
         if handler is not None:
             self._answered_invites[event] = handler
@@ -797,20 +800,20 @@ class UserAgent:
         self.forget(event)
 
     def hold(self, call: Call, tags: Tuple[str, str]) -> None:
-        """Has requests in this dialog go to the call."""
+        """For this module: has requests in this dialog go to the call."""
         dialog = (call.call_id, *tags)
         self._dialogs[dialog] = call
         call.dialogs.add(dialog)
 
     def forget_call(self, call: Call) -> None:
-        """Forgets a call that has ended, with its dialogs."""
+        """For this module: forgets a call that has ended, with its dialogs."""
         self.calls.discard(call)
         for dialog in call.dialogs:
             self._dialogs.pop(dialog, None)
         call.dialogs.clear()
 
     def authenticator(self) -> Optional[Authenticator]:
-        """What answers the challenges to one request, if there is a user name."""
+        """For this module: what answers the challenges to one request, if there is a user name."""
         return Authenticator(*self._login) if self._login[0] else None
 
     def message(self, place: int, body: bytes = b"") -> Optional[Message]:
@@ -836,8 +839,8 @@ class UserAgent:
         method: str,
         uri: str,
     ) -> FinalResponse:
-        """Sends a request, which is made with the headers that authenticate it, and answers
-        challenges. Returns the final response."""
+        """For these modules: sends a request, which is made with the headers that authenticate it,
+        and answers challenges. Returns the final response."""
         statuses: List[int] = []
         while True:
             headers = authenticator.headers(method, uri) if authenticator is not None else []
@@ -870,7 +873,7 @@ class UserAgent:
     # -- notices
 
     def told(self, output: Union[Notice, Drop]) -> None:
-        """Takes a notice of the endpoint."""
+        """For this module: takes a notice of the endpoint."""
         if isinstance(output, RequestNotice):
             message = self.message(output.place, output.body)
             if message is not None:

@@ -147,7 +147,9 @@ typedef struct sip_ua_typed_output {
     sip_ua_id id;     /* of a notice: the request that it is about */
     uint32_t status;  /* of a response */
     uint32_t rseq;    /* of a PRACK: the provisional response that it acknowledges */
-    uint32_t command; /* of a refusal: the place of the command or response */
+    /* of a refusal: the place of the command or response; its id is { true, command, next_round - 1 },
+     * with next_round from sip_ua_stats */
+    uint32_t command;
     uint32_t refusal; /* of a refusal: SIP_UA_REFUSAL_.. */
     uint32_t reason;  /* of a drop: SIP_UA_DROP_.. */
     uint32_t header;  /* of a drop: the missing or repeated header, for sip_ua_header_text */
@@ -633,7 +635,8 @@ static inline uint32_t sip_ua_event_lines(sip_ua *agent, const char *lines, size
 /* ---- commands of the user by their fields, each an event of the next round
  *
  * A command means what the line of the same name means in docs/FORMATS.md. `asked` may be NULL. If
- * not, notices about the command have its `id` (a refusal only its place). `bad_field` is 0, except
+ * not, notices about the command have its `id` (a refusal its place: `command` of the output).
+ * `bad_field` is 0, except
  * after SIP_UA_BAD_FIELD. After SIP_UA_BAD_FIELD, SIP_UA_TOO_MANY_EVENTS, SIP_UA_NO_MEMORY and
  * SIP_UA_NULL there is no command. If the core refuses a command later, a notice says so. */
 

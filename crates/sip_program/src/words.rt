@@ -33,6 +33,9 @@ Examples:
   ua call --local 127.0.0.1:5080 --to 127.0.0.1:5070 --uri sip:b@127.0.0.1 --seconds 2
   ua agent --local 127.0.0.1:5080 --record mine.events < commands
 
+Through bin/ua (with python3) also: ua calls < FILE, which lists the calls of a recording, and ua
+ladder with --call-id ID, --follow FILE or --capture FILE (see FORMATS).
+
 Exit status:
   0  success
   1  the input isn't an event file (or, with --session, a session file)
@@ -485,7 +488,7 @@ fn listen_command<'a>(alloc: Global) -> Result<Command<'a>, AllocError> {
             "Answers calls over UDP: 200 (or --answer) to INVITE, 200 to BYE and OPTIONS, 501 to \
             anything else. Prints a line for each notice. When standard input ends, it ends all \
             calls and exits within a second. A terminal, or an input that is empty from the \
-            start, is ignored. Through bin/ua, Ctrl-C ends the input",
+            start, is ignored. Through bin/ua the input ends at Ctrl-C instead",
         )
         .after_help(LISTEN_EXAMPLE)
         .args(arguments)
@@ -496,7 +499,10 @@ fn ring_argument<'a>(alloc: Global) -> Arg<'a> {
         .long("ring")
         .value_name("MS")
         .value_parser(value_parser!(u32))
-        .help("Send 180, and the final response MS milliseconds later, unless the caller cancels")
+        .help(
+            "Send 180, and the final response MS milliseconds after the INVITE, unless the caller \
+            cancels. The 180 goes out up to 10 ms after the INVITE",
+        )
 }
 
 fn reliable_answer_argument<'a>(alloc: Global) -> Arg<'a> {
@@ -595,7 +601,7 @@ fn call_command<'a>(alloc: Global) -> Result<Command<'a>, AllocError> {
             --seconds; without these, 32 seconds after the final response, or later with a long \
             --hold. Prints a line for each notice. When standard input ends, it ends its call and \
             exits within a second. A terminal, or an input that is empty from the start, is \
-            ignored. Through bin/ua, Ctrl-C ends the input",
+            ignored. Through bin/ua the input ends at Ctrl-C instead",
         )
         .after_help(CALL_EXAMPLE)
         .args(arguments)
