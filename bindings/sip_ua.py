@@ -472,8 +472,8 @@ class StartLine(NamedTuple):
 
 class RequestTraits(NamedTuple):
     """What a request says of itself. It is in a dialog if its To has a tag: an INVITE is then a
-    re-INVITE. With `100rel` supported a provisional response may be reliable, with `100rel` required
-    each but 100 is."""
+    re-INVITE. With `100rel` supported a provisional response may be reliable; with `100rel`
+    required each but 100 is."""
 
     is_in_dialog: bool
     supports_100rel: bool

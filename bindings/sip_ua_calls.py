@@ -259,8 +259,8 @@ class Stream(Generic[_Item]):
 
 
 class Call:
-    """A call, incoming or outgoing. `async for` gives its events from then on, Ended last; of a call
-    that has ended, Ended alone. While nobody reads them, requests of the peer are refused."""
+    """A call, incoming or outgoing. `async for` gives its events from then on, Ended last; of a
+    call that has ended, Ended alone. While nobody reads them, requests of the peer are refused."""
 
     # The id of its INVITE.
     _id: Id

@@ -147,8 +147,8 @@ typedef struct sip_ua_typed_output {
     sip_ua_id id;     /* of a notice: the request that it is about */
     uint32_t status;  /* of a response */
     uint32_t rseq;    /* of a PRACK: the provisional response that it acknowledges */
-    /* of a refusal: the place of the command or response; its id is { true, command, next_round - 1 },
-     * with next_round from sip_ua_stats */
+    /* of a refusal: the place of the command or response; its id is this place with next_round - 1,
+     * next_round being that of sip_ua_stats */
     uint32_t command;
     uint32_t refusal; /* of a refusal: SIP_UA_REFUSAL_.. */
     uint32_t reason;  /* of a drop: SIP_UA_DROP_.. */
