@@ -1,27 +1,23 @@
 -- A file of any length falls apart into its head and the lines of each round.
-use Rattle.std.proofs.Common.{◌≡◌, ℕ, Bool, true, false, List, [], ◌∷◌, ◌++◌, map, Option, Some, None, refl, sym, ap, subst, ◌∙◌, append_assoc, append-nil, inl, inr, codes}
-use Rattle.std.specs.Prelude.{IsTrue, if◌then◌else◌, not, ◌&&◌, ◌==◌}
+use Rattle.std.proofs.Common.{◌≡◌, ℕ, Bool, true, false, List, [], ◌∷◌, ◌++◌, map, Option, Some, None, refl, sym, ap, subst, ◌∙◌, append_assoc, append-nil, inl, inr}
+use Rattle.std.specs.Prelude.{not, ◌&&◌, ◌==◌}
 use Rattle.std.specs.List.{flat_map, AllByRecursion, AllZip}
 use Rattle.std.proofs.lemmas.Bool.{and_parts, not-true}
 use Rattle.std.proofs.lemmas.List.Concat.{flat_map-append}
 use Rattle.sip_text.proofs.Cuts.{has_no}
 use Rattle.sip_text.proofs.Options.{same_some}
-use Rattle.sip_files.specs.EventFile.{HeadedLine, SaysHeaded, SpellsIn, file_lines, head_lines, headed_lines, round_lines, version_line, with_ends}
+use Rattle.sip_files.specs.EventFile.{HeadedLine, SaysHeaded, SpellsIn, head_lines, headed_lines, round_lines, version_line, with_ends}
 use Rattle.sip_files.specs.Events.{SpellsEvent, SpellsHeaderIn, SpellsLine}
 use Rattle.sip_files.specs.Field.{address_field, number_field, plain_field, rest_field}
-use Rattle.sip_files.specs.Given.{with_given, with_headers}
-use Rattle.sip_files.specs.Written.{head_in}
+use Rattle.sip_files.specs.Given.{with_headers}
 use Rattle.sip_files.specs.declared.event_line.EventLine.{EventLine}
 use Rattle.sip_files.specs.declared.event_line.EventLine.TheVariants as line
 use Rattle.sip_files.specs.declared.given_header.GivenHeader.{GivenHeader}
 use Rattle.sip_files.specs.declared.version.Version.{Version}
 use Rattle.sip_files.specs.declared.version.Version.TheVariants.{One, Two, SessionOne}
-use Rattle.sip_files.proofs.FileLines.{first_line, version_no, with_end}
+use Rattle.sip_files.proofs.FileLines.{version_no, with_end}
 use Rattle.sip_files.proofs.LineEnds.{line_no}
-use Rattle.sip_files.proofs.WrittenLaws.{head_is, head_spelled, unheaded, unheaded_lines, unheaded_made, whole_head}
-use Rattle.sip_journal.specs.Rounds.{begins_round, first_round, some_config}
-use Rattle.sip_journal.proofs.HeadLines.{is_config}
-use Rattle.sip_message.specs.declared.key.Key.{Key}
+use Rattle.sip_journal.specs.Rounds.{begins_round, first_round}
 use Rattle.sip_round.specs.declared.config.Config.{Config}
 use Rattle.sip_round.specs.declared.round.Event.{Event}
 use Rattle.sip_round.specs.declared.round.Event.TheVariants.{Command, Datagram, Failed}

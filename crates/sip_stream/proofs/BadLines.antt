@@ -1,6 +1,5 @@
 -- The first bad line behind a head: none of the head's four lines is it.
 use Rattle.std.proofs.Common.{◌≡◌, ◌+◌, ◌-◌, ◌<◌, ℕ, List, [], ◌∷◌, ◌++◌, length, map, refl, sym, ap, subst, ◌∙◌, append_assoc, arith, inl, inr}
-use Rattle.std.specs.Prelude.{IsTrue}
 use Rattle.std.specs.List.{AllByRecursion}
 use Rattle.std.proofs.lemmas.List.Concat.{flat_map-append}
 use Rattle.sip_files.specs.EventFile.{HasVersion, IsBadLine, IsBegun, IsOneLine, SpellsFile, head_lines, version_line, with_ends}

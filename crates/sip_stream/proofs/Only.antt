@@ -1,9 +1,9 @@
 -- Of an input that is a file of its kind, each round is one, so that only some faults come.
 use Rattle.std.proofs.Common.{◌≡◌, ℕ, ◌<◌, ◌≤◌, ◌^◌, suc, true, false, List, [], ◌∷◌, ◌++◌, length, map, Option, Some, None, refl, sym, ap, subst, ◌∙◌, append_assoc, append-nil, length-append, arith, inl, inr}
-use Rattle.std.specs.Prelude.{IfErr, IfSome, IsTrue, Result, Ok, Err, ◌⊎◌}
+use Rattle.std.specs.Prelude.{IsTrue}
 use Rattle.std.specs.List.{AllZip}
 use Rattle.std.proofs.lemmas.List.{append_cancel_left}
-use Rattle.sip_files.specs.EventFile.{IsFile, SpellsFile, SpellsIn, head_lines, is_of_kind, version_line, with_ends}
+use Rattle.sip_files.specs.EventFile.{SpellsFile, SpellsIn, head_lines, is_of_kind, version_line, with_ends}
 use Rattle.sip_files.specs.Events.{SpellsLine}
 use Rattle.sip_files.specs.Written.{head_in, line_text}
 use Rattle.sip_files.specs.declared.event_line.EventLine.{EventLine}
@@ -25,7 +25,7 @@ use Rattle.sip_round.specs.Answers.{refused, refused_from, refused_or}
 use Rattle.sip_round.specs.declared.config.Config.{Config}
 use Rattle.sip_round.specs.declared.round.Round.{Round}
 use Rattle.sip_round.specs.declared.round_fault.RoundFault.{RoundFault}
-use Rattle.sip_stream.specs.Streams.{Begins, ComesOnly, HasBadHead, HasBadRound, IsRounds, IsStream, RefusesRound, TellsLines, TellsStream, behind_head}
+use Rattle.sip_stream.specs.Streams.{Begins, ComesOnly, HasBadHead, HasBadRound, IsRounds, IsStream, HasRefused, TellsLines, TellsStream, behind_head}
 use Rattle.sip_stream.specs.declared.stream_fault.StreamFault.{StreamFault}
 use Rattle.sip_stream.specs.declared.stream_fault.StreamFault.TheVariants as fault
 use Rattle.sip_stream.proofs.Apart.{FirstRound, are_rounds, first_of, head_of, of_none}
@@ -201,9 +201,12 @@ module _ (kind : FileKind) (config : Config) (all : List Round) (input : List �
             ∙ h.alone h.left (rounds_alone version all h.left h.others) in
             let short = subst (λ (t : List ℕ). length t ≤ 2 ^ 26)
             (ap (λ (t : List ℕ). bad.lines ++ t) none ∙ append-nil bad.lines) fits in
-            bad.cause (never_bad kind given bad.lines bad.tells
-            (config, [], (version, (s.spelled).1, subst (SpellsIn version config []) (sym own) h.head),
-            short)))
+            bad.cause (never_bad kind given bad.lines bad.tells (
+              config,
+              [],
+              (version, (s.spelled).1, subst (SpellsIn version config []) (sym own) h.head),
+              short,
+            )))
         | inr long ↦ too_many bad.lines (bad.next).more long fits
       ]
 
@@ -260,8 +263,12 @@ module _ (kind : FileKind) (config : Config) (all : List Round) (input : List �
                 (subst (SaysRounds version (round ∷ [])) own f.one) given bad.tells)
             | inr long ↦
                 too_many bad.lines (bad.next).more long
-                (omega (arith, short, length-append (head_in version some_config) f.lines,
-                ap length first))
+                (omega (
+                  arith,
+                  short,
+                  length-append (head_in version some_config) f.lines,
+                  ap length first,
+                ))
           ]
 
   -- ---- the first round that is refused
@@ -284,7 +291,7 @@ module _ (kind : FileKind) (config : Config) (all : List Round) (input : List �
       by_fault None on is = on is
       by_fault (Some refusal) on is = is
 
-  refuses : (index : ℕ) (given : RoundFault) → RefusesRound kind index given input
+  refuses : (index : ℕ) (given : RoundFault) → HasRefused kind index given input
       → refused config all ≡ Some (index, given)
   unfolding refused
   refuses index given r =

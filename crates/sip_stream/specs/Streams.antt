@@ -142,7 +142,7 @@ pub record HasBadRound (kind : FileKind) (index : ℕ) (given : LinesFault) (inp
   pub tells : TellsLines kind (begins.spelled).0 given lines
 
 -- of rounds with which the input begins, the first that is refused has this index and this fault
-pub record RefusesRound (kind : FileKind) (index : ℕ) (given : RoundFault) (input : List ℕ) :
+pub record HasRefused (kind : FileKind) (index : ℕ) (given : RoundFault) (input : List ℕ) :
     Type 0 where
   pub config : Config
   pub rounds : List Round
@@ -154,7 +154,7 @@ abbrev pub TellsStream : FileKind → StreamFault → List ℕ → Type 0
 TellsStream kind fault.Input input = Unit {0}
 TellsStream kind (fault.Head given) input = HasBadHead kind given input
 TellsStream kind (fault.Lines index given) input = HasBadRound kind index given input
-TellsStream kind (fault.Round index given) input = RefusesRound kind index given input
+TellsStream kind (fault.Round index given) input = HasRefused kind index given input
 TellsStream kind fault.Output input = Unit {0}
 TellsStream kind fault.NoMemory input = Unit {0}
 
@@ -174,6 +174,7 @@ ComesOnly kind fault input = (config : Config) (rounds : List Round)
 
 -- ---- which device failed
 
+-- a fault by a read
 abbrev pub failed_reads : StreamFault → ℕ
 failed_reads fault.Input = 1
 failed_reads (fault.Head given) = 0
@@ -182,7 +183,7 @@ failed_reads (fault.Round index given) = 0
 failed_reads fault.Output = 0
 failed_reads fault.NoMemory = 0
 
--- writes and flushes
+-- by a write or a flush
 abbrev pub failed_writes : StreamFault → ℕ
 failed_writes fault.Input = 0
 failed_writes (fault.Head given) = 0

@@ -56,9 +56,7 @@ pub fn replay_streamed<T: Threads + Sync, R: CountedRead, W: CountedWrite, C: Cu
         (output_failures result) }
     ensures flushed { OnOk result (IfSome (W.flushed writer.new) (λ all. IsTrue all)) }
 {
-    stream(
-        rt, alloc, kind, reader, writer, shards, workers, cut, gate,
-    )
+    stream(rt, alloc, kind, reader, writer, shards, workers, cut, gate)
 }
 
 // The head, and then one round after the other.

@@ -1,5 +1,5 @@
 -- `stream`: at each step what was read, run and written belongs together.
-use Rattle.std.proofs.Common.{rules, arith, ◌≡◌, ◌^◌, ◌≤◌, ◌∙◌, [], ap, length, refl, sym, subst, inl, inr}
+use Rattle.std.proofs.Common.{rules, arith, ◌≡◌, ◌^◌, ◌≤◌, ◌∙◌, [], length, refl, sym, subst, inr}
 use Rattle.std.proofs.lemmas.Bool.{eqb-true}
 use Rattle.std.proofs.lemmas.List.{nil_from_length}
 use Rattle.sip_files.specs.EventFile.{SpellsFile}
