@@ -287,15 +287,18 @@ pub record FirstLines (version : Version) (config : Config) (rounds : List Round
   pub others : SaysRounds version rounds left
   pub alone : (rest : List ℕ) → IsRounds rest → first_round (lines ++ rest) ≡ lines
 
-no_round_head : (headed : List HeadedLine) (items : List EventLine)
-    → AllByRecursion is_plain items → NoRound items → AllZip SaysHeaded headed items
-    → NoRound (flat_map headed_lines headed)
-no_round_head [] items plain none made = tt
-no_round_head (h ∷ hs) [] plain none made = elim made [ ]
-no_round_head (h ∷ hs) (item ∷ items) plain none made =
+-- lines that no header lines precede, and none of which says a round
+abbrev OfHead : List EventLine → Type 0
+OfHead items = AllByRecursion (λ item. is_plain item × (is_round item ≡ false)) items
+
+no_round_head : (headed : List HeadedLine) (items : List EventLine) → OfHead items
+    → AllZip SaysHeaded headed items → NoRound (flat_map headed_lines headed)
+no_round_head [] items of_head made = tt
+no_round_head (h ∷ hs) [] of_head made = elim made [ ]
+no_round_head (h ∷ hs) (item ∷ items) of_head made =
     no_round_append (headed_lines h) (flat_map headed_lines hs)
-    (subst NoRound (sym (plain_line h item made.0 plain.0)) (none.0, tt))
-    (no_round_head hs items plain.1 none.1 made.1)
+    (subst NoRound (sym (plain_line h item made.0 (of_head.0).0)) ((of_head.0).1, tt))
+    (no_round_head hs items of_head.1 made.1)
 
 pub head_of : (version : Version) (config : Config) (rounds : List Round) (text : List ℕ)
     → SpellsIn version config rounds text → FirstLines version config rounds text
@@ -337,21 +340,13 @@ head_of version config rounds text s =
           ap first_round (with_end (version_line version) (with_ends l.front) rest)
           ∙ through version (version_line version) l.front (flat_map headed_lines h.front) rest
           (version_no version) l.first
-          (no_round_head h.front items (all_plain s.head.seed s.head.first)
-          (none_round s.head.seed s.head.first) h.first) next
+          (no_round_head h.front items (each_of_head s.head.seed s.head.first) h.first) next
           ∙ sym (append_assoc (version_line version) (10 ∷ []) (with_ends l.front));
     }
   where
-    all_plain : (seed : Option (List ℕ)) (first : Option ℕ)
-        → AllByRecursion is_plain (head_lines (record { local = (s.head).local; seed = seed; first = first }))
-    all_plain None None = (tt, tt)
-    all_plain None (Some number) = (tt, (tt, tt))
-    all_plain (Some bytes) None = (tt, (tt, tt))
-    all_plain (Some bytes) (Some number) = (tt, (tt, (tt, tt)))
-
-    none_round : (seed : Option (List ℕ)) (first : Option ℕ)
-        → NoRound (head_lines (record { local = (s.head).local; seed = seed; first = first }))
-    none_round None None = (refl, tt)
-    none_round None (Some number) = (refl, (refl, tt))
-    none_round (Some bytes) None = (refl, (refl, tt))
-    none_round (Some bytes) (Some number) = (refl, (refl, (refl, tt)))
+    each_of_head : (seed : Option (List ℕ)) (first : Option ℕ)
+        → OfHead (head_lines (record { local = (s.head).local; seed = seed; first = first }))
+    each_of_head None None = ((tt, refl), tt)
+    each_of_head None (Some number) = ((tt, refl), ((tt, refl), tt))
+    each_of_head (Some bytes) None = ((tt, refl), ((tt, refl), tt))
+    each_of_head (Some bytes) (Some number) = ((tt, refl), ((tt, refl), ((tt, refl), tt)))

@@ -140,7 +140,8 @@ unfolding first_round
 rounds_follow [] [] is = inl refl
 rounds_follow [] (b ∷ left) is = absurd cc
 rounds_follow (b ∷ bytes) left is =
-    by_end ((b == 10) && begins_round (bytes ++ left)) refl (λ rest. rounds_follow bytes left rest) is
+    by_end ((b == 10) && begins_round (bytes ++ left)) refl
+    (λ rest. rounds_follow bytes left rest) is
   where
     by_end : (stops : Bool) → stops ≡ ((b == 10) && begins_round (bytes ++ left))
         → (first_round (bytes ++ left) ≡ bytes → IsRounds left)

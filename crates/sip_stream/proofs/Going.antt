@@ -150,8 +150,8 @@ unread_stops : {T : Type 0} (kind : FileKind) (input before after : Option (List
     → IfSome input (StreamsFront kind before after) → Counts reads reads_now (failed_reads given)
     → Counts writes writes_now 0
     → Ends kind input before after reads reads_now writes writes_now flushed result
-unread_stops kind input before after reads reads_now writes writes_now flushed result given is unread
-    front counts_reads counts_writes =
+unread_stops kind input before after reads reads_now writes writes_now flushed result given is
+    unread front counts_reads counts_writes =
     stops_with kind input before after reads reads_now writes writes_now flushed result given is
     (by_known input front) counts_reads
     (by_unread (λ f. Counts writes writes_now (failed_writes f)) given unread counts_writes
@@ -224,8 +224,8 @@ head_stops kind input pending known reads reads_now writes flushed result given 
     stops_with kind input known known reads reads_now writes writes flushed result given is
     (from_front input pending lines (StopsAt kind given known known) consumed
     (λ whole left parts some.
-    head_fault kind lines left whole known given parts (at_known (IsNext lines) pending left some next)
-    tells))
+    head_fault kind lines left whole known given parts
+    (at_known (IsNext lines) pending left some next) tells))
     (counts_at reads reads_now 0 (failed_reads given) (sym none.0) counts)
     (counts_at writes writes 0 (failed_writes given) (sym none.1) (counts_none writes))
 
@@ -343,7 +343,8 @@ module _ {C : Type 0} (shard_of : C → List ℕ → ℕ → ℕ) (kind : FileKi
 
     -- the end
     pub all_written : {T : Type 0} (value : T) (next : Option (List ℕ)) (lines : List ℕ)
-        (now : Option ℕ) → Consumes pending next lines → lines ≡ [] → IsAtEnd next → Counts reads_now now 0
+        (now : Option ℕ) → Consumes pending next lines → lines ≡ [] → IsAtEnd next
+        → Counts reads_now now 0
         → Ends kind input before after reads now writes writes_now flushed
         (Ok value)
     all_written value next lines now consumed none ended counts =
@@ -618,7 +619,8 @@ module _ {T : Type 0} (kind : FileKind) (input before after : Option (List ℕ))
   pub front_told : IfErr result (λ given. IfSome input (StopsAt kind given before after))
       → OnErr result (IfSome input (StreamsFront kind before after))
   front_told stops =
-      by_result result (told (λ given. StreamsFront kind before after) (λ given whole s. s.front) stops)
+      by_result result
+      (told (λ given. StreamsFront kind before after) (λ given whole s. s.front) stops)
     where
       by_result : (r : Result T StreamFault)
           → IfErr r (λ given. IfSome input (StreamsFront kind before after))

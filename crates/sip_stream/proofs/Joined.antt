@@ -204,7 +204,8 @@ says_rounds kind version config rounds text spells =
 
 -- ---- behind other rounds
 
-pub joined_in : (version : Version) (config : Config) (rounds more : List Round) (file text : List ℕ)
+pub joined_in : (version : Version) (config : Config) (rounds more : List Round)
+    (file text : List ℕ)
     → SpellsIn version config rounds file → SaysRounds version more text
     → SpellsIn version config (rounds ++ more) (file ++ text)
 joined_in version config rounds more file text s m = record {

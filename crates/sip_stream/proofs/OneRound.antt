@@ -108,8 +108,8 @@ module _ {C : Type 0} (shard_of : C → List ℕ → ℕ → ℕ) where
   -- ---- why
 
   pub tells_refused : (T X : Type 0) (agent : AgentState C) (round : Round) (index : ℕ)
-      (known : Option (List ℕ)) (result : Result T RoundFault) (fault : RoundFault) → result ≡ Err fault
-      → IfSome (refusal_of agent round) (λ f. (result ≡ Err f) × X)
+      (known : Option (List ℕ)) (result : Result T RoundFault) (fault : RoundFault)
+      → result ≡ Err fault → IfSome (refusal_of agent round) (λ f. (result ≡ Err f) × X)
       → (refusal_of agent round ≡ None → OnErr result ((result ≡ Err (round_fault.NoMemory false))
       ⊎ (result ≡ Err (round_fault.NoMemory true))))
       → (config : Config) (rounds : List Round) → Stands shard_of agent config rounds

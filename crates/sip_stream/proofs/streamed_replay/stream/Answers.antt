@@ -36,13 +36,13 @@ returns-in_err-streaming g c =
 pub returns-in_default : goal.returns-in_default
 returns-in_default g c =
     let kept = c.in_default.ensures.front in
-    begun_stops g.C.Cut.shard_of c.args.kind c.in_ok-config.config c.in_ok-lines.lines.items _ kept.0
-    kept.1 _ _ _ _ _ _ _ _ _ _ refl
+    begun_stops g.C.Cut.shard_of c.args.kind c.in_ok-config.config c.in_ok-lines.lines.items _
+    kept.0 kept.1 _ _ _ _ _ _ _ _ _ _ refl
     (subst (λ t. SpellsFile c.args.kind c.in_ok-config.config [] t) c.deref.ensures.value
     c.in_ok-config.ensures.found)
     (from_start _ _ _ _ c.new-input.ensures c.in_ok-lines.ensures.given) c.in_ok-lines.ensures.next
-    (subst (λ t. length t ≤ 2 ^ 26) c.deref.ensures.value c.in_ok-config.ensures.size) (search rules)
-    kept.2 kept.3 c.in_ok-lines.ensures.input
+    (subst (λ t. length t ≤ 2 ^ 26) c.deref.ensures.value c.in_ok-config.ensures.size)
+    (search rules) kept.2 kept.3 c.in_ok-lines.ensures.input
     (write_failed _ _ _ c.in_default.ensures.fault c.in_default.ensures.output)
 
 pub loop-init : goal.loop-init
@@ -68,7 +68,8 @@ returns-in_err-lines-2 g c =
 pub returns-then-is_empty : goal.returns-then-is_empty
 returns-then-is_empty g c =
     let lines = c.in_ok-lines-2.lines in
-    let empty : lines.len ≡ 0 = eqb-true lines.len 0 (sym c.is_empty.ensures ∙ c.if-is_empty.true) in
+    let empty : lines.len ≡ 0 =
+    eqb-true lines.len 0 (sym c.is_empty.ensures ∙ c.if-is_empty.true) in
     let none : lines.items ≡ [] =
     nil_from_length lines.items (omega (arith, lines.ok.0, empty)) in
     all_written g.C.Cut.shard_of c.args.kind c.loop.invariant tt _ lines.items _
@@ -81,8 +82,9 @@ returns-in_err-round g c =
     let lines = c.in_ok-lines-2.lines in
     round_stops g.C.Cut.shard_of c.args.kind c.loop.invariant _ c.in_ok-lines-2.lines.items _
     c.in_ok-lines-2.ensures.given c.in_ok-lines-2.ensures.next c.in_ok-lines-2.ensures.input
-    c.from_residual-in_err-round.result given c.index.result (search rules) (some_lines lines.items lines.len lines.ok.0
-    (sym c.is_empty.ensures ∙ c.if-is_empty.false)) c.index.ensures
+    c.from_residual-in_err-round.result given c.index.result (search rules)
+    (some_lines lines.items lines.len lines.ok.0 (sym c.is_empty.ensures ∙ c.if-is_empty.false))
+    c.index.ensures
     (λ version headed.
     subst (λ t. TellsRound c.args.kind version c.index.result t given)
     c.deref-in-loop-2.ensures.value
@@ -95,7 +97,8 @@ returns-in_err-run g c =
     c.in_ok-lines-2.ensures.given c.in_ok-lines-2.ensures.next c.in_ok-lines-2.ensures.input
     c.in_ok-round.round
     (read_as c.args.kind c.in_ok-round.round _ _ text c.in_ok-round.ensures.found)
-    (fits_as _ _ text c.in_ok-round.ensures.size) _ _ c.in_err-run.ensures.stops _ c.from_residual-in_err-run.result c.in_err-run.field-0.0
+    (fits_as _ _ text c.in_ok-round.ensures.size) _ _ c.in_err-run.ensures.stops _
+    c.from_residual-in_err-run.result c.in_err-run.field-0.0
     (search rules) c.in_err-run.ensures.fault c.in_err-run.ensures.output
 
 pub loop-preserved : goal.loop-preserved
@@ -105,7 +108,8 @@ loop-preserved g c =
     c.in_ok-lines-2.ensures.given c.in_ok-lines-2.ensures.next c.in_ok-lines-2.ensures.input
     c.in_ok-round.round
     (read_as c.args.kind c.in_ok-round.round _ _ text c.in_ok-round.ensures.found)
-    (fits_as _ _ text c.in_ok-round.ensures.size) c.run.new.self.agent c.run.new.self.first _ _ _ c.run.ensures.same
+    (fits_as _ _ text c.in_ok-round.ensures.size) c.run.new.self.agent c.run.new.self.first _ _ _
+    c.run.ensures.same
     c.in_ok-run.ensures.goes_on c.in_ok-run.ensures.output c.in_ok-run.ensures.flushed
 
 pub returns : goal.returns

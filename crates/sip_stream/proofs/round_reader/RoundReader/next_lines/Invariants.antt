@@ -1,5 +1,5 @@
--- The loop of `next_lines`: what is left to give stays the same, and where nothing more comes, it is
--- the text. No read failed.
+-- The loop of `next_lines`: what is left to give stays the same, and where nothing more comes, it
+-- is the text. No read failed.
 use Rattle.std.proofs.Common.{◌≡◌, false}
 use Rattle.std.specs.Io.KnownBytes.{IsAtEnd, Keeps, prepend_known}
 use Rattle.sip_files.specs.Counted.{Counts}
